@@ -1,0 +1,16 @@
+//! What every crate of the tool speaks of: values and operations, traps, outcomes, names, identities.
+#![tactic(auto)]
+
+mod memory;
+mod name;
+mod operators;
+mod outcome;
+mod scalar;
+mod trap;
+
+pub use memory::Memory;
+pub use name::{Name, is_name};
+pub use operators::{Binary, Order, Unary};
+pub use outcome::{Counts, Outcome, Work};
+pub use scalar::{Class, Kind, Scalar, Want};
+pub use trap::Trap;
