@@ -1,16 +1,24 @@
 //! What every crate of the tool speaks of: values and operations, traps, outcomes, names, identities.
 #![tactic(auto)]
 
+mod decimal;
+mod lines;
 mod memory;
 mod name;
 mod operators;
 mod outcome;
 mod scalar;
+mod seq;
+mod text;
 mod trap;
 
+pub use decimal::{push_decimal, read_decimal, read_signed};
+pub use lines::{LineError, LineReader, TextError, read_lines};
 pub use memory::Memory;
 pub use name::{Name, is_name};
 pub use operators::{Binary, Order, Unary};
 pub use outcome::{Counts, Outcome, Work};
 pub use scalar::{Class, Kind, Scalar, Want};
+pub use seq::Seq;
+pub use text::Fields;
 pub use trap::Trap;

@@ -1,0 +1,58 @@
+use Rattle.std.specs.Prelude.{◌≡◌, ◌≢◌, ℕ, Bool, ◌==◌, ◌+◌, List, [], ◌∷◌, ◌++◌, length, Option, None, Some, IsFalse}
+use Rattle.std.specs.Option.{option_and_then}
+use Rattle.std.specs.List.{slice_split, join_with_byte, flat_map, AllByRecursion}
+
+-- A text is a list of lines, each ended by a newline, and a line is a list of fields, parted by one space.
+abbrev pub is_newline : ℕ → Bool
+is_newline b = b == 10
+
+abbrev pub is_space : ℕ → Bool
+is_space b = b == 32
+
+-- no byte of the list passes the test
+abbrev pub Lacks : (ℕ → Bool) → List ℕ → Type 0
+Lacks p bytes = AllByRecursion (λ b. IsFalse (p b)) bytes
+
+-- the line with these fields
+abbrev pub spaced : List (List ℕ) → List ℕ
+spaced fields = join_with_byte 32 fields
+
+-- the fields of a line
+abbrev pub fields_of : List ℕ → List (List ℕ)
+fields_of line = slice_split is_space line
+
+-- a line and its end
+abbrev pub ended : List ℕ → List ℕ
+ended line = line ++ 10 ∷ []
+
+-- the text with these lines
+abbrev pub text_of : List (List ℕ) → List ℕ
+text_of lines = flat_map ended lines
+
+abbrev pub AreLines : List (List ℕ) → Type 0
+AreLines lines = AllByRecursion (Lacks is_newline) lines
+
+-- A grammar of lines says which line may follow in a state of reading, and the state after it.
+-- The state after these lines, where each may follow in its turn.
+abbrev pub after_lines : {D : Type 0} → (D → List ℕ → Option D) → D → List (List ℕ) → Option D
+after_lines after d [] = Some d
+after_lines after d (line ∷ lines) = option_and_then (λ e. after_lines after e lines) (after d line)
+
+-- the whole text is lines that lead from one state to another
+pub record ReadsLines {D : Type 0} (after : D → List ℕ → Option D) (from : D) (text : List ℕ) (to : D) : Type 0 where
+  pub lines : List (List ℕ)
+  pub text_is : text ≡ text_of lines
+  pub are_lines : AreLines lines
+  pub leads : after_lines after from lines ≡ Some to
+
+-- the longest good prefix of the text's whole lines ends before this line, counted from 1, and something stands there
+pub record IsBadLine {D : Type 0} (after : D → List ℕ → Option D) (from : D) (text : List ℕ) (line : ℕ) : Type 0 where
+  pub good : List (List ℕ)
+  pub rest : List ℕ
+  pub state : D
+  pub text_is : text ≡ text_of good ++ rest
+  pub are_lines : AreLines good
+  pub leads : after_lines after from good ≡ Some state
+  pub number : line ≡ length good + 1
+  pub stands : rest ≢ []
+  pub stops : (next more : List ℕ) → Lacks is_newline next → rest ≡ ended next ++ more → after state next ≡ None
