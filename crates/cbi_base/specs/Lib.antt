@@ -1,2 +1,5 @@
+pub mod Arithmetic
+pub mod Kind
 pub mod Name
+pub mod Scalars
 pub mod Trap
