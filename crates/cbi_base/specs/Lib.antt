@@ -2,4 +2,8 @@ pub mod Fields
 pub mod LineFaults
 pub mod Name
 pub mod Text
+pub mod Arithmetic
+pub mod Kind
+pub mod Name
+pub mod Scalars
 pub mod Trap

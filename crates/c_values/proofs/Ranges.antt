@@ -1,0 +1,42 @@
+-- Laws of the kinds' ranges and of a number that is taken into one.
+use Rattle.std.proofs.Common.{◌≡◌, ℕ, ◌+◌, ◌-◌, ◌*◌, ◌<◌, ◌≤◌, ◌≤ℤ◌, Bool, true, false, ◌&&◌, refl, sym, ap, arith, ℤ, pos, negsuc, ◌+ℤ◌, ◌-ℤ◌, ◌*ℤ◌}
+use Rattle.std.proofs.lemmas.Int.{ints}
+use Rattle.std.specs.Int.{int_div_euclid, int_rem_euclid}
+use Rattle.std.specs.Prelude.{int_le, IsTrue}
+use Rattle.cbi_base.specs.declared.scalar.Kind.{Kind}
+use Rattle.cbi_base.specs.declared.scalar.Kind.TheVariants.{Char, Int, Unsigned}
+use Rattle.cbi_base.specs.Kind.{least_of, greatest_of, size_of, lies_in, wrapped, LiesIn}
+use borrow.Author.Differences.{up, down, same_in, at_most_in}
+
+-- the quotient that rounds down, and the remainder that it leaves, which `omega` reads as differences of whole numbers
+pub int_rem_euclid-parts : (a : ℤ) (k : ℕ) → 0 < k → (up (int_rem_euclid a (pos k)) + up (int_div_euclid a (pos k)) * k + down a ≡ down (int_div_euclid a (pos k)) * k + up a) × (down (int_rem_euclid a (pos k)) ≡ 0) × (up (int_rem_euclid a (pos k)) < k)
+int_rem_euclid-parts (pos a) k h = omega arith
+int_rem_euclid-parts (negsuc a) k h = omega arith
+
+both : (a b : Bool) → IsTrue a → IsTrue b → IsTrue (a && b)
+both a b p q = grind arith
+
+parts : (a b : Bool) → IsTrue (a && b) → IsTrue a × IsTrue b
+parts a b p = grind arith
+
+pub LiesIn-ends : (kind : Kind) (value : ℤ) → LiesIn kind value → (least_of kind ≤ℤ value) × (value ≤ℤ greatest_of kind)
+LiesIn-ends kind value h =
+    let halves = parts (int_le (least_of kind) value) (int_le value (greatest_of kind)) h in
+    let low = halves.0 in
+    let high = halves.1 in
+    (omega (arith, ints), omega (arith, ints))
+
+pub ends-LiesIn : (kind : Kind) (value : ℤ) → least_of kind ≤ℤ value → value ≤ℤ greatest_of kind → LiesIn kind value
+ends-LiesIn kind value low high =
+    both (int_le (least_of kind) value) (int_le value (greatest_of kind)) (grind (arith, ints)) (grind (arith, ints))
+
+pub wrapped-LiesIn : (kind : Kind) (value : ℤ) → LiesIn kind (wrapped kind value)
+wrapped-LiesIn Char value =
+    let rest = int_rem_euclid-parts (value -ℤ least_of Char) (size_of Char) (omega arith) in
+    ends-LiesIn Char (wrapped Char value) (omega (arith, ints)) (omega (arith, ints))
+wrapped-LiesIn Int value =
+    let rest = int_rem_euclid-parts (value -ℤ least_of Int) (size_of Int) (omega arith) in
+    ends-LiesIn Int (wrapped Int value) (omega (arith, ints)) (omega (arith, ints))
+wrapped-LiesIn Unsigned value =
+    let rest = int_rem_euclid-parts (value -ℤ least_of Unsigned) (size_of Unsigned) (omega arith) in
+    ends-LiesIn Unsigned (wrapped Unsigned value) (omega (arith, ints)) (omega (arith, ints))
