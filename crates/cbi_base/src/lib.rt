@@ -6,6 +6,8 @@ mod name;
 mod operators;
 mod outcome;
 mod scalar;
+mod sink;
+mod store;
 mod trap;
 
 pub use memory::Memory;
@@ -13,4 +15,6 @@ pub use name::{Name, is_name};
 pub use operators::{Binary, Order, Unary};
 pub use outcome::{Counts, Outcome, Work};
 pub use scalar::{Class, Kind, Scalar, Want};
+pub use sink::{Sink, SinkError};
+pub use store::{Store, StoreError};
 pub use trap::Trap;
