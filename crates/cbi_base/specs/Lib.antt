@@ -7,3 +7,6 @@ pub mod Kind
 pub mod Name
 pub mod Scalars
 pub mod Trap
+pub mod Faults
+pub mod Store
+pub mod Sink

@@ -10,6 +10,8 @@ mod outcome;
 mod scalar;
 mod seq;
 mod text;
+mod sink;
+mod store;
 mod trap;
 
 pub use decimal::{push_decimal, read_decimal, read_signed};
@@ -21,4 +23,6 @@ pub use outcome::{Counts, Outcome, Work};
 pub use scalar::{Class, Kind, Scalar, Want};
 pub use seq::Seq;
 pub use text::Fields;
+pub use sink::{Sink, SinkError};
+pub use store::{Store, StoreError};
 pub use trap::Trap;
