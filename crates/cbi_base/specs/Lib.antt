@@ -4,7 +4,6 @@ pub mod Name
 pub mod Text
 pub mod Arithmetic
 pub mod Kind
-pub mod Name
 pub mod Scalars
 pub mod Trap
 pub mod Faults
