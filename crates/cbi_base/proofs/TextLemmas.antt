@@ -1,10 +1,9 @@
-use Rattle.std.proofs.Common.{◌≡◌, ℕ, Bool, true, IsFalse, List, [], ◌∷◌, ◌++◌, length, Option, Some, None, ap, sym, ◌∙◌, refl, append_assoc, arith}
+use Rattle.std.proofs.Common.{◌≡◌, ℕ, Bool, true, IsFalse, List, [], ◌∷◌, ◌++◌, length, ap, sym, subst, ◌∙◌, refl, append_assoc, length-append, arith}
 use Rattle.std.specs.List.{slice_split}
-use Rattle.std.specs.Option.{option_and_then}
 use Rattle.std.proofs.lemmas.Bool.{false≢true}
 use Rattle.std.proofs.lemmas.List.Elements.{All-from_recursion}
 use Rattle.std.proofs.lemmas.List.Splits.{slice_split_none, slice_split_at, length-slice_split}
-use Rattle.cbi_base.specs.Text.{Lacks, AreLines, fields_of, is_newline, is_space, ended, text_of, after_lines}
+use Rattle.cbi_base.specs.Text.{Lacks, AreLines, fields_of, is_newline, is_space, ended, text_of, LeadsTo, ReadsLines}
 
 -- a list that lacks the mark is one piece
 pub split-lacks : (p : ℕ → Bool) (xs : List ℕ) → Lacks p xs → slice_split p xs ≡ xs ∷ []
@@ -44,13 +43,32 @@ pub AreLines-more : (lines : List (List ℕ)) (line : List ℕ) → AreLines lin
 AreLines-more [] line all l = (l, tt)
 AreLines-more (x ∷ xs) line all l = (all.0, AreLines-more xs line all.1 l)
 
--- what follows a step that was made
-then-some : {D : Type 0} (step : Option D) (F G : D → Option D) (e f : D) → option_and_then F step ≡ Some e → ((x : D) → F x ≡ Some e → G x ≡ Some f) → option_and_then G step ≡ Some f
-then-some None F G e f h k = cc
-then-some (Some x) F G e f h k = k x h
+-- the lines so far lead on by one more
+pub LeadsTo-more : {D : Type 0} (follows : D → List ℕ → D → Type 0) (lines : List (List ℕ)) (line : List ℕ) (from via to : D) → LeadsTo follows from lines via → follows via line to → LeadsTo follows from (lines ++ line ∷ []) to
+LeadsTo-more follows [] line from via to leads next = (to, subst (λ d. follows d line to) (sym leads) next, refl)
+LeadsTo-more follows (l ∷ ls) line from via to leads next = (leads.0, leads.1, LeadsTo-more follows ls line leads.0 via to leads.2 next)
 
-pub after_lines-more : {D : Type 0} (after : D → List ℕ → Option D) (lines : List (List ℕ)) (line : List ℕ) (d e f : D) → after_lines after d lines ≡ Some e → after e line ≡ Some f → after_lines after d (lines ++ line ∷ []) ≡ Some f
-after_lines-more after [] line d e f leads next =
-    let h : d ≡ e = cc in rw (h, next)
-after_lines-more after (l ∷ ls) line d e f leads next =
-    then-some (after d l) (λ x. after_lines after x ls) (λ x. after_lines after x (ls ++ line ∷ [])) e f leads (λ x is. after_lines-more after ls line x e f is next)
+-- nothing is left where no byte is
+pub reads-none : {D : Type 0} (follows : D → List ℕ → D → Type 0) (from to : D) (rest : List ℕ) → length rest ≡ 0 → (lines : List (List ℕ)) → rest ≡ text_of lines → LeadsTo follows from lines to → from ≡ to
+reads-none follows from to rest none [] is leads = leads
+reads-none follows from to rest none (l ∷ ls) is leads = absurd (omega (arith, ap length is, length-append {A = ℕ} (ended l) (text_of ls), length-append {A = ℕ} l (10 ∷ [])))
+
+-- a reading of a text that begins with this line begins with it
+pub record GoesOn {D : Type 0} (follows : D → List ℕ → D → Type 0) (from : D) (line rest : List ℕ) (to : D) : Type 0 where
+  pub after : D
+  pub follows_it : follows from line after
+  pub goes_on : ReadsLines follows after rest to
+
+pub reads-line : {D : Type 0} (follows : D → List ℕ → D → Type 0) (from to : D) (line rest : List ℕ) → Lacks is_newline line → (lines : List (List ℕ)) → line ++ 10 ∷ rest ≡ text_of lines → AreLines lines → LeadsTo follows from lines to → GoesOn follows from line rest to
+reads-line follows from to line rest lacks [] is are leads = absurd (omega (arith, ap length is, length-append {A = ℕ} line (10 ∷ rest)))
+reads-line follows from to line rest lacks (l ∷ ls) is are leads =
+    let same = cut-once is_newline 10 refl line l rest (text_of ls) lacks are.0 (is ∙ append_assoc l (10 ∷ []) (text_of ls)) in record {
+      after = leads.0;
+      follows_it = subst (λ t. follows from t leads.0) (sym same.0) leads.1;
+      goes_on = record { lines = ls; text_is = same.1; are_lines = are.1; leads = leads.2 };
+    }
+
+-- no text of lines ends within a line
+pub reads-end : (rest : List ℕ) → Lacks is_newline rest → (lines : List (List ℕ)) → rest ≡ text_of lines → rest ≡ []
+reads-end rest lacks [] is = is
+reads-end rest lacks (l ∷ ls) is = absurd (lacks-mark is_newline 10 refl l (text_of ls) (subst (Lacks is_newline) (is ∙ append_assoc l (10 ∷ []) (text_of ls)) lacks))

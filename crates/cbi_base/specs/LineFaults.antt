@@ -4,11 +4,17 @@ use Rattle.cbi_base.specs.declared.lines.LineError.TheVariants.{Bad, Memory}
 use Rattle.cbi_base.specs.declared.lines.TextError.{TextError}
 use Rattle.cbi_base.specs.declared.lines.TextError.TheVariants as text
 
--- a fact where the line was bad
-abbrev pub IfBad : {A : Type 0} → Result A LineError → Type 0 → Type 0
-IfBad (Ok _) P = Unit {0}
-IfBad (Err Bad) P = P
-IfBad (Err Memory) P = Unit {0}
+-- a line that may follow is taken, with this fact, unless memory runs out
+abbrev pub TakenWith : {A : Type 0} → Result A LineError → Type 0 → Type 0
+TakenWith (Ok _) P = P
+TakenWith (Err Bad) P = ⊥
+TakenWith (Err Memory) P = Unit {0}
+
+-- a text that can be read is read, with this fact, unless memory runs out
+abbrev pub ReadWith : {A : Type 0} → Result A TextError → Type 0 → Type 0
+ReadWith (Ok _) P = P
+ReadWith (Err (text.Bad line)) P = ⊥
+ReadWith (Err text.Memory) P = Unit {0}
 
 -- a fact of the bad line of a text
 abbrev pub IfBadAt : {A : Type 0} → Result A TextError → (ℕ → Type 0) → Type 0

@@ -1,6 +1,6 @@
-ghost use Rattle.std.specs.Prelude.{◌≡◌, ◌+◌, ◌≤◌, ℕ, List, [], ◌∷◌, ◌++◌, length, Option, None, Some, MatchOption, OnOk, IfErr, IsTrue};
+ghost use Rattle.std.specs.Prelude.{◌≡◌, ℕ, List, OnOk};
 ghost use Rattle.cbi_base.specs.Text.{ReadsLines, IsBadLine};
-ghost use Rattle.cbi_base.specs.LineFaults.{IfBad, IfBadAt};
+ghost use Rattle.cbi_base.specs.LineFaults.{TakenWith, ReadWith, IfBadAt};
 
 use crate::text::cut;
 
@@ -22,19 +22,20 @@ pub enum TextError {
 
 /// A reader of a text, line by line: its state says what the lines so far call for.
 pub trait LineReader {
-    /// The state after the next line; None where this line may not come next.
-    ghost after: { Self → List ℕ → Option Self };
+    /// The line may come next, and the state is this one after it.
+    ghost follows: { Self → List ℕ → Self → Type 0 };
 
     /// Takes the next line, without its newline. After an error the state isn't said.
     fn take(&mut self, line: &[u8]) -> Result<(), LineError>
-        ensures ok { OnOk result (after self.old line.now ≡ Some self.new) }
-        ensures bad { IfBad result (after self.old line.now ≡ None) };
+        ensures ok { OnOk result (follows self.old line.now self.new) }
+        ensures only { (next : Self) → follows self.old line.now next → TakenWith result (self.new ≡ next) };
 }
 
-/// Reads a whole text. It says how many lines were taken.
+/// Reads a whole text, and says how many lines it has.
 pub fn read_lines<R: LineReader>(reader: &mut R, bytes: &[u8]) -> Result<usize, TextError>
-    ensures ok { OnOk result (ReadsLines R.after reader.old bytes.now reader.new) }
-    ensures bad { IfBadAt result (λ line. IsBadLine R.after reader.old bytes.now line) }
+    ensures ok { OnOk result (ReadsLines R.follows reader.old bytes.now reader.new) }
+    ensures only { (to : R) → ReadsLines R.follows reader.old bytes.now to → ReadWith result (reader.new ≡ to) }
+    ensures bad { IfBadAt result (λ line. IsBadLine R.follows reader.old bytes.now line) }
 {
     let mut rest = bytes;
     let mut lines = 0;

@@ -1,0 +1,103 @@
+ghost use Rattle.std.specs.Prelude.{◌≡◌, ◌↔◌, List, length, IsTrue, IsSome, IfSome};
+ghost use Rattle.cbi_base.specs.Kind.{lies_in};
+ghost use Rattle.flow.specs.Nodes.{is_later, node_fits};
+ghost use Rattle.flow.specs.Program.{IsFunction, IsProgram};
+
+use crate::node::Node;
+use cbi_base::{Kind, Name, Seq};
+use std::marker::Model;
+
+/// A function: whether it has a result, how many of its locals are parameters, the sizes of its locals in cells, and its nodes,
+/// numbered from 0, where it is entered.
+#[derive(Debug, Drop)]
+pub struct Function {
+    pub name: Name,
+    pub value: bool,
+    pub params: u32,
+    pub locals: Seq<u32>,
+    pub nodes: Seq<Node>,
+}
+
+/// What a node of a function may name: how many nodes the function has.
+#[derive(Clone, Copy, Debug)]
+pub struct Bounds {
+    pub nodes: u32,
+}
+
+/// The parts of a program, without its conditions: its functions, and the number of the one that is run.
+#[derive(Debug, Drop)]
+pub struct ProgramParts {
+    pub functions: Seq<Function>,
+    pub main: u32,
+}
+
+fn is_later(bounds: Bounds, place: u32, next: u32) -> bool
+    ensures { result ≡ is_later bounds place next }
+{
+    place < next && next < bounds.nodes
+}
+
+/// Whether the number lies in the kind's range.
+fn lies_in(kind: Kind, value: i64) -> bool
+    ensures { result ≡ lies_in kind value }
+{
+    match kind {
+        Kind::Char => (-128..=127).contains(&value),
+        Kind::Int => (-2147483648..=2147483647).contains(&value),
+        Kind::Unsigned => (0..=4294967295).contains(&value),
+    }
+}
+
+/// Whether a node may stand at this place of a function with these bounds.
+pub fn node_fits(bounds: Bounds, place: u32, node: Node) -> bool
+    ensures { result ≡ node_fits bounds place node }
+{
+    match node {
+        Node::Push { kind, value, next } => lies_in(kind, value) && is_later(bounds, place, next),
+        Node::Put { next } => is_later(bounds, place, next),
+        Node::Drop { next } => is_later(bounds, place, next),
+        Node::Return => true,
+    }
+}
+
+/// A program. Contracts see it as its parts, which keep the conditions on programs.
+#[derive(Debug, Drop)]
+pub struct Program {
+    parts: ProgramParts,
+}
+
+impl Model for Program {
+    ghost use Rattle.flow.specs.declared.program.ProgramParts.{ProgramParts};
+    ghost use Rattle.flow.specs.Program.{IsProgram};
+
+    ghost Value = { ProgramParts };
+
+    ghost view = { λ p. p.parts };
+
+    ghost invariant = { λ p. IsProgram p.parts };
+}
+
+impl Program {
+    /// The program with these parts.
+    pub fn of(parts: ProgramParts) -> Program
+        requires { IsProgram parts }
+        ensures { result ≡ parts }
+    {
+        Program { parts }
+    }
+
+    /// Its functions, which keep the conditions on programs.
+    pub fn functions(&self) -> &[Function]
+        ensures value { result.now ≡ self.now.functions }
+        ensures is_program { IsProgram self.now }
+    {
+        self.parts.functions.as_slice()
+    }
+
+    /// The number of the function that a run enters.
+    pub fn main(&self) -> u32
+        ensures { result ≡ self.now.main }
+    {
+        self.parts.main
+    }
+}
