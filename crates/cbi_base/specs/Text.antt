@@ -38,6 +38,13 @@ text_of lines = flat_map ended lines
 abbrev pub AreLines : List (List ℕ) → Type 0
 AreLines lines = AllByRecursion (Lacks is_newline) lines
 
+-- the text is whole lines, so many of them
+pub record HasLines (text : List ℕ) (count : ℕ) : Type 0 where
+  pub lines : List (List ℕ)
+  pub text_is : text ≡ text_of lines
+  pub are_lines : AreLines lines
+  pub number : count ≡ length lines
+
 -- A grammar of lines says which line may follow in a state of reading, and the state after it: `follows state line after`.
 -- The lines follow one another, and lead from one state to another.
 abbrev pub LeadsTo : {D : Type 0} → (D → List ℕ → D → Type 0) → D → List (List ℕ) → D → Type 0

@@ -1,5 +1,5 @@
-ghost use Rattle.std.specs.Prelude.{◌≡◌, ℕ, List, OnOk};
-ghost use Rattle.cbi_base.specs.Text.{ReadsLines, IsBadLine};
+ghost use Rattle.std.specs.Prelude.{◌≡◌, ◌≤◌, ℕ, List, length, OnOk, IfOk};
+ghost use Rattle.cbi_base.specs.Text.{HasLines, ReadsLines, IsBadLine};
 ghost use Rattle.cbi_base.specs.LineFaults.{TakenWith, ReadWith, IfBadAt};
 
 use crate::text::cut;
@@ -33,6 +33,8 @@ pub trait LineReader {
 
 /// Reads a whole text, and says how many lines it has.
 pub fn read_lines<R: LineReader>(reader: &mut R, bytes: &[u8]) -> Result<usize, TextError>
+    ensures count { IfOk result (HasLines bytes.now) }
+    ensures fits { IfOk result (λ lines. lines ≤ length bytes.now) }
     ensures ok { OnOk result (ReadsLines R.follows reader.old bytes.now reader.new) }
     ensures only { (to : R) → ReadsLines R.follows reader.old bytes.now to → ReadWith result (reader.new ≡ to) }
     ensures bad { IfBadAt result (λ line. IsBadLine R.follows reader.old bytes.now line) }
