@@ -1,0 +1,4 @@
+pub mod Bounds
+pub mod Exponents
+pub mod LogarithmLemmas
+pub mod Places

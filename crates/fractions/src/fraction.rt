@@ -1,0 +1,29 @@
+ghost use Rattle.std.specs.Prelude.{◌≡◌, ◌≤◌};
+ghost use Rattle.fractions.specs.Fraction.{IsFraction, fraction_cmp, millionths_of};
+
+use std::cmp::Ordering;
+
+/// A number from 0 up: the top over the bottom.
+#[derive(Clone, Copy, Debug, PartialEq, Eq)]
+pub struct Fraction {
+    pub top: u128,
+    pub bottom: u128,
+}
+
+/// The order of the values of two fractions.
+pub fn compare(left: Fraction, right: Fraction) -> Ordering
+    requires left_bounds { IsFraction left }
+    requires right_bounds { IsFraction right }
+    ensures { result ≡ fraction_cmp left right }
+{
+    (left.top * right.bottom).cmp(&(right.top * left.bottom))
+}
+
+/// A fraction of at most 1 in millionths, rounded down.
+pub fn millionths(value: Fraction) -> u64
+    requires bounds { IsFraction value }
+    requires at_most_one { value.top ≤ value.bottom }
+    ensures { result ≡ millionths_of value }
+{
+    (value.top * 1_000_000 / value.bottom) as u64
+}
