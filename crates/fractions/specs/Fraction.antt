@@ -13,6 +13,10 @@ pub record IsFraction (f : Fraction) : Type 0 where
 abbrev pub fraction_cmp : Fraction → Fraction → Ordering
 fraction_cmp left right = nat_cmp (left.top * right.bottom) (right.top * left.bottom)
 
+-- the value on the left is at most the one on the right
+abbrev pub IsAtMost : Fraction → Fraction → Type 0
+IsAtMost left right = left.top * right.bottom ≤ right.top * left.bottom
+
 -- a fraction in millionths, rounded down
 abbrev pub millionths_of : Fraction → ℕ
 millionths_of f = f.top * 1000000 / f.bottom

@@ -1,4 +1,4 @@
-use Rattle.std.specs.Prelude.{ℕ, Bool, ◌+◌, ◌-◌, ◌*◌, ◌/◌, ◌^◌, ◌<◌, ◌≤◌, nat_le, if◌then◌else◌}
+use Rattle.std.specs.Prelude.{◌≡◌, ℕ, Bool, ◌+◌, ◌-◌, ◌*◌, ◌/◌, ◌^◌, ◌<◌, ◌≤◌, nat_le, if◌then◌else◌}
 use Rattle.std.proofs.Common.{zero, suc}
 
 -- the greatest number up to a limit whose power of two is at most n
@@ -6,7 +6,13 @@ unfoldable pub greatest_exponent : ℕ → ℕ → ℕ
 greatest_exponent zero n = 0
 greatest_exponent (suc limit) n = if nat_le (2 ^ suc limit) n then suc limit else greatest_exponent limit n
 
--- n is 2^e * m / 2^62 for its exponent e and its mantissa m, which is at least 2^62 and below 2^63
+-- m is the mantissa of n at the exponent e: n is 2^e * m / 2^62
+pub record IsMantissa (n e m : ℕ) : Type 0 where
+  pub one_or_more : 2 ^ 62 ≤ m
+  pub below_two : m < 2 ^ 63
+  pub whole : m * 2 ^ e ≡ n * 2 ^ 62
+
+-- the exponent and the mantissa of a number below 2^17
 abbrev pub exponent_of : ℕ → ℕ
 exponent_of n = greatest_exponent 16 n
 

@@ -1,9 +1,9 @@
 ghost use Rattle.std.specs.Prelude.{◌≡◌, ◌≤◌};
-ghost use Rattle.fractions.specs.Fraction.{IsFraction, fraction_cmp, millionths_of};
+ghost use Rattle.fractions.specs.Fraction.{IsAtMost, IsFraction, fraction_cmp, millionths_of};
 
 use std::cmp::Ordering;
 
-/// A number from 0 up: the top over the bottom.
+/// A number from 0 up: the top over the bottom. `==` compares the parts, and [`compare`] the values.
 #[derive(Clone, Copy, Debug, PartialEq, Eq)]
 pub struct Fraction {
     pub top: u128,
@@ -27,3 +27,11 @@ pub fn millionths(value: Fraction) -> u64
 {
     (value.top * 1_000_000 / value.bottom) as u64
 }
+
+/// A law: the order of values is transitive.
+pub fn order_is_transitive(left: Fraction, middle: Fraction, right: Fraction)
+    requires left_bounds { IsFraction left }
+    requires middle_bounds { IsFraction middle }
+    requires right_bounds { IsFraction right }
+    ensures { IsAtMost left middle → IsAtMost middle right → IsAtMost left right }
+{}

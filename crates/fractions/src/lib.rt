@@ -8,6 +8,6 @@ mod tally;
 #[cfg(test)]
 mod tests;
 
-pub use fraction::{Fraction, compare, millionths};
-pub use logarithm::log_fixed;
+pub use fraction::{Fraction, compare, millionths, order_is_transitive};
+pub use logarithm::{log_fixed, number_is_power_times_mantissa};
 pub use tally::{Tally, confident, importance};

@@ -1,10 +1,11 @@
 ghost use Rattle.std.specs.Prelude.{◌≡◌, ℕ, ◌*◌, ◌^◌, ◌<◌, ◌≤◌};
-ghost use Rattle.fractions.specs.Logarithm.{IsLogarithm, first_place, log_of, rest_of};
+ghost use Rattle.fractions.specs.Logarithm.{IsLogarithm, IsMantissa, exponent_of, first_place, log_of, mantissa_of, rest_of};
 
 /// How many binary places a logarithm has.
 const PLACES: u32 = 16;
 
-/// The first binary place of a mantissa's logarithm, and the mantissa that the places after it belong to.
+/// The first binary place of a mantissa's logarithm, and the mantissa that the places after it belong to. A mantissa of
+/// 2^62 stands for 1.
 fn next_place(mantissa: u64) -> (u32, u64)
     requires one_or_more { 2 ^ 62 ≤ mantissa }
     requires below_two { mantissa < 2 ^ 63 }
@@ -13,7 +14,7 @@ fn next_place(mantissa: u64) -> (u32, u64)
     ensures one_or_more { 2 ^ 62 ≤ result.1 }
     ensures below_two { result.1 < 2 ^ 63 }
 {
-    let square = (u128::from(mantissa) * u128::from(mantissa) >> 62) as u64;
+    let square = ((u128::from(mantissa) * u128::from(mantissa)) >> 62) as u64;
     if square >= 1 << 63 {
         (1, square / 2)
     } else {
@@ -40,3 +41,10 @@ pub fn log_fixed(n: u32) -> u32
     }
     log
 }
+
+/// A law: a number is two to its exponent times its mantissa over 2^62, and no mantissa is below 1 or reaches 2.
+pub fn number_is_power_times_mantissa(n: u32)
+    requires positive { 1 ≤ n }
+    requires bounded { n ≤ 100000 }
+    ensures { IsMantissa n (exponent_of n) (mantissa_of n) }
+{}

@@ -5,8 +5,7 @@ ghost use Rattle.fractions.specs.Tally.{IsTally, Passes, importance_of, spread_o
 use crate::fraction::Fraction;
 use crate::logarithm::log_fixed;
 
-/// How often a predicate was true (`a`, `b`) and was observed (`c`, `d`), in failing runs (`a`, `c`) and in successful ones
-/// (`b`, `d`).
+/// In how many runs a predicate was true (`a` failing, `b` successful) and observed (`c` failing, `d` successful).
 #[derive(Clone, Copy, Debug, PartialEq, Eq)]
 pub struct Tally {
     pub a: u32,
@@ -15,7 +14,8 @@ pub struct Tally {
     pub d: u32,
 }
 
-/// One part of the variance: `part * (whole - part)` times the cube of the other whole.
+/// The variance of `part / whole`, times the cubes of both wholes.
+#[tactic(auto, using(crate::proofs::Bounds::bounds))]
 fn variance_part(part: u32, whole: u32, other: u32) -> u128
     requires within { part ≤ whole }
     requires whole_bound { whole ≤ 100000 }
@@ -26,7 +26,7 @@ fn variance_part(part: u32, whole: u32, other: u32) -> u128
     u128::from(part) * u128::from(whole - part) * u128::from(other).pow(3)
 }
 
-/// The part of Increase above the bar.
+/// The top of Increase, or 0 where that isn't positive.
 fn surplus(tally: Tally) -> u128
     requires bounds { IsTally tally }
     ensures value { result ≡ surplus_of tally }
@@ -37,7 +37,7 @@ fn surplus(tally: Tally) -> u128
     gain.saturating_sub(loss)
 }
 
-/// The part of Increase below the bar.
+/// The bottom of Increase.
 fn spread(tally: Tally) -> u128
     requires bounds { IsTally tally }
     ensures value { result ≡ spread_of tally }
@@ -47,6 +47,7 @@ fn spread(tally: Tally) -> u128
 }
 
 /// Whether the lower end of a 95 % interval for Increase is above zero (PLDI 2005 section 3.2).
+#[tactic(auto, using(crate::proofs::Bounds::bounds))]
 pub fn confident(tally: Tally) -> bool
     requires { IsTally tally }
     ensures { IsTrue result ↔ Passes tally }
@@ -55,10 +56,12 @@ pub fn confident(tally: Tally) -> bool
     let square = surplus.pow(2) * u128::from(tally.c) * u128::from(tally.d);
     let failing = variance_part(tally.a, tally.c, tally.d);
     let successful = variance_part(tally.b, tally.d, tally.c);
+    // 38416 / 10000 is the square of 1.96.
     surplus > 0 && square * 10000 > 38416 * (failing + successful)
 }
 
 /// The score of a passing predicate where `failing` failing runs are left (PLDI 2005 section 3.3).
+#[tactic(auto, unfolding(crate::specs::Tally::importance_of))]
 pub fn importance(tally: Tally, failing: u32) -> Fraction
     requires bounds { IsTally tally }
     requires passes { Passes tally }

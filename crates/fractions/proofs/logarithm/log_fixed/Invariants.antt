@@ -6,4 +6,5 @@ abbrev pub invariant-loop-place : goal.invariant-loop-place
 invariant-loop-place l = record {
   one_or_more : 2 ^ 62 ≤ l.mantissa;
   below_two : l.mantissa < 2 ^ 63;
-  rest : l.log + places l.place l.mantissa ≡ log_of l.n }
+  rest : l.log + places l.place l.mantissa ≡ log_of l.n;
+}
