@@ -1,0 +1,5 @@
+pub mod Bounds
+pub mod Exponents
+pub mod FractionOrder
+pub mod LogarithmLemmas
+pub mod Places

@@ -1,0 +1,3 @@
+pub mod Fraction
+pub mod Logarithm
+pub mod Tally
