@@ -1,1 +1,2 @@
 pub mod Relation
+pub mod Shifts

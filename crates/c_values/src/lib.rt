@@ -2,9 +2,18 @@
 #![tactic(auto)]
 
 mod arithmetic;
+mod binary;
 mod bits;
 mod range;
 mod relation;
+mod scalars;
 mod shifts;
+mod unary;
 
+pub use binary::apply_binary;
 pub use relation::{Relation, relate};
+pub use scalars::{convert, sign, truth};
+pub use unary::apply_unary;
+
+#[cfg(test)]
+mod tests;
