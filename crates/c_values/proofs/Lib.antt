@@ -1,2 +1,5 @@
 pub mod Ranges
 pub mod Division
+pub mod Modulo
+pub mod Meaning
+pub mod BitLaws

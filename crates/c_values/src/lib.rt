@@ -4,6 +4,7 @@
 mod arithmetic;
 mod binary;
 mod bits;
+mod laws;
 mod range;
 mod relation;
 mod scalars;
@@ -11,6 +12,7 @@ mod shifts;
 mod unary;
 
 pub use binary::apply_binary;
+pub use laws::{bit_laws, conversion_laws, division_laws, result_laws, shift_laws};
 pub use relation::{Relation, relate};
 pub use scalars::{convert, sign, truth};
 pub use unary::apply_unary;
