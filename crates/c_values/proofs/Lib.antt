@@ -3,3 +3,4 @@ pub mod Division
 pub mod Modulo
 pub mod Meaning
 pub mod BitLaws
+pub mod TrapLaws

@@ -1,12 +1,15 @@
 //! What the definitions of the arithmetic mean: laws that a reader can check them by. Each function is empty; its contract is the law.
 
-ghost use Rattle.std.specs.Prelude.{◌≡◌, ◌↔◌, ◌<◌, ◌-◌, ◌+◌, ◌%◌, ℕ, ℤ, pos, negsuc, ◌*ℤ◌, ◌-ℤ◌, min, max, bit_and, bit_or, bit_xor, IsTrue};
+ghost use Rattle.std.specs.Prelude.{◌≡◌, ◌↔◌, ◌⊎◌, ◌<◌, ◌-◌, ◌+◌, ◌%◌, ℕ, ℤ, pos, negsuc, ◌*ℤ◌, ◌-ℤ◌, min, max, bit_and, bit_or, bit_xor, IsTrue};
 ghost use Rattle.std.specs.Int.{bit_at};
 ghost use Rattle.cbi_base.specs.declared.scalar.Kind.{Kind};
+ghost use Rattle.cbi_base.specs.declared.operators.Binary.{Binary};
+ghost use Rattle.cbi_base.specs.declared.operators.Unary.{Unary};
+ghost use Rattle.cbi_base.specs.declared.scalar.Scalar.{Scalar};
 ghost use Rattle.cbi_base.specs.declared.trap.Trap.{Trap};
 ghost use Rattle.cbi_base.specs.Kind.{least_of, wrapped, LiesIn};
 ghost use Rattle.cbi_base.specs.Arithmetic.{fitted, quotient, remainder, left_shift, right_shift, two_to, bits_of, bitwise, complement};
-ghost use Rattle.cbi_base.specs.Scalars.{is_promoted};
+ghost use Rattle.cbi_base.specs.Scalars.{is_promoted, applied, applied_to_one, converted, truth_of};
 ghost use Rattle.c_values.specs.Laws.{IsModulo, IsDivision, IsRoundedDown};
 
 /// A conversion gives the one value of the kind's range that differs from the number by a multiple of the kind's size
@@ -52,5 +55,14 @@ pub fn bit_laws()
     ensures or { (kind : Kind) → IsTrue (is_promoted kind) → (left right : ℤ) (i : ℕ) → bit_at (bits_of (bitwise bit_or kind left right)) i ≡ max (bit_at (bits_of left) i) (bit_at (bits_of right) i) }
     ensures xor { (kind : Kind) → IsTrue (is_promoted kind) → (left right : ℤ) (i : ℕ) → bit_at (bits_of (bitwise bit_xor kind left right)) i ≡ (bit_at (bits_of left) i + bit_at (bits_of right) i) % 2 }
     ensures complement { (kind : Kind) → IsTrue (is_promoted kind) → (value : ℤ) (i : ℕ) → i < 32 → bit_at (bits_of (complement kind value)) i ≡ 1 - bit_at (bits_of value) i }
+{
+}
+
+/// Trap Undefined comes exactly where an operand is undefined, whatever the other one is.
+pub fn trap_laws()
+    ensures binary { (op : Binary) (left right : Scalar) → (applied op left right ≡ Err Trap.Undefined) ↔ ((left ≡ Scalar.Undefined) ⊎ (right ≡ Scalar.Undefined)) }
+    ensures unary { (op : Unary) (value : Scalar) → (applied_to_one op value ≡ Err Trap.Undefined) ↔ (value ≡ Scalar.Undefined) }
+    ensures conversion { (kind : Kind) (value : Scalar) → (converted kind value ≡ Err Trap.Undefined) ↔ (value ≡ Scalar.Undefined) }
+    ensures truth { (value : Scalar) → (truth_of value ≡ Err Trap.Undefined) ↔ (value ≡ Scalar.Undefined) }
 {
 }

@@ -12,7 +12,7 @@ mod shifts;
 mod unary;
 
 pub use binary::apply_binary;
-pub use laws::{bit_laws, conversion_laws, division_laws, result_laws, shift_laws};
+pub use laws::{bit_laws, conversion_laws, division_laws, result_laws, shift_laws, trap_laws};
 pub use relation::{Relation, relate};
 pub use scalars::{convert, sign, truth};
 pub use unary::apply_unary;
