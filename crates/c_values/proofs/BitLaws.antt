@@ -1,13 +1,13 @@
 -- The bits of what the operations on bits give.
-use Rattle.std.proofs.Common.{◌≡◌, ℕ, ◌+◌, ◌-◌, ◌*◌, ◌^◌, ◌%◌, ◌<◌, ◌≤◌, ◌∙◌, min, max, refl, sym, ap, arith, ℤ, pos, negsuc, ◌+ℤ◌, ◌-ℤ◌, ◌*ℤ◌}
+use Rattle.std.proofs.Common.{◌≡◌, ℕ, ◌+◌, ◌-◌, ◌^◌, ◌%◌, ◌<◌, min, max, arith, ℤ, pos, ◌-ℤ◌}
 use Rattle.std.proofs.lemmas.Int.{ints}
 use Rattle.std.proofs.lemmas.Nat.{and_le_l, or_of_32, xor_of_32}
 use Rattle.std.proofs.lemmas.Nat.Bits.{bit_at_and, bit_at_or, bit_at_xor, bit_at_not}
-use Rattle.std.specs.Prelude.{bit_and, bit_or, bit_xor, unsigned_abs, IsTrue}
-use Rattle.std.specs.Int.{w32, bit_at, int_rem_euclid}
+use Rattle.std.specs.Prelude.{bit_and, bit_or, bit_xor, IsTrue}
+use Rattle.std.specs.Int.{w32, bit_at}
 use Rattle.cbi_base.specs.declared.scalar.Kind.{Kind}
 use Rattle.cbi_base.specs.declared.scalar.Kind.TheVariants.{Char, Int, Unsigned}
-use Rattle.cbi_base.specs.Kind.{least_of, size_of, wrapped}
+use Rattle.cbi_base.specs.Kind.{least_of, wrapped}
 use Rattle.cbi_base.specs.Arithmetic.{bits_of, bitwise, complement}
 use Rattle.cbi_base.specs.Scalars.{is_promoted}
 use Rattle.c_values.proofs.Ranges.{int_rem_euclid-parts}

@@ -1,18 +1,18 @@
 -- The arithmetic's definitions, read in the standard's words.
-use Rattle.std.proofs.Common.{◌≡◌, ◌↔◌, ℕ, zero, suc, ◌+◌, ◌-◌, ◌*◌, ◌/◌, ◌%◌, ◌^◌, ◌<◌, ◌≤◌, ◌≤ℤ◌, ◌<ℤ◌, ◌∙◌, refl, sym, ap, subst, arith, ℤ, pos, negsuc, neg_ℤ, ◌+ℤ◌, ◌-ℤ◌, ◌*ℤ◌, Bool, true, false, cond, ◌&&◌, Result, Ok, Err}
+use Rattle.std.proofs.Common.{◌≡◌, ◌↔◌, ℕ, zero, suc, ◌*◌, ◌/◌, ◌^◌, ◌<◌, ◌≤◌, ◌≤ℤ◌, refl, sym, ap, subst, arith, ℤ, pos, negsuc, neg_ℤ, ◌+ℤ◌, ◌*ℤ◌, Bool, true, false, cond, ◌&&◌, Result, Ok, Err}
 use Rattle.std.proofs.lemmas.Int.{ints, quot-rem, rem_below}
 use Rattle.std.proofs.lemmas.Nat.{pow_pos}
 use Rattle.std.proofs.Math.Nat.{mod-le, div-le_self, div-mul-le_self, mul-le-mul_left}
 use Rattle.std.specs.Prelude.{int_le, int_div, int_rem, unsigned_abs, IsTrue}
-use Rattle.std.specs.Int.{int_div_euclid, int_rem_euclid}
+use Rattle.std.specs.Int.{int_div_euclid}
 use Rattle.cbi_base.specs.declared.scalar.Kind.{Kind}
 use Rattle.cbi_base.specs.declared.scalar.Kind.TheVariants.{Char, Int, Unsigned}
 use Rattle.cbi_base.specs.declared.trap.Trap.{Trap}
 use Rattle.cbi_base.specs.declared.trap.Trap.TheVariants.{Overflow, Divide, Shift}
-use Rattle.cbi_base.specs.Kind.{least_of, greatest_of, size_of, lies_in, wrapped, LiesIn}
+use Rattle.cbi_base.specs.Kind.{least_of, lies_in, wrapped, LiesIn}
 use Rattle.cbi_base.specs.Arithmetic.{fitted, is_zero, quotient, remainder, is_count, two_to, left_shift, right_shift}
 use Rattle.c_values.specs.Laws.{IsModulo, IsDivision, IsRoundedDown}
-use Rattle.c_values.proofs.Ranges.{int_rem_euclid-parts, LiesIn-ends, ends-LiesIn, wrapped-LiesIn}
+use Rattle.c_values.proofs.Ranges.{LiesIn-ends, ends-LiesIn}
 use Rattle.c_values.proofs.Modulo.{wrapped-IsModulo, wrapped-inside}
 
 -- what a test lets through, and what it stops

@@ -1,10 +1,10 @@
 -- A number taken into a kind's range is the one value there that differs from it by a multiple of the kind's size.
-use Rattle.std.proofs.Common.{◌≡◌, ℕ, ◌+◌, ◌-◌, ◌*◌, ◌^◌, ◌<◌, ◌≤◌, ◌≤ℤ◌, ◌∙◌, refl, sym, ap, arith, ℤ, pos, negsuc, ◌+ℤ◌, ◌-ℤ◌, ◌*ℤ◌}
+use Rattle.std.proofs.Common.{◌≡◌, ◌∙◌, sym, arith, ℤ, pos, ◌+ℤ◌, ◌-ℤ◌, ◌*ℤ◌}
 use Rattle.std.proofs.lemmas.Int.{ints}
-use Rattle.std.specs.Int.{int_div_euclid, int_rem_euclid}
+use Rattle.std.specs.Int.{int_div_euclid}
 use Rattle.cbi_base.specs.declared.scalar.Kind.{Kind}
 use Rattle.cbi_base.specs.declared.scalar.Kind.TheVariants.{Char, Int, Unsigned}
-use Rattle.cbi_base.specs.Kind.{least_of, greatest_of, size_of, wrapped, LiesIn}
+use Rattle.cbi_base.specs.Kind.{least_of, size_of, wrapped, LiesIn}
 use Rattle.c_values.specs.Laws.{IsModulo}
 use Rattle.c_values.proofs.Ranges.{int_rem_euclid-parts, LiesIn-ends, wrapped-LiesIn}
 

@@ -1,16 +1,16 @@
 -- An undefined operand, and nothing else, is trap Undefined.
-use Rattle.std.proofs.Common.{◌≡◌, ◌⊎◌, inl, inr, ◌↔◌, refl, sym, ap, subst, ℤ, pos, Bool, true, false, cond, Result, Ok, Err}
+use Rattle.std.proofs.Common.{◌≡◌, ◌⊎◌, inl, inr, ◌↔◌, refl, ℤ, Bool, true, false, cond, Result, Ok, Err}
 use Rattle.cbi_base.specs.declared.scalar.Kind.{Kind}
 use Rattle.cbi_base.specs.declared.scalar.Kind.TheVariants.{Char, Int, Unsigned}
 use Rattle.cbi_base.specs.declared.scalar.Scalar.{Scalar}
 use Rattle.cbi_base.specs.declared.scalar.Scalar.TheVariants.{Number, Place, Null, Undefined}
 use Rattle.cbi_base.specs.declared.operators.Binary.{Binary}
-use Rattle.cbi_base.specs.declared.operators.Binary.TheVariants.{Add, Sub, Mul, Div, Rem, Shl, Shr, And, Or, Xor, Lt, Le, Gt, Ge, Eq, Ne}
+use Rattle.cbi_base.specs.declared.operators.Binary.TheVariants.{Add, Sub, Mul, Div, Rem, Shl, Shr}
 use Rattle.cbi_base.specs.declared.operators.Unary.{Unary}
 use Rattle.cbi_base.specs.declared.operators.Unary.TheVariants.{Neg, Com, Not}
 use Rattle.cbi_base.specs.declared.trap.Trap.{Trap}
 use Rattle.cbi_base.specs.declared.trap.Trap.TheVariants as trap
-use Rattle.cbi_base.specs.Arithmetic.{fitted, quotient, remainder, left_shift, right_shift, binary_value, kind_given, complement}
+use Rattle.cbi_base.specs.Arithmetic.{fitted, left_shift, binary_value, kind_given, complement}
 use Rattle.cbi_base.specs.Scalars.{as_number, promoted, takes, applied, applied_to_one, converted, truth_of}
 
 -- a value, or another trap

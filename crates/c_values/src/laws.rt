@@ -18,8 +18,7 @@ pub fn conversion_laws()
     ensures is_modulo { (kind : Kind) (exact : ℤ) → IsModulo kind exact (wrapped kind exact) }
     ensures is_alone { (kind : Kind) (exact value : ℤ) → IsModulo kind exact value → value ≡ wrapped kind exact }
     ensures stays { (kind : Kind) (value : ℤ) → LiesIn kind value → wrapped kind value ≡ value }
-{
-}
+{}
 
 /// Sums, differences, products and negations are the exact result modulo the kind's size. Those of `int` are the exact result itself,
 /// and trap Overflow exactly where `int` can't hold it.
@@ -27,8 +26,7 @@ pub fn result_laws()
     ensures is_modulo { (kind : Kind) (exact value : ℤ) → fitted kind exact ≡ Ok value → IsModulo kind exact value }
     ensures int_is_exact { (exact value : ℤ) → fitted Kind.Int exact ≡ Ok value → value ≡ exact }
     ensures int_overflow { (exact : ℤ) → (fitted Kind.Int exact ≡ Err Trap.Overflow) ↔ ¬ (LiesIn Kind.Int exact) }
-{
-}
+{}
 
 /// Quotient and remainder make the dividend (C99 6.5.5p6). They trap exactly where the divisor is zero, and where the least `int` is
 /// divided by -1.
@@ -38,16 +36,14 @@ pub fn division_laws()
     ensures remainder_by_zero { (kind : Kind) (left right : ℤ) → (remainder kind left right ≡ Err Trap.Divide) ↔ (right ≡ pos 0) }
     ensures quotient_overflow { (left right : ℤ) → LiesIn Kind.Int left → (quotient Kind.Int left right ≡ Err Trap.Overflow) ↔ ((left ≡ least_of Kind.Int) × (right ≡ negsuc 0)) }
     ensures remainder_overflow { (left right : ℤ) → LiesIn Kind.Int left → (remainder Kind.Int left right ≡ Err Trap.Overflow) ↔ ((left ≡ least_of Kind.Int) × (right ≡ negsuc 0)) }
-{
-}
+{}
 
 /// A left shift multiplies, modulo the kind's size and for `int` exactly; a right shift divides, rounded down (C99 6.5.7).
 pub fn shift_laws()
     ensures left { (kind : Kind) (left count value : ℤ) → left_shift kind left count ≡ Ok value → IsModulo kind (left *ℤ two_to count) value }
     ensures int_is_exact { (left count value : ℤ) → left_shift Kind.Int left count ≡ Ok value → value ≡ left *ℤ two_to count }
     ensures right { (left count value : ℤ) → right_shift left count ≡ Ok value → IsRoundedDown left (two_to count) value }
-{
-}
+{}
 
 /// Each of the 32 bits of the answer is made of the operands' bits at its place (C99 6.5.3.3, 6.5.10 to 6.5.12).
 pub fn bit_laws()
@@ -55,8 +51,7 @@ pub fn bit_laws()
     ensures or { (kind : Kind) → IsTrue (is_promoted kind) → (left right : ℤ) (i : ℕ) → bit_at (bits_of (bitwise bit_or kind left right)) i ≡ max (bit_at (bits_of left) i) (bit_at (bits_of right) i) }
     ensures xor { (kind : Kind) → IsTrue (is_promoted kind) → (left right : ℤ) (i : ℕ) → bit_at (bits_of (bitwise bit_xor kind left right)) i ≡ (bit_at (bits_of left) i + bit_at (bits_of right) i) % 2 }
     ensures complement { (kind : Kind) → IsTrue (is_promoted kind) → (value : ℤ) (i : ℕ) → i < 32 → bit_at (bits_of (complement kind value)) i ≡ 1 - bit_at (bits_of value) i }
-{
-}
+{}
 
 /// Trap Undefined comes exactly where an operand is undefined, whatever the other one is.
 pub fn trap_laws()
@@ -64,5 +59,4 @@ pub fn trap_laws()
     ensures unary { (op : Unary) (value : Scalar) → (applied_to_one op value ≡ Err Trap.Undefined) ↔ (value ≡ Scalar.Undefined) }
     ensures conversion { (kind : Kind) (value : Scalar) → (converted kind value ≡ Err Trap.Undefined) ↔ (value ≡ Scalar.Undefined) }
     ensures truth { (value : Scalar) → (truth_of value ≡ Err Trap.Undefined) ↔ (value ≡ Scalar.Undefined) }
-{
-}
+{}
