@@ -21,7 +21,8 @@ quotient_size (negsuc a) (negsuc d) = div-le_self (suc a) (suc d)
 pub quotient_fits : (kind : Kind) (a d : ℤ) → LiesIn kind a → FitsSigned w64 (int_div a d)
 quotient_fits kind a d h = fits_signed_from_abs w64 (int_div a d) (omega (arith, quotient_size a d, size_below kind a h))
 
-pub quotient_of : (kind : Kind) (a d : ℤ) → LiesIn kind a → FitsSigned w64 a → FitsSigned w64 d → to_z w64 (of_z w64 (int_div (to_z w64 (of_z w64 a)) (to_z w64 (of_z w64 d)))) ≡ int_div a d
+pub quotient_of : (kind : Kind) (a d : ℤ) → LiesIn kind a → FitsSigned w64 a → FitsSigned w64 d →
+    to_z w64 (of_z w64 (int_div (to_z w64 (of_z w64 a)) (to_z w64 (of_z w64 d)))) ≡ int_div a d
 quotient_of kind a d h fits divisor = quot_is w64 a d fits divisor (quotient_fits kind a d h)
 
 -- a divisor whose bits aren't all zero
@@ -39,12 +40,18 @@ remainder_nearer (pos a) d = (a % unsigned_abs d, (refl, mod-le a (unsigned_abs 
 remainder_nearer (negsuc a) d = (suc a % unsigned_abs d, (refl, mod-le (suc a) (unsigned_abs d)))
 
 nearer-LiesIn : (kind : Kind) (a r : ℤ) → IsNearer r a → LiesIn kind a → LiesIn kind r
-nearer-LiesIn Char (pos a) r (n, (is, below)) h = let ends = LiesIn-ends Char (pos a) h in ends-LiesIn Char r (omega (arith, ints)) (omega (arith, ints))
-nearer-LiesIn Char (negsuc a) r (n, (is, below)) h = let ends = LiesIn-ends Char (negsuc a) h in ends-LiesIn Char r (omega (arith, ints)) (omega (arith, ints))
-nearer-LiesIn Int (pos a) r (n, (is, below)) h = let ends = LiesIn-ends Int (pos a) h in ends-LiesIn Int r (omega (arith, ints)) (omega (arith, ints))
-nearer-LiesIn Int (negsuc a) r (n, (is, below)) h = let ends = LiesIn-ends Int (negsuc a) h in ends-LiesIn Int r (omega (arith, ints)) (omega (arith, ints))
-nearer-LiesIn Unsigned (pos a) r (n, (is, below)) h = let ends = LiesIn-ends Unsigned (pos a) h in ends-LiesIn Unsigned r (omega (arith, ints)) (omega (arith, ints))
-nearer-LiesIn Unsigned (negsuc a) r (n, (is, below)) h = let ends = LiesIn-ends Unsigned (negsuc a) h in ends-LiesIn Unsigned r (omega (arith, ints)) (omega (arith, ints))
+nearer-LiesIn Char (pos a) r (n, (is, below)) h =
+    let ends = LiesIn-ends Char (pos a) h in ends-LiesIn Char r (omega (arith, ints)) (omega (arith, ints))
+nearer-LiesIn Char (negsuc a) r (n, (is, below)) h =
+    let ends = LiesIn-ends Char (negsuc a) h in ends-LiesIn Char r (omega (arith, ints)) (omega (arith, ints))
+nearer-LiesIn Int (pos a) r (n, (is, below)) h =
+    let ends = LiesIn-ends Int (pos a) h in ends-LiesIn Int r (omega (arith, ints)) (omega (arith, ints))
+nearer-LiesIn Int (negsuc a) r (n, (is, below)) h =
+    let ends = LiesIn-ends Int (negsuc a) h in ends-LiesIn Int r (omega (arith, ints)) (omega (arith, ints))
+nearer-LiesIn Unsigned (pos a) r (n, (is, below)) h =
+    let ends = LiesIn-ends Unsigned (pos a) h in ends-LiesIn Unsigned r (omega (arith, ints)) (omega (arith, ints))
+nearer-LiesIn Unsigned (negsuc a) r (n, (is, below)) h =
+    let ends = LiesIn-ends Unsigned (negsuc a) h in ends-LiesIn Unsigned r (omega (arith, ints)) (omega (arith, ints))
 
 pub remainder-LiesIn : (kind : Kind) (a d : ℤ) → LiesIn kind a → LiesIn kind (int_rem a d)
 remainder-LiesIn kind a d h = nearer-LiesIn kind a (int_rem a d) (remainder_nearer a d) h

@@ -9,7 +9,8 @@ use Rattle.cbi_base.specs.Kind.{least_of, greatest_of, size_of, wrapped, LiesIn}
 use borrow.Author.Differences.{up, down}
 
 -- the quotient that rounds down, and the remainder that it leaves, which `omega` reads as differences of whole numbers
-pub int_rem_euclid-parts : (a : ℤ) (k : ℕ) → 0 < k → (up (int_rem_euclid a (pos k)) + up (int_div_euclid a (pos k)) * k + down a ≡ down (int_div_euclid a (pos k)) * k + up a) × (down (int_rem_euclid a (pos k)) ≡ 0) × (up (int_rem_euclid a (pos k)) < k)
+pub int_rem_euclid-parts : (a : ℤ) (k : ℕ) → 0 < k →
+    (up (int_rem_euclid a (pos k)) + up (int_div_euclid a (pos k)) * k + down a ≡ down (int_div_euclid a (pos k)) * k + up a) × (down (int_rem_euclid a (pos k)) ≡ 0) × (up (int_rem_euclid a (pos k)) < k)
 int_rem_euclid-parts (pos a) k h = omega arith
 int_rem_euclid-parts (negsuc a) k h = omega arith
 

@@ -21,7 +21,8 @@ guarded : (test : Bool) (value : ℤ) (stop : Trap) → ¬ (stop ≡ trap.Undefi
 guarded true value stop h e = cc
 guarded false value stop h e = h (cc)
 
-checked : (test : Bool) (value : Result ℤ Trap) (stop : Trap) → ¬ (stop ≡ trap.Undefined) → IsOther value → IsOther (cond test (Err stop) value)
+checked : (test : Bool) (value : Result ℤ Trap) (stop : Trap) → ¬ (stop ≡ trap.Undefined) → IsOther value →
+    IsOther (cond test (Err stop) value)
 checked true value stop h k e = h (cc)
 checked false value stop h k e = k e
 
@@ -49,7 +50,8 @@ numbered_other : (kind : Kind) (value : Result ℤ Trap) → IsOther value → �
 numbered_other kind (Ok value) h e = cc
 numbered_other kind (Err t) h e = h (cc)
 
-taken_other : (fits : Bool) (kind : Kind) (value : Result ℤ Trap) → IsOther value → ¬ (cond fits (as_number kind value) (Err trap.Internal) ≡ Err trap.Undefined)
+taken_other : (fits : Bool) (kind : Kind) (value : Result ℤ Trap) → IsOther value →
+    ¬ (cond fits (as_number kind value) (Err trap.Internal) ≡ Err trap.Undefined)
 taken_other true kind value h e = numbered_other kind value h e
 taken_other false kind value h e = cc
 
@@ -59,7 +61,8 @@ only op Undefined right e = inl refl
 only op (Number kind a) Undefined e = inr refl
 only op (Place object offset) Undefined e = inr refl
 only op Null Undefined e = inr refl
-only op (Number kind a) (Number other b) e = absurd (taken_other (takes op kind other) (kind_given op kind) (binary_value op kind a b) (binary_other op kind a b) e)
+only op (Number kind a) (Number other b) e =
+    absurd (taken_other (takes op kind other) (kind_given op kind) (binary_value op kind a b) (binary_other op kind a b) e)
 only op (Number kind a) (Place object offset) e = cc
 only op (Number kind a) Null e = cc
 only op (Place object offset) (Number kind b) e = cc
@@ -80,9 +83,11 @@ undefined_right op (Place object offset) right e = rw e refl
 undefined_right op Null right e = rw e refl
 undefined_right op Undefined right e = refl
 
-pub applied-Undefined : (op : Binary) (left right : Scalar) → (applied op left right ≡ Err trap.Undefined) ↔ ((left ≡ Undefined) ⊎ (right ≡ Undefined))
+pub applied-Undefined : (op : Binary) (left right : Scalar) →
+    (applied op left right ≡ Err trap.Undefined) ↔ ((left ≡ Undefined) ⊎ (right ≡ Undefined))
 applied-Undefined op left right =
-    let back : (left ≡ Undefined) ⊎ (right ≡ Undefined) → applied op left right ≡ Err trap.Undefined = λ h. elim h [ inl e ↦ undefined_left op left right e | inr e ↦ undefined_right op left right e ] in
+    let back : (left ≡ Undefined) ⊎ (right ≡ Undefined) → applied op left right ≡ Err trap.Undefined =
+    λ h. elim h [ inl e ↦ undefined_left op left right e | inr e ↦ undefined_right op left right e ] in
     (only op left right, back)
 
 promoted_other : (kind : Kind) (value : Result ℤ Trap) → IsOther value → ¬ (promoted kind value ≡ Err trap.Undefined)
@@ -90,7 +95,8 @@ promoted_other Char value h e = cc
 promoted_other Int value h e = numbered_other Int value h e
 promoted_other Unsigned value h e = numbered_other Unsigned value h e
 
-pub applied_to_one-Undefined : (op : Unary) (value : Scalar) → (applied_to_one op value ≡ Err trap.Undefined) ↔ (value ≡ Undefined)
+pub applied_to_one-Undefined : (op : Unary) (value : Scalar) →
+    (applied_to_one op value ≡ Err trap.Undefined) ↔ (value ≡ Undefined)
 unfolding applied_to_one
 applied_to_one-Undefined Neg (Number kind a) = (λ e. absurd (promoted_other kind _ (fitted_other kind _) e), λ e. cc)
 applied_to_one-Undefined Com (Number kind a) = (λ e. absurd (promoted_other kind (Ok (complement kind a)) (λ f. cc) e), λ e. cc)

@@ -83,8 +83,8 @@ fn apply_to_numbers(
     })
 }
 
-/// An operation on two values (C99 6.5.5 to 6.5.14). An undefined operand is trap Undefined, then any other value or kind that the
-/// operation doesn't take trap Internal.
+/// An operation on two values (C99 6.5.5 to 6.5.14). An undefined operand is trap Undefined, then any other value or kind
+/// that the operation doesn't take trap Internal.
 #[tactic(auto, unfolding(cbi_base::specs::Scalars::applied))]
 pub fn apply_binary(op: Binary, left: Scalar, right: Scalar) -> Result<Scalar, Trap>
     requires left { IsInRange left }

@@ -49,8 +49,8 @@ fn invert(kind: Kind, value: i64) -> Result<Scalar, Trap>
     })
 }
 
-/// `-` and `~` of an `int` or `unsigned` number, and `!` of any value (C99 6.5.3.3). Undefined is trap Undefined, any other value
-/// that the operation doesn't take trap Internal.
+/// `-` and `~` of an `int` or `unsigned` number, and `!` of any value (C99 6.5.3.3). Undefined is trap Undefined, any other
+/// value that the operation doesn't take trap Internal.
 #[tactic(auto, unfolding(cbi_base::specs::Scalars::applied_to_one))]
 pub fn apply_unary(op: Unary, value: Scalar) -> Result<Scalar, Trap>
     requires { IsInRange value }
