@@ -1,15 +1,16 @@
 -- Laws of the kinds' ranges and of a number that is taken into one.
-use Rattle.std.proofs.Common.{◌≡◌, ℕ, ◌+◌, ◌-◌, ◌*◌, ◌<◌, ◌≤◌, ◌≤ℤ◌, Bool, true, false, ◌&&◌, refl, sym, ap, arith, ℤ, pos, negsuc, ◌+ℤ◌, ◌-ℤ◌, ◌*ℤ◌}
+use Rattle.std.proofs.Common.{◌≡◌, ℕ, ◌+◌, ◌*◌, ◌^◌, ◌<◌, ◌≤ℤ◌, Bool, ◌&&◌, arith, ℤ, pos, negsuc, ◌-ℤ◌}
 use Rattle.std.proofs.lemmas.Int.{ints}
 use Rattle.std.specs.Int.{int_div_euclid, int_rem_euclid}
-use Rattle.std.specs.Prelude.{int_le, IsTrue}
+use Rattle.std.specs.Prelude.{int_le, unsigned_abs, IsTrue}
 use Rattle.cbi_base.specs.declared.scalar.Kind.{Kind}
 use Rattle.cbi_base.specs.declared.scalar.Kind.TheVariants.{Char, Int, Unsigned}
-use Rattle.cbi_base.specs.Kind.{least_of, greatest_of, size_of, lies_in, wrapped, LiesIn}
-use borrow.Author.Differences.{up, down, same_in, at_most_in}
+use Rattle.cbi_base.specs.Kind.{least_of, greatest_of, size_of, wrapped, LiesIn}
+use borrow.Author.Differences.{up, down}
 
 -- the quotient that rounds down, and the remainder that it leaves, which `omega` reads as differences of whole numbers
-pub int_rem_euclid-parts : (a : ℤ) (k : ℕ) → 0 < k → (up (int_rem_euclid a (pos k)) + up (int_div_euclid a (pos k)) * k + down a ≡ down (int_div_euclid a (pos k)) * k + up a) × (down (int_rem_euclid a (pos k)) ≡ 0) × (up (int_rem_euclid a (pos k)) < k)
+pub int_rem_euclid-parts : (a : ℤ) (k : ℕ) → 0 < k →
+    (up (int_rem_euclid a (pos k)) + up (int_div_euclid a (pos k)) * k + down a ≡ down (int_div_euclid a (pos k)) * k + up a) × (down (int_rem_euclid a (pos k)) ≡ 0) × (up (int_rem_euclid a (pos k)) < k)
 int_rem_euclid-parts (pos a) k h = omega arith
 int_rem_euclid-parts (negsuc a) k h = omega arith
 
@@ -40,3 +41,9 @@ wrapped-LiesIn Int value =
 wrapped-LiesIn Unsigned value =
     let rest = int_rem_euclid-parts (value -ℤ least_of Unsigned) (size_of Unsigned) (omega arith) in
     ends-LiesIn Unsigned (wrapped Unsigned value) (omega (arith, ints)) (omega (arith, ints))
+
+-- a number of a kind has fewer than 33 bits
+pub size_below : (kind : Kind) (a : ℤ) → LiesIn kind a → unsigned_abs a < 2 ^ 32
+size_below Char a h = let ends = LiesIn-ends Char a h in omega (arith, ints)
+size_below Int a h = let ends = LiesIn-ends Int a h in omega (arith, ints)
+size_below Unsigned a h = let ends = LiesIn-ends Unsigned a h in omega (arith, ints)

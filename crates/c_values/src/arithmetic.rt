@@ -1,9 +1,31 @@
-ghost use Rattle.std.specs.Prelude.{◌≡◌, ◌*ℤ◌, IfOk};
+ghost use Rattle.std.specs.Prelude.{◌≡◌, ◌+ℤ◌, ◌-ℤ◌, ◌*ℤ◌, IfOk};
 ghost use Rattle.cbi_base.specs.Kind.{LiesIn, wrapped};
 ghost use Rattle.cbi_base.specs.Arithmetic.{fitted, quotient, remainder};
 
 use crate::range::{fit, lies_in};
 use cbi_base::{Kind, Trap};
+
+/// The sum in a kind.
+#[tactic(auto, using(crate::proofs::Ranges::size_below))]
+pub fn add(kind: Kind, left: i64, right: i64) -> Result<i64, Trap>
+    requires left { LiesIn kind left }
+    requires right { LiesIn kind right }
+    ensures value { result ≡ fitted kind (left +ℤ right) }
+    ensures in_range { IfOk result (LiesIn kind) }
+{
+    fit(kind, left + right)
+}
+
+/// The difference in a kind.
+#[tactic(auto, using(crate::proofs::Ranges::size_below))]
+pub fn subtract(kind: Kind, left: i64, right: i64) -> Result<i64, Trap>
+    requires left { LiesIn kind left }
+    requires right { LiesIn kind right }
+    ensures value { result ≡ fitted kind (left -ℤ right) }
+    ensures in_range { IfOk result (LiesIn kind) }
+{
+    fit(kind, left - right)
+}
 
 /// The product of two `unsigned` numbers, modulo 2^32: the exact one can be too great for an `i64`.
 fn unsigned_product(left: i64, right: i64) -> i64
@@ -16,7 +38,7 @@ fn unsigned_product(left: i64, right: i64) -> i64
 }
 
 /// The product in a kind.
-pub fn product(kind: Kind, left: i64, right: i64) -> Result<i64, Trap>
+pub fn multiply(kind: Kind, left: i64, right: i64) -> Result<i64, Trap>
     requires left { LiesIn kind left }
     requires right { LiesIn kind right }
     ensures value { result ≡ fitted kind (left *ℤ right) }
@@ -41,7 +63,7 @@ pub fn divide(kind: Kind, left: i64, right: i64) -> Result<i64, Trap>
 }
 
 /// The remainder, with the dividend's sign. It traps where the quotient does.
-pub fn rest(kind: Kind, left: i64, right: i64) -> Result<i64, Trap>
+pub fn remainder(kind: Kind, left: i64, right: i64) -> Result<i64, Trap>
     requires left { LiesIn kind left }
     ensures value { result ≡ remainder kind left right }
     ensures in_range { IfOk result (LiesIn kind) }

@@ -21,7 +21,7 @@ fn from_bits(kind: Kind, bits: u32) -> i64
 }
 
 /// The bits that both numbers have.
-pub fn both(kind: Kind, left: i64, right: i64) -> i64
+pub fn and(kind: Kind, left: i64, right: i64) -> i64
     ensures value { result ≡ bitwise bit_and kind left right }
     ensures in_range { LiesIn kind result }
 {
@@ -29,7 +29,7 @@ pub fn both(kind: Kind, left: i64, right: i64) -> i64
 }
 
 /// The bits that one of the numbers has.
-pub fn either(kind: Kind, left: i64, right: i64) -> i64
+pub fn or(kind: Kind, left: i64, right: i64) -> i64
     ensures value { result ≡ bitwise bit_or kind left right }
     ensures in_range { LiesIn kind result }
 {
@@ -37,7 +37,7 @@ pub fn either(kind: Kind, left: i64, right: i64) -> i64
 }
 
 /// The bits in which the numbers differ.
-pub fn difference(kind: Kind, left: i64, right: i64) -> i64
+pub fn xor(kind: Kind, left: i64, right: i64) -> i64
     ensures value { result ≡ bitwise bit_xor kind left right }
     ensures in_range { LiesIn kind result }
 {

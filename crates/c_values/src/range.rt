@@ -1,6 +1,6 @@
 ghost use Rattle.std.specs.Prelude.{◌≡◌, ℤ, pos, negsuc, ◌≤ℤ◌, ◌^◌, IfOk, Ok, Err};
 ghost use Rattle.cbi_base.specs.Kind.{least_of, greatest_of, size_of, lies_in, wrapped, LiesIn};
-ghost use Rattle.cbi_base.specs.Arithmetic.{fitted};
+ghost use Rattle.cbi_base.specs.Arithmetic.{fitted, flag};
 
 use cbi_base::{Kind, Trap};
 
@@ -49,7 +49,11 @@ pub fn wrap(kind: Kind, value: i64) -> i64
     ensures in_range { LiesIn kind result }
 {
     let rest = value.rem_euclid(size(kind));
-    if rest > greatest(kind) { rest - size(kind) } else { rest }
+    if rest > greatest(kind) {
+        rest - size(kind)
+    } else {
+        rest
+    }
 }
 
 /// An exact result in a kind: an `unsigned` one wraps, an `int` one out of range is trap Overflow.
@@ -62,4 +66,12 @@ pub fn fit(kind: Kind, exact: i64) -> Result<i64, Trap>
         Kind::Char | Kind::Int if lies_in(kind, exact) => Ok(exact),
         Kind::Char | Kind::Int => Err(Trap::Overflow),
     }
+}
+
+/// What a comparison and `!` give: 1 where it holds, else 0.
+pub fn flag(holds: bool) -> i64
+    ensures value { result ≡ flag holds }
+    ensures in_range { LiesIn Kind.Int result }
+{
+    if holds { 1 } else { 0 }
 }

@@ -29,7 +29,8 @@ fn scaled(kind: Kind, left: i64, count: i64) -> i64
     left * two_to(count)
 }
 
-/// The number times 2 to the count. An `unsigned` result wraps; a negative `int` and an `int` result out of range are trap Shift.
+/// The number times 2 to the count. An `unsigned` result wraps; a negative `int` and an `int` result out of range are trap
+/// Shift.
 pub fn shift_left(kind: Kind, left: i64, count: i64) -> Result<i64, Trap>
     requires left { LiesIn kind left }
     ensures value { result ≡ left_shift kind left count }

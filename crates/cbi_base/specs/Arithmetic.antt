@@ -1,4 +1,5 @@
--- What an operation gives of two numbers of one kind, as whole numbers, or the trap that stops the run (C99 6.5.5 to 6.5.14).
+-- What an operation gives of two numbers of one kind, as whole numbers, or the trap that stops the run (C99 6.5.5 to
+-- 6.5.14).
 use Rattle.std.specs.Prelude.{ℕ, ◌^◌, ◌-◌, Bool, not, ◌&&◌, if◌then◌else◌, ℤ, pos, ◌+ℤ◌, ◌-ℤ◌, ◌*ℤ◌, int_lt, int_le, int_div, int_rem, unsigned_abs, bit_and, bit_or, bit_xor, Result, Ok, Err}
 use Rattle.std.specs.Int.{int_rem_euclid, int_div_euclid}
 use Rattle.std.specs.Ordering.{int_eq}
@@ -10,7 +11,8 @@ use Rattle.cbi_base.specs.declared.trap.Trap.{Trap}
 use Rattle.cbi_base.specs.declared.trap.Trap.TheVariants.{Overflow, Divide, Shift}
 use Rattle.cbi_base.specs.Kind.{lies_in, wrapped}
 
--- An exact result in a kind: `unsigned` wraps (C99 6.2.5p9); out of the range of `int` is a trap, where C99 6.5p5 leaves it open.
+-- An exact result in a kind: `unsigned` wraps (C99 6.2.5p9); out of the range of `int` is a trap, where C99 6.5p5 leaves
+-- the behaviour undefined.
 abbrev pub fitted : Kind → ℤ → Result ℤ Trap
 fitted Unsigned exact = Ok (wrapped Unsigned exact)
 fitted kind exact = if lies_in kind exact then Ok exact else Err Overflow
@@ -36,7 +38,8 @@ is_count count = int_le (pos 0) count && int_le count (pos 31)
 abbrev pub two_to : ℤ → ℤ
 two_to count = pos (2 ^ unsigned_abs count)
 
--- The number times 2 to the count (C99 6.5.7p4): `unsigned` wraps; for `int` a negative number and a result out of range are traps.
+-- The number times 2 to the count (C99 6.5.7p4): `unsigned` wraps; for `int` a negative number and a result out of range
+-- are traps, where the standard leaves the behaviour undefined.
 abbrev pub left_shift : Kind → ℤ → ℤ → Result ℤ Trap
 left_shift Unsigned left count = if is_count count then Ok (wrapped Unsigned (left *ℤ two_to count)) else Err Shift
 left_shift kind left count =
@@ -44,7 +47,7 @@ left_shift kind left count =
     then Ok (left *ℤ two_to count)
     else Err Shift
 
--- the number over 2 to the count, rounded down (C99 6.5.7p5)
+-- the number over 2 to the count, rounded down (C99 6.5.7p5; for a negative number the standard leaves it open)
 abbrev pub right_shift : ℤ → ℤ → Result ℤ Trap
 right_shift left count = if is_count count then Ok (int_div_euclid left (two_to count)) else Err Shift
 

@@ -1,4 +1,5 @@
--- The ranges of the arithmetic types, as whole numbers (C99 6.2.5): `char` has 8 bits and a sign, `int` and `unsigned` have 32 bits.
+-- The ranges of the arithmetic types, as whole numbers (C99 6.2.5): `char` has 8 bits and a sign, `int` and `unsigned`
+-- have 32 bits.
 use Rattle.std.specs.Prelude.{ℕ, ◌^◌, Bool, ◌&&◌, ℤ, pos, neg_ℤ, ◌+ℤ◌, ◌-ℤ◌, int_le, IsTrue}
 use Rattle.std.specs.Int.{int_rem_euclid}
 use Rattle.cbi_base.specs.declared.scalar.Kind.{Kind}
@@ -27,6 +28,7 @@ lies_in kind value = int_le (least_of kind) value && int_le value (greatest_of k
 abbrev pub LiesIn : Kind → ℤ → Type 0
 LiesIn kind value = IsTrue (lies_in kind value)
 
--- The number modulo the kind's size, taken into the kind's range: from the least value on by what the distance to it leaves over (C99 6.3.1.3)
+-- The number modulo the kind's size, taken into the kind's range (C99 6.3.1.3): the distance from the least value, modulo
+-- the size, is counted on from the least value.
 abbrev pub wrapped : Kind → ℤ → ℤ
 wrapped kind value = least_of kind +ℤ int_rem_euclid (value -ℤ least_of kind) (pos (size_of kind))

@@ -1,6 +1,3 @@
-use Rattle.std.proofs.Common.{◌≡◌, false, arith, to_z, of_z, w64}
-use Rattle.std.specs.Prelude.{int_div}
-use Rattle.cbi_base.specs.Arithmetic.{is_zero}
 use Rattle.c_values.proofs.Division.{quotient_of, is_zero-false}
 use Rattle.c_values.proofs.arithmetic.divide.Goals as goal
 

@@ -1,10 +1,9 @@
-use Rattle.std.proofs.Common.{◌≡◌, ◌∙◌, sym, refl, true, false, to_z, of_z, w64}
+use Rattle.std.proofs.Common.{◌≡◌, ◌∙◌, sym, refl, true, false, w64}
 use Rattle.std.proofs.lemmas.Int.{rem_is}
 use Rattle.std.specs.Prelude.{int_div}
 use Rattle.cbi_base.specs.Kind.{lies_in}
-use Rattle.cbi_base.specs.Arithmetic.{is_zero}
 use Rattle.c_values.proofs.Division.{quotient_of, is_zero-false, remainder-LiesIn}
-use Rattle.c_values.proofs.arithmetic.rest.Goals as goal
+use Rattle.c_values.proofs.arithmetic.remainder.Goals as goal
 
 pub returns-then-not-lies_in-clause-value : goal.returns-then-not-lies_in-clause-value
 returns-then-not-lies_in-clause-value c =
