@@ -3,3 +3,6 @@ pub mod Trap
 pub mod Faults
 pub mod Store
 pub mod Sink
+pub mod Failing
+pub mod MemSink
+pub mod MemStore

@@ -1,6 +1,8 @@
 //! What every crate of the tool speaks of: values and operations, traps, outcomes, names, identities.
 #![tactic(auto)]
 
+mod mem_sink;
+mod mem_store;
 mod memory;
 mod name;
 mod operators;
@@ -10,6 +12,8 @@ mod sink;
 mod store;
 mod trap;
 
+pub use mem_sink::MemSink;
+pub use mem_store::{File, MemStore};
 pub use memory::Memory;
 pub use name::{Name, is_name};
 pub use operators::{Binary, Order, Unary};
