@@ -4,5 +4,6 @@ pub mod Faults
 pub mod Store
 pub mod Sink
 pub mod Failing
-pub mod MemSink
 pub mod MemStore
+pub mod MemSink
+pub mod StdSink
