@@ -119,3 +119,51 @@ impl<R: Files + Input + Drop> Store for FileStore<R> {
 
     ghost tells = { λ _ never. absurd never };
 }
+
+#[cfg(test)]
+mod tests {
+    use super::*;
+    use std::test::Fail;
+
+    fn read_by<S: Store>(
+        alloc: Global,
+        store: &mut S,
+        name: &str,
+        max: u64,
+    ) -> Result<Vec<u8>, StoreError> {
+        store.read(alloc, name, max)
+    }
+
+    #[test]
+    fn reads_and_replaces_a_file(rt: HostRuntime) -> Result<(), Fail> {
+        let alloc = rt.alloc();
+        let process = std::process::id(rt.process());
+        let name = format!(in alloc; "/tmp/cbi_base_{process}")?;
+        let mut store = FileStore::new(rt.clone()?);
+        assert!(rt; read_by(alloc, &mut store, name.as_str(), 9).is_err());
+        let cases: [(&[u8], u64, &[u8]); 5] = [
+            (b"hello", 9, b"hello"),
+            (b"hello", 4, b"hello"),
+            (b"hello", 3, b"hell"),
+            (b"by", 0, b"b"),
+            (b"", 0, b""),
+        ];
+        for (written, max, want) in cases {
+            store.write(alloc, name.as_str(), written)?;
+            assert_eq!(rt;
+                read_by(alloc, &mut store, name.as_str(), max)?.as_slice(),
+                want
+            );
+        }
+        let long = vec![in alloc; 7u8; 20000]?;
+        store.write(alloc, name.as_str(), long.as_slice())?;
+        assert_eq!(rt;
+            read_by(alloc, &mut store, name.as_str(), 19998)?.len(),
+            19999
+        );
+        fs::remove_file(&rt, name.as_str())?;
+        assert!(rt; store.write(alloc, "-", b"hello").is_err());
+        assert!(rt; store.write(alloc, "/nowhere/file", b"hello").is_err());
+        Ok(())
+    }
+}

@@ -2,6 +2,7 @@ ghost use Rattle.std.specs.Prelude.{◌≡◌, ◌≤◌, ◌↔◌, ◌⊎◌, 
 ghost use Rattle.std.proofs.Common.{rules};
 ghost use Rattle.std.specs.FinMap.{get, insert};
 ghost use Rattle.std.specs.List.{position};
+ghost use Rattle.std.specs.String.{string_bytes};
 ghost use Rattle.std.specs.Option.{option_copied};
 ghost use Rattle.cbi_base.specs.Faults.{last_count, next_count};
 ghost use Rattle.cbi_base.specs.Failing.{IsToFail, NoneIsToFail};
@@ -169,4 +170,80 @@ impl Store for MemStore {
     }
 
     ghost tells = { λ s _. Prim.search rules };
+}
+
+#[cfg(test)]
+mod tests {
+    use super::*;
+    use std::test::Fail;
+
+    fn file(alloc: Global, name: &str, bytes: &[u8]) -> Result<File, AllocError>
+        ensures { IfOk result (λ f. string_bytes f.name ≡ name.now) }
+    {
+        Ok(File {
+            name: String::from_str(alloc, name)?,
+            bytes: Vec::from_slice(alloc, bytes)?,
+        })
+    }
+
+    /// A step on any store: a write of these bytes, or else a read of at most `max` bytes. None where it failed.
+    fn step<S: Store>(
+        alloc: Global,
+        store: &mut S,
+        name: &str,
+        max: u64,
+        written: Option<&[u8]>,
+    ) -> Result<Option<Vec<u8>>, StoreError> {
+        let answer = match written {
+            None => store.read(alloc, name, max),
+            Some(bytes) => match store.write(alloc, name, bytes) {
+                Ok(()) => store.read(alloc, name, u64::MAX),
+                Err(e) => Err(e),
+            },
+        };
+        match answer {
+            Ok(bytes) => Ok(Some(bytes)),
+            Err(StoreError::Failed) => Ok(None),
+            Err(StoreError::Memory) => Err(StoreError::Memory),
+        }
+    }
+
+    #[test]
+    fn reads_writes_and_fails_by_number(rt: HostRuntime) -> Result<(), Fail> {
+        let alloc = rt.alloc();
+        let files = vec![in alloc; file(alloc, "a", b"hello")?, file(alloc, "none", b"")?]?;
+        let mut store = MemStore::new(files, vec![in alloc; 9, 11, 99]?);
+        let steps: [(&str, u64, Option<&[u8]>, Option<&[u8]>); 12] = [
+            ("a", 5, None, Some(b"hello")),
+            ("a", 4, None, Some(b"hello")),
+            ("a", 3, None, Some(b"hell")),
+            ("a", 0, None, Some(b"h")),
+            ("none", 0, None, Some(b"")),
+            ("b", 9, None, None),
+            ("b", 0, Some(b"new"), Some(b"new")),
+            // The ninth call is a read that is told to fail, and the eleventh a write.
+            ("a", 9, None, None),
+            ("a", 9, None, Some(b"hello")),
+            ("a", 0, Some(b"lost"), None),
+            ("a", 9, None, Some(b"hello")),
+            ("a", 0, Some(b"by"), Some(b"by")),
+        ];
+        for (index, (name, max, written, want)) in steps.iter().enumerate() {
+            let got = step(alloc, &mut store, name, *max, *written)?;
+            match (got, want) {
+                (None, None) => {}
+                (Some(bytes), Some(wanted)) => assert_eq!(rt;
+                    bytes.as_slice(),
+                    *wanted,
+                    "step {index}"
+                ),
+                _ => panic!(rt; "step {index} went otherwise"),
+            }
+        }
+        assert_eq!(rt; store.bytes_of("a"), Some(b"by".as_slice()));
+        assert_eq!(rt; store.bytes_of("b"), Some(b"new".as_slice()));
+        assert_eq!(rt; store.bytes_of("none"), Some(b"".as_slice()));
+        assert!(rt; store.bytes_of("c").is_none());
+        Ok(())
+    }
 }

@@ -80,3 +80,59 @@ impl<W: Write + Drop> Sink for StdSink<W> {
         Ok(())
     }
 }
+
+#[cfg(test)]
+mod tests {
+    use super::*;
+    use std::test::Fail;
+
+    /// Takes two bytes at a time, and nothing more once it is full.
+    #[derive(Drop)]
+    struct Narrow {
+        taken: Vec<u8>,
+        room: usize,
+        flushes: bool,
+    }
+
+    impl Write for Narrow {
+        fn write(&mut self, buf: &[u8]) -> io::Result<usize> {
+            let left = self.room.saturating_sub(self.taken.len());
+            let count = buf.len().min(left).min(2);
+            self.taken.extend_from_slice(&buf[..count])?;
+            Ok(count)
+        }
+
+        fn flush(&mut self) -> io::Result<()> {
+            if self.flushes {
+                Ok(())
+            } else {
+                Err(io::Error::from(ErrorKind::BrokenPipe))
+            }
+        }
+    }
+
+    fn put_by<S: Sink>(sink: &mut S, piece: &[u8]) -> Result<(), SinkError> {
+        sink.put(piece)
+    }
+
+    #[test]
+    fn takes_nothing_and_flushes_nothing(rt: HostRuntime) -> Result<(), Fail> {
+        let cases: [(usize, bool, &[u8], bool, &[u8]); 5] = [
+            (9, true, b"hello", true, b"hello"),
+            (5, true, b"hello", true, b"hello"),
+            (4, true, b"hello", false, b"hell"),
+            (9, false, b"hello", false, b"hello"),
+            (0, true, b"", true, b""),
+        ];
+        for (room, flushes, piece, whole, taken) in cases {
+            let mut sink = StdSink::new(Narrow {
+                taken: Vec::new(rt.alloc()),
+                room,
+                flushes,
+            });
+            assert_eq!(rt; put_by(&mut sink, piece).is_ok(), whole);
+            assert_eq!(rt; sink.to.taken.as_slice(), taken);
+        }
+        Ok(())
+    }
+}
