@@ -135,7 +135,7 @@ mod tests {
     }
 
     #[test]
-    fn reads_and_replaces_a_file(rt: HostRuntime) -> Result<(), Fail> {
+    fn reads_and_replaces_files(rt: HostRuntime) -> Result<(), Fail> {
         let alloc = rt.alloc();
         let process = std::process::id(rt.process());
         let name = format!(in alloc; "/tmp/cbi_base_{process}")?;

@@ -84,7 +84,7 @@ mod tests {
     }
 
     #[test]
-    fn takes_and_fails_by_number(rt: HostRuntime) -> Result<(), Fail> {
+    fn takes_or_fails_by_number(rt: HostRuntime) -> Result<(), Fail> {
         let alloc = rt.alloc();
         let mut sink = MemSink::new(vec![in alloc; 2, 4]?);
         let steps: [(&[u8], bool, &[u8]); 5] = [

@@ -114,7 +114,7 @@ impl MemStore {
     pub fn bytes_of(&self, name: &str) -> Option<&[u8]>
         ensures { option_copied result ≡ get self.now.held name.now }
     {
-        bytes_in(self.files.as_slice(), name)
+        bytes_in(&self.files, name)
     }
 }
 
@@ -186,18 +186,44 @@ mod tests {
         })
     }
 
-    /// A step on any store: a write of these bytes, or else a read of at most `max` bytes. None where it failed.
-    fn step<S: Store>(
+    type Bytes = Option<&'static [u8]>;
+
+    /// The calls in their order: a write of these bytes, or else a read up to this limit; what a read gives, and None for a fault.
+    const CALLS: [(&str, u64, Bytes, Bytes); 12] = [
+        ("a", 5, None, Some(b"hello")),
+        ("a", 4, None, Some(b"hello")),
+        ("a", 3, None, Some(b"hell")),
+        ("a", 0, None, Some(b"h")),
+        ("none", 0, None, Some(b"")),
+        ("b", 9, None, None),
+        ("b", 0, Some(b"new"), Some(b"")),
+        // The eighth and the tenth are told to fail.
+        ("a", 9, None, None),
+        ("a", 9, None, Some(b"hello")),
+        ("a", 0, Some(b"lost"), None),
+        ("a", 9, None, Some(b"hello")),
+        ("a", 0, Some(b"by"), Some(b"")),
+    ];
+
+    const HELD: [(&str, Bytes); 4] = [
+        ("a", Some(b"by")),
+        ("b", Some(b"new")),
+        ("none", Some(b"")),
+        ("c", None),
+    ];
+
+    /// None where the call failed.
+    fn call<S: Store>(
         alloc: Global,
         store: &mut S,
         name: &str,
         max: u64,
-        written: Option<&[u8]>,
+        written: Bytes,
     ) -> Result<Option<Vec<u8>>, StoreError> {
         let answer = match written {
             None => store.read(alloc, name, max),
             Some(bytes) => match store.write(alloc, name, bytes) {
-                Ok(()) => store.read(alloc, name, u64::MAX),
+                Ok(()) => Ok(Vec::new(alloc)),
                 Err(e) => Err(e),
             },
         };
@@ -208,42 +234,29 @@ mod tests {
         }
     }
 
+    fn is_as_wanted(got: Option<&[u8]>, want: Bytes) -> bool {
+        match (got, want) {
+            (None, None) => true,
+            (Some(got), Some(want)) => got == want,
+            _ => false,
+        }
+    }
+
+    fn made(alloc: Global) -> Result<MemStore, AllocError> {
+        let files = vec![in alloc; file(alloc, "a", b"hello")?, file(alloc, "none", b"")?]?;
+        Ok(MemStore::new(files, vec![in alloc; 8, 10, 99]?))
+    }
+
     #[test]
     fn reads_writes_and_fails_by_number(rt: HostRuntime) -> Result<(), Fail> {
-        let alloc = rt.alloc();
-        let files = vec![in alloc; file(alloc, "a", b"hello")?, file(alloc, "none", b"")?]?;
-        let mut store = MemStore::new(files, vec![in alloc; 9, 11, 99]?);
-        let steps: [(&str, u64, Option<&[u8]>, Option<&[u8]>); 12] = [
-            ("a", 5, None, Some(b"hello")),
-            ("a", 4, None, Some(b"hello")),
-            ("a", 3, None, Some(b"hell")),
-            ("a", 0, None, Some(b"h")),
-            ("none", 0, None, Some(b"")),
-            ("b", 9, None, None),
-            ("b", 0, Some(b"new"), Some(b"new")),
-            // The ninth call is a read that is told to fail, and the eleventh a write.
-            ("a", 9, None, None),
-            ("a", 9, None, Some(b"hello")),
-            ("a", 0, Some(b"lost"), None),
-            ("a", 9, None, Some(b"hello")),
-            ("a", 0, Some(b"by"), Some(b"by")),
-        ];
-        for (index, (name, max, written, want)) in steps.iter().enumerate() {
-            let got = step(alloc, &mut store, name, *max, *written)?;
-            match (got, want) {
-                (None, None) => {}
-                (Some(bytes), Some(wanted)) => assert_eq!(rt;
-                    bytes.as_slice(),
-                    *wanted,
-                    "step {index}"
-                ),
-                _ => panic!(rt; "step {index} went otherwise"),
-            }
+        let mut store = made(rt.alloc())?;
+        for (name, max, written, want) in CALLS {
+            let got = call(rt.alloc(), &mut store, name, max, written)?;
+            assert!(rt; is_as_wanted(got.as_ref().map(|bytes| bytes.as_slice()), want));
         }
-        assert_eq!(rt; store.bytes_of("a"), Some(b"by".as_slice()));
-        assert_eq!(rt; store.bytes_of("b"), Some(b"new".as_slice()));
-        assert_eq!(rt; store.bytes_of("none"), Some(b"".as_slice()));
-        assert!(rt; store.bytes_of("c").is_none());
+        for (name, want) in HELD {
+            assert!(rt; is_as_wanted(store.bytes_of(name), want));
+        }
         Ok(())
     }
 }
