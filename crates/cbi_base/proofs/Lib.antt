@@ -1,2 +1,4 @@
 pub mod TextLemmas
 pub mod FieldLemmas
+pub mod FailingLemmas
+pub mod HeldFiles

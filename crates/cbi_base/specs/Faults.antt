@@ -12,3 +12,8 @@ next_count count = min (count + 1) last_count
 -- the count is greater now than before, or it stands at its last value
 abbrev pub Rose : ℕ → ℕ → Type 0
 Rose before now = next_count before ≤ now
+
+-- the counts of a store that tells nothing else
+pub record FaultCounts : Type 0 where
+  pub read_faults : ℕ
+  pub write_faults : ℕ

@@ -9,3 +9,7 @@ pub mod Trap
 pub mod Faults
 pub mod Store
 pub mod Sink
+pub mod Failing
+pub mod MemStore
+pub mod MemSink
+pub mod StdSink

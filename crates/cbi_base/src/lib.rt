@@ -3,6 +3,9 @@
 
 mod decimal;
 mod lines;
+mod file_store;
+mod mem_sink;
+mod mem_store;
 mod memory;
 mod name;
 mod operators;
@@ -10,12 +13,16 @@ mod outcome;
 mod scalar;
 mod seq;
 mod sink;
+mod std_sink;
 mod store;
 mod text;
 mod trap;
 
 pub use decimal::{push_decimal, read_decimal, read_signed};
 pub use lines::{LineError, LineReader, TextError, read_lines};
+pub use file_store::FileStore;
+pub use mem_sink::MemSink;
+pub use mem_store::{File, MemStore};
 pub use memory::Memory;
 pub use name::{Name, is_name};
 pub use operators::{Binary, Order, Unary};
@@ -23,6 +30,7 @@ pub use outcome::{Counts, Outcome, Work};
 pub use scalar::{Class, Kind, Scalar, Want};
 pub use seq::Seq;
 pub use sink::{Sink, SinkError};
+pub use std_sink::StdSink;
 pub use store::{Store, StoreError};
 pub use text::Fields;
 pub use trap::Trap;

@@ -1,0 +1,10 @@
+use Rattle.std.specs.Prelude.{ℕ, List}
+
+-- a sink in memory
+pub record SinkState : Type 0 where
+  pub taken : List ℕ
+  -- the calls so far
+  pub calls : ℕ
+  -- the numbers of the calls that are to fail
+  pub failing : List ℕ
+  pub faults : ℕ
