@@ -1,5 +1,5 @@
-use Rattle.std.specs.Prelude.{◌≡◌, ◌≢◌, ℕ, Bool, ◌==◌, ◌+◌, List, [], ◌∷◌, ◌++◌, length, IsFalse}
-use Rattle.std.specs.List.{slice_split, join_with_byte, flat_map, AllByRecursion}
+use Rattle.std.specs.Prelude.{◌≡◌, ◌≢◌, ℕ, Bool, ◌==◌, ◌+◌, List, [], ◌∷◌, ◌++◌, length, not, ◌&&◌, IsTrue, IsFalse}
+use Rattle.std.specs.List.{slice_split, join_with_byte, flat_map, list_all, AllByRecursion}
 
 -- A text is a list of lines, each ended by a newline, and a line is a list of fields, parted by one space.
 abbrev pub is_newline : ℕ → Bool
@@ -11,6 +11,13 @@ is_space b = b == 32
 -- no byte of the list passes the test
 abbrev pub Lacks : (ℕ → Bool) → List ℕ → Type 0
 Lacks p bytes = AllByRecursion (λ b. IsFalse (p b)) bytes
+
+-- a byte that can stand in a field: neither a space nor a newline
+abbrev pub is_field_byte : ℕ → Bool
+is_field_byte b = not (is_space b) && not (is_newline b)
+
+abbrev pub IsField : List ℕ → Type 0
+IsField bytes = IsTrue (list_all is_field_byte bytes)
 
 -- the line with these fields
 abbrev pub spaced : List (List ℕ) → List ℕ

@@ -1,7 +1,7 @@
-ghost use Rattle.std.specs.Prelude.{◌≡◌, ◌↔◌, List, length, IsTrue, IsSome, IfSome};
+ghost use Rattle.std.specs.Prelude.{◌≡◌, ◌↔◌, ◌≤◌, List, length, IsTrue, IsSome, IfSome};
 ghost use Rattle.cbi_base.specs.Kind.{lies_in};
-ghost use Rattle.flow.specs.Nodes.{is_later, node_fits};
-ghost use Rattle.flow.specs.Program.{IsFunction, IsProgram};
+ghost use Rattle.flow.specs.Nodes.{is_later, node_fits, NodesFit};
+ghost use Rattle.flow.specs.Program.{IsFunction, IsProgram, AreParts};
 
 use crate::node::Node;
 use cbi_base::{Kind, Name, Seq};
@@ -60,6 +60,49 @@ pub fn node_fits(bounds: Bounds, place: u32, node: Node) -> bool
     }
 }
 
+// The nodes are few enough that a place among them is a number of 32 bits.
+fn nodes_fit(bounds: Bounds, nodes: &[Node]) -> bool
+    requires { length nodes.now ≤ 16000000 }
+    ensures { IsTrue result ↔ NodesFit bounds nodes.now }
+{
+    for (place, node) in nodes.iter().enumerate() {
+        if !node_fits(bounds, place as u32, *node) {
+            return false;
+        }
+    }
+    true
+}
+
+fn is_function(function: &Function) -> bool
+    requires { length function.now.nodes ≤ 16000000 }
+    ensures { IsTrue result ↔ IsFunction function.now }
+{
+    let nodes = function.nodes.as_slice();
+    if nodes.is_empty() || !function.locals.is_empty() || function.params != 0 {
+        return false;
+    }
+    let _name = function.name.bytes();
+    nodes_fit(
+        Bounds {
+            nodes: nodes.len() as u32,
+        },
+        nodes,
+    )
+}
+
+/// Whether the parts keep the conditions on programs.
+fn is_program(functions: &[Function], main: u32) -> bool
+    ensures { IsTrue result ↔ AreParts functions.now main }
+{
+    let [function] = functions else {
+        return false;
+    };
+    if main != 0 || !function.value || function.nodes.len() > 16000000 {
+        return false;
+    }
+    is_function(function)
+}
+
 /// A program. Contracts see it as its parts, which keep the conditions on programs.
 #[derive(Debug, Drop)]
 pub struct Program {
@@ -84,6 +127,22 @@ impl Program {
         ensures { result ≡ parts }
     {
         Program { parts }
+    }
+
+    /// The program of these functions, which enters the one with the number `main`; None exactly where a condition on programs fails.
+    pub fn new(functions: Vec<Function>, main: u32) -> Option<Program>
+        ensures found { IsSome result ↔ AreParts functions.items main }
+        ensures value { IfSome result (λ p. (p.functions ≡ functions.items) × (p.main ≡ main)) }
+    {
+        if !is_program(functions.as_slice(), main) {
+            return None;
+        }
+        Some(Program {
+            parts: ProgramParts {
+                functions: Seq::from_vec(functions),
+                main,
+            },
+        })
     }
 
     /// Its functions, which keep the conditions on programs.
