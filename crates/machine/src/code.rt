@@ -1,7 +1,7 @@
 ghost use Rattle.std.specs.Prelude.{◌≡◌};
 ghost use Rattle.flow.specs.Machine.{code_of, view_at};
 ghost use Rattle.flow.specs.Program.{IsProgram};
-ghost use Rattle.machine.specs.Fits.{IsViewFit};
+ghost use Rattle.machine.specs.Fits.{ViewFits};
 
 use flow::{Node, Program, View, view_of};
 
@@ -17,7 +17,7 @@ fn node_at(program: &Program, function: u32, place: u32) -> Option<Node>
 /// The view of a node of a function.
 pub fn view_at(program: &Program, function: u32, place: u32) -> View
     ensures view { result ≡ (code_of program.now).at function place }
-    ensures fits { IsViewFit place result }
+    ensures fits { ViewFits place result }
 {
     match node_at(program, function, place) {
         None => View::Nowhere,

@@ -11,3 +11,6 @@ mod stop;
 
 pub use flow::RunResult;
 pub use runs::{one_ending, run};
+
+#[cfg(test)]
+mod tests;

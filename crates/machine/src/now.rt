@@ -13,7 +13,7 @@ use std::marker::Model;
 const OUTPUT_LIMIT: usize = 16777216;
 
 /// What the rows that only touch data read and change: the operands, the input left, and the output so far.
-#[derive(Debug, Drop)]
+#[derive(Drop)]
 pub struct Now<'a> {
     operands: Operands,
     input: &'a [u8],

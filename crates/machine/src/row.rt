@@ -2,7 +2,7 @@ ghost use Rattle.std.specs.Prelude.{◌≡◌, IsTrue};
 ghost use Rattle.flow.specs.Now.{byte_of};
 ghost use Rattle.flow.specs.Rows.{act};
 ghost use Rattle.machine.specs.Effects.{IsEffect};
-ghost use Rattle.machine.specs.Fits.{IsNumberFit};
+ghost use Rattle.machine.specs.Fits.{NumberFits};
 
 use crate::now::Now;
 use crate::stop::Stop;
@@ -19,7 +19,7 @@ fn byte_of(value: i32) -> u8
 /// What a node does to the data.
 #[tactic(auto, unfolding(flow::specs::Rows::act))]
 pub fn row(now: &mut Now<'_>, node: Node) -> Result<(), Stop>
-    requires { IsNumberFit node }
+    requires { NumberFits node }
     ensures { IsEffect (act node now.old) result now.new }
 {
     match node {

@@ -11,7 +11,7 @@ use flow::{Program, View};
 use std::alloc::Global;
 
 /// Where a run stands: its function, its node, the data, and the turns left.
-#[derive(Debug, Drop)]
+#[derive(Drop)]
 pub struct State<'a> {
     pub function: u32,
     pub node: u32,

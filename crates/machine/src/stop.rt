@@ -5,7 +5,7 @@ ghost use Rattle.machine.specs.declared.stop.Stop.TheVariants as stop;
 use cbi_base::{Memory, Outcome, Trap};
 
 /// Why a step doesn't go on: the run is over, or memory is wanting.
-#[derive(Clone, Copy, Debug)]
+#[derive(Clone, Copy)]
 pub enum Stop {
     Over { outcome: Outcome },
     Memory,
