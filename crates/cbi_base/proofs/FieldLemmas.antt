@@ -48,22 +48,21 @@ spaced-lacks-newline (field ∷ []) all = field-lacks-newline field all.0
 spaced-lacks-newline (field ∷ next ∷ more) all =
     lacks-append is_newline field (32 ∷ spaced (next ∷ more)) (field-lacks-newline field all.0) (refl, spaced-lacks-newline (next ∷ more) all.1)
 
-field-append : (a b : List ℕ) → IsField a → IsField b → IsField (a ++ b)
-field-append [] b ha hb = hb
-field-append (x ∷ xs) b ha hb =
-    let parts = and-parts (is_field_byte x) (list_all is_field_byte xs) ha in
-    let rest : list_all is_field_byte (xs ++ b) ≡ true = field-append xs b parts.1 hb in
-    rw (parts.0, rest) refl
-
 field-byte : (b : ℕ) → b ≢ 32 → b ≢ 10 → is_field_byte b ≡ true
 field-byte b space newline = grind (arith, nat_tests)
 
-digit-is : (d : ℕ) → d < 10 → IsField ((48 + d) ∷ [])
-digit-is d h = let is : is_field_byte (48 + d) ≡ true = field-byte (48 + d) (omega arith) (omega arith) in rw is refl
+test-append : (p : ℕ → Bool) (a b : List ℕ) → list_all p a ≡ true → list_all p b ≡ true → list_all p (a ++ b) ≡ true
+test-append p [] b ha hb = hb
+test-append p (x ∷ xs) b ha hb =
+    let parts = and-parts (p x) (list_all p xs) ha in rw (parts.0, test-append p xs b parts.1 hb) refl
+
+-- what holds of each digit holds of each byte of a decimal
+pub decimal-all : (p : ℕ → Bool) → ((d : ℕ) → d < 10 → p (48 + d) ≡ true) → (n : ℕ) → n < 2 ^ 64 → list_all p (decimal n) ≡ true
+decimal-all p digit n h =
+    decimal_by_steps (λ k ds. list_all p ds ≡ true) (λ d small. rw (digit d small) refl) (λ k ds ten is. test-append p ds ((48 + k % 10) ∷ []) is (rw (digit (k % 10) (omega arith)) refl)) n h
 
 pub IsField-decimal : (n : ℕ) → n < 2 ^ 64 → IsField (decimal n)
-IsField-decimal n h =
-    decimal_by_steps (λ k ds. IsField ds) digit-is (λ k ds ten is. field-append ds ((48 + k % 10) ∷ []) is (digit-is (k % 10) (omega arith))) n h
+IsField-decimal n h = decimal-all is_field_byte (λ d small. field-byte (48 + d) (omega arith) (omega arith)) n h
 
 pub IsField-signed : (z : ℤ) → FitsSigned w64 z → IsField (signed_decimal z)
 IsField-signed (pos n) h = IsField-decimal n (omega (arith, h.sfits))

@@ -51,6 +51,7 @@ pub fn read_decimal(text: &[u8], max: u64) -> Option<u64>
 /// The signed number whose decimal the text is: a `-` first where it is negative, no leading zero, and `0` for zero.
 pub fn read_signed(text: &[u8]) -> Option<i64>
     ensures found { IfSome result (λ z. text.now ≡ signed_decimal z) }
+    ensures fits { IfSome result (FitsSigned w64) }
     ensures only { (z : ℤ) → FitsSigned w64 z → text.now ≡ signed_decimal z → result ≡ Some z }
 {
     let number = parse_signed(text)?;
