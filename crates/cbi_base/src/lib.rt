@@ -2,8 +2,8 @@
 #![tactic(auto)]
 
 mod decimal;
-mod lines;
 mod file_store;
+mod lines;
 mod mem_sink;
 mod mem_store;
 mod memory;
@@ -13,15 +13,15 @@ mod outcome;
 mod scalar;
 mod seq;
 mod sink;
-mod std_sink;
 mod stack;
+mod std_sink;
 mod store;
 mod text;
 mod trap;
 
 pub use decimal::{push_decimal, read_decimal, read_signed};
-pub use lines::{LineError, LineReader, TextError, read_lines};
 pub use file_store::FileStore;
+pub use lines::{LineError, LineReader, TextError, read_lines};
 pub use mem_sink::MemSink;
 pub use mem_store::{File, MemStore};
 pub use memory::Memory;
@@ -31,8 +31,8 @@ pub use outcome::{Counts, Outcome, Work};
 pub use scalar::{Class, Kind, Scalar, Want};
 pub use seq::Seq;
 pub use sink::{Sink, SinkError};
-pub use std_sink::StdSink;
 pub use stack::Stack;
+pub use std_sink::StdSink;
 pub use store::{Store, StoreError};
 pub use text::Fields;
 pub use trap::Trap;
