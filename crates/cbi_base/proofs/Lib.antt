@@ -1,2 +1,3 @@
+pub mod IdLemmas
 pub mod TextLemmas
 pub mod FieldLemmas

@@ -1,4 +1,7 @@
 pub mod Fields
+pub mod ProgramId
+pub mod Piece
+pub mod Refusal
 pub mod LineFaults
 pub mod Name
 pub mod Text

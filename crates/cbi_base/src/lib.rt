@@ -2,11 +2,13 @@
 #![tactic(auto)]
 
 mod decimal;
+mod identity;
 mod lines;
 mod memory;
 mod name;
 mod operators;
 mod outcome;
+mod refusal;
 mod scalar;
 mod seq;
 mod sink;
@@ -15,11 +17,13 @@ mod text;
 mod trap;
 
 pub use decimal::{push_decimal, read_decimal, read_signed};
+pub use identity::{ProgramId, id_text, read_id};
 pub use lines::{LineError, LineReader, TextError, read_lines};
 pub use memory::Memory;
 pub use name::{Name, is_name};
 pub use operators::{Binary, Order, Unary};
 pub use outcome::{Counts, Outcome, Work};
+pub use refusal::Refusal;
 pub use scalar::{Class, Kind, Scalar, Want};
 pub use seq::Seq;
 pub use sink::{Sink, SinkError};
