@@ -1,6 +1,5 @@
 pub mod Fields
 pub mod ProgramId
-pub mod Piece
 pub mod Refusal
 pub mod LineFaults
 pub mod Name

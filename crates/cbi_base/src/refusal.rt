@@ -1,7 +1,6 @@
-ghost use Rattle.std.specs.Prelude.{◌≡◌, ◌++◌, [], ◌∷◌, length, take, OnOk, OnErr};
-ghost use Rattle.std.specs.List.{flat_map};
-ghost use Rattle.cbi_base.specs.Refusal.{number_of, words_of, refusal_line};
-ghost use Rattle.cbi_base.specs.Piece.{piece_text};
+ghost use Rattle.std.specs.Prelude.{◌≡◌, ◌++◌, decimal, OnOk, OnErr};
+ghost use Rattle.cbi_base.specs.ProgramId.{text_of_id};
+ghost use Rattle.cbi_base.specs.Refusal.{BeginsAs, number_of, name_of, details_of, refusal_line};
 
 use crate::decimal::push_decimal;
 use crate::identity::{ProgramId, id_text};
@@ -28,40 +27,31 @@ pub enum Refusal {
     NoSite { run: u32, site: u32 },
 }
 
-/// A part of a refusal's words.
-#[derive(Clone, Copy)]
-enum Piece<'a> {
-    Words(&'a [u8]),
-    Number(u64),
-    Id(&'a ProgramId),
-}
-
-fn push_piece(out: &mut Vec<u8>, piece: &Piece) -> Result<(), Memory>
-    ensures ok { OnOk result (out.new.items ≡ out.old.items ++ piece_text piece.now) }
+fn push_text(out: &mut Vec<u8>, words: &[u8]) -> Result<(), Memory>
+    ensures ok { OnOk result (out.new.items ≡ out.old.items ++ words.now) }
     ensures err { OnErr result (out.new.items ≡ out.old.items) }
 {
-    match piece {
-        Piece::Words(words) => {
-            out.extend_from_slice(words)?;
-        }
-        Piece::Number(number) => {
-            push_decimal(out, u128::from(*number))?;
-        }
-        Piece::Id(id) => {
-            out.extend_from_slice(id_text(id).as_slice())?;
-        }
-    }
+    out.extend_from_slice(words)?;
     Ok(())
 }
 
 // After `Memory` the bytes begin as before.
-fn push_pieces(out: &mut Vec<u8>, pieces: &[Piece]) -> Result<(), Memory>
-    ensures ok { OnOk result (out.new.items ≡ out.old.items ++ flat_map piece_text pieces.now) }
-    ensures err { OnErr result (take (length out.old.items) out.new.items ≡ out.old.items) }
+fn push_number(out: &mut Vec<u8>, words: &[u8], number: u64) -> Result<(), Memory>
+    ensures ok { OnOk result (out.new.items ≡ out.old.items ++ (words.now ++ decimal number)) }
+    ensures err { OnErr result (BeginsAs out.old.items out.new.items) }
 {
-    for piece in pieces {
-        push_piece(out, piece)?;
-    }
+    out.extend_from_slice(words)?;
+    push_decimal(out, u128::from(number))?;
+    Ok(())
+}
+
+// After `Memory` the bytes begin as before.
+fn push_id(out: &mut Vec<u8>, words: &[u8], id: &ProgramId) -> Result<(), Memory>
+    ensures ok { OnOk result (out.new.items ≡ out.old.items ++ (words.now ++ text_of_id id.now)) }
+    ensures err { OnErr result (BeginsAs out.old.items out.new.items) }
+{
+    out.extend_from_slice(words)?;
+    out.extend_from_slice(id_text(id).as_slice())?;
     Ok(())
 }
 
@@ -90,28 +80,85 @@ impl Refusal {
         }
     }
 
-    // After `Memory` the bytes begin as before.
-    fn push_words(&self, out: &mut Vec<u8>) -> Result<(), Memory>
-        ensures ok { OnOk result (out.new.items ≡ out.old.items ++ words_of self.now) }
-        ensures err { OnErr result (take (length out.old.items) out.new.items ≡ out.old.items) }
+    fn name(&self) -> &'static [u8]
+        ensures { result.now ≡ name_of self.now }
     {
         match self {
-            Refusal::BadByte { line } => push_pieces(out, &[Piece::Words(b"10 BadByte line "), Piece::Number(u64::from(*line))]),
-            Refusal::BadToken { line } => push_pieces(out, &[Piece::Words(b"11 BadToken line "), Piece::Number(u64::from(*line))]),
-            Refusal::Syntax { line } => push_pieces(out, &[Piece::Words(b"12 Syntax line "), Piece::Number(u64::from(*line))]),
-            Refusal::BadType { kind, line } => push_pieces(out, &[Piece::Words(b"15 BadType kind "), Piece::Number(u64::from(*kind)), Piece::Words(b" line "), Piece::Number(u64::from(*line))]),
-            Refusal::TooLarge => push_pieces(out, &[Piece::Words(b"16 TooLarge")]),
-            Refusal::TooManySites => push_pieces(out, &[Piece::Words(b"17 TooManySites")]),
-            Refusal::BadProgram { line } => push_pieces(out, &[Piece::Words(b"20 BadProgram line "), Piece::Number(u64::from(*line))]),
-            Refusal::BadBank { line } => push_pieces(out, &[Piece::Words(b"21 BadBank line "), Piece::Number(u64::from(*line))]),
-            Refusal::BadReport { file, line } => push_pieces(out, &[Piece::Words(b"22 BadReport file "), Piece::Number(*file), Piece::Words(b" line "), Piece::Number(u64::from(*line))]),
-            Refusal::Foreign { ours, theirs } => push_pieces(out, &[Piece::Words(b"23 Foreign ours "), Piece::Id(ours), Piece::Words(b" theirs "), Piece::Id(theirs)]),
-            Refusal::Conflict { run } => push_pieces(out, &[Piece::Words(b"24 Conflict run "), Piece::Number(u64::from(*run))]),
-            Refusal::TooManyReports { run } => push_pieces(out, &[Piece::Words(b"25 TooManyReports run "), Piece::Number(u64::from(*run))]),
-            Refusal::TooManyMarks { run } => push_pieces(out, &[Piece::Words(b"26 TooManyMarks run "), Piece::Number(u64::from(*run))]),
-            Refusal::BadCollection { file, line } => push_pieces(out, &[Piece::Words(b"27 BadCollection file "), Piece::Number(*file), Piece::Words(b" line "), Piece::Number(u64::from(*line))]),
-            Refusal::InputTooLarge => push_pieces(out, &[Piece::Words(b"28 InputTooLarge")]),
-            Refusal::NoSite { run, site } => push_pieces(out, &[Piece::Words(b"29 NoSite run "), Piece::Number(u64::from(*run)), Piece::Words(b" site "), Piece::Number(u64::from(*site))]),
+            Refusal::BadByte { .. } => b"BadByte",
+            Refusal::BadToken { .. } => b"BadToken",
+            Refusal::Syntax { .. } => b"Syntax",
+            Refusal::BadType { .. } => b"BadType",
+            Refusal::TooLarge => b"TooLarge",
+            Refusal::TooManySites => b"TooManySites",
+            Refusal::BadProgram { .. } => b"BadProgram",
+            Refusal::BadBank { .. } => b"BadBank",
+            Refusal::BadReport { .. } => b"BadReport",
+            Refusal::Foreign { .. } => b"Foreign",
+            Refusal::Conflict { .. } => b"Conflict",
+            Refusal::TooManyReports { .. } => b"TooManyReports",
+            Refusal::TooManyMarks { .. } => b"TooManyMarks",
+            Refusal::BadCollection { .. } => b"BadCollection",
+            Refusal::InputTooLarge => b"InputTooLarge",
+            Refusal::NoSite { .. } => b"NoSite",
         }
+    }
+
+    // After `Memory` the bytes begin as before.
+    fn push_details(&self, out: &mut Vec<u8>) -> Result<(), Memory>
+        ensures ok { OnOk result (out.new.items ≡ out.old.items ++ details_of self.now) }
+        ensures err { OnErr result (BeginsAs out.old.items out.new.items) }
+    {
+        match self {
+            Refusal::TooLarge | Refusal::TooManySites | Refusal::InputTooLarge => Ok(()),
+            Refusal::BadByte { line }
+            | Refusal::BadToken { line }
+            | Refusal::Syntax { line }
+            | Refusal::BadProgram { line }
+            | Refusal::BadBank { line } => push_number(out, b" line ", u64::from(*line)),
+            Refusal::Conflict { run }
+            | Refusal::TooManyReports { run }
+            | Refusal::TooManyMarks { run } => { push_number(out, b" run ", u64::from(*run)) }
+            Refusal::BadType { kind, line } => {
+                push_number(out, b" kind ", u64::from(*kind))?;
+                push_number(out, b" line ", u64::from(*line))
+            }
+            Refusal::BadReport { file, line } | Refusal::BadCollection { file, line } => {
+                push_number(out, b" file ", *file)?;
+                push_number(out, b" line ", u64::from(*line))
+            }
+            Refusal::Foreign { ours, theirs } => {
+                push_id(out, b" ours ", ours)?;
+                push_id(out, b" theirs ", theirs)
+            }
+            Refusal::NoSite { run, site } => {
+                push_number(out, b" run ", u64::from(*run))?;
+                push_number(out, b" site ", u64::from(*site))
+            }
+        }
+    }
+
+    // After `Memory` the bytes begin as before.
+    fn push_parts(&self, out: &mut Vec<u8>) -> Result<(), Memory>
+        ensures ok { OnOk result (out.new.items ≡ out.old.items ++ refusal_line self.now) }
+        ensures err { OnErr result (BeginsAs out.old.items out.new.items) }
+    {
+        push_number(out, b"cbi: refusal ", u64::from(self.number()))?;
+        push_text(out, b" ")?;
+        push_text(out, self.name())?;
+        self.push_details(out)?;
+        push_text(out, b"\n")
+    }
+
+    /// Appends the whole line that tells of the refusal. After `Memory` the bytes are as before.
+    pub fn push_line(&self, out: &mut Vec<u8>) -> Result<(), Memory>
+        ensures ok { OnOk result (out.new.items ≡ out.old.items ++ refusal_line self.now) }
+        ensures err { OnErr result (out.new.items ≡ out.old.items) }
+    {
+        let before = out.len();
+        let pushed = self.push_parts(out);
+        if pushed.is_err() {
+            out.truncate(before);
+        }
+        pushed
     }
 }
