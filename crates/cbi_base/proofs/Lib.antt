@@ -1,3 +1,5 @@
+pub mod RefusalLemmas
+pub mod IdLemmas
 pub mod TextLemmas
 pub mod FieldLemmas
 pub mod FailingLemmas

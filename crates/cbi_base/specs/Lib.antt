@@ -1,4 +1,6 @@
 pub mod Fields
+pub mod ProgramId
+pub mod Refusal
 pub mod LineFaults
 pub mod Name
 pub mod Text

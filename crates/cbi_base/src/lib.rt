@@ -3,6 +3,7 @@
 
 mod decimal;
 mod file_store;
+mod identity;
 mod lines;
 mod mem_sink;
 mod mem_store;
@@ -10,6 +11,7 @@ mod memory;
 mod name;
 mod operators;
 mod outcome;
+mod refusal;
 mod scalar;
 mod seq;
 mod sink;
@@ -21,6 +23,7 @@ mod trap;
 
 pub use decimal::{push_decimal, read_decimal, read_signed};
 pub use file_store::FileStore;
+pub use identity::{ProgramId, id_text, read_id};
 pub use lines::{LineError, LineReader, TextError, read_lines};
 pub use mem_sink::MemSink;
 pub use mem_store::{File, MemStore};
@@ -28,6 +31,7 @@ pub use memory::Memory;
 pub use name::{Name, is_name};
 pub use operators::{Binary, Order, Unary};
 pub use outcome::{Counts, Outcome, Work};
+pub use refusal::Refusal;
 pub use scalar::{Class, Kind, Scalar, Want};
 pub use seq::Seq;
 pub use sink::{Sink, SinkError};
