@@ -1,0 +1,40 @@
+-- Why a command didn't do what it was asked, and the cause that stands behind each answer.
+use Rattle.std.specs.Prelude.{◌⊎◌, ℕ, Result, Ok, Err}
+use Rattle.cbi.specs.declared.fault.Fault.{Fault}
+use Rattle.cbi.specs.declared.fault.Fault.TheVariants.{Read, Write, Refused, Memory}
+
+-- the cause of each fault; want of memory has none
+abbrev pub Caused : Fault → (read write refused : Type 0) → Type 0
+Caused (Read name) read write refused = read
+Caused Write read write refused = write
+Caused (Refused refusal) read write refused = refused
+Caused Memory read write refused = Unit {0}
+
+-- the status of each fault
+abbrev pub status_of : Fault → ℕ
+status_of (Read name) = 3
+status_of Write = 4
+status_of (Refused refusal) = 5
+status_of Memory = 7
+
+-- What a fault leaves on out: what was there, or a prefix of the due text besides; want of memory leaves one of them.
+abbrev pub LeftBy : Fault → (unchanged part : Type 0) → Type 0
+LeftBy (Read name) unchanged part = unchanged
+LeftBy Write unchanged part = part
+LeftBy (Refused refusal) unchanged part = unchanged
+LeftBy Memory unchanged part = unchanged ⊎ part
+
+-- a fault that is a refusal or may come before one
+abbrev pub Precedes : Fault → Type 0
+Precedes (Read name) = Unit {0}
+Precedes Write = ⊥
+Precedes (Refused refusal) = Unit {0}
+Precedes Memory = Unit {0}
+
+-- a fact of each answer that comes after the files were read
+abbrev pub Passed : {A : Type 0} → Result A Fault → Type 0 → Type 0
+Passed (Ok done) P = P
+Passed (Err (Read name)) P = Unit {0}
+Passed (Err Write) P = P
+Passed (Err (Refused refusal)) P = P
+Passed (Err Memory) P = Unit {0}
