@@ -1,4 +1,4 @@
-ghost use Rattle.std.specs.Prelude.{◌≡◌, IfOk, OnErr, OnOk};
+ghost use Rattle.std.specs.Prelude.{◌≡◌, IfOk, OnOk};
 ghost use Rattle.cbi_base.specs.Scalars.{IsInRange};
 ghost use Rattle.flow.specs.Now.{any, int, pushed, write_byte, Goes};
 ghost use Rattle.machine.specs.Effects.{taken_of, IsEffect};

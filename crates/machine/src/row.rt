@@ -1,4 +1,4 @@
-ghost use Rattle.std.specs.Prelude.{◌≡◌, IsTrue};
+ghost use Rattle.std.specs.Prelude.{◌≡◌};
 ghost use Rattle.flow.specs.Now.{byte_of};
 ghost use Rattle.flow.specs.Rows.{act};
 ghost use Rattle.machine.specs.Effects.{IsEffect};
@@ -6,7 +6,7 @@ ghost use Rattle.machine.specs.Fits.{NumberFits};
 
 use crate::now::Now;
 use crate::stop::Stop;
-use cbi_base::{Kind, Outcome, Scalar, Trap};
+use cbi_base::{Kind, Scalar, Trap};
 use flow::Node;
 
 /// The number modulo 256.
