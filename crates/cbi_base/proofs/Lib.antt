@@ -1,2 +1,3 @@
-pub mod FailingLemmas
+pub mod FaultLemmas
 pub mod HeldFiles
+pub mod Taking
