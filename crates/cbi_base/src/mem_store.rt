@@ -1,5 +1,4 @@
-ghost use Rattle.std.specs.Prelude.{◌≡◌, [], ◌≤◌, ◌↔◌, ◌⊎◌, ◌+◌, take, IfOk, OnOk, OnErr, IsErrOf, IsNone, IsTrue, Some};
-ghost use Rattle.std.proofs.Common.{rules};
+ghost use Rattle.std.specs.Prelude.{◌≡◌, [], ◌≤◌, ◌↔◌, ◌⊎◌, ◌+◌, take, IfOk, OnOk, OnErr, IsErrOf, IsNone, IsTrue, Some, refl};
 ghost use Rattle.std.specs.FinMap.{get, insert};
 ghost use Rattle.std.specs.List.{position};
 ghost use Rattle.std.specs.String.{string_bytes};
@@ -170,7 +169,7 @@ impl Store for MemStore {
         Ok(())
     }
 
-    ghost tells = { λ s _. Prim.search rules };
+    ghost tells = { λ _ _. refl };
 }
 
 #[cfg(test)]
