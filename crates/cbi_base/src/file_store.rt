@@ -1,4 +1,4 @@
-ghost use Rattle.std.specs.Prelude.{◌≡◌, ◌≤◌, ◌+◌, ◌∷◌, [], IfOk, IfSome, OnOk, IsErrOf, None, take, vec_len};
+ghost use Rattle.std.specs.Prelude.{◌≡◌, ◌≢◌, ◌≤◌, ◌+◌, ◌∷◌, [], IfOk, IfSome, OnOk, IsErrOf, None, take, vec_len};
 ghost use Rattle.cbi_base.specs.Faults.{last_count, next_count};
 
 use crate::store::{Store, StoreError};
@@ -106,7 +106,7 @@ impl<R: Files + Input + Drop> Store for FileStore<R> {
         ensures input { name.now ≡ 45 ∷ [] → IsErrOf result StoreError.Failed }
         ensures ok { OnOk result (self.new ≡ self.old) }
         ensures failed { IsErrOf result StoreError.Failed → self.new ≡ record self.old { write_faults = next_count self.old.write_faults } }
-        ensures memory { IsErrOf result StoreError.Memory → self.new ≡ self.old }
+        ensures no_memory { result ≢ Err StoreError.Memory }
         ensures never_falls { self.old.write_faults ≤ self.new.write_faults }
         ensures in_range { self.new.write_faults ≤ last_count }
     {

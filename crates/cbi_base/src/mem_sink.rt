@@ -5,7 +5,7 @@ ghost use Rattle.cbi_base.specs.Failing.{IsToFail, NoneIsToFail};
 use crate::sink::{Sink, SinkError};
 use std::marker::Model;
 
-/// A sink in memory, for tests: it keeps what it takes, and fails at the puts that it is told to.
+/// A sink in memory: it keeps what it takes, and fails at the puts that it is told to.
 #[derive(Debug, Drop)]
 pub struct MemSink {
     taken: Vec<u8>,
@@ -29,7 +29,8 @@ impl Model for MemSink {
 impl MemSink {
     /// Nothing is taken yet. The puts whose numbers, from 1, are in `failing` are to fail.
     pub fn new(failing: Vec<u64>) -> MemSink
-        ensures { result ≡ record { taken = []; calls = 0; failing = failing.items; faults = 0 } }
+        ensures state { result ≡ record { taken = []; calls = 0; failing = failing.items; faults = 0 } }
+        ensures sound { failing.items ≡ [] → ⟦<MemSink as Sink>⟧.is_sound result }
     {
         MemSink {
             taken: Vec::new(*failing.allocator()),
@@ -47,7 +48,7 @@ impl MemSink {
     }
 }
 
-#[tactic(auto, using(crate::proofs::FailingLemmas::NoneIsToFail_next))]
+#[tactic(auto, using(crate::proofs::FaultLemmas::NoneIsToFail_next))]
 impl Sink for MemSink {
     ghost taken = { λ s. Some s.taken };
 

@@ -1,5 +1,4 @@
-ghost use Rattle.std.specs.Prelude.{◌≡◌, ◌≤◌, ◌↔◌, ◌⊎◌, ◌+◌, take, IfOk, OnOk, OnErr, IsErrOf, IsNone, IsTrue, Some};
-ghost use Rattle.std.proofs.Common.{rules};
+ghost use Rattle.std.specs.Prelude.{◌≡◌, [], ◌≤◌, ◌↔◌, ◌⊎◌, ◌+◌, take, IfOk, OnOk, OnErr, IsErrOf, IsNone, IsTrue, Some, refl};
 ghost use Rattle.std.specs.FinMap.{get, insert};
 ghost use Rattle.std.specs.List.{position};
 ghost use Rattle.std.specs.String.{string_bytes};
@@ -20,7 +19,7 @@ pub struct File {
     pub bytes: Vec<u8>,
 }
 
-/// A store in memory, for tests: it keeps its files, and fails at the calls that it is told to.
+/// A store in memory: it keeps its files, and fails at the calls that it is told to.
 #[derive(Debug, Drop)]
 pub struct MemStore {
     files: Vec<File>,
@@ -99,7 +98,8 @@ impl MemStore {
     /// It holds the files. The calls whose numbers, from 1 and over reads and writes together, are in `failing` are to fail.
     pub fn new(files: Vec<File>, failing: Vec<u64>) -> MemStore
         requires { IsTrue (have_distinct_names files.items) }
-        ensures { result ≡ record { held = held_of files.items; calls = 0; failing = failing.items; read_faults = 0; write_faults = 0 } }
+        ensures state { result ≡ record { held = held_of files.items; calls = 0; failing = failing.items; read_faults = 0; write_faults = 0 } }
+        ensures sound { failing.items ≡ [] → ⟦<MemStore as Store>⟧.is_sound result }
     {
         MemStore {
             files,
@@ -118,7 +118,7 @@ impl MemStore {
     }
 }
 
-#[tactic(auto, using(crate::proofs::FailingLemmas::NoneIsToFail_next))]
+#[tactic(auto, using(crate::proofs::FaultLemmas::NoneIsToFail_next))]
 impl Store for MemStore {
     ghost holds = { λ s. Some s.held };
 
@@ -169,7 +169,7 @@ impl Store for MemStore {
         Ok(())
     }
 
-    ghost tells = { λ s _. Prim.search rules };
+    ghost tells = { λ _ _. refl };
 }
 
 #[cfg(test)]

@@ -1,14 +1,15 @@
-ghost use Rattle.std.specs.Prelude.{◌≡◌, ◌≢◌, ◌≤◌, ℕ, List, OnOk, IsErrOf, Option};
+ghost use Rattle.std.specs.Prelude.{◌≡◌, ◌≢◌, ◌≤◌, ℕ, List, OnOk, OnErr, IsErrOf, Option};
 ghost use Rattle.cbi_base.specs.Faults.{Rose, last_count};
 ghost use Rattle.cbi_base.specs.declared.sink.SinkError.TheVariants.{Memory};
 ghost use Rattle.cbi_base.specs.Sink.{Takes, TakesPrefix};
 
-use std::alloc::{AllocError, AllocFailed};
+use std::alloc::AllocError;
 use thiserror::Error;
 
 /// Why a sink didn't take a whole piece.
 #[derive(Clone, Copy, Debug, PartialEq, Eq, Error)]
 pub enum SinkError {
+    /// A fault of the sink, which it counts.
     #[error("the sink failed")]
     Failed,
     #[error("out of memory")]
@@ -23,14 +24,6 @@ impl From<AllocError> for SinkError {
     }
 }
 
-impl<T: Drop> From<AllocFailed<T>> for SinkError {
-    ghost from_gives = { λ _ e. e ≡ Memory };
-
-    fn from(_e: AllocFailed<T>) -> SinkError {
-        SinkError::Memory
-    }
-}
-
 /// Takes bytes, piece after piece.
 pub trait Sink {
     /// What it has taken, where it tells that.
@@ -39,7 +32,7 @@ pub trait Sink {
     /// How many puts met a fault. It never falls, and stays at 2^64 - 1 once it is there.
     ghost faults: { Self → ℕ };
 
-    /// Whether it is bound to take what it is given.
+    /// Whether it takes what it is given, but for want of memory.
     ghost is_sound: { Self → Type 0 };
 
     /// Takes the whole piece.
@@ -48,7 +41,7 @@ pub trait Sink {
         ensures never_falls { faults self.old ≤ faults self.new }
         ensures in_range { faults self.new ≤ last_count }
         ensures failed { IsErrOf result SinkError.Failed → Rose (faults self.old) (faults self.new) }
-        ensures failed_part { IsErrOf result SinkError.Failed → TakesPrefix (taken self.old) (taken self.new) piece.now }
+        ensures part { OnErr result (TakesPrefix (taken self.old) (taken self.new) piece.now) }
         ensures memory { IsErrOf result SinkError.Memory → taken self.new ≡ taken self.old }
         ensures memory_count { IsErrOf result SinkError.Memory → faults self.new ≡ faults self.old }
         ensures sound { is_sound self.old → is_sound self.new }

@@ -1,14 +1,15 @@
-ghost use Rattle.std.specs.Prelude.{◌≡◌, ◌≢◌, ◌≤◌, ℕ, IfOk, OnOk, IsErrOf, IsSome, Option};
+ghost use Rattle.std.specs.Prelude.{◌≡◌, ◌≢◌, ◌≤◌, ℕ, IfOk, OnOk, OnErr, IsErrOf, IsSome, Option};
 ghost use Rattle.cbi_base.specs.Faults.{Rose, last_count};
 ghost use Rattle.cbi_base.specs.declared.store.StoreError.TheVariants.{Memory};
 ghost use Rattle.cbi_base.specs.Store.{Held, IsHeld, IsReadOf, Replaces, MayReplace, OthersStay};
 
-use std::alloc::{AllocError, AllocFailed, Global};
+use std::alloc::{AllocError, Global};
 use thiserror::Error;
 
 /// Why a store didn't do what it was asked.
 #[derive(Clone, Copy, Debug, PartialEq, Eq, Error)]
 pub enum StoreError {
+    /// A fault of the store, which it counts.
     #[error("the store failed")]
     Failed,
     #[error("out of memory")]
@@ -19,14 +20,6 @@ impl From<AllocError> for StoreError {
     ghost from_gives = { λ _ e. e ≡ Memory };
 
     fn from(_e: AllocError) -> StoreError {
-        StoreError::Memory
-    }
-}
-
-impl<T: Drop> From<AllocFailed<T>> for StoreError {
-    ghost from_gives = { λ _ e. e ≡ Memory };
-
-    fn from(_e: AllocFailed<T>) -> StoreError {
         StoreError::Memory
     }
 }
@@ -42,7 +35,7 @@ pub trait Store {
     /// How many writes met a fault, counted likewise.
     ghost write_faults: { Self → ℕ };
 
-    /// Whether it is bound to do what it is asked.
+    /// Whether it does what it is asked, but for want of memory.
     ghost is_sound: { Self → Type 0 };
 
     /// All bytes of the name where they are at most `max`, and else the first `max + 1`. A name that isn't held is a fault.
@@ -66,8 +59,8 @@ pub trait Store {
         ensures never_falls { write_faults self.old ≤ write_faults self.new }
         ensures in_range { write_faults self.new ≤ last_count }
         ensures failed { IsErrOf result StoreError.Failed → Rose (write_faults self.old) (write_faults self.new) }
-        ensures failed_name { IsErrOf result StoreError.Failed → MayReplace (holds self.old) (holds self.new) name.now bytes.now }
-        ensures failed_others { IsErrOf result StoreError.Failed → OthersStay (holds self.old) (holds self.new) name.now }
+        ensures part { OnErr result (MayReplace (holds self.old) (holds self.new) name.now bytes.now) }
+        ensures others { OnErr result (OthersStay (holds self.old) (holds self.new) name.now) }
         ensures memory { IsErrOf result StoreError.Memory → holds self.new ≡ holds self.old }
         ensures memory_count { IsErrOf result StoreError.Memory → write_faults self.new ≡ write_faults self.old }
         ensures sound { is_sound self.old → is_sound self.new }
