@@ -1,5 +1,5 @@
-use Rattle.std.specs.Prelude.{◌≡◌, ◌≢◌, ℕ, Bool, ◌==◌, ◌+◌, List, [], ◌∷◌, ◌++◌, length, not, ◌&&◌, IsTrue, IsFalse}
-use Rattle.std.specs.List.{slice_split, join_with_byte, flat_map, list_all, AllByRecursion}
+use Rattle.std.specs.Prelude.{◌≡◌, ◌≢◌, ℕ, Bool, ◌==◌, ◌+◌, ◌<◌, ◌≤◌, List, [], ◌∷◌, ◌++◌, length, slice_index, not, ◌&&◌, IsTrue, IsFalse}
+use Rattle.std.specs.List.{slice_split, join_with_byte, flat_map, list_all, AllByRecursion, AllWithin}
 
 -- A text is a list of lines, each ended by a newline, and a line is a list of fields, parted by one space.
 abbrev pub is_newline : ℕ → Bool
@@ -37,6 +37,13 @@ text_of lines = flat_map ended lines
 
 abbrev pub AreLines : List (List ℕ) → Type 0
 AreLines lines = AllByRecursion (Lacks is_newline) lines
+
+-- the place of the first newline at or after another place
+pub record IsLineEnd (bytes : List ℕ) (from place : ℕ) : Type 0 where
+  pub after : from ≤ place
+  pub inside : place < length bytes
+  pub stands : slice_index bytes place ≡ 10
+  pub first : AllWithin (λ b. b ≢ 10) bytes from place
 
 -- A grammar of lines says which line may follow in a state of reading, and the state after it: `follows state line after`.
 -- The lines follow one another, and lead from one state to another.

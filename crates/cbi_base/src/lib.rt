@@ -2,6 +2,7 @@
 #![tactic(auto)]
 
 mod decimal;
+mod format;
 mod identity;
 mod lines;
 mod memory;
@@ -17,6 +18,7 @@ mod text;
 mod trap;
 
 pub use decimal::{push_decimal, read_decimal, read_signed};
+pub use format::count_conversions;
 pub use identity::{ProgramId, id_text, read_id};
 pub use lines::{LineError, LineReader, TextError, read_lines};
 pub use memory::Memory;
@@ -28,5 +30,5 @@ pub use scalar::{Class, Kind, Scalar, Want};
 pub use seq::Seq;
 pub use sink::{Sink, SinkError};
 pub use store::{Store, StoreError};
-pub use text::Fields;
+pub use text::{Fields, line_end};
 pub use trap::Trap;
