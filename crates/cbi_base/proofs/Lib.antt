@@ -1,3 +1,4 @@
+pub mod FormatLemmas
 pub mod RefusalLemmas
 pub mod IdLemmas
 pub mod TextLemmas

@@ -1,9 +1,11 @@
-use Rattle.std.proofs.Common.{◌≡◌, ℕ, Bool, true, IsFalse, List, [], ◌∷◌, ◌++◌, length, ap, sym, subst, ◌∙◌, refl, append_assoc, length-append, arith}
-use Rattle.std.specs.List.{slice_split}
+use Rattle.std.proofs.Common.{◌≡◌, ◌≢◌, ℕ, zero, suc, ◌+◌, ◌-◌, ◌<◌, ◌≤◌, Bool, true, IsFalse, List, [], ◌∷◌, ◌++◌, length, take, drop, get_or, ap, sym, subst, ◌∙◌, refl, append_assoc, length-append, arith}
+use Rattle.std.specs.List.{slice_split, AllWithin}
 use Rattle.std.proofs.lemmas.Bool.{false≢true}
+use Rattle.std.proofs.lemmas.List.{append-nil, get_or-drop, get_or_append_left, length-drop, take_all}
+use Rattle.std.proofs.Math.Seq.{get_or-append_seam}
 use Rattle.std.proofs.lemmas.List.Elements.{All-from_recursion}
 use Rattle.std.proofs.lemmas.List.Splits.{slice_split_none, slice_split_at, length-slice_split}
-use Rattle.cbi_base.specs.Text.{Lacks, AreLines, fields_of, is_newline, is_space, ended, text_of, LeadsTo, ReadsLines}
+use Rattle.cbi_base.specs.Text.{Lacks, AreLines, fields_of, is_newline, is_space, ended, text_of, LeadsTo, ReadsLines, IsLineEnd}
 
 -- a list that lacks the mark is one piece
 pub split-lacks : (p : ℕ → Bool) (xs : List ℕ) → Lacks p xs → slice_split p xs ≡ xs ∷ []
@@ -72,3 +74,36 @@ reads-line follows from to line rest lacks (l ∷ ls) is are leads =
 pub reads-end : (rest : List ℕ) → Lacks is_newline rest → (lines : List (List ℕ)) → rest ≡ text_of lines → rest ≡ []
 reads-end rest lacks [] is = is
 reads-end rest lacks (l ∷ ls) is = absurd (lacks-mark is_newline 10 refl l (text_of ls) (subst (Lacks is_newline) (is ∙ append_assoc l (10 ∷ []) (text_of ls)) lacks))
+
+-- a list that lacks newlines has none at any place
+lacks-at : (bytes : List ℕ) → Lacks is_newline bytes → (k d : ℕ) → k < length bytes → get_or bytes k d ≢ 10
+lacks-at [] lacks k d h = absurd (omega arith)
+lacks-at (b ∷ bs) lacks zero d h = λ is. false≢true (sym lacks.0 ∙ ap is_newline is)
+lacks-at (b ∷ bs) lacks (suc k) d h = lacks-at bs lacks.1 k d (omega arith)
+
+-- from a place on, the bytes begin with a list that lacks newlines
+pub lacks-within : (bytes line rest : List ℕ) (from : ℕ) → drop from bytes ≡ line ++ rest → Lacks is_newline line → AllWithin (λ b. b ≢ 10) bytes from (from + length line)
+lacks-within bytes line rest from is lacks = λ k d low high.
+    let place : from + (k - from) ≡ k = omega arith in
+    let near : k - from < length line = omega arith in
+    let same : get_or bytes k d ≡ get_or line (k - from) d = sym (get_or-drop from bytes (k - from) d ∙ ap (λ i. get_or bytes i d) place) ∙ ap (λ l. get_or l (k - from) d) is ∙ get_or_append_left line rest d (k - from) near in
+    λ ten. lacks-at line lacks (k - from) d near (sym same ∙ ten)
+
+-- the bytes from a place on, as a slice gives them
+slice-from : (bytes : List ℕ) (from : ℕ) → take (length bytes - from) (drop from bytes) ≡ drop from bytes
+slice-from bytes from = take_all (length bytes - from) (drop from bytes) (omega (arith, length-drop from bytes))
+
+pub lacks-to-end : (bytes : List ℕ) (from : ℕ) → from ≤ length bytes → Lacks is_newline (take (length bytes - from) (drop from bytes)) → AllWithin (λ b. b ≢ 10) bytes from (length bytes)
+lacks-to-end bytes from h lacks =
+    let whole : from + length (drop from bytes) ≡ length bytes = omega (arith, length-drop from bytes) in
+    let tail : Lacks is_newline (drop from bytes) = subst (Lacks is_newline) (slice-from bytes from) lacks in
+    subst (AllWithin (λ b. b ≢ 10) bytes from) whole (lacks-within bytes (drop from bytes) [] from (sym (append-nil (drop from bytes))) tail)
+
+pub IsLineEnd-cut : (bytes line rest : List ℕ) (from : ℕ) → from ≤ length bytes → take (length bytes - from) (drop from bytes) ≡ line ++ 10 ∷ rest → Lacks is_newline line → IsLineEnd bytes from (from + length line)
+IsLineEnd-cut bytes line rest from h cut lacks =
+    let is : drop from bytes ≡ line ++ 10 ∷ rest = sym (slice-from bytes from) ∙ cut in record {
+      after = omega arith;
+      inside = omega (arith, length-drop from bytes, ap length is, length-append line (10 ∷ rest));
+      stands = sym (get_or-drop from bytes (length line) 0) ∙ ap (λ l. get_or l (length line) 0) is ∙ get_or-append_seam line 10 rest 0;
+      first = lacks-within bytes line (10 ∷ rest) from is lacks;
+    }

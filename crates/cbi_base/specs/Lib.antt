@@ -1,6 +1,7 @@
 pub mod Fields
 pub mod ProgramId
 pub mod Refusal
+pub mod Format
 pub mod LineFaults
 pub mod Name
 pub mod Text

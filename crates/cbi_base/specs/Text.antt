@@ -1,5 +1,5 @@
-use Rattle.std.specs.Prelude.{◌≡◌, ◌≢◌, ℕ, Bool, ◌==◌, ◌+◌, List, [], ◌∷◌, ◌++◌, length, not, ◌&&◌, IsTrue, IsFalse}
-use Rattle.std.specs.List.{slice_split, join_with_byte, flat_map, list_all, AllByRecursion}
+use Rattle.std.specs.Prelude.{◌≡◌, ◌≢◌, ℕ, Bool, ◌==◌, ◌+◌, ◌<◌, ◌≤◌, List, [], ◌∷◌, ◌++◌, length, slice_index, not, ◌&&◌, IsTrue, IsFalse}
+use Rattle.std.specs.List.{slice_split, join_with_byte, flat_map, list_all, AllByRecursion, AllWithin}
 
 -- A text is a list of lines, each ended by a newline, and a line is a list of fields, parted by one space.
 abbrev pub is_newline : ℕ → Bool
@@ -44,6 +44,13 @@ pub record HasLines (text : List ℕ) (count : ℕ) : Type 0 where
   pub text_is : text ≡ text_of lines
   pub are_lines : AreLines lines
   pub number : count ≡ length lines
+
+-- the place of the first newline at or after another place
+pub record IsLineEnd (bytes : List ℕ) (from place : ℕ) : Type 0 where
+  pub after : from ≤ place
+  pub inside : place < length bytes
+  pub stands : slice_index bytes place ≡ 10
+  pub first : AllWithin (λ b. b ≢ 10) bytes from place
 
 -- A grammar of lines says which line may follow in a state of reading, and the state after it: `follows state line after`.
 -- The lines follow one another, and lead from one state to another.

@@ -72,3 +72,58 @@ pub fn push_decimal(out: &mut Vec<u8>, value: u128) -> Result<(), Memory>
     out.extend_from_slice(buffer.format(value).as_bytes())?;
     Ok(())
 }
+
+#[cfg(test)]
+mod tests {
+    use super::*;
+    use std::test::Fail;
+
+    #[test]
+    fn decimals_have_no_sign_and_no_leading_zero(rt: HostRuntime) {
+        for (text, max, number) in [
+            ("0", 0, Some(0)),
+            ("00", 9, None),
+            ("01", 9, None),
+            ("", 9, None),
+            ("-1", 9, None),
+            ("+1", 9, None),
+            ("1 ", 9, None),
+            ("65536", 65536, Some(65536)),
+            ("65537", 65536, None),
+            ("18446744073709551615", u64::MAX, Some(18446744073709551615)),
+            ("18446744073709551616", u64::MAX, None),
+        ] {
+            assert_eq!(rt; read_decimal(text.as_bytes(), max), number, "{text}");
+        }
+    }
+
+    #[test]
+    fn signed_decimals_have_a_sign_where_they_are_negative(rt: HostRuntime) {
+        for (text, number) in [
+            ("0", Some(0)),
+            ("-0", None),
+            ("+1", None),
+            ("-1", Some(-1)),
+            ("-01", None),
+            ("-", None),
+            ("9223372036854775807", Some(i64::MAX)),
+            ("9223372036854775808", None),
+            ("-9223372036854775808", Some(i64::MIN)),
+            ("-9223372036854775809", None),
+        ] {
+            assert_eq!(rt; read_signed(text.as_bytes()), number, "{text}");
+        }
+    }
+
+    #[test]
+    fn decimals_are_appended(rt: HostRuntime) -> Result<(), Fail> {
+        let mut out = Vec::new(rt.alloc());
+        for number in [0, 7, 18446744073709551616, u128::MAX] {
+            push_decimal(&mut out, number)?;
+            out.push(b' ')?;
+        }
+        let text = b"0 7 18446744073709551616 340282366920938463463374607431768211455 ";
+        assert_eq!(rt; out.as_slice(), text.as_slice());
+        Ok(())
+    }
+}

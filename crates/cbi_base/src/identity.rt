@@ -32,3 +32,48 @@ pub fn read_id(text: &[u8]) -> Option<ProgramId>
         None
     }
 }
+
+#[cfg(test)]
+mod tests {
+    use super::*;
+
+    // the SHA-256 of no bytes
+    const DIGEST: ProgramId = ProgramId {
+        bytes: [
+            0xe3, 0xb0, 0xc4, 0x42, 0x98, 0xfc, 0x1c, 0x14, 0x9a, 0xfb, 0xf4, 0xc8, 0x99, 0x6f,
+            0xb9, 0x24, 0x27, 0xae, 0x41, 0xe4, 0x64, 0x9b, 0x93, 0x4c, 0xa4, 0x95, 0x99, 0x1b,
+            0x78, 0x52, 0xb8, 0x55,
+        ],
+    };
+
+    #[test]
+    fn identities_are_spelled_by_lower_case_digits(rt: HostRuntime) {
+        let text = b"e3b0c44298fc1c149afbf4c8996fb92427ae41e4649b934ca495991b7852b855";
+        assert_eq!(rt; id_text(&DIGEST).as_slice(), text.as_slice());
+        for (text, id) in [
+            (
+                "e3b0c44298fc1c149afbf4c8996fb92427ae41e4649b934ca495991b7852b855",
+                Some(DIGEST),
+            ),
+            (
+                "E3b0c44298fc1c149afbf4c8996fb92427ae41e4649b934ca495991b7852b855",
+                None,
+            ),
+            (
+                "g3b0c44298fc1c149afbf4c8996fb92427ae41e4649b934ca495991b7852b855",
+                None,
+            ),
+            (
+                "3b0c44298fc1c149afbf4c8996fb92427ae41e4649b934ca495991b7852b855",
+                None,
+            ),
+            (
+                "e3b0c44298fc1c149afbf4c8996fb92427ae41e4649b934ca495991b7852b8550a",
+                None,
+            ),
+            ("", None),
+        ] {
+            assert_eq!(rt; read_id(text.as_bytes()), id, "{text}");
+        }
+    }
+}

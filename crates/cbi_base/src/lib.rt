@@ -3,6 +3,7 @@
 
 mod decimal;
 mod file_store;
+mod format;
 mod identity;
 mod lines;
 mod mem_sink;
@@ -23,6 +24,7 @@ mod trap;
 
 pub use decimal::{push_decimal, read_decimal, read_signed};
 pub use file_store::FileStore;
+pub use format::count_conversions;
 pub use identity::{ProgramId, id_text, read_id};
 pub use lines::{LineError, LineReader, TextError, read_lines};
 pub use mem_sink::MemSink;
@@ -38,5 +40,5 @@ pub use sink::{Sink, SinkError};
 pub use stack::Stack;
 pub use std_sink::StdSink;
 pub use store::{Store, StoreError};
-pub use text::Fields;
+pub use text::{Fields, line_end};
 pub use trap::Trap;

@@ -101,3 +101,41 @@ impl Name {
         self.bytes.as_slice() == other.bytes.as_slice()
     }
 }
+
+#[cfg(test)]
+mod tests {
+    use super::*;
+    use std::test::Fail;
+
+    #[test]
+    fn names_are_letters_and_digits_of_at_most_63_bytes(rt: HostRuntime) -> Result<(), Fail> {
+        for (text, is) in [
+            ("main", true),
+            ("_", true),
+            ("x9", true),
+            ("9x", false),
+            ("", false),
+            ("a b", false),
+            ("a-", false),
+            (
+                "a23456789012345678901234567890123456789012345678901234567890123",
+                true,
+            ),
+            (
+                "a234567890123456789012345678901234567890123456789012345678901234",
+                false,
+            ),
+        ] {
+            assert_eq!(rt; is_name(text.as_bytes()), is, "{text}");
+            match Name::new(rt.alloc(), text.as_bytes())? {
+                None => assert!(rt; !is, "{text}"),
+                Some(name) => {
+                    let copy = name.try_clone()?;
+                    assert!(rt; copy.same(&name), "{text}");
+                    assert_eq!(rt; copy.bytes(), text.as_bytes());
+                }
+            }
+        }
+        Ok(())
+    }
+}

@@ -162,3 +162,79 @@ impl Refusal {
         pushed
     }
 }
+
+#[cfg(test)]
+mod tests {
+    use super::*;
+    use std::test::Fail;
+
+    #[test]
+    fn refusals_have_the_numbers_and_lines_of_the_table(rt: HostRuntime) -> Result<(), Fail> {
+        let ours = ProgramId { bytes: [0x0f; 32] };
+        let theirs = ProgramId { bytes: [0xa9; 32] };
+        for (refusal, number, words) in [
+            (Refusal::BadByte { line: 1 }, 10, "10 BadByte line 1"),
+            (Refusal::BadToken { line: 20 }, 11, "11 BadToken line 20"),
+            (
+                Refusal::Syntax { line: 4294967295 },
+                12,
+                "12 Syntax line 4294967295",
+            ),
+            (
+                Refusal::BadType { kind: 3, line: 7 },
+                15,
+                "15 BadType kind 3 line 7",
+            ),
+            (Refusal::TooLarge, 16, "16 TooLarge"),
+            (Refusal::TooManySites, 17, "17 TooManySites"),
+            (
+                Refusal::BadProgram { line: 14 },
+                20,
+                "20 BadProgram line 14",
+            ),
+            (Refusal::BadBank { line: 1 }, 21, "21 BadBank line 1"),
+            (
+                Refusal::BadReport { file: 2, line: 7 },
+                22,
+                "22 BadReport file 2 line 7",
+            ),
+            (
+                Refusal::Foreign { ours, theirs },
+                23,
+                "23 Foreign ours 0f0f0f0f0f0f0f0f0f0f0f0f0f0f0f0f0f0f0f0f0f0f0f0f0f0f0f0f0f0f0f0f theirs a9a9a9a9a9a9a9a9a9a9a9a9a9a9a9a9a9a9a9a9a9a9a9a9a9a9a9a9a9a9a9a9",
+            ),
+            (Refusal::Conflict { run: 5 }, 24, "24 Conflict run 5"),
+            (
+                Refusal::TooManyReports { run: 100001 },
+                25,
+                "25 TooManyReports run 100001",
+            ),
+            (
+                Refusal::TooManyMarks { run: 9 },
+                26,
+                "26 TooManyMarks run 9",
+            ),
+            (
+                Refusal::BadCollection {
+                    file: 18446744073709551615,
+                    line: 1,
+                },
+                27,
+                "27 BadCollection file 18446744073709551615 line 1",
+            ),
+            (Refusal::InputTooLarge, 28, "28 InputTooLarge"),
+            (
+                Refusal::NoSite { run: 5, site: 7 },
+                29,
+                "29 NoSite run 5 site 7",
+            ),
+        ] {
+            assert_eq!(rt; refusal.number(), number, "{refusal:?}");
+            let mut out = Vec::from_slice(rt.alloc(), b"before\n")?;
+            refusal.push_line(&mut out)?;
+            let line = format!(in rt.alloc(); "before\ncbi: refusal {words}\n")?;
+            assert_eq!(rt; out.as_slice(), line.as_bytes(), "{refusal:?}");
+        }
+        Ok(())
+    }
+}

@@ -1,8 +1,7 @@
-ghost use Rattle.std.specs.Prelude.{◌≡◌, ◌==◌, ◌+◌, ◌≤◌, ℕ, List, [], ◌∷◌, ◌++◌, length, Option, None, Some, MatchOption, OnOk, IfErr, IsTrue, ◌↔◌};
-ghost use Rattle.std.specs.List.{slice_split};
-ghost use Rattle.cbi_base.specs.Text.{Lacks, is_space, fields_of, ReadsLines, IsBadLine};
+ghost use Rattle.std.specs.Prelude.{◌≡◌, ◌≢◌, ◌==◌, ◌≤◌, [], ◌∷◌, ◌++◌, length, MatchOption, IsTrue, ◌↔◌};
+ghost use Rattle.std.specs.List.{AllWithin};
+ghost use Rattle.cbi_base.specs.Text.{Lacks, IsLineEnd, fields_of};
 
-use crate::memory::Memory;
 use std::marker::Model;
 
 /// The bytes before the first `mark` and those after it; None exactly where there is none.
@@ -11,6 +10,15 @@ pub fn cut(bytes: &[u8], mark: u8) -> Option<(&[u8], &[u8])>
 {
     let at = bytes.iter().position(|b| *b == mark)?;
     Some((&bytes[..at], &bytes[at + 1..]))
+}
+
+/// The place of the first newline at or after `from`; None exactly where there is none.
+pub fn line_end(bytes: &[u8], from: usize) -> Option<usize>
+    requires { from ≤ length bytes.now }
+    ensures { MatchOption result (AllWithin (λ b. b ≢ 10) bytes.now from (length bytes.now)) (IsLineEnd bytes.now from) }
+{
+    let (line, _) = cut(&bytes[from..], b'\n')?;
+    Some(from + line.len())
 }
 
 /// The fields of a line, from the left. Contracts see it as the list of those that are left.
@@ -61,5 +69,40 @@ impl<'a> Fields<'a> {
             None => true,
             Some(_) => false,
         }
+    }
+}
+
+#[cfg(test)]
+mod tests {
+    use super::*;
+
+    #[test]
+    fn lines_end_at_the_first_newline(rt: HostRuntime) {
+        for (text, from, place) in [
+            ("a\nb\n", 0, Some(1)),
+            ("a\nb\n", 1, Some(1)),
+            ("a\nb\n", 2, Some(3)),
+            ("a\nb\n", 4, None),
+            ("ab", 0, None),
+            ("", 0, None),
+        ] {
+            assert!(rt; from <= text.len());
+            assert_eq!(rt;
+                line_end(text.as_bytes(), from),
+                place,
+                "{text:?} from {from}"
+            );
+        }
+    }
+
+    #[test]
+    fn fields_are_parted_by_one_space(rt: HostRuntime) {
+        let mut fields = Fields::new(b"run  7");
+        for field in ["run", "", "7"] {
+            assert!(rt; !fields.is_empty());
+            assert_eq!(rt; fields.next(), Some(field.as_bytes()));
+        }
+        assert!(rt; fields.is_empty());
+        assert!(rt; fields.next().is_none());
     }
 }
