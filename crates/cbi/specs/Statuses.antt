@@ -9,5 +9,9 @@ IsStatus status = (status ≡ 0) ⊎ ((status ≡ 2) ⊎ ((status ≡ 3) ⊎ ((s
 abbrev pub IsUntouched : ℕ → Type 0
 IsUntouched status = (status ≡ 2) ⊎ ((status ≡ 3) ⊎ (status ≡ 5))
 
+-- these come after all files were read
+abbrev pub IsPast : ℕ → Type 0
+IsPast status = (status ≡ 0) ⊎ ((status ≡ 4) ⊎ (status ≡ 5))
+
 abbrev pub IsUnchangedOr : Option (List ℕ) → Option (List ℕ) → Type 0 → Type 0
 IsUnchangedOr before after part = (after ≡ before) ⊎ part

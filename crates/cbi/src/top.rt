@@ -2,7 +2,7 @@ ghost use Rattle.std.specs.Prelude.{◌≡◌, ◌≤◌, ◌⊎◌, IsNone, IsS
 ghost use Rattle.cbi_base.specs.Faults.{Rose};
 ghost use Rattle.cbi.specs.Run.{OfCommand, Ran, StoppedWithin, IsRefused, ReadsHeld};
 ghost use Rattle.cbi.specs.Words.{command_of, texts_of};
-ghost use Rattle.cbi.specs.Statuses.{IsStatus, IsUntouched, IsUnchangedOr};
+ghost use Rattle.cbi.specs.Statuses.{IsStatus, IsUntouched, IsPast, IsUnchangedOr};
 
 use crate::message::{tell_fault, tell_usage};
 use crate::run_file::run_file;
@@ -45,6 +45,12 @@ pub fn cbi<S: Store, O: Sink, E: Sink>(
     ensures part { result ≡ 4 → OfCommand (command_of (texts_of words.now.items)) (StoppedWithin (S.holds store.old) (O.taken out.old) (O.taken out.new)) }
     ensures wanting { result ≡ 7 → IsUnchangedOr (O.taken out.old) (O.taken out.new)
         (OfCommand (command_of (texts_of words.now.items)) (StoppedWithin (S.holds store.old) (O.taken out.old) (O.taken out.new))) }
+    ensures was_held { IsPast result → OfCommand (command_of (texts_of words.now.items)) (ReadsHeld (S.holds store.old)) }
+
+    // Over devices that are sound no count rises, and every valid input is done, but for want of memory.
+    ensures reads_stay { S.is_sound store.old → OfCommand (command_of (texts_of words.now.items)) (ReadsHeld (S.holds store.old))
+        → S.read_faults store.new ≡ S.read_faults store.old }
+    ensures out_stays { O.is_sound out.old → O.faults out.new ≡ O.faults out.old }
     ensures held { S.holds store.new ≡ S.holds store.old }
     ensures writes { S.write_faults store.new ≡ S.write_faults store.old }
 {

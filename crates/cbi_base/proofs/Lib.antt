@@ -3,7 +3,6 @@ pub mod RefusalLemmas
 pub mod IdLemmas
 pub mod TextLemmas
 pub mod FieldLemmas
-pub mod FailingLemmas
 pub mod FaultLemmas
 pub mod HeldFiles
 pub mod Taking
