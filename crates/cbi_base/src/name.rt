@@ -108,7 +108,7 @@ mod tests {
     use std::test::Fail;
 
     #[test]
-    fn names_are_letters_and_digits_of_at_most_63_bytes(rt: HostRuntime) -> Result<(), Fail> {
+    fn names_are_letters_and_digits_of_at_most_63_bytes(rt: HostRuntime) {
         for (text, is) in [
             ("main", true),
             ("_", true),
@@ -127,15 +127,15 @@ mod tests {
             ),
         ] {
             assert_eq!(rt; is_name(text.as_bytes()), is, "{text}");
-            match Name::new(rt.alloc(), text.as_bytes())? {
-                None => assert!(rt; !is, "{text}"),
-                Some(name) => {
-                    let copy = name.try_clone()?;
-                    assert!(rt; copy.same(&name), "{text}");
-                    assert_eq!(rt; copy.bytes(), text.as_bytes());
-                }
-            }
         }
+    }
+
+    #[test]
+    fn a_copy_of_a_name_is_the_same(rt: HostRuntime) -> Result<(), Fail> {
+        let name = Name::new(rt.alloc(), b"main")?.ok_or("a name")?;
+        let copy = name.try_clone()?;
+        assert!(rt; copy.same(&name));
+        assert_eq!(rt; copy.bytes(), b"main".as_slice());
         Ok(())
     }
 }
