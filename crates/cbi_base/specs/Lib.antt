@@ -16,3 +16,4 @@ pub mod Failing
 pub mod MemStore
 pub mod MemSink
 pub mod StdSink
+pub mod Objects

@@ -6,7 +6,13 @@ use Rattle.cbi_base.specs.Text.{spaced, text_of}
 use Rattle.cbi_base.specs.declared.scalar.Kind.{Kind}
 use Rattle.cbi_base.specs.declared.scalar.Kind.TheVariants.{Char, Int, Unsigned}
 use Rattle.flow.specs.declared.node.Node.{Node}
-use Rattle.flow.specs.declared.node.Node.TheVariants.{Push, Put, Drop, Return}
+use Rattle.flow.specs.declared.node.Node.TheVariants.{Push, Local, Load, Store, Math, Sole, Dup, Drop, Pass, Fork, Again, Return, Get, Put, Clear}
+use Rattle.cbi_base.specs.declared.scalar.Want.{Want}
+use Rattle.cbi_base.specs.declared.scalar.Want.TheVariants.{Number, Pointer}
+use Rattle.cbi_base.specs.declared.operators.Binary.{Binary}
+use Rattle.cbi_base.specs.declared.operators.Binary.TheVariants.{Add, Sub, Mul, Div, Rem, Shl, Shr, And, Or, Xor, Lt, Le, Gt, Ge, Eq, Ne}
+use Rattle.cbi_base.specs.declared.operators.Unary.{Unary}
+use Rattle.cbi_base.specs.declared.operators.Unary.TheVariants.{Neg, Com, Not}
 use Rattle.flow.specs.declared.program.Function.{Function}
 use Rattle.flow.specs.declared.program.ProgramParts.{ProgramParts}
 use Rattle.flow.specs.Program.{IsProgram}
@@ -16,12 +22,50 @@ kind_word Char = codes "c"
 kind_word Int = codes "i"
 kind_word Unsigned = codes "u"
 
+abbrev pub want_word : Want → List ℕ
+want_word (Number kind) = kind_word kind
+want_word Pointer = codes "p"
+
+abbrev pub binary_word : Binary → List ℕ
+binary_word Add = codes "add"
+binary_word Sub = codes "sub"
+binary_word Mul = codes "mul"
+binary_word Div = codes "div"
+binary_word Rem = codes "rem"
+binary_word Shl = codes "shl"
+binary_word Shr = codes "shr"
+binary_word And = codes "and"
+binary_word Or = codes "or"
+binary_word Xor = codes "xor"
+binary_word Lt = codes "lt"
+binary_word Le = codes "le"
+binary_word Gt = codes "gt"
+binary_word Ge = codes "ge"
+binary_word Eq = codes "eq"
+binary_word Ne = codes "ne"
+
+abbrev pub unary_word : Unary → List ℕ
+unary_word Neg = codes "neg"
+unary_word Com = codes "com"
+unary_word Not = codes "not"
+
 -- a node's line
 abbrev pub node_fields : Node → List (List ℕ)
 node_fields (Push kind value next) = codes "push" ∷ kind_word kind ∷ signed_decimal value ∷ decimal next ∷ []
-node_fields (Put next) = codes "put" ∷ decimal next ∷ []
+node_fields (Local index next) = codes "local" ∷ decimal index ∷ decimal next ∷ []
+node_fields (Load want next) = codes "load" ∷ want_word want ∷ decimal next ∷ []
+node_fields (Store next) = codes "store" ∷ decimal next ∷ []
+node_fields (Math op next) = codes "math" ∷ binary_word op ∷ decimal next ∷ []
+node_fields (Sole op next) = codes "sole" ∷ unary_word op ∷ decimal next ∷ []
+node_fields (Dup next) = codes "dup" ∷ decimal next ∷ []
 node_fields (Drop next) = codes "drop" ∷ decimal next ∷ []
+node_fields (Pass next) = codes "pass" ∷ decimal next ∷ []
+node_fields (Fork when_true when_false) = codes "fork" ∷ decimal when_true ∷ decimal when_false ∷ []
+node_fields (Again next) = codes "again" ∷ decimal next ∷ []
 node_fields Return = codes "return" ∷ []
+node_fields (Get next) = codes "get" ∷ decimal next ∷ []
+node_fields (Put next) = codes "put" ∷ decimal next ∷ []
+node_fields (Clear index next) = codes "clear" ∷ decimal index ∷ decimal next ∷ []
 
 abbrev pub result_word : Bool → List ℕ
 result_word true = codes "value"

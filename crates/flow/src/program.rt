@@ -1,10 +1,11 @@
 ghost use Rattle.std.specs.Prelude.{◌≡◌, ◌↔◌, ◌≤◌, List, length, IsTrue, IsSome, IfSome};
+ghost use Rattle.std.specs.List.{All};
 ghost use Rattle.cbi_base.specs.Kind.{lies_in};
-ghost use Rattle.flow.specs.Nodes.{is_later, node_fits, NodesFit};
+ghost use Rattle.flow.specs.Nodes.{is_built, is_later, node_fits, NodesFit};
 ghost use Rattle.flow.specs.Program.{IsFunction, IsProgram, AreParts};
 
 use crate::node::Node;
-use cbi_base::{Kind, Name, Seq};
+use cbi_base::{Binary, Kind, Name, Seq, Unary};
 use std::marker::Model;
 
 /// A function: whether it has a result, how many of its locals are parameters, the sizes of its locals in cells, and its nodes,
@@ -18,9 +19,10 @@ pub struct Function {
     pub nodes: Seq<Node>,
 }
 
-/// What a node of a function may name: how many nodes the function has.
+/// What a node of a function may name: how many locals and nodes the function has.
 #[derive(Clone, Copy, Debug)]
 pub struct Bounds {
+    pub locals: u32,
     pub nodes: u32,
 }
 
@@ -48,15 +50,36 @@ fn lies_in(kind: Kind, value: i64) -> bool
     }
 }
 
+fn is_built(op: Binary) -> bool
+    ensures { result ≡ is_built op }
+{
+    !matches!(
+        op,
+        Binary::Shl | Binary::Shr | Binary::And | Binary::Or | Binary::Xor
+    )
+}
+
 /// Whether a node may stand at this place of a function with these bounds.
 pub fn node_fits(bounds: Bounds, place: u32, node: Node) -> bool
     ensures { result ≡ node_fits bounds place node }
 {
     match node {
         Node::Push { kind, value, next } => lies_in(kind, value) && is_later(bounds, place, next),
-        Node::Put { next } => is_later(bounds, place, next),
-        Node::Drop { next } => is_later(bounds, place, next),
+        Node::Local { index, next } | Node::Clear { index, next } => {
+            index < bounds.locals && is_later(bounds, place, next)
+        }
+        Node::Math { op, next } => is_built(op) && is_later(bounds, place, next),
+        Node::Sole { op, next } => op != Unary::Com && is_later(bounds, place, next),
+        Node::Fork { yes, no } => is_later(bounds, place, yes) && is_later(bounds, place, no),
+        Node::Again { next } => next < bounds.nodes,
         Node::Return => true,
+        Node::Load { next, .. }
+        | Node::Store { next }
+        | Node::Dup { next }
+        | Node::Drop { next }
+        | Node::Pass { next }
+        | Node::Get { next }
+        | Node::Put { next } => is_later(bounds, place, next),
     }
 }
 
@@ -73,17 +96,27 @@ fn nodes_fit(bounds: Bounds, nodes: &[Node]) -> bool
     true
 }
 
+/// Whether each local is one cell.
+fn are_single(sizes: &[u32]) -> bool
+    ensures { IsTrue result ↔ All (λ size. size ≡ 1) sizes.now }
+{
+    sizes.iter().all(|size| *size == 1)
+}
+
 fn is_function(function: &Function) -> bool
-    requires { length function.now.nodes ≤ 16000000 }
+    requires nodes { length function.now.nodes ≤ 16000000 }
+    requires locals { length function.now.locals ≤ 200000 }
     ensures { IsTrue result ↔ IsFunction function.now }
 {
     let nodes = function.nodes.as_slice();
-    if nodes.is_empty() || !function.locals.is_empty() || function.params != 0 {
+    let locals = function.locals.as_slice();
+    if nodes.is_empty() || function.params as usize > locals.len() || !are_single(locals) {
         return false;
     }
     let _name = function.name.bytes();
     nodes_fit(
         Bounds {
+            locals: locals.len() as u32,
             nodes: nodes.len() as u32,
         },
         nodes,
@@ -97,7 +130,10 @@ fn is_program(functions: &[Function], main: u32) -> bool
     let [function] = functions else {
         return false;
     };
-    if main != 0 || !function.value || function.nodes.len() > 16000000 {
+    if main != 0 || !function.value || function.params != 0 {
+        return false;
+    }
+    if function.locals.len() > 200000 || function.nodes.len() > 16000000 {
         return false;
     }
     is_function(function)
