@@ -1,5 +1,6 @@
 -- A whole program file: its lines are those of one program, and each program's lines are read as that program.
-use Rattle.std.proofs.Common.{◌≡◌, ◌≢◌, ◌≤◌, ◌<◌, ◌+◌, ◌⊎◌, inl, inr, ℕ, zero, suc, Bool, true, false, if◌then◌else◌, ◌==◌, List, [], ◌∷◌, ◌++◌, map, length, Some, IsTrue, slice_get, codes, decimal, ap, sym, subst, ◌∙◌, refl, append_assoc, length-append, lit<, arith}
+use Rattle.std.proofs.Common.{◌≡◌, ◌≢◌, ◌≤◌, ◌<◌, ◌+◌, ◌⊎◌, inl, inr, ℕ, zero, suc, Bool, true, false, if◌then◌else◌, ◌==◌, List, [], ◌∷◌, ◌++◌, map, length, Some, IsTrue, slice_get, codes, decimal, ap, sym, subst, ◌∙◌, refl, append_assoc, length-append, lit<, arith, replicate}
+use Rattle.std.specs.List.{AllByRecursion}
 use Rattle.std.proofs.lemmas.Bool.{eqb-true, eq-eqb, false≢true}
 use Rattle.std.proofs.lemmas.Bool.Decides.{nat_tests}
 use Rattle.std.proofs.lemmas.Fmt.{decimal_digit}
@@ -11,30 +12,42 @@ use Rattle.flow.specs.declared.program.Function.{Function}
 use Rattle.flow.specs.declared.program.ProgramParts.{ProgramParts}
 use Rattle.flow.specs.declared.program.Bounds.{Bounds}
 use Rattle.flow.specs.Nodes.{node_fits, NodesFit}
-use Rattle.flow.specs.Program.{IsFunction, IsProgram}
-use Rattle.std.proofs.lemmas.List.Elements.{All-from_recursion}
+use Rattle.flow.specs.Program.{IsFunction, IsProgram, bounds_of}
+use Rattle.std.proofs.lemmas.List.Elements.{All-from_recursion, recursion_from_All}
 use Rattle.flow.specs.Spelling.{node_fields, rows_of, program_text, SpellsProgram}
 use Rattle.program_file.specs.declared.draft.Draft.{Draft}
 use Rattle.program_file.specs.declared.draft.Due.{Due}
 use Rattle.program_file.specs.declared.draft.Due.TheVariants as due
-use Rattle.program_file.proofs.Lines.{none-some, some-same}
-use Rattle.program_file.proofs.Reading.{are_fields-node}
-use Rattle.program_file.specs.Draft.{Follows, Comes, Fixed, HeadFollows, NodeFollows, bounds_in, due_after, parts_of, IsStart, IsOf}
+use Rattle.program_file.proofs.Lines.{none-some, some-same, head_row, lacks-newline-locals}
+use Rattle.program_file.proofs.Reading.{AreSmall, are_fields-node}
+use Rattle.program_file.specs.Draft.{Follows, Comes, Fixed, HeadFollows, NodeFollows, bounds_in, due_after, ones, parts_of, IsStart, IsOf}
 
 -- The lines of the program with this name and these nodes.
 abbrev pub node_lines : List Node → List (List ℕ)
 node_lines nodes = map (λ n. spaced (node_fields n)) nodes ++ codes "end" ∷ []
 
-abbrev pub head_line : List ℕ → ℕ → List ℕ
-head_line name count = spaced (codes "function" ∷ name ∷ codes "value" ∷ codes "0" ∷ codes "0" ∷ decimal count ∷ [])
+abbrev pub head_line : List ℕ → ℕ → ℕ → List ℕ
+head_line name locals count = spaced (head_row name (locals, count))
 
-abbrev pub lines_with : List ℕ → ℕ → List Node → List (List ℕ)
-lines_with name count nodes =
-    codes "cbi-program 1" ∷ codes "texts 0" ∷ codes "globals 0" ∷ codes "functions 1" ∷ head_line name count ∷ codes "main 0"
-    ∷ codes "sites 0" ∷ codes "locals" ∷ node_lines nodes
+abbrev pub locals_line : ℕ → List ℕ
+locals_line locals = spaced (codes "locals" ∷ ones locals)
 
-abbrev pub program_lines : List ℕ → List Node → List (List ℕ)
-program_lines name nodes = lines_with name (length nodes) nodes
+abbrev pub lines_with : List ℕ → ℕ → ℕ → List Node → List (List ℕ)
+lines_with name locals count nodes =
+    codes "cbi-program 1" ∷ codes "texts 0" ∷ codes "globals 0" ∷ codes "functions 1" ∷ head_line name locals count ∷ codes "main 0"
+    ∷ codes "sites 0" ∷ locals_line locals ∷ node_lines nodes
+
+abbrev pub program_lines : List ℕ → ℕ → List Node → List (List ℕ)
+program_lines name locals nodes = lines_with name locals (length nodes) nodes
+
+-- sizes of one cell, spelled
+sizes-spelled : (locals : ℕ) → map decimal (replicate locals 1) ≡ ones locals
+sizes-spelled zero = refl
+sizes-spelled (suc n) = ap (λ fs. decimal 1 ∷ fs) (sizes-spelled n) ∙ ap (λ f. f ∷ ones n) (decimal_digit 1 (omega arith))
+
+length-sizes : (locals : ℕ) → length {A = ℕ} (replicate locals 1) ≡ locals
+length-sizes zero = refl
+length-sizes (suc n) = ap suc (length-sizes n)
 
 append-none : {A : Type 0} (xs : List A) → xs ++ [] ≡ xs
 append-none [] = refl
@@ -44,9 +57,9 @@ spaced-rows : (nodes : List Node) → map spaced (map node_fields nodes ++ (code
 spaced-rows [] = refl
 spaced-rows (n ∷ ns) = ap (λ ls. spaced (node_fields n) ∷ ls) (spaced-rows ns)
 
-pub lines-are : (name : List ℕ) (nodes : List Node) → map spaced (rows_of (parts_of name nodes)) ≡ program_lines name nodes
-lines-are name nodes =
-    rw (decimal_digit 0 (omega arith), decimal_digit 1 (omega arith), append-none (map node_fields nodes), spaced-rows nodes) refl
+pub lines-are : (name : List ℕ) (locals : ℕ) (nodes : List Node) → map spaced (rows_of (parts_of name locals nodes)) ≡ program_lines name locals nodes
+lines-are name locals nodes =
+    rw (length-sizes locals, sizes-spelled locals, decimal_digit 0 (omega arith), decimal_digit 1 (omega arith), append-none (map node_fields nodes), spaced-rows nodes) refl
 
 -- A line that is always the same comes where it is due.
 pub record AfterFixed (want : List ℕ) (next : Due) (s : Draft) (lines : List (List ℕ)) (d : Draft) : Type 0 where
@@ -144,21 +157,25 @@ after-nodes s d (l ∷ ls) fit done leads =
 -- The line of the function comes where it is due.
 pub record AfterHead (s : Draft) (lines : List (List ℕ)) (d : Draft) : Type 0 where
   pub name : List ℕ
+  pub locals : ℕ
   pub count : ℕ
   pub is_name : IsName name
+  pub few : locals ≤ 200000
   pub some : 1 ≤ count
   pub most : count ≤ 16000000
   pub more : List (List ℕ)
-  pub lines_are : lines ≡ head_line name count ∷ more
-  pub leads : LeadsTo Follows (record s { due = due.Main; name = Some name; count = count }) more d
+  pub lines_are : lines ≡ head_line name locals count ∷ more
+  pub leads : LeadsTo Follows (record s { due = due.Main; name = Some name; locals = locals; count = count }) more d
 
 after-head : (s d : Draft) (lines : List (List ℕ)) → d.due ≡ due.Nothing → LeadsTo Follows (record s { due = due.Head }) lines d → AfterHead s lines d
 after-head s d [] done leads = absurd (open_yet due.Head refl (ap (λ (x : Draft). x.due) leads ∙ done))
 after-head s d (l ∷ ls) done leads =
     let f : HeadFollows (record s { due = due.Head }) l leads.0 = leads.1 in record {
       name = f.name;
+      locals = f.locals;
       count = f.count;
       is_name = f.is_name;
+      few = f.few;
       some = f.some;
       most = f.most;
       more = ls;
@@ -170,11 +187,12 @@ after-head s d (l ∷ ls) done leads =
 pub record IsWhole (s : Draft) (lines : List (List ℕ)) (d : Draft) : Type 0 where
   pub name : List ℕ
   pub is_name : IsName name
+  pub few : d.locals ≤ 200000
   pub some : 1 ≤ length d.nodes
   pub most : length d.nodes ≤ 16000000
-  pub lines_are : lines ≡ program_lines name d.nodes
+  pub lines_are : lines ≡ program_lines name d.locals d.nodes
   pub name_is : d.name ≡ Some name
-  pub fit : NodesFit (record { nodes = length d.nodes }) d.nodes
+  pub fit : NodesFit (record { locals = d.locals; nodes = length d.nodes }) d.nodes
 
 after-start : (s d : Draft) (lines : List (List ℕ)) → d.due ≡ due.Nothing → LeadsTo Follows (record s { due = due.Title; nodes = [] }) lines d → IsWhole s lines d
 after-start s d lines done leads =
@@ -184,34 +202,42 @@ after-start s d lines done leads =
     let c = after-fixed (codes "globals 0") due.Functions (record s0 { due = due.Globals }) d b.more (λ line after f. f) (open_yet due.Globals refl) done b.leads in
     let e = after-fixed (codes "functions 1") due.Head (record s0 { due = due.Functions }) d c.more (λ line after f. f) (open_yet due.Functions refl) done c.leads in
     let h = after-head s0 d e.more done e.leads in
-    let s1 = record s0 { name = Some h.name; count = h.count } in
+    let s1 = record s0 { name = Some h.name; locals = h.locals; count = h.count } in
     let m = after-fixed (codes "main 0") due.Sites (record s1 { due = due.Main }) d h.more (λ line after f. f) (open_yet due.Main refl) done h.leads in
     let i = after-fixed (codes "sites 0") due.Locals (record s1 { due = due.Sites }) d m.more (λ line after f. f) (open_yet due.Sites refl) done m.leads in
-    let j = after-fixed (codes "locals") due.Nodes (record s1 { due = due.Locals }) d i.more (λ line after f. f) (open_yet due.Locals refl) done i.leads in
+    let j = after-fixed (locals_line h.locals) due.Nodes (record s1 { due = due.Locals }) d i.more (λ line after f. f) (open_yet due.Locals refl) done i.leads in
     let n = after-nodes s1 d j.more (NodesFit-none (bounds_in s1)) done j.leads in
     let nodes_are : d.nodes ≡ n.nodes = ap (λ (x : Draft). x.nodes) n.end_is in
-    let counted : length d.nodes ≡ h.count = ap length nodes_are ∙ n.count_is in record {
+    let counted : length d.nodes ≡ h.count = ap length nodes_are ∙ n.count_is in
+    let locals_are : d.locals ≡ h.locals = ap (λ (x : Draft). x.locals) n.end_is in record {
       name = h.name;
       is_name = h.is_name;
+      few = omega (arith, h.few);
       some = omega (arith, h.some);
       most = omega (arith, h.most);
       lines_are =
           a.lines_are ∙ ap (λ x. codes "cbi-program 1" ∷ x) (b.lines_are ∙ ap (λ x. codes "texts 0" ∷ x) (c.lines_are ∙ ap (λ x. codes "globals 0" ∷ x) (
-          e.lines_are ∙ ap (λ x. codes "functions 1" ∷ x) (h.lines_are ∙ ap (λ x. head_line h.name h.count ∷ x) (m.lines_are ∙ ap (λ x. codes "main 0" ∷ x) (
-          i.lines_are ∙ ap (λ x. codes "sites 0" ∷ x) (j.lines_are ∙ ap (λ x. codes "locals" ∷ x) n.lines_are)))))))
-          ∙ ap (λ k. lines_with h.name k n.nodes) (sym counted) ∙ ap (λ ns. lines_with h.name (length d.nodes) ns) (sym nodes_are);
+          e.lines_are ∙ ap (λ x. codes "functions 1" ∷ x) (h.lines_are ∙ ap (λ x. head_line h.name h.locals h.count ∷ x) (m.lines_are ∙ ap (λ x. codes "main 0" ∷ x) (
+          i.lines_are ∙ ap (λ x. codes "sites 0" ∷ x) (j.lines_are ∙ ap (λ x. locals_line h.locals ∷ x) n.lines_are)))))))
+          ∙ ap (λ k. lines_with h.name k h.count n.nodes) (sym locals_are) ∙ ap (λ k. lines_with h.name d.locals k n.nodes) (sym counted) ∙ ap (λ ns. lines_with h.name d.locals (length d.nodes) ns) (sym nodes_are);
       name_is = ap (λ (x : Draft). x.name) n.end_is;
-      fit = subst (λ k. NodesFit (record { nodes = k }) d.nodes) (sym counted) (subst (λ ns. NodesFit (record { nodes = h.count }) ns) (sym nodes_are) n.fit);
+      fit = subst (λ l. NodesFit (record { locals = l; nodes = length d.nodes }) d.nodes) (sym locals_are) (subst (λ k. NodesFit (record { locals = h.locals; nodes = k }) d.nodes) (sym counted) (subst (λ ns. NodesFit (record { locals = h.locals; nodes = h.count }) ns) (sym nodes_are) n.fit));
     }
 
+sizes-single : (locals : ℕ) → AllByRecursion {X = ℕ} (λ size. size ≡ 1) (replicate locals 1)
+sizes-single zero = tt
+sizes-single (suc n) = (refl, sizes-single n)
+
 -- the parts that were read keep the conditions on programs
-whole-program : (name : List ℕ) (nodes : List Node) → IsName name → 1 ≤ length nodes → length nodes ≤ 16000000 → NodesFit (record { nodes = length nodes }) nodes → IsProgram (parts_of name nodes)
-whole-program name nodes is_name some most fit =
-    let f : Function = record { name = name; value = true; params = 0; locals = []; nodes = nodes } in
-    let is : IsFunction f = record { name = is_name; locals = refl; params = omega arith; entry = some; nodes = fit } in record {
+whole-program : (name : List ℕ) (locals : ℕ) (nodes : List Node) → IsName name → locals ≤ 200000 → 1 ≤ length nodes → length nodes ≤ 16000000 → NodesFit (record { locals = locals; nodes = length nodes }) nodes → IsProgram (parts_of name locals nodes)
+whole-program name locals nodes is_name few some most fit =
+    let f : Function = record { name = name; value = true; params = 0; locals = replicate locals 1; nodes = nodes } in
+    let sized : NodesFit (bounds_of f) nodes = subst (λ l. NodesFit (record { locals = l; nodes = length nodes }) nodes) (sym (length-sizes locals)) fit in
+    let is : IsFunction f = record { name = is_name; locals = All-from_recursion _ (replicate locals 1) (sizes-single locals); params = omega arith; entry = some; nodes = sized } in record {
       count = refl;
       functions = All-from_recursion IsFunction (f ∷ []) (is, tt);
       main = (f, refl, record { result = refl; params = refl });
+      locals = omega (arith, length-sizes locals);
       nodes = omega arith;
     }
 
@@ -224,10 +250,10 @@ pub whole-spelled : (s d : Draft) (parts : ProgramParts) (text : List ℕ) → I
 whole-spelled s d parts text start of reads =
     let w = after-start s d reads.lines of.due (subst (λ e. LeadsTo Follows e reads.lines d) (start-is s start) reads.leads) in
     let name : w.name ≡ of.name = some-same _ _ (sym w.name_is ∙ of.name_is) in
-    let parts_are : parts_of w.name d.nodes ≡ parts = ap (λ n. parts_of n d.nodes) name ∙ sym of.parts_are in
+    let parts_are : parts_of w.name d.locals d.nodes ≡ parts = ap (λ n. parts_of n d.locals d.nodes) name ∙ sym of.parts_are in
     subst (SpellsProgram text) parts_are (record {
-      is_program = whole-program w.name d.nodes w.is_name w.some w.most w.fit;
-      text_is = reads.text_is ∙ ap text_of (w.lines_are ∙ sym (lines-are w.name d.nodes));
+      is_program = whole-program w.name d.locals d.nodes w.is_name w.few w.some w.most w.fit;
+      text_is = reads.text_is ∙ ap text_of (w.lines_are ∙ sym (lines-are w.name d.locals d.nodes));
     })
 
 -- The other way: the lines of a program lead to it.
@@ -279,22 +305,24 @@ nodes-lead-all s (n ∷ ns) some count none fit =
     subst (λ t. LeadsTo Follows (record t { due = due.Nodes }) (node_lines (n ∷ ns)) (done_with s (n ∷ ns))) (sym e) (nodes-lead (record s { nodes = [] }) n ns count fit)
 
 -- the state of a file that was read whole
-abbrev pub whole_of : Draft → List ℕ → List Node → Draft
-whole_of s name nodes = record s { due = due.Nothing; name = Some name; count = length nodes; nodes = nodes }
+abbrev pub whole_of : Draft → List ℕ → ℕ → List Node → Draft
+whole_of s name locals nodes = record s { due = due.Nothing; name = Some name; locals = locals; count = length nodes; nodes = nodes }
 
-program-leads : (s : Draft) (name : List ℕ) (nodes : List Node) → IsStart s → IsName name → 1 ≤ length nodes → length nodes ≤ 16000000 → NodesFit (record { nodes = length nodes }) nodes → LeadsTo Follows s (program_lines name nodes) (whole_of s name nodes)
-program-leads s name nodes start is_name some most fit =
-    let s1 = record s { nodes = []; name = Some name; count = length nodes } in
-    let head : HeadFollows (record s { due = due.Head; nodes = [] }) (head_line name (length nodes)) (record s1 { due = due.Main }) = record {
+program-leads : (s : Draft) (name : List ℕ) (locals : ℕ) (nodes : List Node) → IsStart s → IsName name → locals ≤ 200000 → 1 ≤ length nodes → length nodes ≤ 16000000 → NodesFit (record { locals = locals; nodes = length nodes }) nodes → LeadsTo Follows s (program_lines name locals nodes) (whole_of s name locals nodes)
+program-leads s name locals nodes start is_name few some most fit =
+    let s1 = record s { nodes = []; name = Some name; locals = locals; count = length nodes } in
+    let head : HeadFollows (record s { due = due.Head; nodes = [] }) (head_line name locals (length nodes)) (record s1 { due = due.Main }) = record {
       name = name;
+      locals = locals;
       count = length nodes;
       is_name = is_name;
+      few = few;
       some = some;
       most = most;
       line_is = refl;
       after_is = refl;
     } in
-    let chain : LeadsTo Follows (record s { due = due.Title; nodes = [] }) (program_lines name nodes) (whole_of s name nodes) = (
+    let chain : LeadsTo Follows (record s { due = due.Title; nodes = [] }) (program_lines name locals nodes) (whole_of s name locals nodes) = (
       record s { due = due.Texts; nodes = [] },
       (refl, refl),
       (
@@ -323,7 +351,7 @@ program-leads s name nodes start is_name some most fit =
         ),
       ),
     ) in
-    subst (λ t. LeadsTo Follows t (program_lines name nodes) (whole_of s name nodes)) (sym (start-is s start)) chain
+    subst (λ t. LeadsTo Follows t (program_lines name locals nodes) (whole_of s name locals nodes)) (sym (start-is s start)) chain
 
 -- no line of a program has a newline within it
 fixed-line : (first second : List ℕ) → IsField first → IsField second → Lacks is_newline (spaced (first ∷ second ∷ []))
@@ -333,52 +361,55 @@ lines-append : (xs ys : List (List ℕ)) → AreLines xs → AreLines ys → Are
 lines-append [] ys a b = b
 lines-append (x ∷ xs) ys a b = (a.0, lines-append xs ys a.1 b)
 
-node-lines-are : (bounds : Bounds) (nodes : List Node) → bounds.nodes ≤ 4294967295 → ((place : ℕ) (n : Node) → slice_get nodes place ≡ Some n → (q : ℕ) × IsTrue (node_fits bounds q n)) → AreLines (map (λ n. spaced (node_fields n)) nodes)
+node-lines-are : (bounds : Bounds) (nodes : List Node) → AreSmall bounds → ((place : ℕ) (n : Node) → slice_get nodes place ≡ Some n → (q : ℕ) × IsTrue (node_fits bounds q n)) → AreLines (map (λ n. spaced (node_fields n)) nodes)
 node-lines-are bounds [] small fit = tt
 node-lines-are bounds (n ∷ ns) small fit =
     let here = fit 0 n refl in
     (spaced-lacks-newline (node_fields n) (are_fields-node bounds here.0 n small here.1), node-lines-are bounds ns small (λ place m is. fit (suc place) m is))
 
-program-lines-are : (name : List ℕ) (nodes : List Node) → IsName name → length nodes ≤ 16000000 → NodesFit (record { nodes = length nodes }) nodes → AreLines (program_lines name nodes)
-program-lines-are name nodes is_name most fit = (
-  fixed-line (codes "cbi-program") (codes "1") refl refl,
-  (
-    fixed-line (codes "texts") (codes "0") refl refl,
-    (
-      fixed-line (codes "globals") (codes "0") refl refl,
+program-lines-are : (name : List ℕ) (locals : ℕ) (nodes : List Node) → IsName name → locals ≤ 200000 → length nodes ≤ 16000000 → NodesFit (record { locals = locals; nodes = length nodes }) nodes → AreLines (program_lines name locals nodes)
+program-lines-are name locals nodes is_name few most fit =
+    let small : AreSmall (record { locals = locals; nodes = length nodes }) = record { locals = omega arith; nodes = omega arith } in (
+      fixed-line (codes "cbi-program") (codes "1") refl refl,
       (
-        fixed-line (codes "functions") (codes "1") refl refl,
+        fixed-line (codes "texts") (codes "0") refl refl,
         (
-          spaced-lacks-newline (codes "function" ∷ name ∷ codes "value" ∷ codes "0" ∷ codes "0" ∷ decimal (length nodes) ∷ []) (refl, (IsField-name name is_name, (refl, (refl, (refl, (IsField-decimal (length nodes) (omega arith), tt)))))),
+          fixed-line (codes "globals") (codes "0") refl refl,
           (
-            fixed-line (codes "main") (codes "0") refl refl,
+            fixed-line (codes "functions") (codes "1") refl refl,
             (
-              fixed-line (codes "sites") (codes "0") refl refl,
+              spaced-lacks-newline (head_row name (locals, length nodes)) (refl, (IsField-name name is_name, (refl, (refl, (IsField-decimal locals (omega arith), (IsField-decimal (length nodes) (omega arith), tt)))))),
               (
-                spaced-lacks-newline (codes "locals" ∷ []) (refl, tt),
-                lines-append (map (λ n. spaced (node_fields n)) nodes) (codes "end" ∷ []) (node-lines-are (record { nodes = length nodes }) nodes (omega arith) (λ place n is. (place, fit.each place n is))) (spaced-lacks-newline (codes "end" ∷ []) (refl, tt), tt),
+                fixed-line (codes "main") (codes "0") refl refl,
+                (
+                  fixed-line (codes "sites") (codes "0") refl refl,
+                  (
+                    lacks-newline-locals locals,
+                    lines-append (map (λ n. spaced (node_fields n)) nodes) (codes "end" ∷ []) (node-lines-are (record { locals = locals; nodes = length nodes }) nodes small (λ place n is. (place, fit.each place n is))) (spaced-lacks-newline (codes "end" ∷ []) (refl, tt), tt),
+                  ),
+                ),
               ),
             ),
           ),
         ),
       ),
-    ),
-  ),
-)
+    )
 
 -- a program of this part is that of its one function
 pub record IsSingle (p : ProgramParts) : Type 0 where
   pub name : List ℕ
+  pub locals : ℕ
   pub nodes : List Node
-  pub parts_are : p ≡ parts_of name nodes
+  pub parts_are : p ≡ parts_of name locals nodes
   pub is_name : IsName name
+  pub few : locals ≤ 200000
   pub some : 1 ≤ length nodes
   pub most : length nodes ≤ 16000000
-  pub fit : NodesFit (record { nodes = length nodes }) nodes
+  pub fit : NodesFit (record { locals = locals; nodes = length nodes }) nodes
 
-none-left : {A : Type 0} (xs : List A) → length xs ≡ 0 → xs ≡ []
-none-left [] h = refl
-none-left (x ∷ xs) h = absurd (omega arith)
+all-ones : (sizes : List ℕ) → AllByRecursion (λ size. size ≡ 1) sizes → sizes ≡ replicate (length sizes) 1
+all-ones [] h = refl
+all-ones (x ∷ xs) h = ap (λ y. y ∷ xs) h.0 ∙ ap (λ ys. 1 ∷ ys) (all-ones xs h.1)
 
 main-first : (f g : Function) (main : ℕ) → slice_get (f ∷ []) main ≡ Some g → (main ≡ 0) × (f ≡ g)
 main-first f g zero is = (refl, some-same _ _ is)
@@ -391,14 +422,16 @@ single (f ∷ []) main is =
     let of : IsFunction f = is.functions 0 f (lit< tt) in
     let first = main-first f is.main.0 main is.main.1 in
     let value : f.value ≡ true = ap (λ (x : Function). x.value) first.1 ∙ is.main.2.result in
-    let params : f.params ≡ 0 = omega (arith, of.params, of.locals) in
-    let locals : f.locals ≡ [] = none-left f.locals of.locals in
-    let f1 : f ≡ record { name = f.name; value = true; params = 0; locals = []; nodes = f.nodes } =
+    let params : f.params ≡ 0 = ap (λ (x : Function). x.params) first.1 ∙ is.main.2.params in
+    let locals : f.locals ≡ replicate (length f.locals) 1 = all-ones f.locals (recursion_from_All _ f.locals of.locals) in
+    let f1 : f ≡ record { name = f.name; value = true; params = 0; locals = replicate (length f.locals) 1; nodes = f.nodes } =
     ap (λ v. record f { value = v }) value ∙ ap (λ n. record f { value = true; params = n }) params ∙ ap (λ ls. record f { value = true; params = 0; locals = ls }) locals in record {
       name = f.name;
+      locals = length f.locals;
       nodes = f.nodes;
-      parts_are = ap (λ h. record { functions = h ∷ []; main = main }) f1 ∙ ap (λ m. record { functions = record { name = f.name; value = true; params = 0; locals = []; nodes = f.nodes } ∷ []; main = m }) first.0;
+      parts_are = ap (λ h. record { functions = h ∷ []; main = main }) f1 ∙ ap (λ m. record { functions = record { name = f.name; value = true; params = 0; locals = replicate (length f.locals) 1; nodes = f.nodes } ∷ []; main = m }) first.0;
       is_name = of.name;
+      few = omega (arith, is.locals);
       some = of.entry;
       most = omega (arith, is.nodes);
       fit = of.nodes;
@@ -407,26 +440,29 @@ single (f ∷ []) main is =
 -- what is spelled as a program is read so
 pub record IsReadAs (s : Draft) (text : List ℕ) (p : ProgramParts) : Type 0 where
   pub name : List ℕ
+  pub locals : ℕ
   pub nodes : List Node
-  pub parts_are : p ≡ parts_of name nodes
-  pub reads : ReadsLines Follows s text (whole_of s name nodes)
+  pub parts_are : p ≡ parts_of name locals nodes
+  pub reads : ReadsLines Follows s text (whole_of s name locals nodes)
 
 pub spelled-reads : (s : Draft) (text : List ℕ) (p : ProgramParts) → IsStart s → SpellsProgram text p → IsReadAs s text p
 spelled-reads s text p start spells =
     let one = single p.functions p.main spells.is_program in record {
       name = one.name;
+      locals = one.locals;
       nodes = one.nodes;
       parts_are = one.parts_are;
       reads = record {
-        lines = program_lines one.name one.nodes;
-        text_is = spells.text_is ∙ ap program_text one.parts_are ∙ ap text_of (lines-are one.name one.nodes);
-        are_lines = program-lines-are one.name one.nodes one.is_name one.most one.fit;
-        leads = program-leads s one.name one.nodes start one.is_name one.some one.most one.fit;
+        lines = program_lines one.name one.locals one.nodes;
+        text_is = spells.text_is ∙ ap program_text one.parts_are ∙ ap text_of (lines-are one.name one.locals one.nodes);
+        are_lines = program-lines-are one.name one.locals one.nodes one.is_name one.few one.most one.fit;
+        leads = program-leads s one.name one.locals one.nodes start one.is_name one.few one.some one.most one.fit;
       };
     }
 
 -- a text is read as one program
-pub read-once : (s d : Draft) (text : List ℕ) (parts p : ProgramParts) → IsOf d parts → (r : IsReadAs s text p) → d ≡ whole_of s r.name r.nodes → parts ≡ p
+pub read-once : (s d : Draft) (text : List ℕ) (parts p : ProgramParts) → IsOf d parts → (r : IsReadAs s text p) → d ≡ whole_of s r.name r.locals r.nodes → parts ≡ p
 read-once s d text parts p of r same =
     let name : of.name ≡ r.name = some-same _ _ (sym of.name_is ∙ ap (λ (x : Draft). x.name) same) in
-    of.parts_are ∙ ap (λ n. parts_of n d.nodes) name ∙ ap (λ ns. parts_of r.name ns) (ap (λ (x : Draft). x.nodes) same) ∙ sym r.parts_are
+    of.parts_are ∙ ap (λ n. parts_of n d.locals d.nodes) name ∙ ap (λ l. parts_of r.name l d.nodes) (ap (λ (x : Draft). x.locals) same)
+    ∙ ap (λ ns. parts_of r.name r.locals ns) (ap (λ (x : Draft). x.nodes) same) ∙ sym r.parts_are

@@ -5,6 +5,7 @@ mod draft;
 mod error;
 mod node_line;
 mod numbers;
+mod operations;
 mod read;
 
 pub use error::ProgramError;

@@ -1,7 +1,7 @@
 ghost use Rattle.std.specs.Prelude.{◌≡◌, ◌≤◌, ◌<◌, ◌^◌};
-ghost use Rattle.program_file.specs.Fields.{number_of, signed_of, kind_of, one_number};
+ghost use Rattle.program_file.specs.Fields.{number_of, signed_of, kind_of, want_of, one_number, two_numbers};
 
-use cbi_base::{Fields, Kind, read_decimal, read_signed};
+use cbi_base::{Fields, Kind, Want, read_decimal, read_signed};
 
 /// The number of 32 bits whose decimal the field is.
 pub fn number(field: &[u8]) -> Option<u32>
@@ -37,6 +37,18 @@ pub fn kind(field: &[u8]) -> Option<Kind>
     None
 }
 
+/// What a load wants: a kind by its letter, or `p` for a pointer.
+#[tactic(auto, unfolding(crate::specs::Fields::want_of))]
+pub fn want(field: &[u8]) -> Option<Want>
+    ensures { result ≡ want_of field.now }
+{
+    if field == b"p".as_slice() {
+        return Some(Want::Pointer);
+    }
+    let kind = kind(field)?;
+    Some(Want::Number { kind })
+}
+
 /// The number in the one field that is left.
 pub fn one_number(fields: &mut Fields<'_>) -> Option<u32>
     ensures { result ≡ one_number fields.old }
@@ -46,4 +58,13 @@ pub fn one_number(fields: &mut Fields<'_>) -> Option<u32>
         return None;
     }
     Some(number)
+}
+
+/// The numbers in the two fields that are left.
+pub fn two_numbers(fields: &mut Fields<'_>) -> Option<(u32, u32)>
+    ensures { result ≡ two_numbers fields.old }
+{
+    let first = number(fields.next()?)?;
+    let second = one_number(fields)?;
+    Some((first, second))
 }

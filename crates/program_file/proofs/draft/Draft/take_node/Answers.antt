@@ -7,11 +7,11 @@ use Rattle.program_file.proofs.draft.Draft.take_node.Goals as goal
 
 pub returns-in_default-clause-only : goal.returns-in_default-clause-only
 returns-in_default-clause-only c = λ next f.
-    none-some (node-only c.args.self.now next c.args.line.now _ None (omega arith) c.new-fields.ensures c.in_default.ensures f)
+    none-some (node-only c.args.self.now next c.args.line.now _ None (omega arith) (omega arith) c.new-fields.ensures c.in_default.ensures f)
 
 pub returns-then-not-node_fits-clause-only : goal.returns-then-not-node_fits-clause-only
 returns-then-not-node_fits-clause-only c = λ next f.
-    let same = some-same _ _ (node-only c.args.self.now next c.args.line.now _ (Some c.in-Some.node) (omega arith) c.new-fields.ensures c.in-Some.ensures f) in
+    let same = some-same _ _ (node-only c.args.self.now next c.args.line.now _ (Some c.in-Some.node) (omega arith) (omega arith) c.new-fields.ensures c.in-Some.ensures f) in
     false≢true (c.if-not-node_fits.ensures ∙ ap (node_fits (bounds_in c.args.self.now) c.len-place.result) same ∙ subst (λ place. IsTrue (node_fits (bounds_in c.args.self.now) place f.node)) (sym c.len-place.ensures) f.fits)
 
 pub returns-clause-ok : goal.returns-clause-ok
@@ -25,7 +25,7 @@ returns-clause-ok c = record {
 
 pub returns-clause-only : goal.returns-clause-only
 returns-clause-only c = λ next f.
-    let same = some-same _ _ (node-only c.args.self.now next c.args.line.now _ (Some c.in-Some.node) (omega arith) c.new-fields.ensures c.in-Some.ensures f) in
+    let same = some-same _ _ (node-only c.args.self.now next c.args.line.now _ (Some c.in-Some.node) (omega arith) (omega arith) c.new-fields.ensures c.in-Some.ensures f) in
     let d = c.args.self.now in
     let written : record d { due = c.due_after-self.result; nodes = c.push.new.self } ≡ record d { due = due_after (length d.nodes + 1) d.count; nodes = d.nodes ++ c.in-Some.node ∷ [] } = search rules in
     written ∙ ap (λ n. record d { due = due_after (length d.nodes + 1) d.count; nodes = d.nodes ++ n ∷ [] }) same ∙ sym f.after_is
