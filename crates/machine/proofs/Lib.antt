@@ -1,3 +1,5 @@
+pub mod Beginning
+pub mod Cells
 pub mod Programs
 pub mod Endings
 pub mod Examples

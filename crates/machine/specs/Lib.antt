@@ -1,3 +1,5 @@
+pub mod Cells
+pub mod Data
 pub mod Effects
 pub mod Fits
 pub mod Steps

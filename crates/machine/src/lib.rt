@@ -2,6 +2,7 @@
 #![tactic(auto)]
 
 mod code;
+mod locals;
 mod now;
 mod operands;
 mod row;
