@@ -1,4 +1,5 @@
 pub mod Words
+pub mod RunWords
 pub mod Run
 pub mod Faults
 pub mod Statuses

@@ -2,6 +2,7 @@
 #![tactic(auto)]
 
 mod fault;
+mod files;
 mod message;
 mod read_file;
 mod run_file;

@@ -1,9 +1,24 @@
-ghost use Rattle.std.specs.Prelude.{◌≡◌, MatchOption, None, Some};
-ghost use Rattle.cbi.specs.Words.{command_of, texts_of, is_name};
+ghost use Rattle.std.specs.Prelude.{◌≡◌, ◌≤◌, MatchOption, None, Some, Option, List, ℕ, IfSome};
+ghost use Rattle.std.specs.Option.{option_map};
+ghost use Rattle.program_file.specs.Fields.{number_of};
+ghost use Rattle.cbi.specs.Words.{Command, command_of, with_input, with_turns, with_program, texts_of, is_name};
+ghost use Rattle.cbi.specs.RunWords.{command_in};
 
-/// What `run PROG` asks for.
+use cbi_base::read_decimal;
+
+/// The bound of turns, where the words give none.
+const DEFAULT_TURNS: u32 = 1000000;
+
+/// The greatest bound of turns that the words may give.
+const MOST_TURNS: u64 = 100000000;
+
+/// What `run [--input I] [--turns N] PROG` asks for.
 #[derive(Clone, Copy)]
 pub struct RunWords<'a> {
+    /// The name of the input's file; without it the input is empty.
+    pub input: Option<&'a str>,
+    /// The bound of turns, at most 100,000,000.
+    pub turns: u32,
     /// The name of the program file.
     pub program: &'a str,
 }
@@ -19,18 +34,89 @@ fn is_name(word: &str) -> bool
     }
 }
 
-/// The command that the words read as: any word first, then `run`, then the name of a program file.
-#[tactic(auto, unfolding(crate::specs::Words::command_of))]
-pub fn read_words(words: &[String]) -> Option<RunWords<'_>>
-    ensures { MatchOption result (command_of (texts_of words.now) ≡ None) (λ run. command_of (texts_of words.now) ≡ Some (record { program = run.program.now })) }
+// A bound of turns: a decimal from 0 to 100,000,000.
+fn turns(word: &str) -> Option<u32>
+    ensures value { result ≡ number_of 100000000 word.now }
+    ensures most { IfSome result (λ n. n ≤ 100000000) }
 {
-    let [_, command, program] = words else {
+    match read_decimal(word.as_bytes(), MOST_TURNS) {
+        None => None,
+        Some(number) => Some(number as u32),
+    }
+}
+
+// The name of the program file, which comes last.
+fn with_program<'a>(
+    input: Option<&'a str>,
+    turns: u32,
+    words: &'a [String],
+) -> Option<RunWords<'a>>
+    requires { turns ≤ 100000000 }
+    ensures value { option_map command_in result ≡ with_program (option_map (λ name. name.now) input.entry) turns (texts_of words.now) }
+    ensures most { IfSome result (λ run. run.turns ≤ 100000000) }
+{
+    let [program] = words else {
         return None;
     };
-    if command.as_str() != "run" || !is_name(program.as_str()) {
+    if !is_name(program.as_str()) {
         return None;
     }
     Some(RunWords {
+        input,
+        turns,
         program: program.as_str(),
     })
+}
+
+// `--turns N`, where it is given.
+fn with_turns<'a>(input: Option<&'a str>, words: &'a [String]) -> Option<RunWords<'a>>
+    ensures value { option_map command_in result ≡ with_turns (option_map (λ name. name.now) input.entry) (texts_of words.now) }
+    ensures most { IfSome result (λ run. run.turns ≤ 100000000) }
+{
+    match words {
+        [] => None,
+        [_] => with_program(input, DEFAULT_TURNS, words),
+        [word, value, rest @ ..] => {
+            if word.as_str() != "--turns" {
+                return None;
+            }
+            let bound = turns(value.as_str())?;
+            with_program(input, bound, rest)
+        }
+    }
+}
+
+// `--input I`, where it is given.
+fn with_input<'a>(words: &'a [String]) -> Option<RunWords<'a>>
+    ensures value { option_map command_in result ≡ with_input (texts_of words.now) }
+    ensures most { IfSome result (λ run. run.turns ≤ 100000000) }
+{
+    match words {
+        [] => None,
+        [_] => with_turns(None, words),
+        [word, value, rest @ ..] => {
+            if word.as_str() != "--input" {
+                return with_turns(None, words);
+            }
+            if !is_name(value.as_str()) {
+                return None;
+            }
+            with_turns(Some(value.as_str()), rest)
+        }
+    }
+}
+
+/// The command that the words read as: any word first, then `run`, then its options in their order, then the name of a program file.
+#[tactic(auto, unfolding(crate::specs::Words::command_of))]
+pub fn read_words(words: &[String]) -> Option<RunWords<'_>>
+    ensures value { option_map command_in result ≡ command_of (texts_of words.now) }
+    ensures most { IfSome result (λ run. run.turns ≤ 100000000) }
+{
+    let [_, command, rest @ ..] = words else {
+        return None;
+    };
+    if command.as_str() != "run" {
+        return None;
+    }
+    with_input(rest)
 }
