@@ -6,7 +6,7 @@ ghost use Rattle.cbi_base.specs.Objects.{loaded, stored, cleared, found};
 ghost use Rattle.cbi_base.specs.Scalars.{IsInRange};
 ghost use Rattle.machine.specs.Cells.{objects_of, cell_of, stored_as};
 
-use cbi_base::{Kind, Memory, Scalar, Trap, Want};
+use cbi_base::{Memory, Scalar, Trap, Want};
 use std::alloc::Global;
 use std::marker::Model;
 
@@ -32,30 +32,8 @@ fn find(want: Want, cell: Scalar) -> Result<Scalar, Trap>
 {
     match (want, cell) {
         (_, Scalar::Undefined) => Err(Trap::Undefined),
-        (
-            Want::Number { kind: Kind::Char },
-            Scalar::Number {
-                kind: Kind::Char,
-                ..
-            },
-        )
-        | (
-            Want::Number { kind: Kind::Int },
-            Scalar::Number {
-                kind: Kind::Int,
-                ..
-            },
-        )
-        | (
-            Want::Number {
-                kind: Kind::Unsigned,
-            },
-            Scalar::Number {
-                kind: Kind::Unsigned,
-                ..
-            },
-        )
-        | (Want::Pointer, Scalar::Place { .. } | Scalar::Null) => Ok(cell),
+        (Want::Number { kind: wanted }, Scalar::Number { kind, .. }) if wanted == kind => Ok(cell),
+        (Want::Pointer, Scalar::Place { .. } | Scalar::Null) => Ok(cell),
         _ => Err(Trap::WrongKind),
     }
 }
