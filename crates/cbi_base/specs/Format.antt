@@ -1,5 +1,5 @@
 -- The formats of `printf` (C99 7.19.6.1, of which `%d`, `%u`, `%c`, `%s` and `%%` are taken).
-use Rattle.std.specs.Prelude.{◌≡◌, ℕ, ◌+◌, ◌==◌, Bool, ◌||◌, List, [], ◌∷◌, Option, None, Some, if◌then◌else◌}
+use Rattle.std.specs.Prelude.{ℕ, ◌+◌, ◌==◌, Bool, ◌||◌, List, [], ◌∷◌, Option, None, Some, if◌then◌else◌}
 use Rattle.std.specs.Option.{option_map}
 
 abbrev pub is_percent : ℕ → Bool
