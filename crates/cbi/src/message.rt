@@ -37,7 +37,11 @@ fn put_line<E: Sink>(err: &mut E, line: &[u8], status: u8) -> u8
 pub fn tell_usage<E: Sink>(err: &mut E, status: u8) -> u8
     ensures { (result ≡ status) ⊎ (result ≡ 7) }
 {
-    put_line(err, b"usage: cbi run PROG\n", status)
+    put_line(
+        err,
+        b"usage: cbi run [--input I] [--turns N] PROG\n",
+        status,
+    )
 }
 
 /// Tells err of a fault.

@@ -8,10 +8,23 @@ use std::test::Fail;
 const PROGRAM: &str =
     "cbi-program 1\ntexts 0\nglobals 0\nfunctions 1\nfunction main value 0 0 5\nmain 0\nsites 0\nlocals\npush i 65 1\nput 2\ndrop 3\npush i 0 4\nreturn\nend\n";
 
-/// What a call is made with: the program file, the words, and the numbers of the calls of the store and of the puts that fail.
+/// The program file that writes its input.
+const COPY: &str =
+    "cbi-program 1\ntexts 0\nglobals 0\nfunctions 1\nfunction main value 0 1 13\nmain 0\nsites 0\nlocals 1\nlocal 0 1\nget 2\nstore 3\npush i -1 4\nmath ne 5\nfork 6 11\nlocal 0 7\nload i 8\nput 9\ndrop 10\nagain 0\npush i 0 12\nreturn\nend\n";
+
+/// The program file that writes its input's letters in upper case.
+const UPPER: &str =
+    "cbi-program 1\ntexts 0\nglobals 0\nfunctions 1\nfunction main value 0 1 27\nmain 0\nsites 0\nlocals 1\nlocal 0 1\nget 2\nstore 3\npush i -1 4\nmath ne 5\nfork 6 25\nlocal 0 7\nload i 8\npush i 97 9\nmath ge 10\nfork 11 20\nlocal 0 12\nload i 13\npush i 122 14\nmath le 15\nfork 16 20\nlocal 0 17\nload i 18\npush i 32 19\nmath sub 22\nlocal 0 21\nload i 22\nput 23\ndrop 24\nagain 0\npush i 0 26\nreturn\nend\n";
+
+/// The program file that writes the sum of the bytes of its input.
+const SUM: &str =
+    "cbi-program 1\ntexts 0\nglobals 0\nfunctions 1\nfunction main value 0 3 65\nmain 0\nsites 0\nlocals 1 1 1\nlocal 1 1\npush i 0 2\nstore 3\ndrop 4\nlocal 2 5\npush i 1 6\nstore 7\ndrop 8\nlocal 0 9\nget 10\nstore 11\npush i -1 12\nmath ne 13\nfork 14 23\nlocal 1 15\nlocal 1 16\nload i 17\nlocal 0 18\nload i 19\nmath add 20\nstore 21\ndrop 22\nagain 8\nlocal 1 24\nload i 25\nlocal 2 26\nload i 27\nmath div 28\npush i 10 29\nmath ge 30\nfork 31 39\nlocal 2 32\nlocal 2 33\nload i 34\npush i 10 35\nmath mul 36\nstore 37\ndrop 38\nagain 23\nlocal 1 40\nload i 41\nlocal 2 42\nload i 43\nmath div 44\npush i 10 45\nmath rem 46\npush i 48 47\nmath add 48\nput 49\ndrop 50\nlocal 2 51\nlocal 2 52\nload i 53\npush i 10 54\nmath div 55\nstore 56\npush i 0 57\nmath gt 58\nfork 59 60\nagain 39\npush i 10 61\nput 62\ndrop 63\npush i 0 64\nreturn\nend\n";
+
+/// What a call is made with: the program file, its input, the words, and the numbers of the calls of the store and of the puts that fail.
 #[derive(Clone, Copy)]
 struct Case<'a> {
     file: &'a str,
+    input: &'a str,
     words: &'a [&'a str],
     store_fails: &'a [u64],
     out_fails: &'a [u64],
@@ -30,6 +43,10 @@ fn come(alloc: Global, case: &Case<'_>) -> Result<Came, Fail> {
     files.push(File {
         name: String::from_str(alloc, "prog")?,
         bytes: Vec::from_slice(alloc, case.file.as_bytes())?,
+    })?;
+    files.push(File {
+        name: String::from_str(alloc, "in")?,
+        bytes: Vec::from_slice(alloc, case.input.as_bytes())?,
     })?;
     let mut words = Vec::new(alloc);
     for word in case.words {
@@ -66,6 +83,7 @@ const GOOD: &[&str] = &["cbi", "run", "prog"];
 fn of_file<'a>(file: &'a str) -> Case<'a> {
     Case {
         file,
+        input: "",
         words: GOOD,
         store_fails: &[],
         out_fails: &[],
@@ -75,6 +93,7 @@ fn of_file<'a>(file: &'a str) -> Case<'a> {
 fn of_words<'a>(words: &'a [&'a str]) -> Case<'a> {
     Case {
         file: PROGRAM,
+        input: "",
         words,
         store_fails: &[],
         out_fails: &[],
@@ -166,18 +185,82 @@ fn a_failing_device_has_its_status(rt: HostRuntime) -> Result<(), Fail> {
 
 #[test]
 fn words_that_read_as_no_command(rt: HostRuntime) -> Result<(), Fail> {
-    let usage = "usage: cbi run PROG\n";
-    let cases: [&[&str]; 6] = [
+    let usage = "usage: cbi run [--input I] [--turns N] PROG\n";
+    let cases: [&[&str]; 16] = [
         &[],
         &["cbi"],
         &["cbi", "run"],
         &["cbi", "walk", "prog"],
         &["cbi", "run", "-prog"],
         &["cbi", "run", "prog", "prog"],
+        &["cbi", "run", "--turns", "100000001", "prog"],
+        &["cbi", "run", "--turns", "01", "prog"],
+        &["cbi", "run", "--turns", "prog"],
+        &["cbi", "run", "prog", "--turns"],
+        &["cbi", "run", "--input", "in"],
+        &["cbi", "run", "--input", "--turns", "1", "prog"],
+        &["cbi", "run", "--input", "in", "--input", "in", "prog"],
+        &["cbi", "run", "--turns", "1", "--turns", "1", "prog"],
+        &["cbi", "run", "--turns", "1", "--input", "in", "prog"],
+        &["cbi", "run", "prog", "--input", "in"],
     ];
     for words in cases {
         expect(&rt, rt.alloc(), &of_words(words), 2, "", usage)?;
     }
     let missing = of_words(&["cbi", "run", "other"]);
     expect(&rt, rt.alloc(), &missing, 3, "", "cbi: read fault other\n")
+}
+
+#[test]
+fn programs_read_their_input_within_their_turns(rt: HostRuntime) -> Result<(), Fail> {
+    let with_input: &[&str] = &["cbi", "run", "--input", "in", "prog"];
+    let one_turn: &[&str] = &["cbi", "run", "--input", "in", "--turns", "1", "prog"];
+    let no_turn: &[&str] = &["cbi", "run", "--turns", "0", "prog"];
+    let most_turns: &[&str] = &["cbi", "run", "--turns", "100000000", "prog"];
+    let cases = [
+        (COPY, "hi", with_input, "hi"),
+        (COPY, "hi", one_turn, "hi"),
+        (COPY, "hi", GOOD, ""),
+        (UPPER, "Hi, {z}", with_input, "HI, {Z}"),
+        (SUM, "hi", with_input, "209\n"),
+        (SUM, "", with_input, "0\n"),
+        (SUM, "hi", one_turn, ""),
+        (PROGRAM, "hi", no_turn, "A"),
+        (PROGRAM, "hi", most_turns, "A"),
+    ];
+    for (file, input, words, out) in cases {
+        let case = Case {
+            file,
+            input,
+            words,
+            ..of_file(file)
+        };
+        expect(&rt, rt.alloc(), &case, 0, out, "")?;
+    }
+    Ok(())
+}
+
+#[test]
+fn an_input_that_is_missing_or_too_large(rt: HostRuntime) -> Result<(), Fail> {
+    let missing = of_words(&["cbi", "run", "--input", "other", "prog"]);
+    expect(&rt, rt.alloc(), &missing, 3, "", "cbi: read fault other\n")?;
+    let mut bytes = Vec::new(rt.alloc());
+    bytes.try_reserve(16777217)?;
+    for _ in 0..16777217 {
+        bytes.push(b'x')?;
+    }
+    let input = String::from_utf8(bytes)?;
+    let large = Case {
+        input: input.as_str(),
+        words: &["cbi", "run", "--input", "in", "prog"],
+        ..of_file(PROGRAM)
+    };
+    expect(
+        &rt,
+        rt.alloc(),
+        &large,
+        5,
+        "",
+        "cbi: refusal 28 InputTooLarge\n",
+    )
 }

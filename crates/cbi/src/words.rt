@@ -46,11 +46,7 @@ fn turns(word: &str) -> Option<u32>
 }
 
 // The name of the program file, which comes last.
-fn with_program<'a>(
-    input: Option<&'a str>,
-    turns: u32,
-    words: &'a [String],
-) -> Option<RunWords<'a>>
+fn with_program<'a>(input: Option<&'a str>, turns: u32, words: &'a [String]) -> Option<RunWords<'a>>
     requires { turns ≤ 100000000 }
     ensures value { option_map command_in result ≡ with_program (option_map (λ name. name.now) input.entry) turns (texts_of words.now) }
     ensures most { IfSome result (λ run. run.turns ≤ 100000000) }
