@@ -40,6 +40,10 @@ pub fn cbi<S: Store, O: Sink, E: Sink>(
     ensures refused_only { OfCommand (command_of (texts_of words.now.items)) (IsRefused (S.holds store.old)) → IsSome (S.holds store.old)
         → (result ≡ 3) ⊎ ((result ≡ 5) ⊎ (result ≡ 7)) }
 
+    // Where the words read as a command, no count rose and nothing is refused, it is done, but for want of memory.
+    ensures complete { IsSome (command_of (texts_of words.now.items)) → (Rose (S.read_faults store.old) (S.read_faults store.new) → ⊥) → (Rose (O.faults out.old) (O.faults out.new) → ⊥)
+        → (OfCommand (command_of (texts_of words.now.items)) (IsRefused (S.holds store.old)) → ⊥) → (result ≡ 0) ⊎ (result ≡ 7) }
+
     // What is left on out, and in the store.
     ensures untouched { IsUntouched result → O.taken out.new ≡ O.taken out.old }
     ensures part { result ≡ 4 → OfCommand (command_of (texts_of words.now.items)) (StoppedWithin (S.holds store.old) (O.taken out.old) (O.taken out.new)) }
