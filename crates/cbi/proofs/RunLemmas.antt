@@ -1,15 +1,16 @@
 -- A store that tells what it holds has one answer to each read.
-use Rattle.std.proofs.Common.{◌≡◌, ◌≤◌, ◌<◌, ◌⊎◌, inl, inr, ℕ, List, length, Option, Some, None, IsSome, ap, sym, subst, ◌∙◌, arith}
+use Rattle.std.proofs.Common.{◌≡◌, ◌≤◌, inl, inr, ℕ, List, length, Option, Some, None, IsSome, ap, sym, subst, ◌∙◌, arith}
 use Rattle.std.proofs.lemmas.Bool.{false≢true}
 use Rattle.std.specs.Option.{unwrap_or}
 use Rattle.cbi_base.specs.Store.{Held, IsReadOf, read_of}
+use Rattle.cbi_base.specs.declared.refusal.Refusal.{Refusal}
 use Rattle.flow.specs.declared.program.ProgramParts.{ProgramParts}
 use Rattle.flow.specs.Spelling.{SpellsProgram}
 use Rattle.cbi.specs.declared.fault.Fault.{Fault}
 use Rattle.cbi.specs.declared.fault.Fault.TheVariants.{Read, Write, Refused, Memory}
 use Rattle.cbi.specs.Faults.{Caused}
 use Rattle.cbi.specs.Words.{Command}
-use Rattle.cbi.specs.Run.{IsInput, AreFiles, AreRefused, IsNoProgram, IsRefused, program_limit, input_limit}
+use Rattle.cbi.specs.Run.{IsInput, AreFiles, AreRefused, IsRefused, program_limit, input_limit}
 
 some-once : {A : Type 0} (o : Option A) (x y : A) → o ≡ Some x → o ≡ Some y → x ≡ y
 some-once o x y p q = ap (λ r. unwrap_or r x) (sym p ∙ q)
@@ -35,10 +36,10 @@ never-refused program input p spells fits (inl none) = none p spells
 never-refused program input p spells fits (inr large) = omega arith
 
 -- a fault of a look at the bytes is a fault of the command
-pub caused-as : (e : Fault) (read write P Q : Type 0) → Caused e ⊥ ⊥ P → (P → Q) → Caused e read write Q
+pub caused-as : (e : Fault) (read : List ℕ → Type 0) (write : Type 0) (P Q : Refusal → Type 0) → Caused e (λ n. ⊥) ⊥ P → ((r : Refusal) → P r → Q r) → Caused e read write Q
 caused-as (Read name) read write P Q h k = absurd h
 caused-as Write read write P Q h k = absurd h
-caused-as (Refused refusal) read write P Q h k = k h
+caused-as (Refused refusal) read write P Q h k = k refusal h
 caused-as Memory read write P Q h k = tt
 
 -- the bytes that are looked at are the files', where what the store holds stayed as it was between the two reads

@@ -1,13 +1,14 @@
 -- Why a command didn't do what it was asked, and the cause that stands behind each answer.
-use Rattle.std.specs.Prelude.{◌⊎◌, ℕ, Result, Ok, Err}
+use Rattle.std.specs.Prelude.{◌⊎◌, ℕ, List, Result, Ok, Err}
+use Rattle.cbi_base.specs.declared.refusal.Refusal.{Refusal}
 use Rattle.cbi.specs.declared.fault.Fault.{Fault}
 use Rattle.cbi.specs.declared.fault.Fault.TheVariants.{Read, Write, Refused, Memory}
 
--- the cause of each fault; want of memory has none
-abbrev pub Caused : Fault → (read write refused : Type 0) → Type 0
-Caused (Read name) read write refused = read
+-- the cause of each fault, by the name that wasn't read and by the refusal; want of memory has none
+abbrev pub Caused : Fault → (read : List ℕ → Type 0) → (write : Type 0) → (refused : Refusal → Type 0) → Type 0
+Caused (Read name) read write refused = read name.now
 Caused Write read write refused = write
-Caused (Refused refusal) read write refused = refused
+Caused (Refused refusal) read write refused = refused refusal
 Caused Memory read write refused = Unit {0}
 
 -- the status of each fault

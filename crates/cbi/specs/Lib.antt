@@ -3,3 +3,4 @@ pub mod RunWords
 pub mod Run
 pub mod Faults
 pub mod Statuses
+pub mod Told

@@ -1,7 +1,9 @@
 -- What the command `run` does: the bytes read of its files, the program that they spell, how the machine ends it, and what out takes of its output.
-use Rattle.std.specs.Prelude.{◌≡◌, ◌≤◌, ◌<◌, ◌⊎◌, ℕ, List, [], length, Option, Some, None, IsSome}
+use Rattle.std.specs.Prelude.{◌≡◌, ◌≤◌, ◌<◌, ◌⊎◌, ℕ, List, [], length, Option, Some, None}
 use Rattle.cbi_base.specs.Store.{Held, IsHeld, IsReadOf}
 use Rattle.cbi_base.specs.Sink.{Takes, TakesPrefix}
+use Rattle.cbi_base.specs.declared.refusal.Refusal.{Refusal}
+use Rattle.cbi_base.specs.declared.refusal.Refusal.TheVariants.{BadProgram, InputTooLarge}
 use Rattle.flow.specs.declared.program.ProgramParts.{ProgramParts}
 use Rattle.flow.specs.declared.result.RunResult.{RunResult}
 use Rattle.flow.specs.Machine.{MachineEnds}
@@ -65,6 +67,28 @@ pub record IsRefused (held : Option Held) (command : Command) : Type 0 where
   pub input : List ℕ
   pub files : AreFiles held command program input
   pub refused : AreRefused program input
+
+-- a program that the first spells
+pub record IsSpelled (bytes : List ℕ) : Type 0 where
+  pub parts : ProgramParts
+  pub spells : SpellsProgram bytes parts
+
+-- Which refusal it is: that of the program comes first.
+abbrev pub RefusesBytes : Refusal → List ℕ → List ℕ → Type 0
+RefusesBytes (BadProgram line) program input = IsNoProgram program
+RefusesBytes InputTooLarge program input = IsSpelled program × (input_limit < length input)
+RefusesBytes _ program input = ⊥
+
+-- the bytes read are refused by this refusal
+pub record IsRefusedBy (held : Option Held) (command : Command) (refusal : Refusal) : Type 0 where
+  pub program : List ℕ
+  pub input : List ℕ
+  pub files : AreFiles held command program input
+  pub refused : RefusesBytes refusal program input
+
+-- a name that the command reads
+abbrev pub IsNamed : Command → List ℕ → Type 0
+IsNamed command name = (name ≡ command.program) ⊎ (command.input ≡ Some name)
 
 -- each name that the command reads was held
 abbrev pub InputHeld : Option Held → Option (List ℕ) → Type 0

@@ -1,9 +1,9 @@
-ghost use Rattle.std.specs.Prelude.{◌≡◌, ◌≤◌, length, IfOk, OnOk, IfErr, IsErrAnd};
+ghost use Rattle.std.specs.Prelude.{◌≡◌, ◌≤◌, length, Some, IfOk, OnOk, IfErr, IsErrAnd};
 ghost use Rattle.std.specs.Option.{option_map};
 ghost use Rattle.cbi_base.specs.Faults.{Rose};
 ghost use Rattle.flow.specs.Spelling.{SpellsProgram};
 ghost use Rattle.cbi.specs.Faults.{Caused, Precedes};
-ghost use Rattle.cbi.specs.Run.{IsInput, InputHeld, AreRefused};
+ghost use Rattle.cbi.specs.Run.{IsInput, InputHeld, AreRefused, RefusesBytes};
 
 use crate::fault::Fault;
 use crate::read_file::read_file;
@@ -23,7 +23,7 @@ pub fn read_input<'a, S: Store>(
 ) -> Result<Vec<u8>, Fault<'a>>
     ensures bytes { IfOk result (λ v. IsInput (S.holds store.old) (option_map (λ n. n.now) name.entry) v.items) }
     ensures was_held { OnOk result (InputHeld (S.holds store.old) (option_map (λ n. n.now) name.entry)) }
-    ensures fault { IfErr result (λ e. Caused e (Rose (S.read_faults store.old) (S.read_faults store.new)) ⊥ ⊥) }
+    ensures fault { IfErr result (λ e. Caused e (λ n. (option_map (λ n. n.now) name.entry ≡ Some n) × Rose (S.read_faults store.old) (S.read_faults store.new)) ⊥ (λ r. ⊥)) }
     ensures held { S.holds store.new ≡ S.holds store.old }
     ensures writes { S.write_faults store.new ≡ S.write_faults store.old }
     ensures never_falls { S.read_faults store.old ≤ S.read_faults store.new }
@@ -40,7 +40,7 @@ pub fn read_input<'a, S: Store>(
 pub fn look<'a>(alloc: Global, bytes: &[u8], input: &[u8]) -> Result<Program, Fault<'a>>
     ensures found { IfOk result (λ p. SpellsProgram bytes.now p) }
     ensures fits { OnOk result (length input.now ≤ 16777216) }
-    ensures fault { IfErr result (λ e. Caused e ⊥ ⊥ (AreRefused bytes.now input.now)) }
+    ensures fault { IfErr result (λ e. Caused e (λ n. ⊥) ⊥ (λ r. RefusesBytes r bytes.now input.now)) }
     ensures refused { AreRefused bytes.now input.now → IsErrAnd result Precedes }
 {
     let program = match read_program(alloc, bytes) {

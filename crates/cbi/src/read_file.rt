@@ -16,7 +16,7 @@ pub fn read_file<'a, S: Store>(
 ) -> Result<Vec<u8>, Fault<'a>>
     ensures bytes { IfOk result (λ v. IsReadOf (S.holds store.old) name.now max v.items) }
     ensures was_held { OnOk result (IsHeld (S.holds store.old) name.now) }
-    ensures fault { IfErr result (λ e. Caused e (Rose (S.read_faults store.old) (S.read_faults store.new)) ⊥ ⊥) }
+    ensures fault { IfErr result (λ e. Caused e (λ n. (n ≡ name.now) × Rose (S.read_faults store.old) (S.read_faults store.new)) ⊥ (λ r. ⊥)) }
     ensures held { S.holds store.new ≡ S.holds store.old }
     ensures writes { S.write_faults store.new ≡ S.write_faults store.old }
     ensures never_falls { S.read_faults store.old ≤ S.read_faults store.new }

@@ -1,7 +1,7 @@
 ghost use Rattle.std.specs.Prelude.{◌≡◌, ◌≤◌, ◌⊎◌, OnOk, IfErr, IsErrAnd, IsSome};
 ghost use Rattle.cbi_base.specs.Faults.{Rose};
 ghost use Rattle.cbi.specs.Faults.{Caused, LeftBy, Precedes, Passed};
-ghost use Rattle.cbi.specs.Run.{Ran, StoppedWithin, IsRefused, ReadsHeld};
+ghost use Rattle.cbi.specs.Run.{Ran, StoppedWithin, IsNamed, IsRefused, IsRefusedBy, ReadsHeld};
 ghost use Rattle.cbi.specs.RunWords.{command_in};
 
 use crate::fault::Fault;
@@ -25,9 +25,9 @@ pub fn run_file<'a, S: Store, O: Sink>(
     requires { words.turns ≤ 100000000 }
     ensures ok { OnOk result (Ran (S.holds store.old) (O.taken out.old) (O.taken out.new) (command_in words.entry)) }
     ensures fault { IfErr result (λ e. Caused e
-        (Rose (S.read_faults store.old) (S.read_faults store.new))
+        (λ name. IsNamed (command_in words.entry) name × Rose (S.read_faults store.old) (S.read_faults store.new))
         (Rose (O.faults out.old) (O.faults out.new))
-        (IsRefused (S.holds store.old) (command_in words.entry))) }
+        (IsRefusedBy (S.holds store.old) (command_in words.entry))) }
 
     // What is on out after a fault, and when the bytes read are refused.
     ensures left { IfErr result (λ e. LeftBy e (O.taken out.new ≡ O.taken out.old)

@@ -3,15 +3,13 @@ ghost use Rattle.cbi_base.specs.Faults.{Rose};
 ghost use Rattle.cbi.specs.Run.{OfCommand, Ran, StoppedWithin, IsRefused, ReadsHeld};
 ghost use Rattle.cbi.specs.Words.{command_of, texts_of};
 ghost use Rattle.cbi.specs.Statuses.{IsStatus, IsUntouched, IsPast, IsUnchangedOr};
+ghost use Rattle.cbi.specs.Told.{IsTold, ReadTold, RefusalTold, usage_line, write_line, memory_line};
 
 use crate::message::{tell_fault, tell_usage};
 use crate::run_file::run_file;
 use crate::words::read_words;
 use cbi_base::{Sink, Store};
 use std::alloc::Global;
-
-/// The status of words that read as no command.
-const USAGE: u8 = 2;
 
 /// Does what the words ask for, over this store, and answers the status of the process.
 ///
@@ -44,6 +42,18 @@ pub fn cbi<S: Store, O: Sink, E: Sink>(
     ensures complete { IsSome (command_of (texts_of words.now.items)) → (Rose (S.read_faults store.old) (S.read_faults store.new) → ⊥) → (Rose (O.faults out.old) (O.faults out.new) → ⊥)
         → (OfCommand (command_of (texts_of words.now.items)) (IsRefused (S.holds store.old)) → ⊥) → (result ≡ 0) ⊎ (result ≡ 7) }
 
+    // What err is told.
+    ensures quiet { result ≡ 0 → E.taken err.new ≡ E.taken err.old }
+    ensures told_usage { result ≡ 2 → IsTold (Rose (E.faults err.old) (E.faults err.new)) (E.taken err.old) (E.taken err.new) usage_line }
+    ensures told_read { result ≡ 3 → OfCommand (command_of (texts_of words.now.items))
+        (ReadTold (IsTold (Rose (E.faults err.old) (E.faults err.new)) (E.taken err.old) (E.taken err.new))) }
+    ensures told_write { result ≡ 4 → IsTold (Rose (E.faults err.old) (E.faults err.new)) (E.taken err.old) (E.taken err.new) write_line }
+    ensures told_refusal { result ≡ 5 → OfCommand (command_of (texts_of words.now.items))
+        (RefusalTold (S.holds store.old) (IsTold (Rose (E.faults err.old) (E.faults err.new)) (E.taken err.old) (E.taken err.new))) }
+    ensures told_memory { result ≡ 7 → IsUnchangedOr (E.taken err.old) (E.taken err.new)
+        (IsTold (Rose (E.faults err.old) (E.faults err.new)) (E.taken err.old) (E.taken err.new) memory_line) }
+    ensures err_stays { E.is_sound err.old → E.faults err.new ≡ E.faults err.old }
+
     // What is left on out, and in the store.
     ensures untouched { IsUntouched result → O.taken out.new ≡ O.taken out.old }
     ensures part { result ≡ 4 → OfCommand (command_of (texts_of words.now.items)) (StoppedWithin (S.holds store.old) (O.taken out.old) (O.taken out.new)) }
@@ -59,10 +69,10 @@ pub fn cbi<S: Store, O: Sink, E: Sink>(
     ensures writes { S.write_faults store.new ≡ S.write_faults store.old }
 {
     let Some(run) = read_words(words.as_slice()) else {
-        return tell_usage(err, USAGE);
+        return tell_usage(err);
     };
     match run_file(alloc, run, store, out) {
         Ok(()) => 0,
-        Err(fault) => tell_fault(alloc, err, &fault, fault.status()),
+        Err(fault) => tell_fault(alloc, err, &fault),
     }
 }

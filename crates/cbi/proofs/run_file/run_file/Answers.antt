@@ -1,4 +1,3 @@
-use Rattle.std.proofs.Common.{rules}
 use Rattle.cbi.specs.RunWords.{command_in}
 use Rattle.cbi.proofs.RunLemmas.{same-refused, never-refused, caused-as, files-are}
 use Rattle.cbi.proofs.run_file.run_file.Goals as goal
@@ -8,7 +7,7 @@ returns-in-Err-clause-fault g c =
     let held = g.S.Store.holds c.args.store.now in
     let command = command_in c.args.words in
     let files = files-are held _ command _ _ _ _ c.as_slice.ensures.value c.as_slice-2.ensures.value c.in_ok-bytes.ensures.held c.in_ok-bytes.ensures.bytes c.in_ok-input.ensures.bytes in
-    caused-as c.in-Err.fault _ _ _ _ c.in-Err.ensures.fault (λ refused. record { program = _; input = _; files = files; refused = refused })
+    caused-as c.in-Err.fault _ _ _ _ c.in-Err.ensures.fault (λ refusal refused. record { program = _; input = _; files = files; refused = refused })
 
 pub returns-in-Err-clause-refused : goal.returns-in-Err-clause-refused
 returns-in-Err-clause-refused g c = λ refused tells.

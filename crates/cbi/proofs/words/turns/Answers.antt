@@ -1,4 +1,4 @@
-use Rattle.std.proofs.Common.{◌≡◌, sym, ap, ◌∙◌, refl, arith, rules}
+use Rattle.std.proofs.Common.{ap, ◌∙◌, arith}
 use Rattle.program_file.specs.Fields.{number_of}
 use Rattle.program_file.proofs.Lines.{none-some}
 use Rattle.program_file.proofs.Reading.{answers-number, answers-no-number}

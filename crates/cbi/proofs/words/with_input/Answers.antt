@@ -1,4 +1,4 @@
-use Rattle.std.proofs.Common.{◌≡◌, length, sym, ◌∙◌, rules, arith}
+use Rattle.std.proofs.Common.{sym, ◌∙◌, arith}
 use Rattle.cbi.proofs.WordLemmas.{one-word}
 use Rattle.cbi.proofs.words.with_input.Goals as goal
 

@@ -1,0 +1,81 @@
+-- A step leaves room for what is left.
+use Rattle.std.proofs.Common.{◌+◌, ◌-◌, ◌≤◌, ℕ, length, Bool, true, false, cond, eqb, ltb, List, [], ◌++◌, Option, Some, None, sum_by, ap, sym, subst, arith, length-append}
+use Rattle.std.specs.Prelude.{All}
+use Rattle.std.proofs.lemmas.List.{map-append, length-take}
+use Rattle.std.proofs.lemmas.List.Sums.{sum_by-append, count_by-le-length}
+use Rattle.std.proofs.lemmas.List.Elements.{All-append, All-weaker, All-nil, All-cons}
+use Rattle.c_syntax.specs.declared.token.Token.{Token}
+use Rattle.c_syntax.specs.declared.token.TokenKind.{TokenKind}
+use Rattle.c_syntax.specs.declared.token.Word.{Word}
+use Rattle.c_syntax.specs.declared.parts.Constant.{Constant}
+use Rattle.c_syntax.specs.Tokens.{text_len, lines_of}
+use Rattle.c_lexer.specs.declared.lexer.Lexer.{Lexer}
+use Rattle.c_lexer.specs.Piece.{Piece, Nothing, Name, Constant', Text, Punctuator, Definition, Known}
+use Rattle.c_lexer.specs.Found.{known_by}
+use Rattle.c_lexer.specs.Spellings.{word_of}
+use Rattle.c_lexer.specs.Lexing.{kind_at, name_kind, word_kind, with_line}
+use Rattle.c_lexer.specs.State.{Roomy, Advances, newlines, between}
+use Rattle.c_lexer.proofs.Fronts.{ReadsPiece, piece_len}
+
+word-text : (line : ℕ) (word : Option Word) (name : List ℕ) → sum_by text_len (with_line line (Some (word_kind word name))) ≤ 0
+word-text line None name = omega arith
+word-text line (Some word) name = omega arith
+
+name-text : (line : ℕ) (c : Option Constant) (name : List ℕ) → sum_by text_len (with_line line (Some (name_kind c name))) ≤ 0
+name-text line None name = word-text line (word_of name) name
+name-text line (Some c) name = omega arith
+
+-- a token's string is its piece's
+pub piece-text : (line : ℕ) (known : Known) (p : Piece) → sum_by text_len (with_line line (kind_at known p)) ≤ piece_len p
+piece-text line known Nothing = omega arith
+piece-text line known (Name name) = name-text line (known name) name
+piece-text line known (Constant' c) = omega arith
+piece-text line known (Text values) = omega arith
+piece-text line known (Punctuator sign) = omega arith
+piece-text line known (Definition name c) = omega arith
+
+one_at_most : (line : ℕ) (kind : Option TokenKind) → length (with_line line kind) ≤ 1
+one_at_most line None = omega arith
+one_at_most line (Some k) = omega arith
+
+line-kept : (line : ℕ) (kind : Option TokenKind) → All (λ x. x ≤ line) (lines_of (with_line line kind))
+line-kept line None = All-nil (λ x. x ≤ line)
+line-kept line (Some k) = All-cons (λ x. x ≤ line) line [] (omega arith) (All-nil (λ x. x ≤ line))
+
+newlines-le : (left rest : List ℕ) → length rest ≤ length left → newlines (between left rest) + length rest ≤ length left
+newlines-le left rest h =
+    omega (arith, count_by-le-length (λ b. eqb b 10) (between left rest), length-take (length left - length rest) left)
+
+-- tokens with or without some more
+pub record Kept (count line line' room : ℕ) (tokens : List Token) : Type 0 where
+  pub text : sum_by text_len tokens ≤ room
+  pub few : length tokens ≤ count
+  pub lines : All (λ x. x ≤ line') (lines_of tokens)
+
+keeps : (b : Bool) (count line line' : ℕ) (kind : Option TokenKind) (tokens : List Token) → length tokens ≤ count → All (λ x. x ≤ line) (lines_of tokens) → line ≤ line' → Kept (count + length (with_line line kind)) line line' (sum_by text_len tokens + sum_by text_len (with_line line kind)) (cond b (tokens ++ with_line line kind) tokens)
+keeps true count line line' kind tokens few lines le = record {
+  text = omega (arith, sum_by-append text_len tokens (with_line line kind));
+  few = omega (arith, length-append tokens (with_line line kind));
+  lines = subst (All (λ x. x ≤ line')) (sym (map-append (λ t. t.line) tokens (with_line line kind))) (All-weaker (λ x. x ≤ line) (λ x. x ≤ line') (λ x h. omega arith) _ (All-append (λ x. x ≤ line) (lines_of tokens) (lines_of (with_line line kind)) lines (line-kept line kind)));
+}
+keeps false count line line' kind tokens few lines le = record {
+  text = omega arith;
+  few = omega arith;
+  lines = All-weaker (λ x. x ≤ line) (λ x. x ≤ line') (λ x h. omega arith) _ lines;
+}
+
+pub room-next : (old new : Lexer) (a : Advances old new) → Roomy old → ReadsPiece old.left.now (a.piece, new.left.now) → Roomy new
+room-next old new a room read =
+    let kind = kind_at (known_by old.defined) a.piece in
+    let k = keeps (ltb old.count 100000) old.count old.line new.line kind old.tokens room.kept room.kept_lines (omega (arith, a.line)) in
+    let lines = newlines-le old.left.now new.left.now (omega (arith, read.less)) in
+    let text = piece-text old.line (known_by old.defined) a.piece in
+    let one = one_at_most old.line kind in
+    record {
+      first_line = omega (arith, a.line, room.first_line);
+      line_room = omega (arith, a.line, room.line_room, lines);
+      text_room = omega (arith, ap (sum_by text_len) a.tokens, k.text, text, read.short, room.text_room);
+      count_room = omega (arith, a.count, one, read.less, room.count_room);
+      kept = omega (arith, ap length a.tokens, a.count, k.few);
+      kept_lines = subst (λ ts. All (λ x. x ≤ new.line) (lines_of ts)) (sym a.tokens) k.lines;
+    }

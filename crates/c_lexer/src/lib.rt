@@ -1,0 +1,72 @@
+//! The lexer: a text of the C dialect is cut into its tokens.
+#![tactic(auto)]
+
+ghost use Rattle.std.specs.Prelude.{◌≡◌, true, false, ◌≤◌, ◌<◌, ◌⊎◌, ℕ, List, length, IfOk};
+ghost use Rattle.c_syntax.specs.declared.token.Token.{Token};
+ghost use Rattle.c_lexer.specs.Lexing.{Says, Lexes, StopsAt, Stops, IsTooLarge, lexed_answer, refusal_for, Ending, Ends};
+
+mod bytes;
+mod comments;
+mod constants;
+mod directives;
+mod error;
+mod escapes;
+mod front;
+mod lexer;
+mod pieces;
+mod spellings;
+
+use c_syntax::Tokens;
+pub use error::LexError;
+use lexer::{Lexer, MOST_TOKENS};
+use std::alloc::Global;
+
+/// The longest text, in bytes.
+const LONGEST_TEXT: usize = 1_048_576;
+
+/// The tokens of a text of at most 1,048,576 bytes.
+fn lex_all(alloc: Global, text: &[u8]) -> Result<Tokens, LexError>
+    requires { length text.now ≤ 1048576 }
+    ensures { Says text.now result }
+{
+    let mut lexer = Lexer::new(alloc, text);
+    'pieces: while !lexer.left.is_empty() {
+        lexer.step(alloc)?;
+    }
+    if lexer.count > MOST_TOKENS {
+        return Err(LexError::TooLarge);
+    }
+    Ok(lexer.tokens)
+}
+
+/// The tokens of a text. Want of memory is free.
+pub fn lex(alloc: Global, text: &[u8]) -> Result<Tokens, LexError>
+    ensures tokens { IfOk result (λ ts. Lexes text.now ts) }
+
+    // Each refusal comes only where its cause holds ..
+    ensures too_large { result ≡ Err LexError.TooLarge → IsTooLarge text.now }
+    ensures bad_byte { (line : ℕ) → result ≡ Err (LexError.BadByte line) → StopsAt text.now line false }
+    ensures bad_token { (line : ℕ) → result ≡ Err (LexError.BadToken line) → StopsAt text.now line true }
+
+    // .. and wherever its cause holds, unless memory runs out.
+    ensures long { 1048576 < length text.now → result ≡ Err LexError.TooLarge }
+    ensures lexed { length text.now ≤ 1048576 → (ts : List Token) → Lexes text.now ts →
+        (result ≡ lexed_answer ts) ⊎ (result ≡ Err LexError.Memory) }
+    ensures stopped { length text.now ≤ 1048576 → (line byte : ℕ) → Stops text.now line byte →
+        (result ≡ Err (refusal_for line byte)) ⊎ (result ≡ Err LexError.Memory) }
+{
+    if text.len() > LONGEST_TEXT {
+        return Err(LexError::TooLarge);
+    }
+    lex_all(alloc, text)
+}
+
+/// A text is cut in one way: to its end with one list of tokens, or up to one byte.
+pub fn one_cutting()
+    ensures { (text : List ℕ) (a b : Ending) → Ends text a → Ends text b → a ≡ b }
+{}
+
+#[cfg(test)]
+mod tests;
+#[cfg(test)]
+mod tree_tests;

@@ -1,0 +1,10 @@
+pub mod ExprTree
+pub mod StatementTree
+pub mod ItemTree
+pub mod Plain
+pub mod Spelling
+pub mod Nesting
+pub mod Shape
+pub mod Place
+pub mod WellFormed
+pub mod Tokens

@@ -1,0 +1,47 @@
+-- What err is told: a line, taken whole, or a prefix of it where err's count of faults rose.
+use Rattle.std.specs.Prelude.{◌≡◌, ℕ, List, ◌++◌, Option, ◌⊎◌, codes}
+use Rattle.cbi_base.specs.Sink.{Takes, TakesPrefix}
+use Rattle.cbi_base.specs.Refusal.{refusal_line}
+use Rattle.cbi_base.specs.Store.{Held}
+use Rattle.cbi_base.specs.declared.refusal.Refusal.{Refusal}
+use Rattle.cbi.specs.declared.fault.Fault.{Fault}
+use Rattle.cbi.specs.declared.fault.Fault.TheVariants.{Read, Write, Refused, Memory}
+use Rattle.cbi.specs.Words.{Command}
+use Rattle.cbi.specs.Run.{IsNamed, IsRefusedBy}
+
+abbrev pub usage_line : List ℕ
+usage_line = codes "usage: cbi run [--input I] [--turns N] PROG\n"
+
+abbrev pub read_line : List ℕ → List ℕ
+read_line name = codes "cbi: read fault " ++ name ++ codes "\n"
+
+abbrev pub write_line : List ℕ
+write_line = codes "cbi: write fault\n"
+
+abbrev pub memory_line : List ℕ
+memory_line = codes "cbi: out of memory\n"
+
+abbrev pub fault_line : Fault → List ℕ
+fault_line (Read name) = read_line name.now
+fault_line Write = write_line
+fault_line (Refused refusal) = refusal_line refusal
+fault_line Memory = memory_line
+
+abbrev pub IsTold : (rose : Type 0) → (before now : Option (List ℕ)) → List ℕ → Type 0
+IsTold rose before now line = Takes before now line ⊎ (rose × TakesPrefix before now line)
+
+-- The status after a line was to be told: as it was with the line told, or 7 where nothing was taken for want of memory.
+abbrev pub Tells : (status result : ℕ) → (told nothing : Type 0) → Type 0
+Tells status result told nothing = ((result ≡ status) × told) ⊎ ((result ≡ 7) × nothing)
+
+-- told of a file that wasn't read
+pub record ReadTold (told : List ℕ → Type 0) (command : Command) : Type 0 where
+  pub name : List ℕ
+  pub is_named : IsNamed command name
+  pub is : told (read_line name)
+
+-- told of a refusal of the bytes read
+pub record RefusalTold (held : Option Held) (told : List ℕ → Type 0) (command : Command) : Type 0 where
+  pub refusal : Refusal
+  pub refused : IsRefusedBy held command refusal
+  pub is : told (refusal_line refusal)
