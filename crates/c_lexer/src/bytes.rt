@@ -1,7 +1,8 @@
 ghost use Rattle.std.specs.Prelude.{◌≡◌, ◌==◌, ◌≤◌, length};
 ghost use Rattle.std.specs.List.{prefix_len};
 ghost use Rattle.c_lexer.specs.Bytes.{is_separator, is_digit, is_hexadecimal, has, digit_value, begins, begins_with, run, past};
-ghost use Rattle.cbi_base.specs.Name.{is_letter, is_name_byte};
+
+use cbi_base::is_name_byte;
 
 /// A class of bytes whose runs are read as one.
 #[derive(Clone, Copy, Debug, PartialEq, Eq)]
@@ -34,18 +35,6 @@ impl Class {
             Class::Line => b != b'\n',
         }
     }
-}
-
-pub(crate) fn is_letter(b: u8) -> bool
-    ensures { result ≡ is_letter b }
-{
-    b.is_ascii_alphabetic() || b == b'_'
-}
-
-fn is_name_byte(b: u8) -> bool
-    ensures { result ≡ is_name_byte b }
-{
-    is_letter(b) || b.is_ascii_digit()
 }
 
 pub(crate) fn is_separator(b: u8) -> bool

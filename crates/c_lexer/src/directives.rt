@@ -1,25 +1,16 @@
 ghost use Rattle.std.specs.Prelude.{◌≡◌, option_copied, option_map, codes};
-ghost use Rattle.cbi_base.specs.Name.{begins_name};
 ghost use Rattle.c_lexer.specs.Reading.{name_at, strip_text, blanks_at, constant_at, trailing_at, trails, header_at, is_include, defined_name_at, define_in, header_line};
 
-use crate::bytes::{Class, begins, begins_with, is_letter, split_run};
+use crate::bytes::{Class, begins, begins_with, split_run};
 use crate::comments::comment_at;
 use crate::constants::number_at;
 use crate::escapes::character_at;
 use crate::spellings::word_of;
 use c_syntax::Constant;
+use cbi_base::begins_name;
 
 /// The longest name, in bytes.
 const LONGEST_NAME: usize = 63;
-
-fn begins_name(bytes: &[u8]) -> bool
-    ensures { result ≡ begins_name bytes.now }
-{
-    match bytes {
-        [] => false,
-        [first, ..] => is_letter(*first),
-    }
-}
 
 /// A whole run of letters, digits and `_` that is a name, and what follows.
 #[tactic(auto, unfolding(crate::specs::Reading::name_at))]

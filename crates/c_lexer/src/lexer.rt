@@ -7,14 +7,14 @@ ghost use Rattle.c_lexer.specs.Lexing.{can_begin, IsNamed, kind_at, name_kind, c
 ghost use Rattle.c_lexer.specs.State.{newlines, refusal_at, kept_with, MayFollow};
 ghost use Rattle.cbi_base.specs.Name.{IsName};
 
-use crate::bytes::{is_letter, is_separator};
+use crate::bytes::is_separator;
 use crate::comments::may_close;
 use crate::error::LexError;
 use crate::front::{Defined, constant_of, piece_at};
 use crate::pieces::Found;
 use crate::spellings::{sign_of, word_of};
 use c_syntax::{Constant, Token, TokenKind, Tokens};
-use cbi_base::{Memory, Name, Seq};
+use cbi_base::{Memory, Name, Seq, is_letter};
 use std::alloc::Global;
 use std::collections::BTreeMap;
 

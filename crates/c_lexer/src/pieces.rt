@@ -3,13 +3,14 @@ ghost use Rattle.c_lexer.specs.Cutting.{sign_with, sign_at, plain_at, line_at, d
 ghost use Rattle.c_lexer.specs.Found.{piece_of};
 ghost use Rattle.c_lexer.specs.State.{KnowsClosing};
 
-use crate::bytes::{Class, is_letter, is_separator, split_run};
+use crate::bytes::{Class, is_separator, split_run};
 use crate::comments::{comment_at, strip};
 use crate::constants::number_at;
 use crate::directives::{define_in, is_include, name_at};
 use crate::escapes::character_at;
 use crate::spellings::sign_of;
 use c_syntax::{Constant, Sign};
+use cbi_base::is_letter;
 
 /// A piece of a text: what stands for no token, a token before defined names are replaced, or a definition.
 #[derive(Debug, Drop)]

@@ -8,6 +8,7 @@ use Rattle.flow.specs.declared.program.ProgramParts.{ProgramParts}
 use Rattle.flow.specs.declared.result.RunResult.{RunResult}
 use Rattle.flow.specs.Machine.{MachineEnds}
 use Rattle.flow.specs.Spelling.{SpellsProgram}
+use Rattle.program_file.specs.WrongLine.{IsWrongAt}
 use Rattle.cbi.specs.Words.{Command}
 
 -- the most bytes that are read of a program file, and of an input
@@ -75,7 +76,7 @@ pub record IsSpelled (bytes : List ℕ) : Type 0 where
 
 -- Which refusal it is: that of the program comes first.
 abbrev pub RefusesBytes : Refusal → List ℕ → List ℕ → Type 0
-RefusesBytes (BadProgram line) program input = IsNoProgram program
+RefusesBytes (BadProgram line) program input = IsNoProgram program × IsWrongAt program line
 RefusesBytes InputTooLarge program input = IsSpelled program × (input_limit < length input)
 RefusesBytes _ program input = ⊥
 

@@ -30,7 +30,7 @@ pub use lines::{LineError, LineReader, TextError, read_lines};
 pub use mem_sink::MemSink;
 pub use mem_store::{File, MemStore};
 pub use memory::Memory;
-pub use name::{Name, is_name};
+pub use name::{Name, begins_name, is_letter, is_name, is_name_byte};
 pub use operators::{Binary, Order, Unary};
 pub use outcome::{Counts, Outcome, Work};
 pub use refusal::Refusal;

@@ -23,19 +23,22 @@ impl Model for Name {
     ghost invariant = { λ n. IsName n.bytes.items };
 }
 
-fn is_letter(b: u8) -> bool
+/// Whether the byte is a letter or `_` (C99 6.4.2.1).
+pub fn is_letter(b: u8) -> bool
     ensures { result ≡ is_letter b }
 {
     b.is_ascii_alphabetic() || b == b'_'
 }
 
-fn is_name_byte(b: u8) -> bool
+/// Whether the byte can stand in a name: a letter, `_` or a digit.
+pub fn is_name_byte(b: u8) -> bool
     ensures { result ≡ is_name_byte b }
 {
     is_letter(b) || b.is_ascii_digit()
 }
 
-fn begins_name(bytes: &[u8]) -> bool
+/// Whether a name can begin with these bytes.
+pub fn begins_name(bytes: &[u8]) -> bool
     ensures { result ≡ begins_name bytes.now }
 {
     match bytes {

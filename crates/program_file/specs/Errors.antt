@@ -1,5 +1,6 @@
-use Rattle.std.specs.Prelude.{◌≡◌, Result, Ok, Err}
+use Rattle.std.specs.Prelude.{◌≡◌, ℕ, min, Result, Ok, Err}
 use Rattle.flow.specs.declared.program.ProgramParts.{ProgramParts}
+use Rattle.program_file.specs.WrongLine.{last_line}
 use Rattle.program_file.specs.declared.error.ProgramError.{ProgramError}
 use Rattle.program_file.specs.declared.error.ProgramError.TheVariants.{BadProgram, Memory}
 
@@ -9,6 +10,6 @@ ReadAs (Ok p) want = p ≡ want
 ReadAs (Err (BadProgram line)) want = ⊥
 ReadAs (Err Memory) want = Unit {0}
 
-abbrev pub IsBad : ProgramError → Type 0
-IsBad (BadProgram line) = Unit {0}
-IsBad Memory = ⊥
+-- the error with this line, or the greatest that there is
+abbrev pub bad_at : ℕ → ProgramError
+bad_at line = BadProgram (min line last_line)

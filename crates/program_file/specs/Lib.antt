@@ -1,3 +1,4 @@
 pub mod Fields
 pub mod Draft
+pub mod WrongLine
 pub mod Errors
