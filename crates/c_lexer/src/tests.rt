@@ -134,7 +134,7 @@ fn limits_are_exact(rt: HostRuntime) -> Result<(), Fail> {
     assert!(rt; lex(rt.alloc(), most.as_slice()).is_ok());
     let more = repeated(rt.alloc(), b";", 100_001)?;
     assert!(rt; matches!(lex(rt.alloc(), more.as_slice()), Err(LexError::TooLarge)));
-    // No end of a comment is looked for again and again.
+    // Comments that are opened and never closed.
     let open = repeated(rt.alloc(), b"/* ", 150_000)?;
     assert!(rt; matches!(lex(rt.alloc(), open.as_slice()), Err(LexError::TooLarge)));
     let name = repeated(rt.alloc(), b"n", 63)?;
