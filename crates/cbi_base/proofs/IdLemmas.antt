@@ -32,7 +32,7 @@ value-small b h = grind (arith, nat_tests)
 digit-value : (b : ℕ) → is_lower_digit b ≡ true → digit_of (value_of b) ≡ b
 digit-value b h = grind (arith, nat_tests)
 
-digits-lower : (bytes : List ℕ) → IsBytes bytes → list_all is_lower_digit (encode_lower bytes) ≡ true
+pub digits-lower : (bytes : List ℕ) → IsBytes bytes → list_all is_lower_digit (encode_lower bytes) ≡ true
 unfolding encode_with
 digits-lower [] h = refl
 digits-lower (b ∷ bs) h =
@@ -43,7 +43,7 @@ digits-lower (b ∷ bs) h =
     (and_from _ _ (digit-lower (b / 16) high) (and_from _ _ (digit-lower (b % 16) low) (digits-lower bs (λ k. h (suc k)))))
 
 -- a text that is that of some bytes
-record IsOfBytes (text : List ℕ) : Type 0 where
+pub record IsOfBytes (text : List ℕ) : Type 0 where
   pub bytes : List ℕ
   pub are_bytes : IsBytes bytes
   pub text_is : text ≡ encode_lower bytes
@@ -52,7 +52,7 @@ bytes-cons : (b : ℕ) (bs : List ℕ) → b < 256 → IsBytes bs → IsBytes (b
 bytes-cons b bs h hs zero = h
 bytes-cons b bs h hs (suc i) = hs i
 
-digits-spell : (text : List ℕ) → length text % 2 ≡ 0 → list_all is_lower_digit text ≡ true → IsOfBytes text
+pub digits-spell : (text : List ℕ) → length text % 2 ≡ 0 → list_all is_lower_digit text ≡ true → IsOfBytes text
 unfolding encode_with
 digits-spell [] even h = record { bytes = []; are_bytes = λ k. omega arith; text_is = refl }
 digits-spell (a ∷ []) even h = absurd (omega arith)
@@ -101,6 +101,14 @@ IsIdText-spells text h =
       };
       text_is = spelled.text_is;
     }
+
+-- two identities with one text are one
+pub text_of_id-once : (x y : ProgramId) → IsId x → IsId y → text_of_id x ≡ text_of_id y → x ≡ y
+text_of_id-once x y is_x is_y same =
+    let left = decode_sized-encode_lower x.bytes 32 is_x.long is_x.are_bytes in
+    let right = ap (λ text. decode_sized text 32) same ∙ decode_sized-encode_lower y.bytes 32 is_y.long is_y.are_bytes in
+    let bytes : x.bytes ≡ y.bytes = cc in
+    ap (λ (bs : List ℕ). let id : ProgramId = record { bytes = bs } in id) bytes
 
 -- what decoding the text of an identity into room for 32 bytes gives
 pub decodes-to : (text out : List ℕ) (id : ProgramId) (r : Result Unit FromHexError) → IsId id → text ≡ text_of_id id

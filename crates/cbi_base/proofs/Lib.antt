@@ -6,3 +6,6 @@ pub mod FieldLemmas
 pub mod FaultLemmas
 pub mod HeldFiles
 pub mod Taking
+pub mod NumberLemmas
+pub mod LineLemmas
+pub mod AllocationLemmas

@@ -5,7 +5,7 @@ use Rattle.std.proofs.lemmas.List.{append-nil, get_or-drop, get_or_append_left, 
 use Rattle.std.proofs.Math.Seq.{get_or-append_seam}
 use Rattle.std.proofs.lemmas.List.Elements.{All-from_recursion}
 use Rattle.std.proofs.lemmas.List.Splits.{slice_split_none, slice_split_at, length-slice_split}
-use Rattle.cbi_base.specs.Text.{Lacks, AreLines, fields_of, is_newline, is_space, ended, text_of, LeadsTo, ReadsLines, IsLineEnd}
+use Rattle.cbi_base.specs.Text.{Lacks, AreLines, fields_of, is_newline, is_space, ended, text_of, IsLineEnd}
 
 -- a list that lacks the mark is one piece
 pub split-lacks : (p : ℕ → Bool) (xs : List ℕ) → Lacks p xs → slice_split p xs ≡ xs ∷ []
@@ -44,36 +44,6 @@ text_of-more (l ∷ ls) line rest =
 pub AreLines-more : (lines : List (List ℕ)) (line : List ℕ) → AreLines lines → Lacks is_newline line → AreLines (lines ++ line ∷ [])
 AreLines-more [] line all l = (l, tt)
 AreLines-more (x ∷ xs) line all l = (all.0, AreLines-more xs line all.1 l)
-
--- the lines so far lead on by one more
-pub LeadsTo-more : {D : Type 0} (follows : D → List ℕ → D → Type 0) (lines : List (List ℕ)) (line : List ℕ) (from via to : D) → LeadsTo follows from lines via → follows via line to → LeadsTo follows from (lines ++ line ∷ []) to
-LeadsTo-more follows [] line from via to leads next = (to, subst (λ d. follows d line to) (sym leads) next, refl)
-LeadsTo-more follows (l ∷ ls) line from via to leads next = (leads.0, leads.1, LeadsTo-more follows ls line leads.0 via to leads.2 next)
-
--- nothing is left where no byte is
-pub reads-none : {D : Type 0} (follows : D → List ℕ → D → Type 0) (from to : D) (rest : List ℕ) → length rest ≡ 0 → (lines : List (List ℕ)) → rest ≡ text_of lines → LeadsTo follows from lines to → from ≡ to
-reads-none follows from to rest none [] is leads = leads
-reads-none follows from to rest none (l ∷ ls) is leads = absurd (omega (arith, ap length is, length-append {A = ℕ} (ended l) (text_of ls), length-append {A = ℕ} l (10 ∷ [])))
-
--- a reading of a text that begins with this line begins with it
-pub record GoesOn {D : Type 0} (follows : D → List ℕ → D → Type 0) (from : D) (line rest : List ℕ) (to : D) : Type 0 where
-  pub after : D
-  pub follows_it : follows from line after
-  pub goes_on : ReadsLines follows after rest to
-
-pub reads-line : {D : Type 0} (follows : D → List ℕ → D → Type 0) (from to : D) (line rest : List ℕ) → Lacks is_newline line → (lines : List (List ℕ)) → line ++ 10 ∷ rest ≡ text_of lines → AreLines lines → LeadsTo follows from lines to → GoesOn follows from line rest to
-reads-line follows from to line rest lacks [] is are leads = absurd (omega (arith, ap length is, length-append {A = ℕ} line (10 ∷ rest)))
-reads-line follows from to line rest lacks (l ∷ ls) is are leads =
-    let same = cut-once is_newline 10 refl line l rest (text_of ls) lacks are.0 (is ∙ append_assoc l (10 ∷ []) (text_of ls)) in record {
-      after = leads.0;
-      follows_it = subst (λ t. follows from t leads.0) (sym same.0) leads.1;
-      goes_on = record { lines = ls; text_is = same.1; are_lines = are.1; leads = leads.2 };
-    }
-
--- no text of lines ends within a line
-pub reads-end : (rest : List ℕ) → Lacks is_newline rest → (lines : List (List ℕ)) → rest ≡ text_of lines → rest ≡ []
-reads-end rest lacks [] is = is
-reads-end rest lacks (l ∷ ls) is = absurd (lacks-mark is_newline 10 refl l (text_of ls) (subst (Lacks is_newline) (is ∙ append_assoc l (10 ∷ []) (text_of ls)) lacks))
 
 -- a list that lacks newlines has none at any place
 lacks-at : (bytes : List ℕ) → Lacks is_newline bytes → (k d : ℕ) → k < length bytes → get_or bytes k d ≢ 10

@@ -5,6 +5,8 @@ pub mod Format
 pub mod LineFaults
 pub mod Name
 pub mod Text
+pub mod Lines
+pub mod Numbers
 pub mod Arithmetic
 pub mod Kind
 pub mod Scalars
@@ -17,3 +19,4 @@ pub mod MemStore
 pub mod MemSink
 pub mod StdSink
 pub mod Objects
+pub mod Frames

@@ -1,14 +1,13 @@
 -- Objects of cells: what memory is to a program (C99 3.14 and 6.2.4, with sizes counted in cells). A cell keeps the kind that was stored.
-use Rattle.std.specs.Prelude.{ℕ, ◌+◌, ◌-◌, ◌^◌, ◌*◌, Bool, true, false, not, ◌&&◌, ◌||◌, ◌==◌, nat_le, nat_lt, if◌then◌else◌, ℤ, pos, ◌+ℤ◌, ◌-ℤ◌, int_le, int_div, int_rem, List, [], ◌∷◌, length, map, Option, None, Some, Result, Ok, Err, slice_get, slice_set, unsigned_abs}
+use Rattle.std.specs.Prelude.{◌≡◌, ◌⊎◌, ◌<◌, ◌≤◌, ℕ, ◌+◌, ◌^◌, Bool, true, false, not, ◌&&◌, ◌==◌, nat_le, nat_lt, if◌then◌else◌, ℤ, pos, ◌+ℤ◌, ◌-ℤ◌, int_le, int_div, int_rem, List, length, map, Option, None, Some, Result, Ok, Err, slice_get, slice_set, unsigned_abs, replicate}
 use Rattle.std.specs.List.{sum_by}
 use Rattle.std.specs.Ordering.{nat_cmp, int_eq}
 use Rattle.std.specs.FinMap.{FinMap, get, insert, remove, values, empty}
-use Rattle.cbi_base.specs.declared.scalar.Kind.{Kind}
 use Rattle.cbi_base.specs.declared.scalar.Kind.TheVariants as kind
 use Rattle.cbi_base.specs.declared.scalar.Scalar.{Scalar}
 use Rattle.cbi_base.specs.declared.scalar.Scalar.TheVariants.{Number, Place, Null, Undefined}
 use Rattle.cbi_base.specs.declared.scalar.Class.{Class}
-use Rattle.cbi_base.specs.declared.scalar.Class.TheVariants.{Local, Static, Text, Heap}
+use Rattle.cbi_base.specs.declared.scalar.Class.TheVariants.{Text, Heap}
 use Rattle.cbi_base.specs.declared.scalar.Want.{Want}
 use Rattle.cbi_base.specs.declared.scalar.Want.TheVariants as want
 use Rattle.cbi_base.specs.declared.operators.Order.{Order}
@@ -51,6 +50,23 @@ one_more class cells o = record { made = o.made + 1; live = insert o.live o.made
 -- the same where there is room for it
 abbrev pub made_with : Class → List Scalar → Objects → Option Objects
 made_with class cells o = if has_room (length cells) o then Some (one_more class cells o) else None
+
+-- the new object's first cell, or null where none was made
+abbrev pub place_or_null : ℕ → Objects → Option Objects → Scalar × Objects
+place_or_null number o None = (Null, o)
+place_or_null number o (Some objects) = (Place number 0, objects)
+
+-- an object of `malloc` more, of so many undefined cells
+abbrev pub new_undefined : ℕ → Objects → Objects
+new_undefined cells o = one_more Heap (replicate cells Undefined) o
+
+-- `malloc` has nothing to give: no cells are asked for, the live cells would pass their limit, or the greatest number of objects was made
+abbrev pub GivesNull : ℕ → Objects → Type 0
+GivesNull cells o = (cells ≡ 0) ⊎ ((cell_limit < live_cells o + cells) ⊎ (object_limit ≤ o.made))
+
+-- what `malloc` gives (C99 7.20.3.3): null for no cells and where there is no room, else a new object of so many undefined cells
+unfoldable pub allocated : ℕ → Objects → Scalar × Objects
+allocated cells o = if cells == 0 then (Null, o) else place_or_null o.made o (made_with Heap (replicate cells Undefined) o)
 
 -- the object is dead from now on
 abbrev pub killed : ℕ → Objects → Objects

@@ -2,7 +2,7 @@
 use Rattle.std.specs.Prelude.{◌≡◌, ℕ, List, [], ◌++◌, length, take, codes, decimal}
 use Rattle.cbi_base.specs.ProgramId.{text_of_id}
 use Rattle.cbi_base.specs.declared.refusal.Refusal.{Refusal}
-use Rattle.cbi_base.specs.declared.refusal.Refusal.TheVariants.{BadByte, BadToken, Syntax, BadType, TooLarge, TooManySites, BadProgram, BadBank, BadReport, Foreign, Conflict, TooManyReports, TooManyMarks, BadCollection, InputTooLarge, NoSite}
+use Rattle.cbi_base.specs.declared.refusal.Refusal.TheVariants.{BadByte, BadToken, Syntax, BadType, TooLarge, TooManySites, BadProgram, BadBank, BadReport, Foreign, Conflict, TooManyReports, TooManyMarks, BadCollection, InputTooLarge, NoSite, BadEdits, Absent, NotPart}
 
 abbrev pub number_of : Refusal → ℕ
 number_of (BadByte _) = 10
@@ -21,6 +21,9 @@ number_of (TooManyMarks _) = 26
 number_of (BadCollection _ _) = 27
 number_of InputTooLarge = 28
 number_of (NoSite _ _) = 29
+number_of (BadEdits _) = 30
+number_of (Absent _) = 31
+number_of NotPart = 32
 
 abbrev pub name_of : Refusal → List ℕ
 name_of (BadByte _) = codes "BadByte"
@@ -39,6 +42,9 @@ name_of (TooManyMarks _) = codes "TooManyMarks"
 name_of (BadCollection _ _) = codes "BadCollection"
 name_of InputTooLarge = codes "InputTooLarge"
 name_of (NoSite _ _) = codes "NoSite"
+name_of (BadEdits _) = codes "BadEdits"
+name_of (Absent _) = codes "Absent"
+name_of NotPart = codes "NotPart"
 
 -- what a refusal says beside its number and its name
 abbrev pub details_of : Refusal → List ℕ
@@ -58,6 +64,9 @@ details_of (TooManyMarks run) = codes " run " ++ decimal run
 details_of (BadCollection file line) = (codes " file " ++ decimal file) ++ (codes " line " ++ decimal line)
 details_of InputTooLarge = []
 details_of (NoSite run site) = (codes " run " ++ decimal run) ++ (codes " site " ++ decimal site)
+details_of (BadEdits line) = codes " line " ++ decimal line
+details_of (Absent run) = codes " run " ++ decimal run
+details_of NotPart = []
 
 -- the line that tells of a refusal, as `cbi: refusal 15 BadType kind 3 line 7`
 abbrev pub refusal_line : Refusal → List ℕ

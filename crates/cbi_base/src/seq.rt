@@ -67,21 +67,3 @@ impl<T: Drop> Seq<T> {
         Ok(())
     }
 }
-
-#[cfg(test)]
-mod tests {
-    use super::*;
-    use std::test::Fail;
-
-    #[test]
-    fn items_are_added_at_the_end(rt: HostRuntime) -> Result<(), Fail> {
-        let mut list = Seq::new(rt.alloc());
-        assert!(rt; list.is_empty());
-        list.push(3u32)?;
-        list.push(4)?;
-        assert_eq!(rt; list.len(), 2);
-        let list = Seq::from_vec(list.into_vec());
-        assert_eq!(rt; list.as_slice(), [3, 4].as_slice());
-        Ok(())
-    }
-}

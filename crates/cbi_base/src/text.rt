@@ -71,38 +71,3 @@ impl<'a> Fields<'a> {
         }
     }
 }
-
-#[cfg(test)]
-mod tests {
-    use super::*;
-
-    #[test]
-    fn lines_end_at_the_first_newline(rt: HostRuntime) {
-        for (text, from, place) in [
-            ("a\nb\n", 0, Some(1)),
-            ("a\nb\n", 1, Some(1)),
-            ("a\nb\n", 2, Some(3)),
-            ("a\nb\n", 4, None),
-            ("ab", 0, None),
-            ("", 0, None),
-        ] {
-            assert!(rt; from <= text.len());
-            assert_eq!(rt;
-                line_end(text.as_bytes(), from),
-                place,
-                "{text:?} from {from}"
-            );
-        }
-    }
-
-    #[test]
-    fn fields_are_parted_by_one_space(rt: HostRuntime) {
-        let mut fields = Fields::new(b"run  7");
-        for field in ["run", "", "7"] {
-            assert!(rt; !fields.is_empty());
-            assert_eq!(rt; fields.next(), Some(field.as_bytes()));
-        }
-        assert!(rt; fields.is_empty());
-        assert!(rt; fields.next().is_none());
-    }
-}

@@ -45,31 +45,3 @@ impl Trap {
         }
     }
 }
-
-#[cfg(test)]
-mod tests {
-    use super::*;
-
-    #[test]
-    fn traps_have_the_numbers_of_the_table(rt: HostRuntime) {
-        for (trap, number) in [
-            (Trap::Overflow, 1),
-            (Trap::Divide, 2),
-            (Trap::Shift, 3),
-            (Trap::Undefined, 4),
-            (Trap::WrongKind, 5),
-            (Trap::Bounds, 6),
-            (Trap::Dead, 7),
-            (Trap::NullUse, 8),
-            (Trap::ReadOnly, 9),
-            (Trap::BadFree, 10),
-            (Trap::Unrelated, 11),
-            (Trap::StackOverflow, 12),
-            (Trap::Assertion, 13),
-            (Trap::Abort, 14),
-            (Trap::Internal, 99),
-        ] {
-            assert_eq!(rt; trap.number(), number, "{trap:?}");
-        }
-    }
-}
