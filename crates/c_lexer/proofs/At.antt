@@ -1,5 +1,5 @@
 -- The lexer is at a place of the text, with the tokens before it.
-use Rattle.std.proofs.Common.{◌≡◌, ◌+◌, ◌-◌, ◌≤◌, ◌<◌, ℕ, length, Bool, true, false, cond, eqb, ltb, lt-ltb, List, [], ◌∷◌, ◌++◌, take, Option, Some, None, refl, ap, sym, ◌∙◌, subst, arith, length-append, append_assoc, append-nil, ⊎_elim}
+use Rattle.std.proofs.Common.{◌≡◌, ◌+◌, ◌-◌, ◌≤◌, ◌<◌, ℕ, length, true, false, cond, eqb, ltb, lt-ltb, List, [], ◌∷◌, ◌++◌, take, get_or, Option, Some, None, refl, ap, sym, ◌∙◌, subst, arith, length-append, append_assoc, append-nil, ⊎_elim}
 use Rattle.std.proofs.Math.Seq.{take-append_seam}
 use Rattle.std.proofs.lemmas.List.Sums.{sum_by-append}
 use Rattle.c_syntax.specs.declared.token.Token.{Token}
@@ -7,11 +7,15 @@ use Rattle.c_syntax.specs.declared.token.TokenKind.{TokenKind}
 use Rattle.c_lexer.specs.declared.error.LexError.{LexError}
 use Rattle.c_lexer.specs.declared.error.LexError.TheVariants as error
 use Rattle.c_lexer.specs.declared.lexer.Lexer.{Lexer}
-use Rattle.c_lexer.specs.Cutting.{piece_at}
+use Rattle.c_lexer.specs.Cutting.{piece_at, is_fresh, fresh_from}
 use Rattle.c_lexer.specs.Found.{known_by}
-use Rattle.c_lexer.specs.Pieces.{Place, is_fresh, fresh_from}
-use Rattle.c_lexer.specs.Lexing.{IsLongest, NothingStands, Lexes, Stops, HasMany, ErrorSays, can_begin, Taken, Cuts, past_piece, place_after, known_after, line_of, tokens_from, with_line, kind_at, start}
-use Rattle.c_lexer.specs.State.{Advances, Refuses, refusal_at, kept_with, newlines, between}
+use Rattle.c_lexer.specs.Pieces.{Place}
+use Rattle.c_lexer.specs.Lexing.{IsLongest, NothingStands, Lexes, Stops, Taken, Cuts, past_piece, place_after, known_after, line_of, tokens_from, with_line, kind_at, start}
+use Rattle.c_lexer.specs.Bytes.{newlines}
+use Rattle.c_lexer.specs.Refusals.{HasMany, ErrorSays, can_begin, refusal_for}
+use Rattle.c_lexer.specs.State.{Advances, Refuses, kept_with, between}
+use Rattle.c_syntax.specs.Limits.{most_tokens}
+use Rattle.c_lexer.proofs.FreshLaws.{fresh_from-append}
 use Rattle.c_lexer.proofs.PieceLaws.{LongestRead, longest-read, nothing-read}
 
 pub record IsAt (text : List ℕ) (l : Lexer) : Type 0 where
@@ -21,7 +25,7 @@ pub record IsAt (text : List ℕ) (l : Lexer) : Type 0 where
   pub known : (name : List ℕ) → known_by l.defined name ≡ (place_after start pieces).known name
   pub line : l.line ≡ line_of (place_after start pieces)
   pub count : l.count ≡ length (tokens_from start pieces)
-  pub tokens : l.count ≤ 100000 → l.tokens ≡ tokens_from start pieces
+  pub tokens : l.count ≤ most_tokens → l.tokens ≡ tokens_from start pieces
 
 cuts-push : (place : Place) (left : List ℕ) (ts : List Taken) (t : Taken) (rest after : List ℕ) → Cuts place left ts rest → rest ≡ t.bytes ++ after → IsLongest (place_after place ts) t.bytes after t.piece → Cuts place left (ts ++ t ∷ []) after
 cuts-push place left [] t rest after cut is longest = (after, cut ∙ is, longest, refl)
@@ -37,24 +41,20 @@ tokens-push place (u ∷ us) t =
     let front = with_line (line_of place) (kind_at place.known u.piece) in
     ap (λ xs. front ++ xs) (tokens-push (past_piece place u) us t) ∙ sym (append_assoc front _ _)
 
-fresh_from-append : (a : List ℕ) (fresh : Bool) (b : List ℕ) → fresh_from fresh (a ++ b) ≡ fresh_from (fresh_from fresh a) b
-fresh_from-append [] fresh b = refl
-fresh_from-append (c ∷ cs) fresh b = fresh_from-append cs _ b
-
 between-is : (left bytes rest : List ℕ) → left ≡ bytes ++ rest → between left rest ≡ bytes
 between-is left bytes rest is =
     let n : length left - length rest ≡ length bytes = omega (arith, ap length is, length-append bytes rest) in
     ap (λ k. take k left) n ∙ ap (take (length bytes)) is ∙ take-append_seam bytes rest
 
--- Up to 100000 tokens all are kept.
-kept-all : (count : ℕ) (tokens all : List Token) (line : ℕ) (kind : Option TokenKind) → (count ≤ 100000 → tokens ≡ all) → count + length (with_line line kind) ≤ 100000 → kept_with count tokens (with_line line kind) ≡ all ++ with_line line kind
+-- Up to the limit all are kept.
+kept-all : (count : ℕ) (tokens all : List Token) (line : ℕ) (kind : Option TokenKind) → (count ≤ most_tokens → tokens ≡ all) → count + length (with_line line kind) ≤ most_tokens → kept_with count tokens (with_line line kind) ≡ all ++ with_line line kind
 kept-all count tokens all line None same few =
-    elim (ltb count 100000) as (λ v. cond v (tokens ++ []) tokens ≡ all ++ []) [
+    elim (ltb count most_tokens) as (λ v. cond v (tokens ++ []) tokens ≡ all ++ []) [
       | true ↦ ap (λ xs. xs ++ []) (same (omega arith))
       | false ↦ same (omega arith) ∙ sym (append-nil all)
     ]
 kept-all count tokens all line (Some k) same few =
-    let below : ltb count 100000 ≡ true = lt-ltb count 100000 (omega arith) in
+    let below : ltb count most_tokens ≡ true = lt-ltb count most_tokens (omega arith) in
     rw below (ap (λ xs. xs ++ with_line line (Some k)) (same (omega arith)))
 
 line-push : (place : Place) (bytes : List ℕ) → line_of place + newlines bytes ≡ 1 + newlines (place.before ++ bytes)
@@ -84,7 +84,7 @@ next-place text old new at a r =
       line = a.line ∙ (λ i. at.line i + newlines (taken i)) ∙ line-push place r.bytes ∙ ap line_of (sym pushed);
       count = count ∙ sym (length-append (tokens_from start at.pieces) more) ∙ ap length (sym all);
       tokens = λ few.
-          let fits : old.count + length (with_line old.line (kind_at (known_by old.defined) a.piece)) ≤ 100000 = omega (arith, a.count) in
+          let fits : old.count + length (with_line old.line (kind_at (known_by old.defined) a.piece)) ≤ most_tokens = omega (arith, a.count) in
           a.tokens ∙ kept-all old.count old.tokens (tokens_from start at.pieces) old.line (kind_at (known_by old.defined) a.piece) at.tokens fits ∙ ap (λ xs. tokens_from start at.pieces ++ xs) same_more ∙ sym all;
     }
 
@@ -117,19 +117,19 @@ at-start text l left fresh line known tokens count = record {
 pub at-end : (text : List ℕ) (l : Lexer) (at : IsAt text l) → length l.left.now ≡ 0 → Cuts start text at.pieces []
 at-end text l at none = subst (Cuts start text at.pieces) (empty l.left.now none) at.cut
 
-pub says-tokens : (text : List ℕ) (l : Lexer) → IsAt text l → length l.left.now ≡ 0 → l.count ≤ 100000 → Lexes text l.tokens × (length l.tokens ≤ 100000)
+pub says-tokens : (text : List ℕ) (l : Lexer) → IsAt text l → length l.left.now ≡ 0 → l.count ≤ most_tokens → Lexes text l.tokens × (length l.tokens ≤ most_tokens)
 says-tokens text l at none few =
     let all = at.tokens few in
     (record { pieces = at.pieces; cut = at-end text l at none; are = all }, omega (arith, ap length all, at.count))
 
-pub says-many : (text : List ℕ) (l : Lexer) → IsAt text l → length l.left.now ≡ 0 → 100000 < l.count → HasMany text
+pub says-many : (text : List ℕ) (l : Lexer) → IsAt text l → length l.left.now ≡ 0 → most_tokens < l.count → HasMany text
 says-many text l at none many = record {
   tokens = tokens_from start at.pieces;
   lexes = record { pieces = at.pieces; cut = at-end text l at none; are = refl };
   many = omega (arith, at.count);
 }
 
-stops-at : (text left : List ℕ) (pieces : List Taken) (line : ℕ) → 0 < length left → Cuts start text pieces left → NothingStands (place_after start pieces) left → line ≡ line_of (place_after start pieces) → ErrorSays text (refusal_at line left)
+stops-at : (text left : List ℕ) (pieces : List Taken) (line : ℕ) → 0 < length left → Cuts start text pieces left → NothingStands (place_after start pieces) left → line ≡ line_of (place_after start pieces) → ErrorSays text (refusal_for line (get_or left 0 0))
 stops-at text [] pieces line some cut stuck is = absurd (omega arith)
 stops-at text (b ∷ bs) pieces line some cut stuck is =
     let stops : Stops text line b = record { pieces = pieces; rest = bs; cut = cut; stuck = stuck; line_is = is } in
@@ -142,6 +142,6 @@ pub says-error : (text : List ℕ) (l : Lexer) (e : LexError) → IsAt text l �
 says-error text l e at some refuses =
     ⊎_elim
     (λ (w : e ≡ error.Memory). subst (ErrorSays text) (sym w) tt)
-    (λ (w : (piece_at l.fresh (known_by l.defined) l.left.now ≡ None) × (e ≡ refusal_at l.line l.left.now)).
+    (λ (w : (piece_at l.fresh (known_by l.defined) l.left.now ≡ None) × (e ≡ refusal_for l.line (get_or l.left.now 0 0))).
     subst (ErrorSays text) (sym w.1) (stops-at text l.left.now at.pieces l.line some at.cut (at-stuck text l at w.0) at.line))
     refuses

@@ -17,7 +17,7 @@ use Rattle.c_lexer.specs.Piece.{Piece, Nothing, Name, Constant', Text, Punctuato
 use Rattle.std.proofs.lemmas.Bool.{eqb-false}
 use Rattle.std.specs.List.{list_all}
 use Rattle.c_lexer.specs.Pieces.{AllOf}
-use Rattle.c_lexer.specs.Lexing.{IsNamed}
+use Rattle.c_lexer.specs.State.{IsNamed}
 use Rattle.c_lexer.proofs.RunLaws.{run-past, run-AllOf}
 use Rattle.c_lexer.proofs.CommentLaws.{comment-splits}
 use Rattle.c_lexer.proofs.Lengths.{past-le, comment-less}

@@ -2,6 +2,7 @@ pub mod At
 pub mod CommentLaws
 pub mod DirectiveLaws
 pub mod DirectiveReads
+pub mod FreshLaws
 pub mod Fronts
 pub mod Lengths
 pub mod NumberLaws

@@ -5,10 +5,13 @@ use Rattle.std.proofs.Math.Seq.{take-append_seam}
 use Rattle.c_syntax.specs.declared.token.Token.{Token}
 use Rattle.c_lexer.specs.declared.error.LexError.{LexError}
 use Rattle.c_lexer.specs.declared.error.LexError.TheVariants as error
-use Rattle.c_lexer.specs.Cutting.{piece_at}
+use Rattle.c_lexer.specs.Cutting.{piece_at, is_fresh}
 use Rattle.c_lexer.specs.Piece.{Piece}
-use Rattle.c_lexer.specs.Pieces.{Place, is_fresh}
-use Rattle.c_lexer.specs.Lexing.{IsLongest, NothingStands, Taken, Cuts, past_piece, place_after, line_of, tokens_from, start, Lexes, Stops, Says, Ending, Whole, Stopped, Ends, can_begin, lexed_answer, refusal_for}
+use Rattle.c_lexer.specs.Pieces.{Place}
+use Rattle.c_lexer.specs.Lexing.{IsLongest, NothingStands, Taken, Cuts, past_piece, place_after, line_of, tokens_from, start, Lexes, Stops}
+use Rattle.c_lexer.specs.Refusals.{Says, can_begin, lexed_answer, refusal_for}
+use Rattle.c_lexer.specs.Endings.{Ending, Whole, Stopped, Ends}
+use Rattle.c_syntax.specs.Limits.{most_tokens}
 use Rattle.c_lexer.proofs.PieceLaws.{longest-is, nothing-at-end}
 
 same_front : (a b rest : List ℕ) → a ++ rest ≡ b ++ rest → a ≡ b
@@ -67,14 +70,14 @@ pub says-lexed : (text : List ℕ) (r : Result (List Token) LexError) (tokens : 
 says-lexed text (Ok ts) tokens says lexes =
     let e : Whole ts ≡ Whole tokens = one-ending text (Whole ts) (Whole tokens) says.0 lexes in
     let same : ts ≡ tokens = cc in
-    let few : ltb 100000 (length tokens) ≡ false = le-ltb 100000 (length tokens) (omega (arith, ap length same, says.1)) in
+    let few : ltb most_tokens (length tokens) ≡ false = le-ltb most_tokens (length tokens) (omega (arith, ap length same, says.1)) in
     inl (rw few (ap Ok same))
 says-lexed text (Err (error.BadByte line)) tokens says lexes = absurd (let e = one-ending text (Stopped line says.byte) (Whole tokens) says.stops lexes in cc)
 says-lexed text (Err (error.BadToken line)) tokens says lexes = absurd (let e = one-ending text (Stopped line says.byte) (Whole tokens) says.stops lexes in cc)
 says-lexed text (Err error.TooLarge) tokens says lexes =
     let e : Whole says.tokens ≡ Whole tokens = one-ending text (Whole says.tokens) (Whole tokens) says.lexes lexes in
     let same : says.tokens ≡ tokens = cc in
-    let many : ltb 100000 (length tokens) ≡ true = lt-ltb 100000 (length tokens) (omega (arith, ap length same, says.many)) in
+    let many : ltb most_tokens (length tokens) ≡ true = lt-ltb most_tokens (length tokens) (omega (arith, ap length same, says.many)) in
     inl (rw many refl)
 says-lexed text (Err error.Memory) tokens says lexes = inr refl
 

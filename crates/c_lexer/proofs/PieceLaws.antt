@@ -1,8 +1,8 @@
 -- What is read at a place is the longest piece that stands there.
 use Rattle.std.proofs.Common.{◌≡◌, ℕ, List, [], ◌++◌, length, refl, ap, sym, ◌∙◌, arith, length-append, Some, None}
-use Rattle.c_lexer.specs.Cutting.{piece_at, plain_at}
+use Rattle.c_lexer.specs.Cutting.{piece_at, plain_at, is_fresh}
 use Rattle.c_lexer.specs.Piece.{Piece}
-use Rattle.c_lexer.specs.Pieces.{Place, is_fresh}
+use Rattle.c_lexer.specs.Pieces.{Place}
 use Rattle.c_lexer.specs.Lexing.{IsLongest, NothingStands}
 use Rattle.c_lexer.proofs.StandLaws.{piece-stands}
 use Rattle.c_lexer.proofs.Reach.{stands-reach}

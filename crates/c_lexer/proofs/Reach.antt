@@ -12,10 +12,11 @@ use Rattle.c_lexer.specs.declared.bytes.Class.TheVariants as class
 use Rattle.c_lexer.specs.Bytes.{run, past, begins, is_separator, is_digit}
 use Rattle.c_lexer.specs.Spellings.{value_in, signs, sign_of}
 use Rattle.c_lexer.specs.Reading.{first_of, strip, comment_at, number_at, character_at, name_at}
-use Rattle.c_lexer.specs.Cutting.{as_piece, sign_with, sign_at, comment_or_sign, plain_at, line_at, directive_at, unless_known, new_directive_at, piece_at}
+use Rattle.c_lexer.specs.Cutting.{as_piece, sign_with, sign_at, comment_or_sign, plain_at, line_at, directive_at, unless_known, new_directive_at, piece_at, is_fresh}
 use Rattle.c_lexer.specs.Piece.{Piece, Nothing, Name, Constant', Text, Punctuator, Definition, Known}
-use Rattle.c_lexer.specs.Pieces.{Place, Stands, is_fresh, AllOf, StopsAt, IsComment, IsNumber, IsCharacter, IsText, IsInclude, IsDefine}
+use Rattle.c_lexer.specs.Pieces.{Place, Stands, AllOf, StopsAt, IsComment, IsNumber, IsCharacter, IsText, IsInclude, IsDefine}
 use Rattle.c_lexer.specs.Pieces as piece
+use Rattle.c_lexer.proofs.FreshLaws.{fresh-known}
 use Rattle.c_lexer.proofs.Steps.{bound, strip-some, chosen, some_unless}
 use Rattle.std.proofs.lemmas.Bool.{eq-eqb}
 use Rattle.c_lexer.proofs.RunLaws.{run-append, past-append}
@@ -331,5 +332,5 @@ stands-reach place bytes after p (piece.number c h e) = moved-reach place _ afte
 stands-reach place bytes after p (piece.character c h e) = moved-reach place _ after p (Constant' c) e (itself place _ after (Constant' c) (character-reach place bytes after c h))
 stands-reach place bytes after p (piece.text vs h e) = moved-reach place _ after p (Text vs) e (itself place _ after (Text vs) (text-reach place bytes after vs h))
 stands-reach place bytes after p (piece.punctuator s h e) = moved-reach place _ after p (Punctuator s) e (sign-reach place bytes after s h)
-stands-reach place bytes after p (piece.include fresh h all stops e) = moved-reach place _ after p Nothing e (itself place _ after Nothing (include-reach place bytes after fresh h all stops))
-stands-reach place bytes after p (piece.define n c fresh h new all stops e) = moved-reach place _ after p (Definition n c) e (itself place _ after (Definition n c) (define-reach place bytes after n c fresh h new all stops))
+stands-reach place bytes after p (piece.include fresh h all stops e) = moved-reach place _ after p Nothing e (itself place _ after Nothing (include-reach place bytes after (fresh-known place.before fresh) h all stops))
+stands-reach place bytes after p (piece.define n c fresh h new all stops e) = moved-reach place _ after p (Definition n c) e (itself place _ after (Definition n c) (define-reach place bytes after n c (fresh-known place.before fresh) h new all stops))

@@ -1,6 +1,7 @@
 -- A step leaves room for what is left.
 use Rattle.std.proofs.Common.{◌+◌, ◌-◌, ◌≤◌, ℕ, length, Bool, true, false, cond, eqb, ltb, List, [], ◌++◌, Option, Some, None, sum_by, ap, sym, subst, arith, length-append}
-use Rattle.std.specs.Prelude.{All}
+use Rattle.std.specs.Prelude.{All, IfSome}
+use Rattle.std.specs.Str.{bytes_eq}
 use Rattle.std.proofs.lemmas.List.{map-append, length-take}
 use Rattle.std.proofs.lemmas.List.Sums.{sum_by-append, count_by-le-length}
 use Rattle.std.proofs.lemmas.List.Elements.{All-append, All-weaker, All-nil, All-cons}
@@ -13,8 +14,10 @@ use Rattle.c_lexer.specs.declared.lexer.Lexer.{Lexer}
 use Rattle.c_lexer.specs.Piece.{Piece, Nothing, Name, Constant', Text, Punctuator, Definition, Known}
 use Rattle.c_lexer.specs.Found.{known_by}
 use Rattle.c_lexer.specs.Spellings.{word_of}
-use Rattle.c_lexer.specs.Lexing.{kind_at, name_kind, word_kind, with_line}
-use Rattle.c_lexer.specs.State.{Roomy, Advances, newlines, between}
+use Rattle.c_lexer.specs.Lexing.{kind_at, known_after, name_kind, word_kind, with_line}
+use Rattle.c_syntax.specs.Limits.{most_tokens}
+use Rattle.c_lexer.specs.Bytes.{newlines}
+use Rattle.c_lexer.specs.State.{Roomy, Advances, between, AllFit, PieceFits, Fits}
 use Rattle.c_lexer.proofs.Fronts.{ReadsPiece, piece_len}
 
 word-text : (line : ℕ) (word : Option Word) (name : List ℕ) → sum_by text_len (with_line line (Some (word_kind word name))) ≤ 0
@@ -64,10 +67,20 @@ keeps false count line line' kind tokens few lines le = record {
   lines = All-weaker (λ x. x ≤ line) (λ x. x ≤ line') (λ x h. omega arith) _ lines;
 }
 
-pub room-next : (old new : Lexer) (a : Advances old new) → Roomy old → ReadsPiece old.left.now (a.piece, new.left.now) → Roomy new
-room-next old new a room read =
+-- A definition that fits leaves all that is known fitting.
+known-fits : (known : Known) (p : Piece) → AllFit known → PieceFits p → AllFit (known_after known p)
+known-fits known Nothing all fits name = all name
+known-fits known (Name n) all fits name = all name
+known-fits known (Constant' c) all fits name = all name
+known-fits known (Text values) all fits name = all name
+known-fits known (Punctuator sign) all fits name = all name
+known-fits known (Definition n c) all fits name =
+    elim (bytes_eq n name) as (λ v. IfSome (cond v (Some c) (known name)) Fits) [ true ↦ fits | false ↦ all name ]
+
+pub room-next : (old new : Lexer) (a : Advances old new) → Roomy old → ReadsPiece old.left.now (a.piece, new.left.now) → PieceFits a.piece → Roomy new
+room-next old new a room read fits =
     let kind = kind_at (known_by old.defined) a.piece in
-    let k = keeps (ltb old.count 100000) old.count old.line new.line kind old.tokens room.kept room.kept_lines (omega (arith, a.line)) in
+    let k = keeps (ltb old.count most_tokens) old.count old.line new.line kind old.tokens room.kept room.kept_lines (omega (arith, a.line)) in
     let lines = newlines-le old.left.now new.left.now (omega (arith, read.less)) in
     let text = piece-text old.line (known_by old.defined) a.piece in
     let one = one_at_most old.line kind in
@@ -78,4 +91,5 @@ room-next old new a room read =
       count_room = omega (arith, a.count, one, read.less, room.count_room);
       kept = omega (arith, ap length a.tokens, a.count, k.few);
       kept_lines = subst (λ ts. All (λ x. x ≤ new.line) (lines_of ts)) (sym a.tokens) k.lines;
+      known_fit = λ name. subst (λ o. IfSome o Fits) (sym (a.known name)) (known-fits (known_by old.defined) a.piece room.known_fit fits name);
     }

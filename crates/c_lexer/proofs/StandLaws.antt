@@ -7,9 +7,10 @@ use Rattle.c_lexer.specs.declared.bytes.Class.TheVariants as class
 use Rattle.c_lexer.specs.Bytes.{run, past, begins, is_separator, is_digit}
 use Rattle.c_lexer.specs.Spellings.{sign_of}
 use Rattle.c_lexer.specs.Reading.{first_of, strip, comment_at, number_at, character_at, text_at, name_at, is_include, define_in}
-use Rattle.c_lexer.specs.Cutting.{as_piece, sign_with, sign_at, comment_or_sign, plain_at, line_at, directive_at, unless_known, new_directive_at, piece_at}
+use Rattle.c_lexer.specs.Cutting.{as_piece, sign_with, sign_at, comment_or_sign, plain_at, line_at, directive_at, unless_known, new_directive_at, piece_at, is_fresh}
 use Rattle.c_lexer.specs.Piece.{Piece, Nothing, Name, Constant', Text, Punctuator, Definition}
-use Rattle.c_lexer.specs.Pieces.{Place, Stands, separator, comment, name, number, character, text, punctuator, include, define, is_fresh, StopsAt}
+use Rattle.c_lexer.specs.Pieces.{Place, Stands, separator, comment, name, number, character, text, punctuator, include, define, StopsAt}
+use Rattle.c_lexer.proofs.FreshLaws.{fresh-is}
 use Rattle.c_lexer.proofs.RunLaws.{run-past, run-AllOf, past-StopsAt}
 use Rattle.c_lexer.proofs.CommentLaws.{comment-splits}
 use Rattle.c_lexer.proofs.Fronts.{name-parts, name-IsName, first_of-some, unless_known-is}
@@ -129,7 +130,7 @@ directive-stands place left x fresh h =
     moved-found place left (Nothing, after) x (same ∙ unless_known-is place.known a.value x a.then) (record {
       bytes = line;
       is = whole;
-      stands = include fresh (include-found line b.value b.is w.0) (run-AllOf class.Line left) (past-StopsAt class.Line left) refl;
+      stands = include (fresh-is place.before fresh) (include-found line b.value b.is w.0) (run-AllOf class.Line left) (past-StopsAt class.Line left) refl;
     }))
     (λ (w : (is_include text ≡ false) × (option_and_then (λ d. Some (Definition d.0 d.1, after)) (define_in text) ≡ Some a.value)).
     let d = bound (define_in text) (λ d. Some (Definition d.0 d.1, after)) a.value w.1 in
@@ -138,7 +139,7 @@ directive-stands place left x fresh h =
     moved-found place left (Definition d.value.0 d.value.1, after) x (let e : Some (Definition d.value.0 d.value.1, after) ≡ Some x = new.1 in cc) (record {
       bytes = line;
       is = whole;
-      stands = define d.value.0 d.value.1 fresh (define-found line b.value d.value b.is d.is) (none-of (place.known d.value.0) new.0) (run-AllOf class.Line left) (past-StopsAt class.Line left) refl;
+      stands = define d.value.0 d.value.1 (fresh-is place.before fresh) (define-found line b.value d.value b.is d.is) (none-of (place.known d.value.0) new.0) (run-AllOf class.Line left) (past-StopsAt class.Line left) refl;
     }))
     (chosen (is_include text) (Some (Nothing, after)) (option_and_then (λ d. Some (Definition d.0 d.1, after)) (define_in text)) (Some a.value) b.then)
 

@@ -1,10 +1,10 @@
 -- How the front of what is left of a text is read.
-use Rattle.std.specs.Prelude.{ℕ, Bool, ◌==◌, nat_lt, if◌then◌else◌, List, [], ◌∷◌, length, take, drop, Option, Some, None, is_some}
+use Rattle.std.specs.Prelude.{ℕ, Bool, true, ◌||◌, ◌&&◌, ◌==◌, nat_lt, if◌then◌else◌, List, [], ◌∷◌, length, take, drop, Option, Some, None, is_some}
 use Rattle.c_syntax.specs.declared.token.Sign.{Sign}
 use Rattle.cbi_base.specs.Name.{is_letter}
 use Rattle.c_lexer.specs.declared.bytes.Class.TheVariants as class
 use Rattle.c_lexer.specs.Piece.{Piece, Nothing, Name, Constant', Text, Punctuator, Definition, Known}
-use Rattle.c_lexer.specs.Bytes.{is_separator, is_digit, begins, run, past}
+use Rattle.c_lexer.specs.Bytes.{has, is_separator, is_digit, begins, run, past}
 use Rattle.c_lexer.specs.Spellings.{sign_of}
 use Rattle.c_lexer.specs.Reading.{◌>>=◌, first_of, strip, comment_at, number_at, character_at, text_at, name_at, is_include, define_in}
 
@@ -48,6 +48,14 @@ unless_known known x = Some x
 -- a directive that defines no name a second time
 abbrev pub new_directive_at : Known → List ℕ → Option (Piece × List ℕ)
 new_directive_at known bytes = directive_at bytes >>= unless_known known
+
+-- whether only spaces and tabs stand before a place on its line, where it is known of a place before these bytes
+abbrev pub fresh_from : Bool → List ℕ → Bool
+fresh_from fresh [] = fresh
+fresh_from fresh (b ∷ bs) = fresh_from ((b == 10) || has class.Blank b && fresh) bs
+
+abbrev pub is_fresh : List ℕ → Bool
+is_fresh before = fresh_from true before
 
 -- The piece at the front: `fresh` says whether only spaces and tabs stand before it on its line.
 unfoldable pub piece_at : Bool → Known → List ℕ → Option (Piece × List ℕ)

@@ -4,6 +4,8 @@ pub mod Values
 pub mod Piece
 pub mod Pieces
 pub mod Lexing
+pub mod Refusals
+pub mod Endings
 pub mod Reading
 pub mod Cutting
 pub mod Found

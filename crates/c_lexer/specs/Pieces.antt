@@ -1,5 +1,5 @@
 -- What the pieces of a text are. Each is said of the bytes that it takes and, where it matters, of those after it.
-use Rattle.std.specs.Prelude.{◌≡◌, ◌≢◌, ℕ, zero, suc, ◌≤◌, ◌<◌, pos, Bool, true, false, ◌||◌, ◌&&◌, ◌==◌, List, [], ◌∷◌, ◌++◌, length, codes, Some, None, ◌⊎◌}
+use Rattle.std.specs.Prelude.{◌≡◌, ◌≢◌, ℕ, zero, suc, ◌≤◌, ◌<◌, pos, Bool, true, false, List, [], ◌∷◌, ◌++◌, length, codes, Some, None, ◌⊎◌}
 use Rattle.std.specs.List.{list_all}
 use Rattle.cbi_base.specs.Name.{IsName}
 use Rattle.cbi_base.specs.declared.scalar.Kind.TheVariants as scalar
@@ -59,8 +59,10 @@ pub record IsNumber (bytes after : List ℕ) (constant : Constant) : Type 0 wher
 pub data IsElement (quote : ℕ) (bytes after : List ℕ) (value : ℕ) : Type 0 where
   plain : bytes ≡ value ∷ [] → value ≢ 10 → value ≢ quote → value ≢ 92 → IsElement quote bytes after value
   letter : (c : ℕ) → bytes ≡ 92 ∷ c ∷ [] → simple_escape c ≡ Some value → IsElement quote bytes after value
-  octal : (digits : List ℕ) → bytes ≡ 92 ∷ digits → 0 < length digits → length digits ≤ 3 → AllOf class.Octal digits → (length digits < 3 → StopsAt class.Octal after) → value ≡ value_of 8 digits → value < 256 → IsElement quote bytes after value
-  hexadecimal : (digits : List ℕ) → bytes ≡ 92 ∷ 120 ∷ digits → 0 < length digits → AllOf class.Hexadecimal digits → StopsAt class.Hexadecimal after → value ≡ value_of 16 digits → value < 256 → IsElement quote bytes after value
+  octal : (digits : List ℕ) → bytes ≡ 92 ∷ digits → 0 < length digits → length digits ≤ 3 → AllOf class.Octal digits →
+      (length digits < 3 → StopsAt class.Octal after) → value ≡ value_of 8 digits → value < 256 → IsElement quote bytes after value
+  hexadecimal : (digits : List ℕ) → bytes ≡ 92 ∷ 120 ∷ digits → 0 < length digits → AllOf class.Hexadecimal digits →
+      StopsAt class.Hexadecimal after → value ≡ value_of 16 digits → value < 256 → IsElement quote bytes after value
 
 -- bytes of a string, one after another
 abbrev pub AreElements : List ℕ → List ℕ → List ℕ → Type 0
@@ -135,13 +137,13 @@ pub record Place : Type 0 where
   pub before : List ℕ
   pub known : Known
 
--- Whether only spaces and tabs stand on the last line of the bytes, as far as they go: a newline begins a line, and blanks keep its start.
-abbrev pub fresh_from : Bool → List ℕ → Bool
-fresh_from fresh [] = fresh
-fresh_from fresh (b ∷ bs) = fresh_from ((b == 10) || ((b == 32) || (b == 9)) && fresh) bs
-
-abbrev pub is_fresh : List ℕ → Bool
-is_fresh before = fresh_from true before
+-- Only spaces and tabs stand before the place on its line: behind the last newline, or behind the start of the text.
+pub record IsFresh (before : List ℕ) : Type 0 where
+  pub lines : List ℕ
+  pub blanks : List ℕ
+  pub is : before ≡ lines ++ blanks
+  pub whole : (lines ≡ []) ⊎ ((front : List ℕ) × (lines ≡ front ++ 10 ∷ []))
+  pub are_blank : AllOf class.Blank blanks
 
 -- These bytes, at this place and before those after them, are a piece.
 pub data Stands (place : Place) (bytes after : List ℕ) (piece : Piece) : Type 0 where
@@ -152,5 +154,6 @@ pub data Stands (place : Place) (bytes after : List ℕ) (piece : Piece) : Type 
   character : (constant : Constant) → IsCharacter bytes after constant → piece ≡ Constant' constant → Stands place bytes after piece
   text : (values : List ℕ) → IsText bytes after values → piece ≡ Text values → Stands place bytes after piece
   punctuator : (sign : Sign) → sign_of bytes ≡ Some sign → piece ≡ Punctuator sign → Stands place bytes after piece
-  include : is_fresh place.before ≡ true → IsInclude bytes → AllOf class.Line bytes → StopsAt class.Line after → piece ≡ Nothing → Stands place bytes after piece
-  define : (name : List ℕ) (constant : Constant) → is_fresh place.before ≡ true → IsDefine bytes name constant → place.known name ≡ None → AllOf class.Line bytes → StopsAt class.Line after → piece ≡ Definition name constant → Stands place bytes after piece
+  include : IsFresh place.before → IsInclude bytes → AllOf class.Line bytes → StopsAt class.Line after → piece ≡ Nothing → Stands place bytes after piece
+  define : (name : List ℕ) (constant : Constant) → IsFresh place.before → IsDefine bytes name constant → place.known name ≡ None →
+      AllOf class.Line bytes → StopsAt class.Line after → piece ≡ Definition name constant → Stands place bytes after piece

@@ -1,7 +1,9 @@
-ghost use Rattle.std.specs.Prelude.{◌≡◌, ◌≤◌, ◌^◌, ℕ, Option, SomeIff, ◌<◌, length, option_copied, option_map, IfSome, All};
+ghost use Rattle.std.specs.Prelude.{◌≡◌, ◌≤◌, ◌^◌, ℕ, Option, SomeIff, ◌<◌, length, option_copied, option_map, IfSome, All, pos};
 ghost use Rattle.c_lexer.specs.Reading.{small_value, hexadecimal_at, radix_at, suffix_at, number_at};
 ghost use Rattle.c_lexer.specs.Values.{value_of, class_of, base_of, kind_of};
 ghost use Rattle.c_lexer.specs.Bytes.{digit_value};
+ghost use Rattle.c_lexer.specs.State.{Fits};
+ghost use Rattle.c_syntax.specs.Tokens.{ConstantFits};
 
 use crate::bytes::{Class, begins, begins_with, split_run};
 use crate::comments::strip;
@@ -110,7 +112,8 @@ fn suffix_at(bytes: &[u8]) -> (bool, &[u8])
 /// The kind of a constant; none where its value is too great.
 #[tactic(auto, unfolding(crate::specs::Values::kind_of))]
 fn kind_of(radix: Radix, suffixed: bool, value: u64) -> Option<Kind>
-    ensures { result ≡ kind_of radix suffixed value }
+    ensures value { result ≡ kind_of radix suffixed value }
+    ensures fits { IfSome result (λ k. ConstantFits k (pos value)) }
 {
     if !suffixed && value < TWO_TO_31 {
         return Some(Kind::Int);
@@ -124,7 +127,8 @@ fn kind_of(radix: Radix, suffixed: bool, value: u64) -> Option<Kind>
 /// An integer constant at the front, and the bytes after it.
 #[tactic(auto, unfolding(crate::specs::Reading::number_at))]
 pub(crate) fn number_at(bytes: &[u8]) -> Option<(Constant, &[u8])>
-    ensures { option_map (λ x. (x.0, x.1.now)) result ≡ number_at bytes.now }
+    ensures value { option_map (λ x. (x.0, x.1.now)) result ≡ number_at bytes.now }
+    ensures fits { IfSome result (λ x. Fits x.0) }
 {
     let (radix, rest) = radix_at(bytes);
     let (digits, rest) = split_run(radix.class(), rest);

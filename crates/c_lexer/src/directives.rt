@@ -1,4 +1,5 @@
-ghost use Rattle.std.specs.Prelude.{◌≡◌, option_copied, option_map, codes};
+ghost use Rattle.std.specs.Prelude.{◌≡◌, option_copied, option_map, codes, IfSome};
+ghost use Rattle.c_lexer.specs.State.{Fits};
 ghost use Rattle.c_lexer.specs.Reading.{name_at, strip_text, blanks_at, constant_at, trailing_at, trails, header_at, is_include, defined_name_at, define_in, header_line};
 
 use crate::bytes::{Class, begins, begins_with, split_run};
@@ -50,7 +51,8 @@ fn blanks_at(bytes: &[u8]) -> Option<&[u8]>
 
 /// An integer or character constant, and what follows.
 fn constant_at(bytes: &[u8]) -> Option<(Constant, &[u8])>
-    ensures { option_map (λ x. (x.0, x.1.now)) result ≡ constant_at bytes.now }
+    ensures value { option_map (λ x. (x.0, x.1.now)) result ≡ constant_at bytes.now }
+    ensures fits { IfSome result (λ x. Fits x.0) }
 {
     if begins(b'\'', bytes) {
         return character_at(bytes);
@@ -131,7 +133,8 @@ fn defined_name_at(bytes: &[u8]) -> Option<(&[u8], &[u8])>
 /// What a `#define` line defines, behind the `#` and blanks.
 #[tactic(auto, unfolding(crate::specs::Reading::define_in))]
 pub(crate) fn define_in(bytes: &[u8]) -> Option<(&[u8], Constant)>
-    ensures { option_map (λ x. (x.0.now, x.1)) result ≡ define_in bytes.now }
+    ensures value { option_map (λ x. (x.0.now, x.1)) result ≡ define_in bytes.now }
+    ensures fits { IfSome result (λ x. Fits x.1) }
 {
     let (name, rest) = defined_name_at(bytes)?;
     let (constant, rest) = constant_at(blanks_at(rest)?)?;

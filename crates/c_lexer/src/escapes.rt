@@ -1,6 +1,8 @@
-ghost use Rattle.std.specs.Prelude.{◌≡◌, ◌≤◌, ◌<◌, option_copied, option_map, IfOk};
+ghost use Rattle.std.specs.Prelude.{◌≡◌, ◌≤◌, ◌<◌, option_copied, option_map, IfOk, IfSome};
 ghost use Rattle.c_lexer.specs.Reading.{byte_of, octal_at, hexadecimal_escape_at, escape_at, element_at, character_at, text_at};
 ghost use Rattle.c_lexer.specs.Values.{simple_escape, signed_byte};
+ghost use Rattle.c_lexer.specs.State.{Fits};
+ghost use Rattle.c_syntax.specs.Tokens.{ConstantFits};
 
 use crate::bytes::{Class, begins, split_run};
 use crate::comments::strip;
@@ -96,7 +98,8 @@ pub(crate) fn element_at(quote: u8, bytes: &[u8]) -> Option<(u8, &[u8])>
 
 /// A byte as a signed number of 8 bits.
 fn signed_byte(b: u8) -> i64
-    ensures { result ≡ signed_byte b }
+    ensures value { result ≡ signed_byte b }
+    ensures fits { ConstantFits Kind.Int result }
 {
     if b < 128 {
         i64::from(b)
@@ -108,7 +111,8 @@ fn signed_byte(b: u8) -> i64
 /// A character constant at the front, and the bytes after it.
 #[tactic(auto, unfolding(crate::specs::Reading::character_at))]
 pub(crate) fn character_at(bytes: &[u8]) -> Option<(Constant, &[u8])>
-    ensures { option_map (λ x. (x.0, x.1.now)) result ≡ character_at bytes.now }
+    ensures value { option_map (λ x. (x.0, x.1.now)) result ≡ character_at bytes.now }
+    ensures fits { IfSome result (λ x. Fits x.0) }
 {
     let inner = strip(b'\'', bytes)?;
     let (value, end) = element_at(b'\'', inner)?;

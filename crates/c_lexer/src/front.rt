@@ -1,9 +1,9 @@
-ghost use Rattle.std.specs.Prelude.{◌≡◌, option_map, IfOk, is_some};
+ghost use Rattle.std.specs.Prelude.{◌≡◌, option_map, IfOk, IfSome, is_some};
 ghost use Rattle.c_lexer.specs.Cutting.{piece_at, as_piece, new_directive_at};
 ghost use Rattle.c_lexer.specs.Piece.{Text};
 ghost use Rattle.c_lexer.specs.Reading.{text_at};
 ghost use Rattle.c_lexer.specs.Found.{piece_of, known_by};
-ghost use Rattle.c_lexer.specs.State.{KnowsClosing};
+ghost use Rattle.c_lexer.specs.State.{KnowsClosing, PieceFits};
 
 use crate::bytes::begins;
 use crate::escapes::text_at;
@@ -25,7 +25,8 @@ pub(crate) fn constant_of(defined: &Defined<'_>, name: &[u8]) -> Option<Constant
 
 /// A string at the front, and what follows it.
 fn string_at<'a>(alloc: Global, bytes: &'a [u8]) -> Result<Option<(Found<'a>, &'a [u8])>, Memory>
-    ensures { IfOk result (λ r. option_map (λ x. (piece_of x.0, x.1.now)) r ≡ as_piece Text (text_at bytes.now)) }
+    ensures value { IfOk result (λ r. option_map (λ x. (piece_of x.0, x.1.now)) r ≡ as_piece Text (text_at bytes.now)) }
+    ensures fits { IfOk result (λ r. IfSome r (λ x. PieceFits (piece_of x.0))) }
 {
     match text_at(alloc, bytes)? {
         None => Ok(None),
@@ -35,7 +36,8 @@ fn string_at<'a>(alloc: Global, bytes: &'a [u8]) -> Result<Option<(Found<'a>, &'
 
 /// A directive that defines no name a second time, and what follows it.
 fn new_directive_at<'a>(defined: &Defined<'_>, bytes: &'a [u8]) -> Option<(Found<'a>, &'a [u8])>
-    ensures { option_map (λ x. (piece_of x.0, x.1.now)) result ≡ new_directive_at (known_by defined.now) bytes.now }
+    ensures value { option_map (λ x. (piece_of x.0, x.1.now)) result ≡ new_directive_at (known_by defined.now) bytes.now }
+    ensures fits { IfSome result (λ x. PieceFits (piece_of x.0)) }
 {
     let (found, rest) = directive_at(bytes)?;
     if let Found::Definition { name, .. } = &found {
@@ -57,7 +59,8 @@ pub(crate) fn piece_at<'a>(
     bytes: &'a [u8],
 ) -> Result<Option<(Found<'a>, &'a [u8])>, Memory>
     requires { KnowsClosing closes bytes.now }
-    ensures { IfOk result (λ r. option_map (λ x. (piece_of x.0, x.1.now)) r ≡ piece_at fresh (known_by defined.now) bytes.now) }
+    ensures value { IfOk result (λ r. option_map (λ x. (piece_of x.0, x.1.now)) r ≡ piece_at fresh (known_by defined.now) bytes.now) }
+    ensures fits { IfOk result (λ r. IfSome r (λ x. PieceFits (piece_of x.0))) }
 {
     if begins(b'"', bytes) {
         return string_at(alloc, &bytes[1..]);

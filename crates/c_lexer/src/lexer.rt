@@ -1,13 +1,16 @@
 ghost use Rattle.std.specs.Prelude.{◌≡◌, ◌≤◌, ◌<◌, ◌+◌, ◌^◌, ◌++◌, ◌∷◌, [], length, ℕ, List, IfOk, IfErr, IfSome, OnOk, OnErr, option_map};
 ghost use Rattle.c_syntax.specs.Tokens.{IsTokens};
-ghost use Rattle.c_lexer.specs.Cutting.{piece_at};
+ghost use Rattle.c_syntax.specs.Limits.{most_bytes};
+ghost use Rattle.c_syntax.specs.Tokens.{KindFits};
+ghost use Rattle.c_lexer.specs.Bytes.{newlines};
+ghost use Rattle.c_lexer.specs.Cutting.{piece_at, fresh_from};
 ghost use Rattle.c_lexer.specs.Found.{piece_of, known_by};
-ghost use Rattle.c_lexer.specs.Pieces.{fresh_from};
-ghost use Rattle.c_lexer.specs.Lexing.{can_begin, IsNamed, kind_at, name_kind, constant_kind, known_after, with_line};
-ghost use Rattle.c_lexer.specs.State.{newlines, refusal_at, kept_with, MayFollow};
+ghost use Rattle.c_lexer.specs.Refusals.{can_begin, refusal_for};
+ghost use Rattle.c_lexer.specs.Lexing.{kind_at, name_kind, constant_kind, known_after, with_line};
+ghost use Rattle.c_lexer.specs.State.{AllFit, Fits, IsNamed, PieceFits, kept_with, MayFollow};
 ghost use Rattle.cbi_base.specs.Name.{IsName};
 
-use crate::bytes::is_separator;
+use crate::bytes::{Class, is_separator};
 use crate::comments::may_close;
 use crate::error::LexError;
 use crate::front::{Defined, constant_of, piece_at};
@@ -56,7 +59,7 @@ fn moved(fresh: bool, line: u32, taken: &[u8]) -> (bool, u32)
 fn keeps_fresh(fresh: bool, b: u8) -> bool
     ensures { result ≡ fresh_from fresh (b ∷ []) }
 {
-    b == b'\n' || (b == b' ' || b == b'\t') && fresh
+    b == b'\n' || Class::Blank.has(b) && fresh
 }
 
 /// The token of a piece, where it gives one. A defined name is its constant.
@@ -65,8 +68,11 @@ fn kind_of(
     defined: &Defined<'_>,
     found: &Found<'_>,
 ) -> Result<Option<TokenKind>, Memory>
-    requires { IsNamed (piece_of found.now) }
-    ensures { IfOk result (λ k. k ≡ kind_at (known_by defined.now) (piece_of found.now)) }
+    requires named { IsNamed (piece_of found.now) }
+    requires fits { PieceFits (piece_of found.now) }
+    requires known_fit { AllFit (known_by defined.now) }
+    ensures value { IfOk result (λ k. k ≡ kind_at (known_by defined.now) (piece_of found.now)) }
+    ensures fits { IfOk result (λ k. IfSome k KindFits) }
 {
     match found {
         Found::Nothing => Ok(None),
@@ -86,7 +92,8 @@ fn kind_of(
 }
 
 fn constant_kind(constant: Constant) -> TokenKind
-    ensures { result ≡ constant_kind constant }
+    ensures value { result ≡ constant_kind constant }
+    ensures fits { Fits constant → KindFits result }
 {
     TokenKind::Constant {
         kind: constant.kind,
@@ -96,7 +103,8 @@ fn constant_kind(constant: Constant) -> TokenKind
 
 fn name_kind(alloc: Global, constant: Option<Constant>, name: &[u8]) -> Result<TokenKind, Memory>
     requires { IsName name.now }
-    ensures { IfOk result (λ k. k ≡ name_kind constant name.now) }
+    ensures value { IfOk result (λ k. k ≡ name_kind constant name.now) }
+    ensures fits { IfSome constant Fits → IfOk result KindFits }
 {
     if let Some(constant) = constant {
         return Ok(constant_kind(constant));
@@ -110,19 +118,14 @@ fn name_kind(alloc: Global, constant: Option<Constant>, name: &[u8]) -> Result<T
     }
 }
 
-/// What is said where nothing stands.
-fn refusal(left: &[u8], line: u32) -> LexError
-    ensures { result ≡ refusal_at line left.now }
+/// What is said where nothing stands at the byte.
+fn refusal(line: u32, byte: u8) -> LexError
+    ensures { result ≡ refusal_for line byte }
 {
-    match left {
-        [] => LexError::BadToken { line },
-        [b, ..] => {
-            if can_begin(*b) {
-                LexError::BadToken { line }
-            } else {
-                LexError::BadByte { line }
-            }
-        }
+    if can_begin(byte) {
+        LexError::BadToken { line }
+    } else {
+        LexError::BadByte { line }
     }
 }
 
@@ -176,12 +179,13 @@ fn define<'a>(defined: &mut Defined<'a>, found: &Found<'a>) -> Result<(), Memory
 
 impl<'a> Lexer<'a> {
     ghost use Rattle.std.specs.Prelude.{◌≡◌, ◌<◌, ◌≤◌, ℕ, List, [], None, IsTrue, length, OnOk, IfErr};
+    ghost use Rattle.c_syntax.specs.Limits.{most_bytes};
     ghost use Rattle.c_lexer.specs.State.{Roomy, KnowsClosing, Advances, Refuses};
     ghost use Rattle.c_lexer.specs.Found.{known_by};
 
     /// The start of a text of at most 1,048,576 bytes.
     pub(crate) fn new(alloc: Global, text: &'a [u8]) -> Lexer<'a>
-        requires { length text.now ≤ 1048576 }
+        requires { length text.now ≤ most_bytes }
         ensures roomy { Roomy result }
         ensures left { result.left.now ≡ text.now }
         ensures closes { IsTrue result.closes }
@@ -204,6 +208,7 @@ impl<'a> Lexer<'a> {
 
     /// Takes the piece at the place.
     pub(crate) fn step(&mut self, alloc: Global) -> Result<(), LexError>
+        requires has_byte { 0 < length self.old.left.now }
         requires roomy { Roomy self.old }
         requires closing { KnowsClosing self.old.closes self.old.left.now }
         ensures ok { OnOk result (Advances self.old self.new) }
@@ -215,7 +220,7 @@ impl<'a> Lexer<'a> {
         let closes = may_close(self.closes, self.left);
         let Some((found, rest)) = piece_at(alloc, closes, self.fresh, &self.defined, self.left)?
         else {
-            return Err(refusal(self.left, self.line));
+            return Err(refusal(self.line, self.left[0]));
         };
         let kind = kind_of(alloc, &self.defined, &found)?;
         define(&mut self.defined, &found)?;

@@ -3,7 +3,10 @@
 
 ghost use Rattle.std.specs.Prelude.{◌≡◌, true, false, ◌≤◌, ◌<◌, ◌⊎◌, ℕ, List, length, IfOk};
 ghost use Rattle.c_syntax.specs.declared.token.Token.{Token};
-ghost use Rattle.c_lexer.specs.Lexing.{Says, Lexes, StopsAt, Stops, IsTooLarge, lexed_answer, refusal_for, Ending, Ends};
+ghost use Rattle.c_syntax.specs.Limits.{most_bytes};
+ghost use Rattle.c_lexer.specs.Lexing.{Lexes, Stops};
+ghost use Rattle.c_lexer.specs.Refusals.{Says, StopsAt, IsTooLarge, lexed_answer, refusal_for};
+ghost use Rattle.c_lexer.specs.Endings.{Ending, Ends};
 
 mod bytes;
 mod comments;
@@ -26,7 +29,7 @@ const LONGEST_TEXT: usize = 1_048_576;
 
 /// The tokens of a text of at most 1,048,576 bytes.
 fn lex_all(alloc: Global, text: &[u8]) -> Result<Tokens, LexError>
-    requires { length text.now ≤ 1048576 }
+    requires { length text.now ≤ most_bytes }
     ensures { Says text.now result }
 {
     let mut lexer = Lexer::new(alloc, text);
@@ -49,10 +52,10 @@ pub fn lex(alloc: Global, text: &[u8]) -> Result<Tokens, LexError>
     ensures bad_token { (line : ℕ) → result ≡ Err (LexError.BadToken line) → StopsAt text.now line true }
 
     // .. and wherever its cause holds, unless memory runs out.
-    ensures long { 1048576 < length text.now → result ≡ Err LexError.TooLarge }
-    ensures lexed { length text.now ≤ 1048576 → (ts : List Token) → Lexes text.now ts →
+    ensures long { most_bytes < length text.now → result ≡ Err LexError.TooLarge }
+    ensures lexed { length text.now ≤ most_bytes → (ts : List Token) → Lexes text.now ts →
         (result ≡ lexed_answer ts) ⊎ (result ≡ Err LexError.Memory) }
-    ensures stopped { length text.now ≤ 1048576 → (line byte : ℕ) → Stops text.now line byte →
+    ensures stopped { length text.now ≤ most_bytes → (line byte : ℕ) → Stops text.now line byte →
         (result ≡ Err (refusal_for line byte)) ⊎ (result ≡ Err LexError.Memory) }
 {
     if text.len() > LONGEST_TEXT {

@@ -1,7 +1,7 @@
-ghost use Rattle.std.specs.Prelude.{◌≡◌, option_map, IfOk};
+ghost use Rattle.std.specs.Prelude.{◌≡◌, option_map, IfOk, IfSome};
 ghost use Rattle.c_lexer.specs.Cutting.{sign_with, sign_at, plain_at, line_at, directive_at};
 ghost use Rattle.c_lexer.specs.Found.{piece_of};
-ghost use Rattle.c_lexer.specs.State.{KnowsClosing};
+ghost use Rattle.c_lexer.specs.State.{KnowsClosing, PieceFits};
 
 use crate::bytes::{Class, is_separator, split_run};
 use crate::comments::{comment_at, strip};
@@ -53,7 +53,8 @@ fn sign_at(bytes: &[u8]) -> Option<(Sign, &[u8])>
 #[tactic(auto, unfolding(crate::specs::Cutting::plain_at))]
 pub(crate) fn plain_at(closes: bool, bytes: &[u8]) -> Option<(Found<'_>, &[u8])>
     requires { KnowsClosing closes bytes.now }
-    ensures { option_map (λ x. (piece_of x.0, x.1.now)) result ≡ plain_at bytes.now }
+    ensures value { option_map (λ x. (piece_of x.0, x.1.now)) result ≡ plain_at bytes.now }
+    ensures fits { IfSome result (λ x. PieceFits (piece_of x.0)) }
 {
     let (first, others) = bytes.split_first()?;
     if is_separator(*first) {
@@ -79,7 +80,8 @@ pub(crate) fn plain_at(closes: bool, bytes: &[u8]) -> Option<(Found<'_>, &[u8])>
 }
 
 fn line_at<'a>(text: &'a [u8], after: &'a [u8]) -> Option<(Found<'a>, &'a [u8])>
-    ensures { option_map (λ x. (piece_of x.0, x.1.now)) result ≡ line_at text.now after.now }
+    ensures value { option_map (λ x. (piece_of x.0, x.1.now)) result ≡ line_at text.now after.now }
+    ensures fits { IfSome result (λ x. PieceFits (piece_of x.0)) }
 {
     if is_include(text) {
         return Some((Found::Nothing, after));
@@ -91,7 +93,8 @@ fn line_at<'a>(text: &'a [u8], after: &'a [u8]) -> Option<(Found<'a>, &'a [u8])>
 /// A directive, which takes its whole line, and what follows it.
 #[tactic(auto, unfolding(crate::specs::Cutting::directive_at))]
 pub(crate) fn directive_at(bytes: &[u8]) -> Option<(Found<'_>, &[u8])>
-    ensures { option_map (λ x. (piece_of x.0, x.1.now)) result ≡ directive_at bytes.now }
+    ensures value { option_map (λ x. (piece_of x.0, x.1.now)) result ≡ directive_at bytes.now }
+    ensures fits { IfSome result (λ x. PieceFits (piece_of x.0)) }
 {
     let (line, after) = split_run(Class::Line, bytes);
     let rest = strip(b'#', line)?;

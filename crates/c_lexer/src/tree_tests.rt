@@ -39,6 +39,7 @@ fn small_tree(alloc: Global) -> Result<Tree, Memory> {
     let declarator = Declarator {
         token: 1,
         stars: 0,
+        name_token: 1,
         name: name(alloc, b"x")?,
         bounds,
     };

@@ -8,7 +8,7 @@ use Rattle.c_syntax.specs.StatementTree.{DeclarationTree, EntryList}
 pub data ItemTree : Type 0 where
   Struct : (token : ℕ) (tag : List ℕ) (members : List Members) → ItemTree
   Function : (token : ℕ) (base : Base) (stars : ℕ) (name : List ℕ) (params : Params) (body : Option EntryList) → ItemTree
-  Global : (declaration : DeclarationTree) → ItemTree
+  Declaration : (declaration : DeclarationTree) → ItemTree
 
 pub record SourceTree : Type 0 where
   pub items : List ItemTree

@@ -2,9 +2,12 @@ pub mod ExprTree
 pub mod StatementTree
 pub mod ItemTree
 pub mod Plain
+pub mod Same
 pub mod Spelling
 pub mod Nesting
 pub mod Shape
 pub mod Place
+pub mod FirstToken
 pub mod WellFormed
+pub mod Limits
 pub mod Tokens

@@ -107,7 +107,8 @@ abbrev mutual
   statement_nesting (s.IfElse token condition first second) = max (expr_nesting condition) (1 + max (statement_nesting first) (statement_nesting second))
   statement_nesting (s.While token condition body) = max (expr_nesting condition) (1 + statement_nesting body)
   statement_nesting (s.Do token body condition) = max (1 + statement_nesting body) (expr_nesting condition)
-  statement_nesting (s.For token start condition step body) = max (for_start_nesting start) (max (deep expr_nesting condition) (max (deep expr_nesting step) (1 + statement_nesting body)))
+  statement_nesting (s.For token start condition step body) =
+      max (for_start_nesting start) (max (deep expr_nesting condition) (max (deep expr_nesting step) (1 + statement_nesting body)))
   statement_nesting (s.Return token value) = deep expr_nesting value
   statement_nesting (s.Break token) = 0
   statement_nesting (s.Continue token) = 0
@@ -121,7 +122,7 @@ abbrev mutual
 abbrev pub item_nesting : ItemTree → ℕ
 item_nesting (i.Struct token tag members) = deepest members_nesting members
 item_nesting (i.Function token base stars name ps body) = max stars (max (params_nesting ps) (deep entries_nesting body))
-item_nesting (i.Global declaration) = declaration_nesting 1 declaration
+item_nesting (i.Declaration declaration) = declaration_nesting 1 declaration
 
 -- the nesting of a tree's deepest part
 abbrev pub tree_nesting : SourceTree → ℕ

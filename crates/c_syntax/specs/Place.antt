@@ -6,6 +6,7 @@ use Rattle.c_syntax.specs.declared.parts.Base.TheVariants as base
 use Rattle.c_syntax.specs.declared.parts.Declarator.{Declarator}
 use Rattle.c_syntax.specs.declared.parts.Members.{Members}
 use Rattle.c_syntax.specs.declared.parts.Param.{Param}
+use Rattle.c_syntax.specs.declared.parts.ParamName.{ParamName}
 use Rattle.c_syntax.specs.declared.parts.Params.{Params}
 use Rattle.c_syntax.specs.declared.parts.Params.TheVariants as params
 use Rattle.c_syntax.specs.ExprTree as e
@@ -14,7 +15,8 @@ use Rattle.c_syntax.specs.StatementTree as s
 use Rattle.c_syntax.specs.StatementTree.{InitialTree, StartTree, DeclarationTree, ForStartTree, StatementTree, EntryList}
 use Rattle.c_syntax.specs.ItemTree as i
 use Rattle.c_syntax.specs.ItemTree.{ItemTree}
-use Rattle.c_syntax.specs.Spelling.{Kinds, optional, base_kinds, type_kinds, declarator_kinds, members_kinds, param_kinds, params_kinds, expr_kinds, start_kinds, declaration_kinds, for_start_kinds, statement_kinds}
+use Rattle.c_syntax.specs.Spelling.{Kinds, optional, base_kinds, type_kinds, declarator_kinds, members_kinds, param_kinds, params_kinds, expr_kinds}
+use Rattle.c_syntax.specs.Spelling.{start_kinds, declaration_kinds, for_start_kinds, statement_kinds}
 
 -- parts one after another, with `gap` tokens between two of them
 abbrev pub EachAt : {A : Type 0} → (ℕ → A → Type 0) → (A → Kinds) → (gap at : ℕ) → List A → Type 0
@@ -32,13 +34,16 @@ abbrev pub BaseAt : ℕ → Base → Type 0
 BaseAt at b = token_of b ≡ at
 
 abbrev pub DeclaratorAt : ℕ → Declarator → Type 0
-DeclaratorAt at d = d.token ≡ at
+DeclaratorAt at d = (d.token ≡ at) × (d.name_token ≡ at + d.stars)
 
 abbrev pub MembersAt : ℕ → Members → Type 0
 MembersAt at m = (m.token ≡ at) × BaseAt at m.base × EachAt DeclaratorAt declarator_kinds 1 (at + length (base_kinds m.base)) m.declarators
 
+abbrev pub NameAt : ℕ → ParamName → Type 0
+NameAt at n = n.token ≡ at
+
 abbrev pub ParamAt : ℕ → Param → Type 0
-ParamAt at p = (p.token ≡ at) × BaseAt at p.base
+ParamAt at p = (p.token ≡ at) × BaseAt at p.base × IfSome p.name (NameAt (at + length (type_kinds p.base p.stars)))
 
 abbrev pub ParamsAt : ℕ → Params → Type 0
 ParamsAt at params.Empty = Unit {0}
@@ -54,7 +59,8 @@ abbrev mutual
   pub ExprAt : ℕ → ExprTree → Type 0
   ExprAt at (e.Comma token operands) = (token ≡ first_comma at operands) × ExprsAt at operands
   ExprAt at (e.Assign token x target value) = (token ≡ at + length (expr_kinds target)) × ExprAt at target × ExprAt (token + 1) value
-  ExprAt at (e.Conditional token condition first second) = (token ≡ at + length (expr_kinds condition)) × ExprAt at condition × ExprAt (token + 1) first × ExprAt (token + 1 + length (expr_kinds first) + 1) second
+  ExprAt at (e.Conditional token condition first second) =
+      (token ≡ at + length (expr_kinds condition)) × ExprAt at condition × ExprAt (token + 1) first × ExprAt (token + 1 + length (expr_kinds first) + 1) second
   ExprAt at (e.Chain level first links) = ExprAt at first × LinksAt (at + length (expr_kinds first)) links
   ExprAt at (e.Cast token b stars operand) = (token ≡ at) × BaseAt (at + 1) b × ExprAt (at + 1 + length (type_kinds b stars) + 1) operand
   ExprAt at (e.Prefix token operator operand) = (token ≡ at) × ExprAt (at + 1) operand
@@ -104,10 +110,16 @@ abbrev mutual
   StatementAt at (s.Empty token) = token ≡ at
   StatementAt at (s.Expr token x) = (token ≡ at) × ExprAt at x
   StatementAt at (s.If token condition first) = (token ≡ at) × ExprAt (at + 2) condition × StatementAt (at + 2 + length (expr_kinds condition) + 1) first
-  StatementAt at (s.IfElse token condition first second) = (token ≡ at) × ExprAt (at + 2) condition × StatementAt (at + 2 + length (expr_kinds condition) + 1) first × StatementAt (at + 2 + length (expr_kinds condition) + 1 + length (statement_kinds first) + 1) second
+  StatementAt at (s.IfElse token condition first second) =
+      (token ≡ at) × ExprAt (at + 2) condition × StatementAt (at + 2 + length (expr_kinds condition) + 1) first ×
+      StatementAt (at + 2 + length (expr_kinds condition) + 1 + length (statement_kinds first) + 1) second
   StatementAt at (s.While token condition body) = (token ≡ at) × ExprAt (at + 2) condition × StatementAt (at + 2 + length (expr_kinds condition) + 1) body
   StatementAt at (s.Do token body condition) = (token ≡ at) × StatementAt (at + 1) body × ExprAt (at + 1 + length (statement_kinds body) + 2) condition
-  StatementAt at (s.For token start condition step body) = (token ≡ at) × ForStartAt (at + 2) start × IfSome condition (ExprAt (at + 2 + length (for_start_kinds start))) × IfSome step (ExprAt (at + 2 + length (for_start_kinds start) + length (optional expr_kinds condition) + 1)) × StatementAt (at + 2 + length (for_start_kinds start) + length (optional expr_kinds condition) + 1 + length (optional expr_kinds step) + 1) body
+  StatementAt at (s.For token start condition step body) =
+      (token ≡ at) × ForStartAt (at + 2) start ×
+      IfSome condition (ExprAt (at + 2 + length (for_start_kinds start))) ×
+      IfSome step (ExprAt (at + 2 + length (for_start_kinds start) + length (optional expr_kinds condition) + 1)) ×
+      StatementAt (at + 2 + length (for_start_kinds start) + length (optional expr_kinds condition) + 1 + length (optional expr_kinds step) + 1) body
   StatementAt at (s.Return token value) = (token ≡ at) × IfSome value (ExprAt (at + 1))
   StatementAt at (s.Break token) = token ≡ at
   StatementAt at (s.Continue token) = token ≡ at
@@ -119,5 +131,7 @@ abbrev mutual
 
 abbrev pub ItemAt : ℕ → ItemTree → Type 0
 ItemAt at (i.Struct token tag members) = (token ≡ at) × EachAt MembersAt members_kinds 0 (at + 3) members
-ItemAt at (i.Function token b stars name ps body) = (token ≡ at) × BaseAt at b × ParamsAt (at + length (type_kinds b stars) + 2) ps × IfSome body (EntriesAt (at + length (type_kinds b stars) + 2 + length (params_kinds ps) + 2))
-ItemAt at (i.Global declaration) = DeclarationAt at declaration
+ItemAt at (i.Function token b stars name ps body) =
+    (token ≡ at) × BaseAt at b × ParamsAt (at + length (type_kinds b stars) + 2) ps ×
+    IfSome body (EntriesAt (at + length (type_kinds b stars) + 2 + length (params_kinds ps) + 2))
+ItemAt at (i.Declaration declaration) = DeclarationAt at declaration

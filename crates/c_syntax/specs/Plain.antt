@@ -81,9 +81,15 @@ plain_link = fold-Link ExprTree (PostfixList → PostfixList) (LinkList → Link
 abbrev pub plain_exprs : List Expr → ExprList
 plain_exprs xs = expr_list (map plain_expr xs)
 
+abbrev pub plain_links : List Link → LinkList
+plain_links xs = link_list (map plain_link xs)
+
+abbrev pub plain_operators : List PostfixOperator → PostfixList
+plain_operators xs = postfix_list (map plain_postfix xs)
+
 abbrev pub plain_initial : Initial → InitialTree
 plain_initial (initial.Value value) = s.Value (plain_expr value)
-plain_initial (initial.List token items comma) = s.Braced token (plain_exprs items) comma
+plain_initial (initial.Braced token items comma) = s.Braced token (plain_exprs items) comma
 
 abbrev pub plain_start : Start → StartTree
 plain_start x = record { token = x.token; declarator = x.declarator; initial = option_map plain_initial x.initial }
@@ -92,8 +98,8 @@ abbrev pub plain_declaration : Declaration → DeclarationTree
 plain_declaration d = record { token = d.token; base = d.base; starts = map plain_start d.starts }
 
 abbrev pub plain_for_start : ForStart → ForStartTree
-plain_for_start (for_start.Declaration declaration) = s.Declares (plain_declaration declaration)
-plain_for_start (for_start.Expr expr) = s.Computes (option_map plain_expr expr)
+plain_for_start (for_start.Declares declaration) = s.Declares (plain_declaration declaration)
+plain_for_start (for_start.Computes expr) = s.Computes (option_map plain_expr expr)
 
 -- An entry is seen as what it puts before the entries after it.
 abbrev pub entry_list : List (EntryList → EntryList) → EntryList
@@ -116,7 +122,8 @@ statement_level (part.Expr token expr) = s.Expr token (plain_expr expr)
 statement_level (part.If token condition first second) = if_tree token (plain_expr condition) first.value (option_map (λ b. b.value) second)
 statement_level (part.While token condition body) = s.While token (plain_expr condition) body.value
 statement_level (part.Do token body condition) = s.Do token body.value (plain_expr condition)
-statement_level (part.For token start condition step body) = s.For token (plain_for_start start) (option_map plain_expr condition) (option_map plain_expr step) body.value
+statement_level (part.For token start condition step body) =
+    s.For token (plain_for_start start) (option_map plain_expr condition) (option_map plain_expr step) body.value
 statement_level (part.Return token value) = s.Return token (option_map plain_expr value)
 statement_level (part.Break token) = s.Break token
 statement_level (part.Continue token) = s.Continue token
@@ -127,8 +134,8 @@ plain_entry = fold-Entry (EntryList → EntryList) StatementTree entry_level sta
 abbrev pub plain_statement : Statement → StatementTree
 plain_statement = fold-Statement (EntryList → EntryList) StatementTree entry_level statement_level
 
-abbrev pub plain_otherwise : Option (Box Statement Global) → Option StatementTree
-plain_otherwise o = option_map (λ b. plain_statement b.value) o
+abbrev pub plain_second : Option (Box Statement Global) → Option StatementTree
+plain_second o = option_map (λ b. plain_statement b.value) o
 
 abbrev pub plain_entries : List Entry → EntryList
 plain_entries xs = entry_list (map plain_entry xs)
@@ -136,7 +143,7 @@ plain_entries xs = entry_list (map plain_entry xs)
 abbrev pub plain_item : Item → ItemTree
 plain_item (item.Struct token tag members) = i.Struct token tag members
 plain_item (item.Function token base stars name params body) = i.Function token base stars name params (option_map plain_entries body)
-plain_item (item.Declaration declaration) = i.Global (plain_declaration declaration)
+plain_item (item.Declaration declaration) = i.Declaration (plain_declaration declaration)
 
 abbrev pub plain_tree : Tree → SourceTree
 plain_tree t = record { items = map plain_item t.items; lines = t.lines }

@@ -96,9 +96,12 @@ HasPostfix _ = Unit {0}
 abbrev mutual
   pub ShapedExpr : ExprTree → Type 0
   ShapedExpr (e.Comma token operands) = HasTwo operands × ShapedExprs operands
-  ShapedExpr (e.Assign token x target value) = IsTrue (is_assignment x) × (14 ≤ rank target) × ShapedExpr target × (1 ≤ rank value) × ShapedExpr value
-  ShapedExpr (e.Conditional token condition first second) = (3 ≤ rank condition) × ShapedExpr condition × ShapedExpr first × (2 ≤ rank second) × ShapedExpr second
-  ShapedExpr (e.Chain level first links) = (1 ≤ level) × (level + 3 ≤ rank first) × ShapedExpr first × HasLink links × ShapedLinks level links
+  ShapedExpr (e.Assign token x target value) =
+      IsTrue (is_assignment x) × (14 ≤ rank target) × ShapedExpr target × (1 ≤ rank value) × ShapedExpr value
+  ShapedExpr (e.Conditional token condition first second) =
+      (3 ≤ rank condition) × ShapedExpr condition × ShapedExpr first × (2 ≤ rank second) × ShapedExpr second
+  ShapedExpr (e.Chain level first links) =
+      (1 ≤ level) × (level ≤ 10) × (level + 3 ≤ rank first) × ShapedExpr first × HasLink links × ShapedLinks level links
   ShapedExpr (e.Cast token b stars operand) = (13 ≤ rank operand) × ShapedExpr operand
   ShapedExpr (e.Prefix token operator operand) = (operand_rank operator ≤ rank operand) × ShapedExpr operand
   ShapedExpr (e.SizeOfType token b stars) = Unit {0}
@@ -190,4 +193,4 @@ ShapedMembers m = HasOne m.declarators
 abbrev pub ShapedItem : ItemTree → Type 0
 ShapedItem (i.Struct token tag members) = HasOne members × AllByRecursion ShapedMembers members
 ShapedItem (i.Function token b stars name ps body) = ShapedParams ps × IfSome body ShapedEntries
-ShapedItem (i.Global declaration) = ShapedDeclaration declaration
+ShapedItem (i.Declaration declaration) = ShapedDeclaration declaration

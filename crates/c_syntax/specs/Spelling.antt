@@ -95,16 +95,33 @@ params_kinds params.Empty = []
 params_kinds params.Void = a_word word.Void
 params_kinds (params.List list) = with_commas param_kinds list
 
+-- the token of a prefix operator
+abbrev pub prefix_kind : PrefixOperator → TokenKind
+prefix_kind prefix.Increment = kind.Punctuator sign.PlusPlus
+prefix_kind prefix.Decrement = kind.Punctuator sign.MinusMinus
+prefix_kind prefix.SizeOf = kind.Word word.Sizeof
+prefix_kind prefix.Address = kind.Punctuator sign.Ampersand
+prefix_kind prefix.Indirection = kind.Punctuator sign.Star
+prefix_kind prefix.Plus = kind.Punctuator sign.Plus
+prefix_kind prefix.Minus = kind.Punctuator sign.Minus
+prefix_kind prefix.Complement = kind.Punctuator sign.Tilde
+prefix_kind prefix.Not = kind.Punctuator sign.Exclamation
+
 abbrev pub prefix_kinds : PrefixOperator → Kinds
-prefix_kinds prefix.Increment = a_sign sign.PlusPlus
-prefix_kinds prefix.Decrement = a_sign sign.MinusMinus
-prefix_kinds prefix.SizeOf = a_word word.Sizeof
-prefix_kinds prefix.Address = a_sign sign.Ampersand
-prefix_kinds prefix.Indirection = a_sign sign.Star
-prefix_kinds prefix.Plus = a_sign sign.Plus
-prefix_kinds prefix.Minus = a_sign sign.Minus
-prefix_kinds prefix.Complement = a_sign sign.Tilde
-prefix_kinds prefix.Not = a_sign sign.Exclamation
+prefix_kinds operator = prefix_kind operator ∷ []
+
+-- the prefix operator that a token is before its operand
+abbrev pub prefix_of : TokenKind → Option PrefixOperator
+prefix_of (kind.Punctuator sign.PlusPlus) = Some prefix.Increment
+prefix_of (kind.Punctuator sign.MinusMinus) = Some prefix.Decrement
+prefix_of (kind.Word word.Sizeof) = Some prefix.SizeOf
+prefix_of (kind.Punctuator sign.Ampersand) = Some prefix.Address
+prefix_of (kind.Punctuator sign.Star) = Some prefix.Indirection
+prefix_of (kind.Punctuator sign.Plus) = Some prefix.Plus
+prefix_of (kind.Punctuator sign.Minus) = Some prefix.Minus
+prefix_of (kind.Punctuator sign.Tilde) = Some prefix.Complement
+prefix_of (kind.Punctuator sign.Exclamation) = Some prefix.Not
+prefix_of _ = None
 
 abbrev pub text_kinds : List (List ℕ) → Kinds
 text_kinds parts = map (λ bytes. kind.Text bytes) parts
@@ -116,7 +133,8 @@ abbrev mutual
   pub expr_kinds : ExprTree → Kinds
   expr_kinds (e.Comma token operands) = exprs_kinds operands
   expr_kinds (e.Assign token x target value) = expr_kinds target ++ a_sign x ++ expr_kinds value
-  expr_kinds (e.Conditional token condition first second) = expr_kinds condition ++ a_sign sign.Question ++ expr_kinds first ++ a_sign sign.Colon ++ expr_kinds second
+  expr_kinds (e.Conditional token condition first second) =
+      expr_kinds condition ++ a_sign sign.Question ++ expr_kinds first ++ a_sign sign.Colon ++ expr_kinds second
   expr_kinds (e.Chain level first links) = expr_kinds first ++ link_kinds links
   expr_kinds (e.Cast token b stars operand) = parenthesized (type_kinds b stars) ++ expr_kinds operand
   expr_kinds (e.Prefix token operator operand) = prefix_kinds operator ++ expr_kinds operand
@@ -178,10 +196,14 @@ abbrev mutual
   statement_kinds (s.Empty token) = a_sign sign.Semicolon
   statement_kinds (s.Expr token x) = expr_kinds x ++ a_sign sign.Semicolon
   statement_kinds (s.If token condition first) = a_word word.If ++ parenthesized (expr_kinds condition) ++ statement_kinds first
-  statement_kinds (s.IfElse token condition first second) = a_word word.If ++ parenthesized (expr_kinds condition) ++ statement_kinds first ++ a_word word.Else ++ statement_kinds second
+  statement_kinds (s.IfElse token condition first second) =
+      a_word word.If ++ parenthesized (expr_kinds condition) ++ statement_kinds first ++ a_word word.Else ++ statement_kinds second
   statement_kinds (s.While token condition body) = a_word word.While ++ parenthesized (expr_kinds condition) ++ statement_kinds body
-  statement_kinds (s.Do token body condition) = a_word word.Do ++ statement_kinds body ++ a_word word.While ++ parenthesized (expr_kinds condition) ++ a_sign sign.Semicolon
-  statement_kinds (s.For token start condition step body) = a_word word.For ++ parenthesized (for_start_kinds start ++ optional expr_kinds condition ++ a_sign sign.Semicolon ++ optional expr_kinds step) ++ statement_kinds body
+  statement_kinds (s.Do token body condition) =
+      a_word word.Do ++ statement_kinds body ++ a_word word.While ++ parenthesized (expr_kinds condition) ++ a_sign sign.Semicolon
+  statement_kinds (s.For token start condition step body) =
+      a_word word.For ++ parenthesized (for_start_kinds start ++ optional expr_kinds condition ++ a_sign sign.Semicolon ++ optional expr_kinds step) ++
+      statement_kinds body
   statement_kinds (s.Return token value) = a_word word.Return ++ optional expr_kinds value ++ a_sign sign.Semicolon
   statement_kinds (s.Break token) = a_word word.Break ++ a_sign sign.Semicolon
   statement_kinds (s.Continue token) = a_word word.Continue ++ a_sign sign.Semicolon
@@ -199,7 +221,7 @@ body_kinds (Some entries) = braced (entry_kinds entries)
 abbrev pub item_kinds : ItemTree → Kinds
 item_kinds (i.Struct token tag members) = a_word word.Struct ++ a_name tag ++ braced (flat_map members_kinds members) ++ a_sign sign.Semicolon
 item_kinds (i.Function token b stars name ps body) = type_kinds b stars ++ a_name name ++ parenthesized (params_kinds ps) ++ body_kinds body
-item_kinds (i.Global declaration) = declaration_kinds declaration
+item_kinds (i.Declaration declaration) = declaration_kinds declaration
 
 -- the tokens of a tree
 abbrev pub tree_kinds : SourceTree → Kinds

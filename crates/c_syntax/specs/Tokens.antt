@@ -1,8 +1,21 @@
-use Rattle.std.specs.Prelude.{ℕ, ◌-◌, ◌≤◌, List, length, map, sum_by, min, All, slice_index_or}
+-- Lists of tokens.
+use Rattle.std.specs.Prelude.{ℕ, ◌-◌, ◌≤◌, ℤ, List, length, map, sum_by, min, All, slice_index_or, IsTrue}
 use Rattle.std.specs.List.Sorted.{IsNonDecreasing}
+use Rattle.cbi_base.specs.declared.scalar.Kind.{Kind}
+use Rattle.cbi_base.specs.Kind.{LiesIn}
+use Rattle.cbi_base.specs.Scalars.{is_promoted}
 use Rattle.c_syntax.specs.declared.token.Token.{Token}
 use Rattle.c_syntax.specs.declared.token.TokenKind.{TokenKind}
-use Rattle.c_syntax.specs.declared.token.TokenKind.TheVariants.{Text}
+use Rattle.c_syntax.specs.declared.token.TokenKind.TheVariants.{Constant, Text}
+use Rattle.c_syntax.specs.Spelling.{Kinds}
+use Rattle.c_syntax.specs.Limits.{most_bytes, most_tokens, greatest_line}
+
+-- what the tokens are, apart from their lines
+abbrev pub kinds_of : List Token → Kinds
+kinds_of ts = map (λ t. t.kind) ts
+
+abbrev pub lines_of : List Token → List ℕ
+lines_of ts = map (λ t. t.line) ts
 
 abbrev pub kind_text_len : TokenKind → ℕ
 kind_text_len (Text bytes) = length bytes
@@ -12,17 +25,23 @@ kind_text_len _ = 0
 abbrev pub text_len : Token → ℕ
 text_len t = kind_text_len t.kind
 
-abbrev pub lines_of : List Token → List ℕ
-lines_of ts = map (λ t. t.line) ts
+-- A constant is an `int` or an `unsigned`, and lies in its kind's range (C99 6.4.4.1).
+abbrev pub ConstantFits : Kind → ℤ → Type 0
+ConstantFits kind value = IsTrue (is_promoted kind) × LiesIn kind value
 
--- what a list of tokens keeps: at most 100000 of them, lines that never fall, from 1 to 1048577, and
--- strings of together at most 1048576 bytes
+abbrev pub KindFits : TokenKind → Type 0
+KindFits (Constant kind value) = ConstantFits kind value
+KindFits _ = Unit {0}
+
+-- what a list of tokens keeps: not too many, lines that never fall, strings that are together no longer than a text, and
+-- constants that fit
 pub record IsTokens (ts : List Token) : Type 0 where
-  pub few : length ts ≤ 100000
+  pub few : length ts ≤ most_tokens
   pub ordered : IsNonDecreasing (lines_of ts)
   pub from_one : All (λ l. 1 ≤ l) (lines_of ts)
-  pub within : All (λ l. l ≤ 1048577) (lines_of ts)
-  pub text : sum_by text_len ts ≤ 1048576
+  pub within : All (λ l. l ≤ greatest_line) (lines_of ts)
+  pub text : sum_by text_len ts ≤ most_bytes
+  pub constants : All KindFits (kinds_of ts)
 
 -- the line of the token at this index, and one past the last that of the last, or 1 where there is no token
 abbrev pub line_at : List ℕ → ℕ → ℕ

@@ -91,6 +91,7 @@ impl TryCopy for Declarator {
         Ok(Declarator {
             token: self.token,
             stars: self.stars,
+            name_token: self.name_token,
             name,
             bounds,
         })
@@ -118,6 +119,7 @@ impl TryCopy for ParamName {
 
     fn try_copy(&self, _alloc: Global) -> Result<ParamName, Memory> {
         Ok(ParamName {
+            token: self.token,
             name: self.name.try_clone()?,
             bound: self.bound,
         })

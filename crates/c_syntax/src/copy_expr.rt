@@ -40,13 +40,13 @@ fn copy_expr(alloc: Global, expr: &Expr) -> Result<Expr, Memory>
         Expr::Conditional {
             token,
             condition,
-            then,
-            otherwise,
+            first,
+            second,
         } => Ok(Expr::Conditional {
             token: *token,
             condition: copy_boxed(alloc, condition)?,
-            then: copy_boxed(alloc, then)?,
-            otherwise: copy_boxed(alloc, otherwise)?,
+            first: copy_boxed(alloc, first)?,
+            second: copy_boxed(alloc, second)?,
         }),
         Expr::Chain {
             level,

@@ -1,6 +1,6 @@
 ghost use Rattle.std.specs.Prelude.{◌≡◌, IfOk, map};
 ghost use Rattle.c_syntax.specs.StatementTree.{InitialTree, StartTree, DeclarationTree, ForStartTree, EntryList};
-ghost use Rattle.c_syntax.specs.Plain.{plain_initial, plain_start, plain_declaration, plain_for_start, plain_entry, plain_otherwise, plain_statement};
+ghost use Rattle.c_syntax.specs.Plain.{plain_initial, plain_start, plain_declaration, plain_for_start, plain_entry, plain_second, plain_statement};
 
 use crate::copy::{TryCopy, copy_all, copy_optional};
 use crate::statement::{Declaration, Entry, ForStart, Initial, Start, Statement};
@@ -17,11 +17,11 @@ impl TryCopy for Initial {
             Initial::Value { value } => Ok(Initial::Value {
                 value: value.try_copy(alloc)?,
             }),
-            Initial::List {
+            Initial::Braced {
                 token,
                 items,
                 comma,
-            } => Ok(Initial::List {
+            } => Ok(Initial::Braced {
                 token: *token,
                 items: copy_all(alloc, items.as_slice())?,
                 comma: *comma,
@@ -65,10 +65,10 @@ impl TryCopy for ForStart {
 
     fn try_copy(&self, alloc: Global) -> Result<ForStart, Memory> {
         match self {
-            ForStart::Declaration { declaration } => Ok(ForStart::Declaration {
+            ForStart::Declares { declaration } => Ok(ForStart::Declares {
                 declaration: declaration.try_copy(alloc)?,
             }),
-            ForStart::Expr { expr } => Ok(ForStart::Expr {
+            ForStart::Computes { expr } => Ok(ForStart::Computes {
                 expr: copy_optional(alloc, expr)?,
             }),
         }
@@ -123,11 +123,11 @@ fn copy_boxed(alloc: Global, statement: &Statement) -> Result<Box<Statement>, Me
 }
 
 #[cycle(copy_statement)]
-fn copy_otherwise(
+fn copy_second(
     alloc: Global,
     statement: &Option<Box<Statement>>,
 ) -> Result<Option<Box<Statement>>, Memory>
-    ensures { IfOk result (λ x. plain_otherwise x ≡ plain_otherwise statement.now) }
+    ensures { IfOk result (λ x. plain_second x ≡ plain_second statement.now) }
 {
     match statement {
         None => Ok(None),
@@ -155,13 +155,13 @@ fn copy_statement(alloc: Global, statement: &Statement) -> Result<Statement, Mem
         Statement::If {
             token,
             condition,
-            then,
-            otherwise,
+            first,
+            second,
         } => Ok(Statement::If {
             token: *token,
             condition: condition.try_copy(alloc)?,
-            then: copy_boxed(alloc, then)?,
-            otherwise: copy_otherwise(alloc, otherwise)?,
+            first: copy_boxed(alloc, first)?,
+            second: copy_second(alloc, second)?,
         }),
         Statement::While {
             token,

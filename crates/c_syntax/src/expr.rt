@@ -20,8 +20,8 @@ pub enum Expr {
     Conditional {
         token: u32,
         condition: Box<Expr>,
-        then: Box<Expr>,
-        otherwise: Box<Expr>,
+        first: Box<Expr>,
+        second: Box<Expr>,
     },
     /// Operators of one level, from 1 for `||` to 10 for `*`, grouped to the left.
     Chain {

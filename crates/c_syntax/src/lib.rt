@@ -5,7 +5,9 @@ mod copy;
 mod copy_expr;
 mod copy_statement;
 mod expr;
+mod first_token;
 mod parts;
+mod same;
 mod statement;
 mod token;
 mod tokens;
@@ -13,6 +15,7 @@ mod tree;
 
 pub use expr::{Expr, Link, PostfixOperator, PrefixOperator};
 pub use parts::{Base, Bound, Constant, Declarator, Members, Param, ParamName, Params};
+pub use same::plain_trees_lose_nothing;
 pub use statement::{Declaration, Entry, ForStart, Initial, Start, Statement};
 pub use token::{Sign, Token, TokenKind, Word};
 pub use tokens::{Tokens, line_of};

@@ -24,11 +24,13 @@ pub struct Bound {
     pub length: Option<Constant>,
 }
 
-/// A declared name with its stars before it and its bounds behind it. The token is the first of these.
+/// A declared name with its stars before it and its bounds behind it. The token is the first of these, and the name has
+/// one of its own.
 #[derive(Debug, Drop)]
 pub struct Declarator {
     pub token: u32,
     pub stars: u32,
+    pub name_token: u32,
     pub name: Name,
     pub bounds: Seq<Bound>,
 }
@@ -50,9 +52,10 @@ pub struct Param {
     pub name: Option<ParamName>,
 }
 
-/// A parameter's name, and its bound where it is declared as an array.
+/// A parameter's name, and its bound where it is declared as an array. The token is the name's.
 #[derive(Debug, Drop)]
 pub struct ParamName {
+    pub token: u32,
     pub name: Name,
     pub bound: Option<Bound>,
 }

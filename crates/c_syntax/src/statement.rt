@@ -24,7 +24,7 @@ pub enum Initial {
     Value {
         value: Expr,
     },
-    List {
+    Braced {
         token: u32,
         items: Seq<Expr>,
         comma: bool,
@@ -57,8 +57,8 @@ pub enum Statement {
     If {
         token: u32,
         condition: Expr,
-        then: Box<Statement>,
-        otherwise: Option<Box<Statement>>,
+        first: Box<Statement>,
+        second: Option<Box<Statement>>,
     },
     While {
         token: u32,
@@ -92,6 +92,6 @@ pub enum Statement {
 /// What a `for` does first.
 #[derive(Debug, Drop)]
 pub enum ForStart {
-    Declaration { declaration: Declaration },
-    Expr { expr: Option<Expr> },
+    Declares { declaration: Declaration },
+    Computes { expr: Option<Expr> },
 }
