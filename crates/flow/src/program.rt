@@ -1,12 +1,36 @@
-ghost use Rattle.std.specs.Prelude.{◌≡◌, ◌↔◌, ◌≤◌, List, length, IsTrue, IsSome, IfSome};
+ghost use Rattle.std.specs.Prelude.{◌≡◌, ◌↔◌, ◌<◌, ◌^◌, length, map, IfOk, IsSome, IfSome, IsTrue};
 ghost use Rattle.std.specs.List.{All};
-ghost use Rattle.cbi_base.specs.Kind.{lies_in};
-ghost use Rattle.flow.specs.Nodes.{is_built, is_later, node_fits, NodesFit};
-ghost use Rattle.flow.specs.Program.{IsFunction, IsProgram, AreParts};
+ghost use Rattle.flow.specs.Program.{AreFew, AreSites, AreTexts, IsProgram, MayHold, names_of, parts_of, table_of};
+ghost use Rattle.flow.specs.Sites.{IsSite};
 
+use crate::functions::{are_distinct, are_few, functions_fit, has_main};
 use crate::node::Node;
-use cbi_base::{Binary, Kind, Name, Seq, Unary};
+use crate::scope::Names;
+use crate::site::{SITE_LIMIT, Site, SiteTable, site_fits};
+use crate::texts::{are_globals, are_texts, conversions};
+use cbi_base::{Kind, Memory, Name, Seq};
+use std::alloc::Global as Heap;
 use std::marker::Model;
+
+/// A text of a program: a string, or a format.
+#[derive(Debug, Drop)]
+pub struct Text {
+    pub bytes: Seq<u8>,
+}
+
+/// What a cell of a global holds at the start: a number, null, or the place of a text's first byte.
+#[derive(Clone, Copy, Debug, PartialEq, Eq)]
+pub enum Cell {
+    Number { kind: Kind, value: i64 },
+    Null,
+    Text { index: u32 },
+}
+
+/// A global variable.
+#[derive(Debug, Drop)]
+pub struct Global {
+    pub cells: Seq<Cell>,
+}
 
 /// A function: whether it has a result, how many of its locals are parameters, the sizes of its locals in cells, and its nodes,
 /// numbered from 0, where it is entered.
@@ -19,180 +43,214 @@ pub struct Function {
     pub nodes: Seq<Node>,
 }
 
-/// What a node of a function may name: how many locals and nodes the function has.
-#[derive(Clone, Copy, Debug)]
-pub struct Bounds {
-    pub locals: u32,
-    pub nodes: u32,
-}
-
-/// The parts of a program, without its conditions: its functions, and the number of the one that is run.
+/// The parts of a program, without its conditions: its texts, its globals, its functions, the number of the one that is run, and its sites.
 #[derive(Debug, Drop)]
 pub struct ProgramParts {
+    pub texts: Seq<Text>,
+    pub globals: Seq<Global>,
     pub functions: Seq<Function>,
     pub main: u32,
+    pub sites: Seq<Site>,
 }
 
-fn is_later(bounds: Bounds, place: u32, next: u32) -> bool
-    ensures { result ≡ is_later bounds place next }
+/// What the nodes of any function of these parts may name.
+fn names_of(alloc: Heap, parts: &ProgramParts) -> Result<Names, Memory>
+    requires texts { AreTexts parts.now.texts }
+    requires globals { length parts.now.globals < 2 ^ 32 }
+    requires functions { length parts.now.functions < 2 ^ 32 }
+    ensures { IfOk result (λ names. names ≡ names_of parts.now) }
 {
-    place < next && next < bounds.nodes
+    let conversions = conversions(alloc, parts.texts.as_slice())?;
+    let owners = parts
+        .sites
+        .as_slice()
+        .iter()
+        .map(|site| site.function)
+        .collect(alloc)?;
+    Ok(Names {
+        conversions,
+        globals: parts.globals.len() as u32,
+        functions: parts.functions.len() as u32,
+        owners: Seq::from_vec(owners),
+    })
 }
 
-/// Whether the number lies in the kind's range.
-fn lies_in(kind: Kind, value: i64) -> bool
-    ensures { result ≡ lies_in kind value }
+/// Whether a site may stand in its function, which is one of these.
+fn is_site(functions: &[Function], globals: u32, site: &Site) -> bool
+    requires { AreFew functions.now }
+    ensures { IsTrue result ↔ IsSite (map (λ f. length f.locals) functions.now) globals site.now }
 {
-    match kind {
-        Kind::Char => (-128..=127).contains(&value),
-        Kind::Int => (-2147483648..=2147483647).contains(&value),
-        Kind::Unsigned => (0..=4294967295).contains(&value),
+    match functions.get(site.function as usize) {
+        None => false,
+        Some(function) => site_fits(function.locals.len() as u32, globals, site),
     }
 }
 
-fn is_built(op: Binary) -> bool
-    ensures { result ≡ is_built op }
+fn each_is_site(functions: &[Function], globals: u32, sites: &[Site]) -> bool
+    requires { AreFew functions.now }
+    ensures { IsTrue result ↔ All (IsSite (map (λ f. length f.locals) functions.now) globals) sites.now }
 {
-    !matches!(
-        op,
-        Binary::Shl | Binary::Shr | Binary::And | Binary::Or | Binary::Xor
-    )
+    sites.iter().all(|site| is_site(functions, globals, site))
 }
 
-/// Whether a node may stand at this place of a function with these bounds.
-pub fn node_fits(bounds: Bounds, place: u32, node: Node) -> bool
-    ensures { result ≡ node_fits bounds place node }
+/// Whether the sites keep the conditions on a program's sites.
+fn are_sites(functions: &[Function], globals: u32, sites: &[Site]) -> bool
+    requires { AreFew functions.now }
+    ensures { IsTrue result ↔ AreSites (map (λ f. length f.locals) functions.now) globals sites.now }
 {
-    match node {
-        Node::Push { kind, value, next } => lies_in(kind, value) && is_later(bounds, place, next),
-        Node::Local { index, next } | Node::Clear { index, next } => {
-            index < bounds.locals && is_later(bounds, place, next)
-        }
-        Node::Math { op, next } => is_built(op) && is_later(bounds, place, next),
-        Node::Sole { op, next } => op != Unary::Com && is_later(bounds, place, next),
-        Node::Fork { yes, no } => is_later(bounds, place, yes) && is_later(bounds, place, no),
-        Node::Again { next } => next < bounds.nodes,
-        Node::Return => true,
-        Node::Load { next, .. }
-        | Node::Store { next }
-        | Node::Dup { next }
-        | Node::Drop { next }
-        | Node::Pass { next }
-        | Node::Get { next }
-        | Node::Put { next } => is_later(bounds, place, next),
-    }
+    sites.len() <= SITE_LIMIT && each_is_site(functions, globals, sites)
 }
 
-// The nodes are few enough that a place among them is a number of 32 bits.
-fn nodes_fit(bounds: Bounds, nodes: &[Node]) -> bool
-    requires { length nodes.now ≤ 16000000 }
-    ensures { IsTrue result ↔ NodesFit bounds nodes.now }
+/// Whether the texts, the globals, the number of functions, the main function and the sites are a program's.
+fn may_hold(parts: &ProgramParts) -> bool
+    ensures { IsTrue result ↔ MayHold parts.now }
 {
-    for (place, node) in nodes.iter().enumerate() {
-        if !node_fits(bounds, place as u32, *node) {
-            return false;
-        }
-    }
-    true
-}
-
-/// Whether each local is one cell.
-fn are_single(sizes: &[u32]) -> bool
-    ensures { IsTrue result ↔ All (λ size. size ≡ 1) sizes.now }
-{
-    sizes.iter().all(|size| *size == 1)
-}
-
-fn is_function(function: &Function) -> bool
-    requires nodes { length function.now.nodes ≤ 16000000 }
-    requires locals { length function.now.locals ≤ 200000 }
-    ensures { IsTrue result ↔ IsFunction function.now }
-{
-    let nodes = function.nodes.as_slice();
-    let locals = function.locals.as_slice();
-    if nodes.is_empty() || function.params as usize > locals.len() || !are_single(locals) {
+    let texts = parts.texts.as_slice();
+    let globals = parts.globals.as_slice();
+    let functions = parts.functions.as_slice();
+    if !are_texts(texts) || !are_globals(texts.len() as u32, globals) {
         return false;
     }
-    let _name = function.name.bytes();
-    nodes_fit(
-        Bounds {
-            locals: locals.len() as u32,
-            nodes: nodes.len() as u32,
-        },
-        nodes,
-    )
+    if !are_few(functions) || !has_main(functions, parts.main) {
+        return false;
+    }
+    are_sites(functions, globals.len() as u32, parts.sites.as_slice())
 }
 
 /// Whether the parts keep the conditions on programs.
-fn is_program(functions: &[Function], main: u32) -> bool
-    ensures { IsTrue result ↔ AreParts functions.now main }
+fn is_program(alloc: Heap, parts: &ProgramParts) -> Result<bool, Memory>
+    ensures { IfOk result (λ is. IsTrue is ↔ IsProgram parts.now) }
 {
-    let [function] = functions else {
-        return false;
-    };
-    if main != 0 || !function.value || function.params != 0 {
-        return false;
+    if !may_hold(parts) {
+        return Ok(false);
     }
-    if function.locals.len() > 200000 || function.nodes.len() > 16000000 {
-        return false;
+    let functions = parts.functions.as_slice();
+    if !are_distinct(alloc, functions)? {
+        return Ok(false);
     }
-    is_function(function)
+    let names = names_of(alloc, parts)?;
+    Ok(functions_fit(&names, functions))
+}
+
+/// Copies of the functions' names.
+fn names_of_functions(alloc: Heap, functions: &[Function]) -> Result<Seq<Name>, Memory>
+    ensures { IfOk result (λ names. names ≡ map (λ f. f.name) functions.now) }
+{
+    let mut names = Vec::with_capacity(alloc, functions.len())?;
+    for function in functions {
+        names.push(function.name.try_clone()?)?;
+    }
+    Ok(Seq::from_vec(names))
 }
 
 /// A program. Contracts see it as its parts, which keep the conditions on programs.
 #[derive(Debug, Drop)]
 pub struct Program {
-    parts: ProgramParts,
+    texts: Seq<Text>,
+    globals: Seq<Global>,
+    functions: Seq<Function>,
+    main: u32,
+    table: SiteTable,
 }
 
 impl Model for Program {
     ghost use Rattle.flow.specs.declared.program.ProgramParts.{ProgramParts};
-    ghost use Rattle.flow.specs.Program.{IsProgram};
+    ghost use Rattle.flow.specs.Program.{IsKept, parts_of};
 
     ghost Value = { ProgramParts };
 
-    ghost view = { λ p. p.parts };
+    ghost view = { λ p. parts_of p.texts p.globals p.functions p.main p.table.sites };
 
-    ghost invariant = { λ p. IsProgram p.parts };
+    ghost invariant = { λ p. IsKept (parts_of p.texts p.globals p.functions p.main p.table.sites) p.table };
 }
 
 impl Program {
     /// The program with these parts.
-    pub fn of(parts: ProgramParts) -> Program
+    pub fn of(alloc: Heap, parts: ProgramParts) -> Result<Program, Memory>
         requires { IsProgram parts }
-        ensures { result ≡ parts }
+        ensures { IfOk result (λ p. p ≡ parts) }
     {
-        Program { parts }
-    }
-
-    /// The program of these functions, which enters the one with the number `main`; None exactly where a condition on programs fails.
-    pub fn new(functions: Vec<Function>, main: u32) -> Option<Program>
-        ensures found { IsSome result ↔ AreParts functions.items main }
-        ensures value { IfSome result (λ p. (p.functions ≡ functions.items) × (p.main ≡ main)) }
-    {
-        if !is_program(functions.as_slice(), main) {
-            return None;
-        }
-        Some(Program {
-            parts: ProgramParts {
-                functions: Seq::from_vec(functions),
-                main,
-            },
+        let names = names_of_functions(alloc, parts.functions.as_slice())?;
+        let ProgramParts {
+            texts,
+            globals,
+            functions,
+            main,
+            sites,
+        } = parts;
+        Ok(Program {
+            texts,
+            globals,
+            functions,
+            main,
+            table: SiteTable::of(sites, names),
         })
     }
 
-    /// Its functions, which keep the conditions on programs.
+    /// The program of these texts, globals, functions and sites, which enters the function with the number `main`; None exactly where a
+    /// condition on programs fails.
+    pub fn new(
+        alloc: Heap,
+        texts: Vec<Text>,
+        globals: Vec<Global>,
+        functions: Vec<Function>,
+        main: u32,
+        sites: Vec<Site>,
+    ) -> Result<Option<Program>, Memory>
+        ensures found { IfOk result (λ p. IsSome p ↔ IsProgram (parts_of texts.items globals.items functions.items main sites.items)) }
+        ensures value { IfOk result (λ p. IfSome p (λ q. q ≡ parts_of texts.items globals.items functions.items main sites.items)) }
+    {
+        let parts = ProgramParts {
+            texts: Seq::from_vec(texts),
+            globals: Seq::from_vec(globals),
+            functions: Seq::from_vec(functions),
+            main,
+            sites: Seq::from_vec(sites),
+        };
+        if !is_program(alloc, &parts)? {
+            return Ok(None);
+        }
+        let program = Program::of(alloc, parts)?;
+        Ok(Some(program))
+    }
+
+    /// Its texts.
+    pub fn texts(&self) -> &[Text]
+        ensures value { result.now ≡ self.now.texts }
+        ensures is_program { IsProgram self.now }
+    {
+        self.texts.as_slice()
+    }
+
+    /// Its globals.
+    pub fn globals(&self) -> &[Global]
+        ensures value { result.now ≡ self.now.globals }
+        ensures is_program { IsProgram self.now }
+    {
+        self.globals.as_slice()
+    }
+
+    /// Its functions.
     pub fn functions(&self) -> &[Function]
         ensures value { result.now ≡ self.now.functions }
         ensures is_program { IsProgram self.now }
     {
-        self.parts.functions.as_slice()
+        self.functions.as_slice()
     }
 
     /// The number of the function that a run enters.
     pub fn main(&self) -> u32
-        ensures { result ≡ self.now.main }
+        ensures value { result ≡ self.now.main }
+        ensures is_program { IsProgram self.now }
     {
-        self.parts.main
+        self.main
+    }
+
+    /// Its site table, with copies of the functions' names.
+    pub fn table(&self) -> &SiteTable
+        ensures value { result.now ≡ table_of self.now }
+        ensures is_program { IsProgram self.now }
+    {
+        &self.table
     }
 }
