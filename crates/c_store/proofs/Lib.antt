@@ -1,0 +1,11 @@
+pub mod CellLemmas
+pub mod FrameLemmas
+pub mod Keeping
+pub mod Loading
+pub mod PairLemmas
+pub mod StackLemmas
+pub mod StackedLemmas
+pub mod StoreLaws
+pub mod Storing
+pub mod Sums
+pub mod Tables

@@ -1,0 +1,39 @@
+-- Loads of cells that are found at once.
+use Rattle.std.proofs.Common.{◌≡◌, ℕ, true, false, if◌then◌else◌, slice_get, Option, Some, None, Ok, Err, refl, ap, sym, ◌∙◌}
+use Rattle.std.specs.Option.{option_and_then}
+use Rattle.std.specs.FinMap.{get}
+use Rattle.cbi_base.specs.declared.scalar.Scalar.{Scalar}
+use Rattle.cbi_base.specs.declared.scalar.Scalar.TheVariants.{Number, Place, Null, Undefined}
+use Rattle.cbi_base.specs.declared.scalar.Kind.TheVariants as kind
+use Rattle.cbi_base.specs.declared.scalar.Want.{Want}
+use Rattle.cbi_base.specs.declared.scalar.Want.TheVariants as want
+use Rattle.cbi_base.specs.declared.trap.Trap.TheVariants as trap
+use Rattle.cbi_base.specs.Objects.{Object, Objects, ◌>>=◌, live_or, is_wanted, found, loaded}
+use Rattle.c_store.specs.Word.{cell_of}
+
+undefined_unwanted : (w : Want) → is_wanted w Undefined ≡ false
+undefined_unwanted (want.Number kind.Char) = refl
+undefined_unwanted (want.Number kind.Int) = refl
+undefined_unwanted (want.Number kind.Unsigned) = refl
+undefined_unwanted want.Pointer = refl
+
+wanted_found : (w : Want) (value : Scalar) → is_wanted w value ≡ true → found w (Some value) ≡ Ok value
+wanted_found w Undefined is = absurd (let no : true ≡ false = sym is ∙ undefined_unwanted w in cc)
+wanted_found w (Number kind value) is = ap (λ b. if b then Ok (Number kind value) else Err trap.WrongKind) is
+wanted_found w (Place object offset) is = ap (λ b. if b then Ok (Place object offset) else Err trap.WrongKind) is
+wanted_found w Null is = ap (λ b. if b then Ok Null else Err trap.WrongKind) is
+
+in_object : (w : Want) (offset : ℕ) (value : Scalar) (object : Option Object) → option_and_then (λ o. slice_get o.cells offset) object ≡ Some value →
+    is_wanted w value ≡ true →
+    (live_or object >>= λ o. found w (slice_get o.cells offset)) ≡ Ok value
+in_object w offset value None is wanted = absurd cc
+in_object w offset value (Some object) is wanted = ap (found w) is ∙ wanted_found w value wanted
+
+pub loaded_there : (w : Want) (number offset : ℕ) (value : Scalar) (o : Objects) → cell_of number offset o ≡ Some value → is_wanted w value ≡ true →
+    loaded w (Place number offset) o ≡ Ok value
+unfolding loaded
+loaded_there w number offset value o is wanted = in_object w offset value (get o.live number) is wanted
+
+pub cell_there : (number offset : ℕ) (value : Scalar) (o : Objects) (object : Object) → get o.live number ≡ Some object →
+    slice_get object.cells offset ≡ Some value → cell_of number offset o ≡ Some value
+cell_there number offset value o object there is = ap (option_and_then (λ p. slice_get p.cells offset)) there ∙ is

@@ -1,0 +1,11 @@
+pub mod Cells
+pub mod Codes
+pub mod Held
+pub mod Kept
+pub mod Made
+pub mod Pair
+pub mod Place
+pub mod Places
+pub mod Stacked
+pub mod Word
+pub mod Written

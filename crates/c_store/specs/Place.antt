@@ -1,0 +1,13 @@
+-- The place that two words hold, where the first says that they hold one.
+use Rattle.std.specs.Prelude.{ℕ, ◌+◌, ◌/◌, ◌%◌, ◌^◌, ◌==◌, if◌then◌else◌, ℤ, unsigned_abs}
+use Rattle.cbi_base.specs.declared.scalar.Scalar.{Scalar}
+use Rattle.cbi_base.specs.declared.scalar.Scalar.TheVariants.{Place}
+
+abbrev pub half : ℕ
+half = 2 ^ 63
+
+abbrev pub place_of : ℕ → ℤ → Scalar
+place_of tag bits =
+    if tag % 256 == 5
+    then Place (unsigned_abs bits) (tag / 256)
+    else Place (half + unsigned_abs bits) (tag / 256)

@@ -1,0 +1,533 @@
+ghost use Rattle.std.specs.Prelude.{◌≡◌, ◌≤◌, Ok, IfOk, ◌+◌, OnOk, OnErr, IfSome, IsTrue, Some, All, drop, length, option_map, replicate};
+ghost use Rattle.std.specs.FinMap.{get};
+ghost use Rattle.cbi_base.specs.declared.scalar.Scalar.TheVariants.{Undefined};
+ghost use Rattle.cbi_base.specs.Objects.{no_objects, has_room, one_more, made_with, killed, cleared, loaded, stored, released, moved, compared, difference, live_cells, cell_limit, found, within_one};
+ghost use Rattle.cbi_base.specs.Kind.{LiesIn};
+ghost use Rattle.cbi_base.specs.declared.scalar.Kind.TheVariants.{Int};
+ghost use Rattle.cbi_base.specs.declared.scalar.Class.TheVariants.{Local};
+ghost use Rattle.cbi_base.specs.Frames.{first_cells, all_made, all_killed, filled};
+ghost use Rattle.c_store.specs.Held.{IsHeld};
+ghost use Rattle.c_store.specs.Made.{IsMade, IsObject, cells_at_start, undone, all_undone};
+ghost use Rattle.c_store.specs.Word.{cell_of};
+ghost use Rattle.c_store.specs.Written.{after};
+
+use crate::block::Block;
+use crate::pointers::{check_pointers, elements, in_order, move_in, same_place};
+use crate::table::Table;
+use crate::word::Word;
+use cbi_base::{Class, Memory, Order, Scalar, Trap, Want};
+use std::alloc::Global;
+use std::marker::Model;
+
+/// The most live cells.
+const CELL_LIMIT: u32 = 4194304;
+
+/// The most objects that are made.
+const OBJECT_LIMIT: u64 = 1 << 62;
+
+/// The number of a new object, or no room for it: the live cells would pass their bound, or as many objects were made as
+/// there may be.
+#[derive(Clone, Copy, Debug, PartialEq, Eq)]
+pub enum Made {
+    Object { number: u64 },
+    Full,
+}
+
+/// The objects of a run: how many were made so far, and those that live by their numbers. Each call answers as the
+/// definition of objects does. Only the calls that make objects take memory, and after a trap all is as before. Each call
+/// on scalars has a form on words, which a run uses.
+#[derive(Drop)]
+pub struct Objects {
+    alloc: Global,
+    made: u64,
+    cells: u32,
+    table: Table,
+}
+
+impl Model for Objects {
+    ghost use Rattle.cbi_base.specs.Objects.{Objects};
+    ghost use Rattle.c_store.specs.Codes.{objects_code};
+    ghost use Rattle.c_store.specs.Kept.{IsKept};
+
+    ghost Value = { Objects };
+
+    ghost coded = { objects_code };
+
+    ghost view = { λ s. record { made = s.made; live = s.table } };
+
+    ghost invariant = { λ s. IsKept s.cells (record { made = s.made; live = s.table }) };
+}
+
+/// What a load finds in a cell, of the kind that it wants.
+fn find(want: Want, cell: Option<Word>) -> Result<Word, Trap>
+    ensures { result ≡ found want cell }
+{
+    let Some(word) = cell else {
+        return Err(Trap::Bounds);
+    };
+    match (want, word.scalar()) {
+        (_, Scalar::Undefined) => Err(Trap::Undefined),
+        (Want::Number { kind: wanted }, Scalar::Number { kind, .. }) if wanted == kind => Ok(word),
+        (Want::Pointer, Scalar::Place { .. } | Scalar::Null) => Ok(word),
+        _ => Err(Trap::WrongKind),
+    }
+}
+
+/// The words that hold these scalars.
+fn words_of(alloc: Global, values: &[Scalar]) -> Result<Vec<Word>, Memory>
+    requires { All IsHeld values.now }
+    ensures { IfOk result (λ words. words.items ≡ values.now) }
+{
+    let mut words = Vec::with_capacity(alloc, values.len())?;
+    for value in values {
+        words.push(Word::of(*value))?;
+    }
+    Ok(words)
+}
+
+/// The arguments behind the first one.
+fn behind_first(arguments: &[Word]) -> &[Word]
+    ensures { result.now ≡ drop 1 arguments.now }
+{
+    match arguments {
+        [] => arguments,
+        [_, rest @ ..] => rest,
+    }
+}
+
+impl Objects {
+    /// No objects. Takes no memory.
+    pub fn new(alloc: Global) -> Objects
+        ensures { result ≡ no_objects }
+    {
+        Objects {
+            alloc,
+            made: 0,
+            cells: 0,
+            table: Table::new(alloc),
+        }
+    }
+
+    /// How many cells live.
+    pub fn live_cells(&self) -> u32
+        ensures value { result ≡ live_cells self.now }
+        ensures limit { result ≤ cell_limit }
+    {
+        self.cells
+    }
+
+    /// Whether one more object of so many cells fits.
+    fn has_room(&self, cells: usize) -> bool
+        ensures { result ≡ has_room cells self.now }
+    {
+        cells <= (CELL_LIMIT - self.cells) as usize && self.made < OBJECT_LIMIT
+    }
+
+    /// One more object, for which there is room.
+    fn add(&mut self, block: Block) -> Result<Made, Memory>
+        requires { IsTrue (has_room (length block.cells) self.old) }
+        ensures made { IfOk result (IsMade (Some (one_more block.class block.cells self.old)) self.old self.new) }
+        ensures back { OnOk result (undone self.new ≡ self.old) }
+        ensures memory { OnErr result (self.new ≡ self.old) }
+    {
+        let number = self.made;
+        let cells = block.len() as u32;
+        self.table.insert(number, block)?;
+        self.made += 1;
+        self.cells += cells;
+        Ok(Made::Object { number })
+    }
+
+    /// A new object of so many undefined cells.
+    pub fn make(&mut self, class: Class, cells: u32) -> Result<Made, Memory>
+        requires { 1 ≤ cells }
+        ensures made { IfOk result (IsMade (made_with class (replicate cells Undefined) self.old) self.old self.new) }
+        ensures memory { OnErr result (self.new ≡ self.old) }
+    {
+        if !self.has_room(cells as usize) {
+            return Ok(Made::Full);
+        }
+        let block = Block::undefined(self.alloc, class, cells)?;
+        self.add(block)
+    }
+
+    /// A new object with these cells.
+    pub fn make_of_words(&mut self, class: Class, values: &[Word]) -> Result<Made, Memory>
+        requires { 1 ≤ length values.now }
+        ensures made { IfOk result (IsMade (made_with class values.now self.old) self.old self.new) }
+        ensures memory { OnErr result (self.new ≡ self.old) }
+    {
+        if !self.has_room(values.len()) {
+            return Ok(Made::Full);
+        }
+        let cells = values.to_vec(self.alloc)?;
+        self.add(Block::of_words(class, cells))
+    }
+
+    /// A new object with these cells.
+    pub fn make_fixed(&mut self, class: Class, values: &[Scalar]) -> Result<Made, Memory>
+        requires some { 1 ≤ length values.now }
+        requires held { All IsHeld values.now }
+        ensures made { IfOk result (IsMade (made_with class values.now self.old) self.old self.new) }
+        ensures memory { OnErr result (self.new ≡ self.old) }
+    {
+        if !self.has_room(values.len()) {
+            return Ok(Made::Full);
+        }
+        let cells = words_of(self.alloc, values)?;
+        self.add(Block::of_words(class, cells))
+    }
+
+    /// The object of a variable of this size, with the first of the arguments in its first cell where there is one.
+    fn make_local(&mut self, arguments: &[Word], size: u32) -> Result<Made, Memory>
+        ensures made { IfOk result (IsMade (made_with Local (cells_at_start arguments.now size) self.old) self.old self.new) }
+        ensures back { IfOk result (λ m. IsObject m → undone self.new ≡ self.old) }
+        ensures memory { OnErr result (self.new ≡ self.old) }
+    {
+        let first = arguments.first().copied();
+        let cells = match first {
+            Some(_) => size.max(1),
+            None => size,
+        };
+        if !self.has_room(cells as usize) {
+            return Ok(Made::Full);
+        }
+        let block = match first {
+            Some(argument) => Block::beginning(self.alloc, Class::Local, argument, size)?,
+            None => Block::undefined(self.alloc, Class::Local, size)?,
+        };
+        self.add(block)
+    }
+
+    /// The object that was made last is as if it had not been made.
+    fn undo(&mut self)
+        requires { 1 ≤ self.old.made }
+        ensures { self.new ≡ undone self.old }
+    {
+        let number = self.made - 1;
+        self.kill(number);
+        self.made = number;
+    }
+
+    /// So many objects that were made last are as if they had not been made.
+    fn undo_all(&mut self, count: usize)
+        requires { count ≤ self.old.made }
+        ensures { self.new ≡ all_undone count self.old }
+    {
+        let mut left = count;
+        while left > 0 {
+            self.undo();
+            left -= 1;
+        }
+    }
+
+    /// The objects of a function's variables with these sizes, made one after another: each argument is the first cell of
+    /// its variable, and all other cells are undefined. The answer is the number of the first one.
+    pub fn make_locals(&mut self, arguments: &[Word], sizes: &[u32]) -> Result<Made, Memory>
+        ensures made { IfOk result (IsMade (all_made (first_cells arguments.now sizes.now) self.old) self.old self.new) }
+        ensures memory { OnErr result (self.new ≡ self.old) }
+    {
+        let first = self.made;
+        let mut rest = arguments;
+        for (index, size) in sizes.iter().enumerate() {
+            match self.make_local(rest, *size) {
+                Ok(Made::Object { .. }) => rest = behind_first(rest),
+                Ok(Made::Full) => {
+                    self.undo_all(index);
+                    return Ok(Made::Full);
+                }
+                Err(memory) => {
+                    self.undo_all(index);
+                    return Err(memory);
+                }
+            }
+        }
+        Ok(Made::Object { number: first })
+    }
+
+    /// The object is dead from now on, where it lives.
+    pub fn kill(&mut self, object: u64)
+        ensures { self.new ≡ killed object self.old }
+    {
+        if let Some(block) = self.table.remove(object) {
+            self.cells -= block.len() as u32;
+        }
+    }
+
+    /// The object so many numbers behind another is dead from now on, where it lives.
+    fn kill_behind(&mut self, first: u64, more: u32)
+        ensures { self.new ≡ killed (first + more) self.old }
+    {
+        match first.checked_add(u64::from(more)) {
+            Some(number) => self.kill(number),
+            None => {
+                let _ = &self.made;
+            }
+        }
+    }
+
+    /// So many objects, from the first one's number on, are dead from now on, where they live.
+    pub fn kill_locals(&mut self, first: u64, count: u32)
+        ensures { self.new ≡ all_killed first count self.old }
+    {
+        let mut left = count;
+        while left > 0 {
+            left -= 1;
+            self.kill_behind(first, left);
+        }
+    }
+
+    /// Each cell of the object, where it lives, has this value from now on.
+    pub fn fill(&mut self, object: u64, value: Word)
+        ensures { self.new ≡ filled object value self.old }
+    {
+        self.table.fill(object, value);
+    }
+
+    /// The cells of the object, where it lives, are undefined from now on.
+    pub fn clear(&mut self, object: u64)
+        ensures { self.new ≡ cleared object self.old }
+    {
+        self.fill(object, Word::undefined());
+    }
+
+    /// The cells of the object, where it lives.
+    pub fn cells(&self, object: u64) -> Option<&[Word]>
+        ensures { option_map (λ c. c.now) result ≡ option_map (λ o. o.cells) (get self.now.live object) }
+    {
+        match self.table.get(object) {
+            Some(block) => Some(block.cells()),
+            None => None,
+        }
+    }
+
+    /// `free`: null does nothing, and anything but the start of a live object of `malloc` is trap BadFree.
+    #[tactic(auto, unfolding(cbi_base::specs::Objects::released))]
+    pub fn release(&mut self, pointer: Scalar) -> Result<(), Trap>
+        ensures value { released pointer self.old ≡ after result self.new }
+        ensures trap { OnErr result (self.new ≡ self.old) }
+    {
+        match pointer {
+            Scalar::Undefined => Err(Trap::Undefined),
+            Scalar::Number { .. } => Err(Trap::Internal),
+            Scalar::Null => Ok(()),
+            Scalar::Place { object, offset } => {
+                if offset != 0 || !self.table.is_heap(object) {
+                    return Err(Trap::BadFree);
+                }
+                self.kill(object);
+                Ok(())
+            }
+        }
+    }
+
+    /// `release` of a word.
+    pub fn release_word(&mut self, pointer: Word) -> Result<(), Trap>
+        ensures value { released pointer self.old ≡ after result self.new }
+        ensures trap { OnErr result (self.new ≡ self.old) }
+    {
+        self.release(pointer.scalar())
+    }
+
+    /// The value at a pointer, of the kind that is wanted.
+    #[inline(always)]
+    #[tactic(auto, using(crate::proofs::Loading::loaded_there))]
+    pub fn load_word(&self, pointer: Word, want: Want) -> Result<Word, Trap>
+        ensures { result ≡ loaded want pointer self.now }
+    {
+        if let Some((object, offset)) = pointer.place_parts() {
+            if let Some(word) = self.quick_cell(object, offset) {
+                if word.is_wanted(want) {
+                    return Ok(word);
+                }
+            }
+        }
+        self.load_at(pointer.scalar(), want)
+    }
+
+    /// A cell that is found without a search.
+    #[inline(always)]
+    #[tactic(auto, using(crate::proofs::Loading::cell_there))]
+    fn quick_cell(&self, object: u64, offset: u32) -> Option<Word>
+        ensures { IfSome result (λ word. cell_of object offset self.now ≡ Some word) }
+    {
+        self.table.quick(object)?.cell(offset)
+    }
+
+    #[inline(never)]
+    #[tactic(auto, unfolding(cbi_base::specs::Objects::loaded))]
+    fn load_at(&self, pointer: Scalar, want: Want) -> Result<Word, Trap>
+        ensures { result ≡ loaded want pointer self.now }
+    {
+        match pointer {
+            Scalar::Undefined => Err(Trap::Undefined),
+            Scalar::Number { .. } => Err(Trap::Internal),
+            Scalar::Null => Err(Trap::NullUse),
+            Scalar::Place { object, offset } => {
+                let Some(block) = self.table.get_by_search(object) else {
+                    return Err(Trap::Dead);
+                };
+                find(want, block.cell(offset))
+            }
+        }
+    }
+
+    /// The value at a pointer, of the kind that is wanted.
+    pub fn load(&self, pointer: Scalar, want: Want) -> Result<Scalar, Trap>
+        ensures value { result ≡ loaded want pointer self.now }
+        ensures held { IfOk result IsHeld }
+    {
+        let value = self.load_at(pointer, want)?;
+        Ok(value.scalar())
+    }
+
+    /// Stores a value at a pointer.
+    #[tactic(auto, using(crate::proofs::Storing::stored_place, crate::proofs::Storing::lifted), unfolding(cbi_base::specs::Objects::stored))]
+    fn store_at(&mut self, pointer: Scalar, value: Word) -> Result<(), Trap>
+        ensures value { stored pointer value self.old ≡ after result self.new }
+        ensures trap { OnErr result (self.new ≡ self.old) }
+    {
+        if value.is_undefined() {
+            return Err(Trap::Undefined);
+        }
+        match pointer {
+            Scalar::Undefined => Err(Trap::Undefined),
+            Scalar::Number { .. } => Err(Trap::Internal),
+            Scalar::Null => Err(Trap::NullUse),
+            Scalar::Place { object, offset } => self.table.set(object, offset, value),
+        }
+    }
+
+    /// Stores a value at a pointer.
+    #[inline(always)]
+    pub fn store_word(&mut self, pointer: Word, value: Word) -> Result<(), Trap>
+        ensures value { stored pointer value self.old ≡ after result self.new }
+        ensures trap { OnErr result (self.new ≡ self.old) }
+    {
+        self.store_at(pointer.scalar(), value)
+    }
+
+    /// Stores a value at a pointer.
+    pub fn store(&mut self, pointer: Scalar, value: Scalar) -> Result<(), Trap>
+        requires { IsHeld value }
+        ensures value { stored pointer value self.old ≡ after result self.new }
+        ensures trap { OnErr result (self.new ≡ self.old) }
+    {
+        self.store_at(pointer, Word::of(value))
+    }
+
+    #[inline(always)]
+    #[tactic(auto, unfolding(cbi_base::specs::Objects::moved))]
+    fn move_at(&self, pointer: Scalar, cells: i64) -> Result<Word, Trap>
+        ensures { result ≡ moved pointer cells self.now }
+    {
+        match pointer {
+            Scalar::Undefined => Err(Trap::Undefined),
+            Scalar::Number { .. } => Err(Trap::Internal),
+            Scalar::Null => Err(Trap::NullUse),
+            Scalar::Place { object, offset } => {
+                let Some(length) = self.length(object) else {
+                    return Err(Trap::Dead);
+                };
+                move_in(object, offset, cells, length)
+            }
+        }
+    }
+
+    /// The pointer moved by so many cells, within its object or to its end.
+    #[inline(always)]
+    pub fn move_word(&self, pointer: Word, cells: i64) -> Result<Word, Trap>
+        ensures { result ≡ moved pointer cells self.now }
+    {
+        self.move_at(pointer.scalar(), cells)
+    }
+
+    /// The pointer moved by so many cells, within its object or to its end.
+    pub fn move_pointer(&self, pointer: Scalar, cells: i64) -> Result<Scalar, Trap>
+        ensures value { result ≡ moved pointer cells self.now }
+        ensures held { IfOk result IsHeld }
+    {
+        let place = self.move_at(pointer, cells)?;
+        Ok(place.scalar())
+    }
+
+    /// How many cells an object has, where it lives.
+    #[inline(always)]
+    fn length(&self, object: u64) -> Option<u32>
+        ensures value { result ≡ option_map (λ o. length o.cells) (get self.now.live object) }
+        ensures limit { IfSome result (λ n. n ≤ cell_limit) }
+    {
+        let Some(block) = self.table.get(object) else {
+            return None;
+        };
+        Some(block.len() as u32)
+    }
+
+    /// The offsets of two places in one object.
+    fn within_one(&self, left: Scalar, right: Scalar) -> Result<(u32, u32), Trap>
+        ensures value { result ≡ within_one left right self.now (λ i j. Ok (i, j)) }
+        ensures near { IsHeld left → IsHeld right → IfOk result (λ p. (p.0 ≤ cell_limit) × (p.1 ≤ cell_limit)) }
+    {
+        let (
+            Scalar::Place { object, offset },
+            Scalar::Place {
+                object: other,
+                offset: at,
+            },
+        ) = (left, right)
+        else {
+            return Err(Trap::NullUse);
+        };
+        if !self.table.lives(object) || !self.table.lives(other) {
+            return Err(Trap::Dead);
+        }
+        if object != other {
+            return Err(Trap::Unrelated);
+        }
+        Ok((offset, at))
+    }
+
+    /// Two pointers compared (C99 6.5.8 and 6.5.9).
+    #[tactic(auto, using(crate::proofs::PairLemmas::compared_by), unfolding(cbi_base::specs::Objects::compared))]
+    pub fn compare(&self, order: Order, left: Scalar, right: Scalar) -> Result<bool, Trap>
+        ensures { result ≡ compared order left right self.now }
+    {
+        check_pointers(left, right)?;
+        match order {
+            Order::Eq => Ok(same_place(left, right)),
+            Order::Ne => Ok(!same_place(left, right)),
+            _ => match self.within_one(left, right) {
+                Ok((first, second)) => Ok(in_order(order, first, second)),
+                Err(trap) => Err(trap),
+            },
+        }
+    }
+
+    /// Two pointers compared (C99 6.5.8 and 6.5.9).
+    pub fn compare_words(&self, order: Order, left: Word, right: Word) -> Result<bool, Trap>
+        ensures { result ≡ compared order left right self.now }
+    {
+        self.compare(order, left.scalar(), right.scalar())
+    }
+
+    /// How many elements of so many cells lie between two pointers (C99 6.5.6p9).
+    #[tactic(auto, unfolding(cbi_base::specs::Objects::difference))]
+    pub fn difference(&self, left: Scalar, right: Scalar, size: u32) -> Result<i64, Trap>
+        requires { 1 ≤ size }
+        ensures value { result ≡ difference left right size self.now }
+        ensures in_range { IsHeld left → IsHeld right → IfOk result (LiesIn Int) }
+    {
+        check_pointers(left, right)?;
+        let (first, second) = self.within_one(left, right)?;
+        elements(size, i64::from(first) - i64::from(second))
+    }
+
+    /// How many elements of so many cells lie between two pointers (C99 6.5.6p9), which an `int` holds.
+    pub fn difference_of_words(&self, left: Word, right: Word, size: u32) -> Result<i64, Trap>
+        requires { 1 ≤ size }
+        ensures value { result ≡ difference left right size self.now }
+        ensures in_range { IfOk result (LiesIn Int) }
+    {
+        self.difference(left.scalar(), right.scalar(), size)
+    }
+}

@@ -1,0 +1,90 @@
+//! Where a number stands among numbers that rise.
+
+ghost use Rattle.std.specs.Prelude.{IfSome, IfNone, IsTrue};
+ghost use Rattle.c_store.specs.Stacked.{IsRising, IsBelow, StandsAt, IsMissing};
+
+/// How many places are noted.
+const NOTES: usize = 1024;
+
+/// For each rest of a number by their count a place where such a number may stand. A note may be out of date: it is looked
+/// at before it is used.
+#[derive(Drop)]
+pub struct Notes {
+    places: [usize; NOTES],
+}
+
+/// Whether the number stands at this place.
+#[inline(always)]
+fn is_at(numbers: &[u64], place: usize, number: u64) -> bool
+    ensures { IsTrue result → StandsAt numbers.now number place }
+{
+    place < numbers.len() && numbers[place] == number
+}
+
+/// The place of the number where no search is needed: as the last numbers rise one by one, so do the first ones from zero
+/// on, and others are noted.
+#[inline(always)]
+pub fn guess(numbers: &[u64], notes: &Notes, number: u64) -> Option<usize>
+    ensures { IfSome result (StandsAt numbers.now number) }
+{
+    let last = *numbers.last()?;
+    if number <= last && last - number < numbers.len() as u64 {
+        let place = numbers.len() - 1 - (last - number) as usize;
+        if is_at(numbers, place, number) {
+            return Some(place);
+        }
+    }
+    if number < numbers.len() as u64 && is_at(numbers, number as usize, number) {
+        return Some(number as usize);
+    }
+    let place = notes.place(number);
+    if is_at(numbers, place, number) {
+        Some(place)
+    } else {
+        None
+    }
+}
+
+impl Notes {
+    pub fn new() -> Notes {
+        Notes { places: [0; NOTES] }
+    }
+
+    /// The place that is noted for the number's rest.
+    #[inline(always)]
+    fn place(&self, number: u64) -> usize {
+        self.places[(number % NOTES as u64) as usize]
+    }
+
+    /// Notes the place of a number, unless one with the same rest stands at the noted place.
+    pub fn note(&mut self, numbers: &[u64], place: usize, number: u64) {
+        let rest = (number % NOTES as u64) as usize;
+        let noted = self.places[rest];
+        if noted >= numbers.len() || numbers[noted] % NOTES as u64 != rest as u64 {
+            self.places[rest] = place;
+        }
+    }
+}
+
+/// The place of the number.
+pub fn search(numbers: &[u64], number: u64) -> Option<usize>
+    requires { IsRising numbers.now }
+    ensures found { IfSome result (StandsAt numbers.now number) }
+    ensures missing { IfNone result (IsMissing numbers.now number) }
+{
+    match numbers.binary_search(&number) {
+        Ok(place) => Some(place),
+        Err(_) => None,
+    }
+}
+
+/// Whether the number is above all of these.
+pub fn is_above(number: u64, numbers: &[u64]) -> bool
+    requires { IsRising numbers.now }
+    ensures { IsTrue result → IsBelow numbers.now number }
+{
+    match numbers.last() {
+        Some(last) => *last < number,
+        None => true,
+    }
+}
