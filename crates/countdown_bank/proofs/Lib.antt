@@ -1,0 +1,5 @@
+pub mod Words
+pub mod Rounds
+pub mod Texts
+pub mod Made
+pub mod WholeBound

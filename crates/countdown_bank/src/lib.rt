@@ -1,0 +1,10 @@
+//! Banks of countdowns: the numbers that say which visits of sites are sampled (PLDI 2003 section 3).
+#![tactic(auto)]
+
+mod bank;
+mod file;
+mod make;
+
+pub use bank::{Bank, numbers_come_round};
+pub use file::{BankError, one_bank, read_bank, write_bank};
+pub use make::{make_bank, one_made_bank, ones_at_rate_one};
