@@ -1,0 +1,111 @@
+-- The distinct sites of a list, one site after another.
+use Rattle.std.proofs.Common.{◌≡◌, ℕ, ◌+◌, ◌<◌, ◌≤◌, inl, inr, Bool, true, false, not, ◌||◌, ◌==◌, nat_eq, cond, List, [], ◌∷◌, ◌++◌, length, take, drop, get_or, filter, refl, sym, ap, ◌∙◌, arith, append_assoc, length-append}
+use Rattle.std.specs.List.{list_any}
+use Rattle.std.proofs.lemmas.Bool.{cases_eq, eq-eqb, ne_eqb}
+use Rattle.std.proofs.lemmas.List.{append-nil, take-append-le, take_all, take_more, map-append, take-append-drop}
+use Rattle.std.proofs.lemmas.List.Elements.{filter-append}
+use Rattle.indexmap.specs.IndexSet.{insert_key}
+use Rattle.cbi_base.specs.declared.observation.Observation.{Observation}
+use Rattle.probes.specs.Sites.{most_sites, sites_of}
+use Rattle.probes.specs.FirstSeen.{firsts_of}
+
+abbrev pub others_than : ℕ → ℕ → Bool
+others_than site other = not (other == site)
+
+pub filter-skip : (p : ℕ → Bool) (k : ℕ) (ks : List ℕ) → p k ≡ false → filter p (k ∷ ks) ≡ filter p ks
+filter-skip p k ks out = ap (λ b. cond b (k ∷ filter p ks) (filter p ks)) out
+
+pub filter-keep : (p : ℕ → Bool) (k : ℕ) (ks : List ℕ) → p k ≡ true → filter p (k ∷ ks) ≡ k ∷ filter p ks
+filter-keep p k ks pass = ap (λ b. cond b (k ∷ filter p ks) (filter p ks)) pass
+
+pub others-same : (x k : ℕ) → k ≡ x → others_than x k ≡ false
+others-same x k same = ap not (eq-eqb k x same)
+
+pub others-other : (x k : ℕ) → (k ≡ x → ⊥) → others_than x k ≡ true
+others-other x k apart = ap not (ne_eqb k x apart)
+
+-- a filter that takes out one number doesn't change whether another is there
+list_any-filter : (x y : ℕ) (ks : List ℕ) → (y ≡ x → ⊥) → list_any (nat_eq y) (filter (others_than x) ks) ≡ list_any (nat_eq y) ks
+list_any-filter x y [] apart = refl
+list_any-filter x y (k ∷ ks) apart =
+    elim (cases_eq k x) [
+      | inl same ↦
+          let out : nat_eq y k ≡ false = ne_eqb y k (λ e. apart (e ∙ same)) in
+          ap (list_any (nat_eq y)) (filter-skip (others_than x) k ks (others-same x k same)) ∙ list_any-filter x y ks apart ∙ sym (ap (λ b. b || list_any (nat_eq y) ks) out)
+      | inr other ↦
+          ap (list_any (nat_eq y)) (filter-keep (others_than x) k ks (others-other x k other)) ∙ ap (λ b. nat_eq y k || b) (list_any-filter x y ks apart)
+    ]
+
+-- a key that is added where it isn't yet there
+abbrev added : Bool → List ℕ → ℕ → List ℕ
+added there ks y = cond there ks (ks ++ y ∷ [])
+
+filter-added_same : (p : ℕ → Bool) (there : Bool) (ks : List ℕ) (y : ℕ) → p y ≡ false → filter p (added there ks y) ≡ filter p ks
+filter-added_same p true ks y out = refl
+filter-added_same p false ks y out = filter-append p ks (y ∷ []) ∙ ap (λ l. filter p ks ++ l) (filter-skip p y [] out) ∙ append-nil (filter p ks)
+
+filter-added_other : (p : ℕ → Bool) (there : Bool) (ks : List ℕ) (y : ℕ) → p y ≡ true → filter p (added there ks y) ≡ added there (filter p ks) y
+filter-added_other p true ks y pass = refl
+filter-added_other p false ks y pass = filter-append p ks (y ∷ []) ∙ ap (λ l. filter p ks ++ l) (filter-keep p y [] pass)
+
+cons-added : (there : Bool) (x y : ℕ) (ks : List ℕ) → x ∷ added there ks y ≡ added there (x ∷ ks) y
+cons-added true x y ks = refl
+cons-added false x y ks = refl
+
+pub firsts_of-push : (xs : List ℕ) (y : ℕ) → firsts_of (xs ++ y ∷ []) ≡ insert_key nat_eq (firsts_of xs) y
+firsts_of-push [] y = refl
+firsts_of-push (x ∷ xs) y =
+    let p = others_than x in
+    let ks = firsts_of xs in
+    let there = list_any (nat_eq y) ks in
+    let first : x ∷ filter p (firsts_of (xs ++ y ∷ [])) ≡ x ∷ filter p (added there ks y) = ap (λ l. x ∷ filter p l) (firsts_of-push xs y) in
+    elim (cases_eq y x) [
+      | inl same ↦
+          first ∙ ap (λ l. x ∷ l) (filter-added_same p there ks y (others-same x y same))
+          ∙ sym (ap (λ b. added (b || list_any (nat_eq y) (filter p ks)) (x ∷ filter p ks) y) (eq-eqb y x same))
+      | inr apart ↦
+          first ∙ ap (λ l. x ∷ l) (filter-added_other p there ks y (others-other x y apart)) ∙ cons-added there x y (filter p ks)
+          ∙ sym (ap (λ b. added (b || list_any (nat_eq y) (filter p ks)) (x ∷ filter p ks) y) (ne_eqb y x apart) ∙ ap (λ b. added b (x ∷ filter p ks) y) (list_any-filter x y ks apart))
+    ]
+
+added-more : (there : Bool) (ks : List ℕ) (y : ℕ) → (more : List ℕ) × (added there ks y ≡ ks ++ more)
+added-more true ks y = ([], sym (append-nil ks))
+added-more false ks y = (y ∷ [], refl)
+
+-- the sites so far stay the first ones
+pub firsts_of-append : (xs ys : List ℕ) → (more : List ℕ) × (firsts_of (xs ++ ys) ≡ firsts_of xs ++ more)
+firsts_of-append xs [] = ([], ap firsts_of (append-nil xs) ∙ sym (append-nil (firsts_of xs)))
+firsts_of-append xs (y ∷ ys) =
+    let next = firsts_of-append (xs ++ y ∷ []) ys in
+    let here = added-more (list_any (nat_eq y) (firsts_of xs)) (firsts_of xs) y in
+    let whole : xs ++ y ∷ ys ≡ (xs ++ y ∷ []) ++ ys = sym (append_assoc xs (y ∷ []) ys) in
+    (here.0 ++ next.0, ap firsts_of whole ∙ next.1 ∙ ap (λ l. l ++ next.0) (firsts_of-push xs y ∙ here.1) ∙ append_assoc (firsts_of xs) here.0 next.0)
+
+-- once there are as many as the line has, no later site counts
+pub firsts_of-full : (xs ys : List ℕ) → length (firsts_of xs) ≡ most_sites → take most_sites (firsts_of (xs ++ ys)) ≡ firsts_of xs
+firsts_of-full xs ys full =
+    let more = firsts_of-append xs ys in
+    let room : most_sites ≤ length (firsts_of xs) = omega arith in
+    ap (take most_sites) more.1 ∙ take-append-le most_sites (firsts_of xs) more.0 room ∙ take_all most_sites (firsts_of xs) (omega arith)
+
+-- the sites of one more observation
+pub sites_of-next : (xs : List Observation) (i : ℕ) (d : Observation) → i < length xs → sites_of (take (i + 1) xs) ≡ sites_of (take i xs) ++ (get_or xs i d).site ∷ []
+sites_of-next xs i d inside = ap sites_of (take_more xs i d inside) ∙ map-append (λ (o : Observation). o.site) (take i xs) (get_or xs i d ∷ [])
+
+pub firsts_of-next : (xs : List Observation) (i : ℕ) (d : Observation) → i < length xs
+    → firsts_of (sites_of (take (i + 1) xs)) ≡ insert_key nat_eq (firsts_of (sites_of (take i xs))) (get_or xs i d).site
+firsts_of-next xs i d inside = ap firsts_of (sites_of-next xs i d inside) ∙ firsts_of-push (sites_of (take i xs)) (get_or xs i d).site
+
+-- the observations so far have the first sites already, where these are as many as the line has
+pub firsts_of-enough : (xs : List Observation) (i : ℕ) → length (firsts_of (sites_of (take i xs))) ≡ most_sites → take most_sites (firsts_of (sites_of xs)) ≡ firsts_of (sites_of (take i xs))
+firsts_of-enough xs i full =
+    let whole : sites_of xs ≡ sites_of (take i xs) ++ sites_of (drop i xs) = ap sites_of (sym (take-append-drop i xs)) ∙ map-append (λ (o : Observation). o.site) (take i xs) (drop i xs) in
+    ap (λ l. take most_sites (firsts_of l)) whole ∙ firsts_of-full (sites_of (take i xs)) (sites_of (drop i xs)) full
+
+-- a key that is added to a list that isn't full leaves it within its bound
+length-added : (there : Bool) (ks : List ℕ) (y : ℕ) → length (added there ks y) ≤ length ks + 1
+length-added true ks y = omega arith
+length-added false ks y = omega (arith, length-append {A = ℕ} ks (y ∷ []))
+
+pub insert_key-within : (ks more : List ℕ) (y : ℕ) → length ks ≤ most_sites → (length ks ≡ most_sites → ⊥) → more ≡ insert_key nat_eq ks y → length more ≤ most_sites
+insert_key-within ks more y few room is = omega (arith, ap length is, length-added (list_any (nat_eq y) ks) ks y)

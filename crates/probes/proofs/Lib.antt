@@ -1,0 +1,5 @@
+pub mod Growing
+pub mod Firsts
+pub mod Members
+pub mod Leading
+pub mod FirstLaws

@@ -1,0 +1,12 @@
+use Rattle.std.specs.Prelude.{ℕ, List, [], ◌∷◌, ◌==◌, not, filter, take, codes}
+use Rattle.cbi_base.specs.declared.observation.Observation.{Observation}
+use Rattle.probes.specs.Sites.{most_sites, sites_of, sites_line}
+
+-- the distinct sites of a list, each where it stands first
+abbrev pub firsts_of : List ℕ → List ℕ
+firsts_of [] = []
+firsts_of (site ∷ sites) = site ∷ filter (λ other. not (other == site)) (firsts_of sites)
+
+-- the first distinct sites, in order of first observation
+abbrev pub first_line : List Observation → List ℕ
+first_line seen = sites_line (codes "first") (take most_sites (firsts_of (sites_of seen)))

@@ -1,0 +1,38 @@
+use Rattle.std.specs.Prelude.{◌≡◌, ℕ, ◌≤◌, Bool, ◌&&◌, ◌||◌, ◌==◌, nat_lt, nat_le, List, ◌++◌, Contains, count_by, find, Option, None, Some, if◌then◌else◌, codes}
+use Rattle.std.specs.List.{list_all}
+use Rattle.std.specs.Option.{option_map}
+use Rattle.cbi_base.specs.Text.{ended}
+use Rattle.cbi_base.specs.declared.observation.Observation.{Observation}
+use Rattle.probes.specs.Sites.{sites_of, number_field}
+
+-- how often the site was observed
+abbrev pub times_of : List ℕ → ℕ → ℕ
+times_of sites site = count_by (λ other. other == site) sites
+
+-- the site was observed more often than the other, or as often and isn't the greater
+abbrev pub leads : List ℕ → ℕ → ℕ → Bool
+leads sites site other = nat_lt (times_of sites other) (times_of sites site) || (times_of sites other == times_of sites site && nat_le site other)
+
+-- the site that was observed most often, the smallest among equals
+abbrev pub hottest_of : List ℕ → Option ℕ
+hottest_of sites = find (λ site. list_all (leads sites site) sites) sites
+
+-- the line with this site and this count
+abbrev pub count_line : Option (ℕ × ℕ) → List ℕ
+count_line None = ended (codes "hottest none")
+count_line (Some best) = ended (codes "hottest" ++ number_field best.0 ++ number_field best.1)
+
+-- the site that was observed most often, and how often it was
+abbrev pub hottest_line : List Observation → List ℕ
+hottest_line seen = let sites = sites_of seen in count_line (option_map (λ site. (site, times_of sites site)) (hottest_of sites))
+
+-- of the best so far and another site, with how often each was observed, the one that was observed more often, or else the smaller
+abbrev pub hotter : Option (ℕ × ℕ) → ℕ × ℕ → Option (ℕ × ℕ)
+hotter None next = Some next
+hotter (Some best) next = if nat_lt next.1 best.1 || (best.1 == next.1 && nat_lt best.0 next.0) then Some best else Some next
+
+-- the site was observed, no other was observed more often, and none that was observed as often is smaller
+pub record IsHottest (sites : List ℕ) (site : ℕ) : Type 0 where
+  pub observed : Contains sites site
+  pub most : (other : ℕ) → times_of sites other ≤ times_of sites site
+  pub smallest : (other : ℕ) → times_of sites other ≡ times_of sites site → site ≤ other

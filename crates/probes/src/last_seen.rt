@@ -1,0 +1,64 @@
+ghost use Rattle.std.specs.Prelude.{◌≡◌, [], ◌++◌, ◌∷◌, IfOk, OnOk, OnErr};
+ghost use Rattle.cbi_base.specs.declared.observation.Observation.{Observation};
+ghost use Rattle.probes.specs.Sites.{most_sites, sites_of};
+ghost use Rattle.probes.specs.LastSeen.{last_of, last_line};
+
+use crate::history::History;
+use crate::probe::Probe;
+use crate::sites::{MOST_SITES, sites_line};
+use cbi_base::{Memory, Observation};
+use std::alloc::Global;
+use std::marker::Model;
+
+/// Says which sites were observed last.
+#[derive(Debug, Drop)]
+pub struct LastSeen {
+    history: History,
+}
+
+impl Model for LastSeen {
+    ghost use Rattle.std.specs.Prelude.{List};
+    ghost use Rattle.cbi_base.specs.declared.observation.Observation.{Observation};
+
+    ghost Value = { List Observation };
+
+    ghost view = { λ p. p.history };
+}
+
+impl LastSeen {
+    /// Nothing is observed yet.
+    pub fn new(alloc: Global) -> LastSeen
+        ensures { result ≡ [] }
+    {
+        LastSeen {
+            history: History::new(alloc),
+        }
+    }
+}
+
+/// The sites of the last of these observations, oldest first.
+fn last_sites(alloc: Global, observations: &[Observation]) -> Result<Vec<u32>, Memory>
+    ensures { IfOk result (λ sites. sites.items ≡ last_of most_sites (sites_of observations.now)) }
+{
+    let from = observations.len().saturating_sub(MOST_SITES);
+    let sites = observations[from..].iter().map(|o| o.site).collect(alloc)?;
+    Ok(sites)
+}
+
+impl Probe for LastSeen {
+    ghost seen = { λ p. p };
+
+    ghost line_text = { λ p. last_line p };
+
+    fn see(&mut self, observation: Observation) -> Result<(), Memory> {
+        self.history.push(observation)
+    }
+
+    fn line(&self, text: &mut Vec<u8>) -> Result<(), Memory> {
+        let alloc = *text.allocator();
+        let sites = last_sites(alloc, self.history.as_slice())?;
+        let line = sites_line(alloc, b"last".as_slice(), sites.as_slice())?;
+        text.extend_from_slice(line.as_slice())?;
+        Ok(())
+    }
+}

@@ -1,0 +1,16 @@
+//! Watchers of a run: each is told every observation, and has a line to say of them at the end.
+#![tactic(auto)]
+
+mod first_seen;
+mod history;
+mod hottest;
+mod last_seen;
+mod probe;
+mod sites;
+mod told;
+
+pub use first_seen::{FirstSeen, first_sites_in_order};
+pub use hottest::{Hottest, hottest_leads};
+pub use last_seen::LastSeen;
+pub use probe::Probe;
+pub use told::{push_lines, see_all};

@@ -1,0 +1,54 @@
+ghost use Rattle.std.specs.Prelude.{◌≡◌, [], ◌∷◌, ◌++◌, OnOk, OnErr};
+ghost use Rattle.std.specs.List.{flat_map};
+ghost use Rattle.probes.specs.Told.{AllGrew, AllGrewByPrefix};
+
+use crate::probe::Probe;
+use cbi_base::{Memory, Observation};
+
+/// Tells one watcher.
+fn see_one(probe: &mut Box<dyn Probe>, observation: Observation) -> Result<(), Memory>
+    ensures ok { OnOk result (seen probe.new ≡ seen probe.old ++ observation ∷ []) }
+    ensures memory { OnErr result (seen probe.new ≡ seen probe.old) }
+{
+    probe.see(observation)
+}
+
+/// Tells each of these watchers, in order.
+fn see_each(probes: &mut [Box<dyn Probe>], observation: Observation) -> Result<(), Memory>
+    ensures ok { OnOk result (AllGrew (λ b. seen b) (observation ∷ []) probes.old probes.new) }
+    ensures memory { OnErr result (AllGrewByPrefix (λ b. seen b) (observation ∷ []) probes.old probes.new) }
+{
+    for probe in probes.iter_mut() {
+        see_one(probe, observation)?;
+    }
+    Ok(())
+}
+
+/// Tells each watcher an observation. After `Memory` some of them were told it, and the others are as before.
+pub fn see_all(probes: &mut Vec<Box<dyn Probe>>, observation: Observation) -> Result<(), Memory>
+    ensures ok { OnOk result (AllGrew (λ b. seen b) (observation ∷ []) probes.old.items probes.new.items) }
+    ensures memory { OnErr result (AllGrewByPrefix (λ b. seen b) (observation ∷ []) probes.old.items probes.new.items) }
+{
+    see_each(probes.as_mut_slice(), observation)
+}
+
+/// Appends one watcher's line.
+fn push_line(probe: &Box<dyn Probe>, text: &mut Vec<u8>) -> Result<(), Memory>
+    ensures ok { OnOk result (text.new.items ≡ text.old.items ++ line_text probe.now) }
+    ensures memory { OnErr result (text.new.items ≡ text.old.items) }
+{
+    probe.line(text)
+}
+
+/// Appends each watcher's line, in order. After `Memory` the text is as before.
+pub fn push_lines(probes: &Vec<Box<dyn Probe>>, text: &mut Vec<u8>) -> Result<(), Memory>
+    ensures ok { OnOk result (text.new.items ≡ text.old.items ++ flat_map (λ b. line_text b) probes.now.items) }
+    ensures memory { OnErr result (text.new.items ≡ text.old.items) }
+{
+    let mut lines = Vec::new(*text.allocator());
+    for probe in probes {
+        push_line(probe, &mut lines)?;
+    }
+    text.extend_from_slice(lines.as_slice())?;
+    Ok(())
+}
