@@ -1,8 +1,22 @@
-use Rattle.std.specs.Prelude.{◌≡◌, ℕ, min, Result, Ok, Err}
+use Rattle.std.specs.Prelude.{◌≡◌, ℕ, Option, None, Some, Result, Ok, Err}
+use Rattle.cbi_base.specs.declared.lines.LineError.{LineError}
+use Rattle.cbi_base.specs.declared.lines.LineError.TheVariants as line
+use Rattle.cbi_base.specs.declared.memory.Memory.{Memory as NoMemory}
 use Rattle.flow.specs.declared.program.ProgramParts.{ProgramParts}
-use Rattle.program_file.specs.WrongLine.{last_line}
 use Rattle.program_file.specs.declared.error.ProgramError.{ProgramError}
 use Rattle.program_file.specs.declared.error.ProgramError.TheVariants.{BadProgram, Memory}
+
+-- this item is read of a line, unless memory runs out
+abbrev pub TakenAs : {A : Type 0} → Result A LineError → A → Type 0
+TakenAs (Ok item) want = item ≡ want
+TakenAs (Err line.Bad) want = ⊥
+TakenAs (Err line.Memory) want = Unit {0}
+
+-- what was read of a line, where a line without an item is a bad one
+abbrev pub item_of : {A : Type 0} → Result (Option A) NoMemory → Result A LineError
+item_of (Ok None) = Err line.Bad
+item_of (Ok (Some item)) = Ok item
+item_of (Err e) = Err line.Memory
 
 -- the answer is this program, unless memory ran out
 abbrev pub ReadAs : Result ProgramParts ProgramError → ProgramParts → Type 0
@@ -10,6 +24,8 @@ ReadAs (Ok p) want = p ≡ want
 ReadAs (Err (BadProgram line)) want = ⊥
 ReadAs (Err Memory) want = Unit {0}
 
--- the error with this line, or the greatest that there is
-abbrev pub bad_at : ℕ → ProgramError
-bad_at line = BadProgram (min line last_line)
+-- the bytes are refused at this line, unless memory ran out
+abbrev pub RefusedAt : Result ProgramParts ProgramError → ℕ → Type 0
+RefusedAt (Ok p) line = ⊥
+RefusedAt (Err (BadProgram bad)) line = bad ≡ line
+RefusedAt (Err Memory) line = Unit {0}

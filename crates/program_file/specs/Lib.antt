@@ -1,4 +1,10 @@
-pub mod Fields
+pub mod Words
+pub mod NodeLines
+pub mod Sums
+pub mod Rows
+pub mod CellRuns
+pub mod SiteLines
 pub mod Draft
-pub mod WrongLine
 pub mod Errors
+pub mod WrongLine
+pub mod Written

@@ -1,146 +1,112 @@
-ghost use Rattle.std.specs.Prelude.{codes, IsTrue, ◌≡◌, ◌≢◌, ◌↔◌, ◌+◌, ◌≤◌, ◌<◌, List, ℕ, [], ◌∷◌, ◌++◌, length, None, Some, OnOk, IsOk, IfOk, IfSome, IfNone, option_map};
+ghost use Rattle.std.specs.Prelude.{◌≡◌, codes, length, OnOk};
 ghost use Rattle.cbi_base.specs.LineFaults.{TakenWith};
-ghost use Rattle.cbi_base.specs.Text.{spaced};
+ghost use Rattle.flow.specs.Limits.{text_limit, global_limit, site_limit};
+ghost use Rattle.flow.specs.Spelling.{Head};
+ghost use Rattle.program_file.specs.Draft.{Takes, IsCount, IsFunctionCount, IsNextText, IsNextGlobal, IsNextHead, IsNextMain, IsNextSite, AreNextLocals, IsNextPlaced, IsDue, with_nodes, parts_in, empty, due_after, with_text_count, with_text, with_global_count, with_global, with_function_count, with_head, with_main, with_site_count, with_sites, with_site, with_locals, with_placed};
 ghost use Rattle.program_file.specs.declared.draft.Due.TheVariants as due;
-ghost use Rattle.program_file.specs.Fields.{head_of};
-ghost use Rattle.program_file.specs.Draft.{IsStart, IsOf, ones, IsOpen, Fixed, HeadFollows, NodeFollows, due_after};
 ghost use Rattle.program_file.specs.declared.draft.Draft.{Draft};
 
-use crate::node_line::node;
-use crate::numbers::two_numbers;
-use cbi_base::{Fields, LineError, LineReader, Memory, Name, Seq};
-use flow::{Bounds, Function, Node, ProgramParts, node_fits};
+use crate::lists::{Globals, Heads, Texts};
+use crate::scope::names;
+use cbi_base::{LineError, LineReader, Memory, Seq};
+use flow::{Function, Names, Node, ProgramParts, Site};
 use std::alloc::Global;
+use std::mem;
 
-/// The most locals of all functions together.
-const MOST_LOCALS: u32 = 200000;
-
-/// The most nodes of all functions together.
-const MOST_NODES: u32 = 16000000;
-
-/// What a program file calls for next.
+/// The line that a program file calls for next.
 #[derive(Clone, Copy, Debug, PartialEq, Eq)]
 pub enum Due {
     Title,
     Texts,
+    Text,
     Globals,
+    Global,
     Functions,
     Head,
     Main,
     Sites,
+    Site,
     Locals,
-    Nodes,
+    Node,
     End,
     Nothing,
 }
 
-/// A program file as far as it was read: what is due, and the function's name, its numbers of locals and nodes, and the nodes so far.
+/// A program file as far as it was read: the line that is due, how many lines the list in progress has, and the parts of the program so far; of
+/// the function in progress its locals and its nodes so far.
 #[derive(Drop)]
 pub struct Draft {
     pub alloc: Global,
     pub due: Due,
-    pub name: Option<Name>,
-    pub locals: u32,
     pub count: u32,
+    pub texts: Texts,
+    pub globals: Globals,
+    pub heads: Heads,
+    pub main: u32,
+    pub sites: Seq<Site>,
+    pub names: Names,
+    pub functions: Seq<Function>,
+    pub locals: Seq<u32>,
     pub nodes: Seq<Node>,
 }
 
-// The name and the numbers of locals and nodes in a function's line.
-#[tactic(auto, unfolding(crate::specs::Fields::head_of))]
-fn head<'a>(fields: &mut Fields<'a>) -> Option<(&'a [u8], (u32, u32))>
-    ensures { option_map (λ h. (h.0.now, h.1)) result ≡ head_of fields.old }
+fn due_after(lines: u32, count: u32, item: Due, past: Due) -> Due
+    ensures { result ≡ due_after lines count item past }
 {
-    let word = fields.next()?;
-    let name = fields.next()?;
-    let value = fields.next()?;
-    let params = fields.next()?;
-    if word != b"function".as_slice() || value != b"value".as_slice() {
-        return None;
-    }
-    if params != b"0".as_slice() {
-        return None;
-    }
-    let counts = two_numbers(fields)?;
-    Some((name, counts))
-}
-
-// Whether so many fields are left, each of them `1`.
-fn are_ones(fields: &mut Fields<'_>, count: u32) -> bool
-    ensures { IsTrue result ↔ (fields.old ≡ ones count) }
-{
-    for _place in 0..count {
-        let Some(field) = fields.next() else {
-            return false;
-        };
-        if field != b"1".as_slice() {
-            return false;
-        }
-    }
-    fields.is_empty()
-}
-
-fn due_after(places: u32, count: u32) -> Due
-    ensures { result ≡ due_after places count }
-{
-    if places == count {
-        Due::End
-    } else {
-        Due::Nodes
-    }
+    if lines == count { past } else { item }
 }
 
 impl Draft {
     /// Nothing is read yet.
     pub fn new(alloc: Global) -> Draft
-        ensures { IsStart result }
+        ensures { result ≡ empty alloc }
     {
         Draft {
             alloc,
             due: Due::Title,
-            name: None,
-            locals: 0,
             count: 0,
+            texts: Texts::new(alloc),
+            globals: Globals::new(alloc),
+            heads: Heads::new(alloc),
+            main: 0,
+            sites: Seq::new(alloc),
+            names: Names {
+                conversions: Seq::new(alloc),
+                globals: 0,
+                functions: 0,
+                owners: Seq::new(alloc),
+            },
+            functions: Seq::new(alloc),
+            locals: Seq::new(alloc),
             nodes: Seq::new(alloc),
         }
     }
 
-    /// The parts of the program, where nothing more is due.
-    pub fn finish(self) -> Result<Option<ProgramParts>, Memory>
-        ensures found { IfOk result (λ parts. IfSome parts (IsOf self)) }
-        ensures none { IfOk result (λ parts. IfNone parts (IsOpen self)) }
+    /// The parts that were read.
+    pub fn finish(self) -> ProgramParts
+        ensures { result ≡ parts_in self }
     {
         let Draft {
-            alloc,
-            due,
-            name,
-            locals,
-            count: _,
-            nodes,
+            texts,
+            globals,
+            functions,
+            main,
+            sites,
+            ..
         } = self;
-        let Due::Nothing = due else {
-            return Ok(None);
-        };
-        let Some(name) = name else {
-            return Ok(None);
-        };
-        let function = Function {
-            name,
-            value: true,
-            params: 0,
-            locals: Seq::from_vec(vec![in alloc; 1; locals as usize]?),
-            nodes,
-        };
-        let functions = vec![in alloc; function]?;
-        Ok(Some(ProgramParts {
-            functions: Seq::from_vec(functions),
-            main: 0,
-        }))
+        ProgramParts {
+            texts: Seq::from_vec(texts.into_vec()),
+            globals: Seq::from_vec(globals.into_vec()),
+            functions,
+            main,
+            sites,
+        }
     }
 
     // A line that is always the same.
     fn expect(&mut self, line: &[u8], want: &[u8], next: Due) -> Result<(), LineError>
-        ensures ok { OnOk result (Fixed want.now next self.old line.now self.new) }
-        ensures only { line.now ≡ want.now → IsOk result }
+        ensures ok { OnOk result ((line.now ≡ want.now) × (self.new ≡ record self.old { due = next })) }
+        ensures only { (after : Draft) → (line.now ≡ want.now) × (after ≡ record self.old { due = next }) → TakenWith result (self.new ≡ after) }
     {
         if line != want {
             return Err(LineError::Bad);
@@ -149,96 +115,267 @@ impl Draft {
         Ok(())
     }
 
-    // The line of the one function.
-    fn take_head(&mut self, line: &[u8]) -> Result<(), LineError>
-        ensures ok { OnOk result (HeadFollows self.old line.now self.new) }
-        ensures only { (next : Draft) → HeadFollows self.old line.now next → TakenWith result (self.new ≡ next) }
+    // How many texts there are.
+    fn take_text_count(&mut self, line: &[u8]) -> Result<(), LineError>
+        ensures ok { OnOk result (Takes (IsCount (codes "texts") text_limit line.now) (with_text_count self.old) self.new) }
+        ensures only { (next : Draft) → Takes (IsCount (codes "texts") text_limit line.now) (with_text_count self.old) next → TakenWith result (self.new ≡ next) }
     {
-        let mut fields = Fields::new(line);
-        let Some((bytes, (locals, count))) = head(&mut fields) else {
-            return Err(LineError::Bad);
+        let count = match self.next_text_count(line) {
+            Ok(count) => count,
+            Err(e) => return Err(e),
         };
-        if locals > MOST_LOCALS || count < 1 || count > MOST_NODES {
-            return Err(LineError::Bad);
-        }
-        let Ok(name) = Name::new(self.alloc, bytes) else {
+        self.due = due_after(0, count, Due::Text, Due::Globals);
+        self.count = count;
+        self.texts = Texts::new(self.alloc);
+        Ok(())
+    }
+
+    // The next text.
+    fn take_text(&mut self, line: &[u8]) -> Result<(), LineError>
+        ensures ok { OnOk result (Takes (IsNextText self.old line.now) (with_text self.old) self.new) }
+        ensures only { (next : Draft) → Takes (IsNextText self.old line.now) (with_text self.old) next → TakenWith result (self.new ≡ next) }
+    {
+        let count = self.count;
+        let text = match self.next_text(line) {
+            Ok(text) => text,
+            Err(e) => return Err(e),
+        };
+        let Ok(()) = self.texts.push(text) else {
             return Err(LineError::Memory);
         };
-        let Some(name) = name else {
-            return Err(LineError::Bad);
+        self.due = due_after(self.texts.len(), count, Due::Text, Due::Globals);
+        Ok(())
+    }
+
+    // How many globals there are.
+    fn take_global_count(&mut self, line: &[u8]) -> Result<(), LineError>
+        ensures ok { OnOk result (Takes (IsCount (codes "globals") global_limit line.now) (with_global_count self.old) self.new) }
+        ensures only { (next : Draft) → Takes (IsCount (codes "globals") global_limit line.now) (with_global_count self.old) next → TakenWith result (self.new ≡ next) }
+    {
+        let count = match self.next_global_count(line) {
+            Ok(count) => count,
+            Err(e) => return Err(e),
         };
-        self.due = Due::Main;
-        self.name = Some(name);
-        self.locals = locals;
+        self.due = due_after(0, count, Due::Global, Due::Functions);
         self.count = count;
+        self.globals = Globals::new(self.alloc);
         Ok(())
     }
 
-    // The line of the sizes of the locals: each is one cell.
+    // The next global.
+    fn take_global(&mut self, line: &[u8]) -> Result<(), LineError>
+        ensures ok { OnOk result (Takes (IsNextGlobal self.old line.now) (with_global self.old) self.new) }
+        ensures only { (next : Draft) → Takes (IsNextGlobal self.old line.now) (with_global self.old) next → TakenWith result (self.new ≡ next) }
+    {
+        let count = self.count;
+        let global = match self.next_global(line) {
+            Ok(global) => global,
+            Err(e) => return Err(e),
+        };
+        let Ok(()) = self.globals.push(global) else {
+            return Err(LineError::Memory);
+        };
+        self.due = due_after(self.globals.len(), count, Due::Global, Due::Functions);
+        Ok(())
+    }
+
+    // How many functions there are.
+    fn take_function_count(&mut self, line: &[u8]) -> Result<(), LineError>
+        ensures ok { OnOk result (Takes (IsFunctionCount line.now) (with_function_count self.old) self.new) }
+        ensures only { (next : Draft) → Takes (IsFunctionCount line.now) (with_function_count self.old) next → TakenWith result (self.new ≡ next) }
+    {
+        let count = match self.next_function_count(line) {
+            Ok(count) => count,
+            Err(e) => return Err(e),
+        };
+        self.due = Due::Head;
+        self.count = count;
+        self.heads = Heads::new(self.alloc);
+        Ok(())
+    }
+
+    // The head of the next function.
+    fn take_head(&mut self, line: &[u8]) -> Result<(), LineError>
+        ensures ok { OnOk result (Takes (IsNextHead self.old line.now) (with_head self.old) self.new) }
+        ensures only { (next : Draft) → Takes (IsNextHead self.old line.now) (with_head self.old) next → TakenWith result (self.new ≡ next) }
+    {
+        let count = self.count;
+        let head = match self.next_head(line) {
+            Ok(head) => head,
+            Err(e) => return Err(e),
+        };
+        let Ok(()) = self.heads.push(head) else {
+            return Err(LineError::Memory);
+        };
+        self.due = due_after(self.heads.len(), count, Due::Head, Due::Main);
+        Ok(())
+    }
+
+    // The function that a run enters.
+    fn take_main(&mut self, line: &[u8]) -> Result<(), LineError>
+        ensures ok { OnOk result (Takes (IsNextMain self.old line.now) (with_main self.old) self.new) }
+        ensures only { (next : Draft) → Takes (IsNextMain self.old line.now) (with_main self.old) next → TakenWith result (self.new ≡ next) }
+    {
+        let main = match self.next_main(line) {
+            Ok(main) => main,
+            Err(e) => return Err(e),
+        };
+        self.due = Due::Sites;
+        self.main = main;
+        Ok(())
+    }
+
+    // The sizes of the locals of the next function.
     fn take_locals(&mut self, line: &[u8]) -> Result<(), LineError>
-        ensures ok { OnOk result (Fixed (spaced (codes "locals" ∷ ones self.old.locals)) due.Nodes self.old line.now self.new) }
-        ensures only { line.now ≡ spaced (codes "locals" ∷ ones self.old.locals) → IsOk result }
+        ensures ok { OnOk result (Takes (AreNextLocals self.old line.now) (with_locals self.old) self.new) }
+        ensures only { (next : Draft) → Takes (AreNextLocals self.old line.now) (with_locals self.old) next → TakenWith result (self.new ≡ next) }
     {
-        let mut fields = Fields::new(line);
-        let Some(word) = fields.next() else {
-            return Err(LineError::Bad);
+        let sizes = match self.next_locals(line) {
+            Ok(sizes) => sizes,
+            Err(e) => return Err(e),
         };
-        if word != b"locals".as_slice() {
-            return Err(LineError::Bad);
-        }
-        if !are_ones(&mut fields, self.locals) {
-            return Err(LineError::Bad);
-        }
-        self.due = Due::Nodes;
+        self.due = Due::Node;
+        self.locals = sizes;
+        self.nodes = Seq::new(self.alloc);
         Ok(())
     }
 
-    // The line of the next node.
-    fn take_node(&mut self, line: &[u8]) -> Result<(), LineError>
-        ensures ok { OnOk result (NodeFollows self.old line.now self.new) }
-        ensures only { (next : Draft) → NodeFollows self.old line.now next → TakenWith result (self.new ≡ next) }
+    // Where all sites are there, the functions' own lines are due.
+    fn pass_sites(&mut self) -> Result<(), Memory>
+        ensures { OnOk result (self.new ≡ with_sites self.old self.old.sites) }
     {
-        if self.nodes.len() >= self.count as usize {
-            return Err(LineError::Bad);
+        if self.sites.len() != self.count as usize {
+            self.due = Due::Site;
+            return Ok(());
         }
-        let mut fields = Fields::new(line);
-        let Some(node) = node(&mut fields) else {
-            return Err(LineError::Bad);
+        self.names = names(
+            self.alloc,
+            &self.texts,
+            self.globals.len(),
+            self.heads.len(),
+            self.sites.as_slice(),
+        )?;
+        self.functions = Seq::new(self.alloc);
+        self.due = Due::Locals;
+        Ok(())
+    }
+
+    // How many sites there are.
+    fn take_site_count(&mut self, line: &[u8]) -> Result<(), LineError>
+        ensures ok { OnOk result (Takes (IsCount (codes "sites") site_limit line.now) (with_site_count self.old) self.new) }
+        ensures only { (next : Draft) → Takes (IsCount (codes "sites") site_limit line.now) (with_site_count self.old) next → TakenWith result (self.new ≡ next) }
+    {
+        let count = match self.next_site_count(line) {
+            Ok(count) => count,
+            Err(e) => return Err(e),
         };
-        let place = self.nodes.len() as u32;
-        let bounds = Bounds {
-            locals: self.locals,
-            nodes: self.count,
+        self.count = count;
+        self.sites = Seq::new(self.alloc);
+        let Ok(()) = self.pass_sites() else {
+            return Err(LineError::Memory);
         };
-        if !node_fits(bounds, place, node) {
-            return Err(LineError::Bad);
-        }
+        Ok(())
+    }
+
+    // The next site.
+    fn take_site(&mut self, line: &[u8]) -> Result<(), LineError>
+        ensures ok { OnOk result (Takes (IsNextSite self.old line.now) (with_site self.old) self.new) }
+        ensures only { (next : Draft) → Takes (IsNextSite self.old line.now) (with_site self.old) next → TakenWith result (self.new ≡ next) }
+    {
+        let site = match self.next_site(line) {
+            Ok(site) => site,
+            Err(e) => return Err(e),
+        };
+        let Ok(()) = self.sites.push(site) else {
+            return Err(LineError::Memory);
+        };
+        let Ok(()) = self.pass_sites() else {
+            return Err(LineError::Memory);
+        };
+        Ok(())
+    }
+
+    // The next node of the function in progress.
+    fn take_node(&mut self, line: &[u8]) -> Result<(), LineError>
+        ensures ok { OnOk result (Takes (IsNextPlaced self.old line.now) (with_placed self.old) self.new) }
+        ensures only { (next : Draft) → Takes (IsNextPlaced self.old line.now) (with_placed self.old) next → TakenWith result (self.new ≡ next) }
+    {
+        let node = match self.next_node(line) {
+            Ok(node) => node,
+            Err(e) => return Err(e),
+        };
         let Ok(()) = self.nodes.push(node) else {
             return Err(LineError::Memory);
         };
-        self.due = due_after(place + 1, self.count);
+        let Ok(()) = self.pass_nodes() else {
+            return Err(LineError::Memory);
+        };
         Ok(())
+    }
+
+    // Where all nodes of the function in progress are there, it is whole.
+    fn pass_nodes(&mut self) -> Result<(), Memory>
+        ensures { OnOk result ((head : Head) → IsDue self.old head → self.new ≡ with_nodes self.old head self.old.nodes) }
+    {
+        let number = self.functions.len();
+        let Some(head) = self.heads.get(number) else {
+            return Ok(());
+        };
+        self.due = Due::Node;
+        if self.nodes.len() != head.nodes as usize {
+            return Ok(());
+        }
+        let name = head.name.try_clone()?;
+        let function = Function {
+            name,
+            value: head.value,
+            params: head.params,
+            locals: mem::replace(&mut self.locals, Seq::new(self.alloc)),
+            nodes: mem::replace(&mut self.nodes, Seq::new(self.alloc)),
+        };
+        self.functions.push(function)?;
+        self.due = self.due_after_function();
+        Ok(())
+    }
+
+    fn due_after_function(&self) -> Due
+        ensures { result ≡ due_after (length self.now.functions) (length self.now.heads) due.Locals due.End }
+    {
+        if self.functions.len() == self.heads.len() as usize {
+            Due::End
+        } else {
+            Due::Locals
+        }
     }
 }
 
 impl LineReader for Draft {
-    ghost use Rattle.program_file.specs.Draft.{Follows};
+    ghost use Rattle.program_file.specs.Draft.{Follows, IsWhole};
 
     ghost follows = { Follows };
+
+    ghost ends = { IsWhole };
 
     fn take(&mut self, line: &[u8]) -> Result<(), LineError> {
         match self.due {
             Due::Title => self.expect(line, b"cbi-program 1", Due::Texts),
-            Due::Texts => self.expect(line, b"texts 0", Due::Globals),
-            Due::Globals => self.expect(line, b"globals 0", Due::Functions),
-            Due::Functions => self.expect(line, b"functions 1", Due::Head),
+            Due::Texts => self.take_text_count(line),
+            Due::Text => self.take_text(line),
+            Due::Globals => self.take_global_count(line),
+            Due::Global => self.take_global(line),
+            Due::Functions => self.take_function_count(line),
             Due::Head => self.take_head(line),
-            Due::Main => self.expect(line, b"main 0", Due::Sites),
-            Due::Sites => self.expect(line, b"sites 0", Due::Locals),
+            Due::Main => self.take_main(line),
+            Due::Sites => self.take_site_count(line),
+            Due::Site => self.take_site(line),
             Due::Locals => self.take_locals(line),
-            Due::Nodes => self.take_node(line),
+            Due::Node => self.take_node(line),
             Due::End => self.expect(line, b"end", Due::Nothing),
             Due::Nothing => Err(LineError::Bad),
         }
+    }
+
+    fn may_end(&self) -> bool {
+        self.due == Due::Nothing
     }
 }

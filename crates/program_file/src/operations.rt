@@ -1,7 +1,7 @@
 ghost use Rattle.std.specs.Prelude.{◌≡◌};
-ghost use Rattle.program_file.specs.Fields.{binary_of, bitwise_of, comparison_of, unary_of};
+ghost use Rattle.program_file.specs.Words.{binary_of, bitwise_of, comparison_of, order_of, unary_of};
 
-use cbi_base::{Binary, Unary};
+use cbi_base::{Binary, Order, Unary};
 
 fn comparison(field: &[u8]) -> Option<Binary>
     ensures { result ≡ comparison_of field.now }
@@ -49,7 +49,7 @@ fn bitwise(field: &[u8]) -> Option<Binary>
 }
 
 /// The operation with this word.
-#[tactic(auto, unfolding(crate::specs::Fields::binary_of))]
+#[tactic(auto, unfolding(crate::specs::Words::binary_of))]
 pub fn binary(field: &[u8]) -> Option<Binary>
     ensures { result ≡ binary_of field.now }
 {
@@ -72,7 +72,7 @@ pub fn binary(field: &[u8]) -> Option<Binary>
 }
 
 /// The operation on one value with this word.
-#[tactic(auto, unfolding(crate::specs::Fields::unary_of))]
+#[tactic(auto, unfolding(crate::specs::Words::unary_of))]
 pub fn unary(field: &[u8]) -> Option<Unary>
     ensures { result ≡ unary_of field.now }
 {
@@ -84,6 +84,32 @@ pub fn unary(field: &[u8]) -> Option<Unary>
     }
     if field == b"not".as_slice() {
         return Some(Unary::Not);
+    }
+    None
+}
+
+/// How two pointers are compared, by its word.
+#[tactic(auto, unfolding(crate::specs::Words::order_of))]
+pub fn order(field: &[u8]) -> Option<Order>
+    ensures { result ≡ order_of field.now }
+{
+    if field == b"lt".as_slice() {
+        return Some(Order::Lt);
+    }
+    if field == b"le".as_slice() {
+        return Some(Order::Le);
+    }
+    if field == b"gt".as_slice() {
+        return Some(Order::Gt);
+    }
+    if field == b"ge".as_slice() {
+        return Some(Order::Ge);
+    }
+    if field == b"eq".as_slice() {
+        return Some(Order::Eq);
+    }
+    if field == b"ne".as_slice() {
+        return Some(Order::Ne);
     }
     None
 }

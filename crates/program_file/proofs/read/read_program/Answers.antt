@@ -1,55 +1,43 @@
-use Rattle.std.proofs.Common.{◌≡◌, ◌+◌, min, sym, ap, subst, ◌∙◌, arith}
+use Rattle.std.proofs.Common.{◌≡◌, sym, ap, subst, ◌∙◌}
+use Rattle.cbi_base.specs.Lines.{ReadsLines, IsBadLine}
+use Rattle.flow.specs.Program.{IsProgram}
 use Rattle.flow.specs.Spelling.{SpellsProgram}
 use Rattle.program_file.specs.declared.draft.Draft.{Draft}
-use Rattle.program_file.specs.declared.error.ProgramError.TheVariants.{BadProgram}
-use Rattle.program_file.specs.Errors.{bad_at}
-use Rattle.program_file.specs.WrongLine.{IsWrongAt, last_line}
-use Rattle.program_file.proofs.Lines.{none-some}
-use Rattle.program_file.proofs.WrongLines.{wrong-inside, wrong-behind}
-use Rattle.program_file.proofs.Whole.{whole-spelled, spelled-reads, read-once}
+use Rattle.program_file.specs.Draft.{Follows, IsWhole, empty, parts_in}
+use Rattle.program_file.proofs.Alloc.{bad-moved}
+use Rattle.program_file.proofs.Whole.{whole, whole-spelled, spelled-reads}
 use Rattle.program_file.proofs.read.read_program.Goals as goal
 
 pub of-requires : goal.of-requires
 of-requires c =
-    let of = rw c.in-Some.is at c.in_ok-parts.ensures.found in
-    (whole-spelled c.new-draft.result c.read_lines.new.reader c.in-Some.parts c.args.bytes.now c.new-draft.ensures of c.in-Ok.ensures.ok).is_program
+    subst IsProgram (sym c.finish.ensures) (whole-spelled c.new-draft.result c.read_lines.new.reader c.args.bytes.now (ap (λ (d : Draft). d.due) c.new-draft.ensures) c.in-Ok.ensures.ok).is_program
 
-pub overflow_add-lines : goal.overflow_add-lines
-overflow_add-lines c = omega (arith, c.in-Ok.ensures.fits)
+pub returns-in-Ok-clause-found : goal.returns-in-Ok-clause-found
+returns-in-Ok-clause-found c =
+    subst (SpellsProgram c.args.bytes.now) (sym (c.in_ok-of-in-Ok.ensures ∙ c.finish.ensures)) (whole-spelled c.new-draft.result c.read_lines.new.reader c.args.bytes.now (ap (λ (d : Draft). d.due) c.new-draft.ensures) c.in-Ok.ensures.ok)
+
+pub returns-in-Ok-clause-only : goal.returns-in-Ok-clause-only
+returns-in-Ok-clause-only c = λ p spells.
+    let reads = subst (λ d. ReadsLines Follows IsWhole d c.args.bytes.now (whole c.args.alloc p)) (sym c.new-draft.ensures) (spelled-reads c.args.alloc c.args.bytes.now p spells) in
+    c.in_ok-of-in-Ok.ensures ∙ c.finish.ensures ∙ ap parts_in (c.in-Ok.ensures.only (whole c.args.alloc p) reads)
+
+pub returns-in-Ok-clause-wrong : goal.returns-in-Ok-clause-wrong
+returns-in-Ok-clause-wrong c = λ line wrong.
+    c.in-Ok.ensures.bad_only line (subst (λ d. IsBadLine Follows IsWhole d c.args.bytes.now line) (sym c.new-draft.ensures) (bad-moved c.args.alloc wrong.alloc c.args.bytes.now line wrong.bad))
 
 pub returns-in-Err-Bad-clause-only : goal.returns-in-Err-Bad-clause-only
 returns-in-Err-Bad-clause-only c = λ p spells.
-    let r = spelled-reads c.new-draft.result c.args.bytes.now p c.new-draft.ensures spells in
-    absurd (rw c.in-Err-Bad.field-0-is at (c.in-Err-Bad.ensures.only _ r.reads))
-
-pub returns-in-Some-clause-found : goal.returns-in-Some-clause-found
-returns-in-Some-clause-found c =
-    let of = rw c.in-Some.is at c.in_ok-parts.ensures.found in
-    subst (SpellsProgram c.args.bytes.now) (sym c.of.ensures) (whole-spelled c.new-draft.result c.read_lines.new.reader c.in-Some.parts c.args.bytes.now c.new-draft.ensures of c.in-Ok.ensures.ok)
-
-pub returns-in-Some-clause-only : goal.returns-in-Some-clause-only
-returns-in-Some-clause-only c = λ p spells.
-    let of = rw c.in-Some.is at c.in_ok-parts.ensures.found in
-    let r = spelled-reads c.new-draft.result c.args.bytes.now p c.new-draft.ensures spells in
-    c.of.ensures ∙ read-once c.new-draft.result c.read_lines.new.reader c.args.bytes.now c.in-Some.parts p of r (c.in-Ok.ensures.only _ r.reads)
-
-pub returns-in-None-clause-only : goal.returns-in-None-clause-only
-returns-in-None-clause-only c = λ p spells.
-    let none = rw c.in-None.is at c.in_ok-parts.ensures.none in
-    let r = spelled-reads c.new-draft.result c.args.bytes.now p c.new-draft.ensures spells in
-    let same = c.in-Ok.ensures.only _ r.reads in
-    absurd (none-some (sym (none (ap (λ (d : Draft). d.due) same)) ∙ ap (λ (d : Draft). d.name) same))
+    let reads = subst (λ d. ReadsLines Follows IsWhole d c.args.bytes.now (whole c.args.alloc p)) (sym c.new-draft.ensures) (spelled-reads c.args.alloc c.args.bytes.now p spells) in
+    rw c.in-Err-Bad.field-0-is at (c.in-Err-Bad.ensures.only (whole c.args.alloc p) reads)
 
 pub returns-in-Err-Bad-clause-line : goal.returns-in-Err-Bad-clause-line
 returns-in-Err-Bad-clause-line c = λ line e.
     let bad = rw c.in-Err-Bad.field-0-is at c.in-Err-Bad.ensures.bad in
-    let wrong = wrong-inside c.new-draft.result c.args.bytes.now _ c.new-draft.ensures bad in
-    let same : BadProgram line ≡ bad_at c.in-Err-Bad.line = cc in
-    let line_is : line ≡ min c.in-Err-Bad.line last_line = cc in
-    subst (IsWrongAt c.args.bytes.now) (sym line_is) wrong
+    let same : c.in-Err-Bad.line ≡ line = cc in
+    record { alloc = c.args.alloc; bad = subst (λ n. IsBadLine Follows IsWhole (empty c.args.alloc) c.args.bytes.now n) same (subst (λ d. IsBadLine Follows IsWhole d c.args.bytes.now c.in-Err-Bad.line) c.new-draft.ensures bad) }
 
-pub returns-in-None-clause-line : goal.returns-in-None-clause-line
-returns-in-None-clause-line c = λ line e.
-    let wrong = wrong-behind c.new-draft.result c.read_lines.new.reader c.args.bytes.now c.in-Ok.lines c.new-draft.ensures c.in-Ok.ensures.ok c.in-Ok.ensures.count in
-    let line_is : line ≡ min (c.in-Ok.lines + 1) last_line = cc in
-    subst (IsWrongAt c.args.bytes.now) (sym line_is) wrong
+pub returns-in-Err-Bad-clause-wrong : goal.returns-in-Err-Bad-clause-wrong
+returns-in-Err-Bad-clause-wrong c = λ line wrong.
+    let bad = subst (λ d. IsBadLine Follows IsWhole d c.args.bytes.now line) (sym c.new-draft.ensures) (bad-moved c.args.alloc wrong.alloc c.args.bytes.now line wrong.bad) in
+    let same : c.in-Err-Bad.line ≡ line = rw c.in-Err-Bad.field-0-is at (c.in-Err-Bad.ensures.bad_only line bad) in
+    cc (same, c.in-Err-Bad.line-is, c.in-Err-Bad.field-0-is)
