@@ -1,17 +1,22 @@
-//! Runs a program on an input within a bound of turns, as the definition of the machine says.
+//! Runs a program on an input, with a bank of countdowns and within a bound of turns, as the definition of the machine says.
 #![tactic(auto)]
 
-mod code;
+mod calls;
+mod countdown;
 mod locals;
+mod look;
 mod now;
 mod operands;
-mod row;
+mod output;
+mod printing;
+mod rows;
 mod runs;
+mod start;
 mod state;
+mod step;
 mod stop;
+mod texts;
+mod watch;
 
 pub use flow::RunResult;
-pub use runs::{one_ending, run};
-
-#[cfg(test)]
-mod tests;
+pub use runs::run;

@@ -1,0 +1,22 @@
+use Rattle.std.proofs.Common.{[], true, ap, subst, sym, ◌∙◌}
+use Rattle.flow.specs.Calls.{enter}
+use Rattle.flow.specs.Code.{code_of}
+use Rattle.flow.specs.Machine.{first_objects, each_made, begin_with}
+use Rattle.machine.specs.Begun.{first_past}
+use Rattle.machine.specs.Starting.{IsAllMade}
+use Rattle.machine.specs.Steps.{IsNext}
+use Rattle.machine.proofs.StartLemmas.{all_there, starts}
+use Rattle.machine.proofs.start.begin.Goals as goal
+
+pub returns-clause-next : goal.returns-clause-next
+returns-clause-next c = λ bank e.
+    let p = c.args.program.now in
+    let s = c.args.state.now in
+    let code = code_of p bank in
+    let objects = c.make_first.new.objects in
+    let made = all_there (each_made (first_objects p) s.now.objects) objects
+    (subst (λ b. IsAllMade (each_made (first_objects p) s.now.objects) b objects) c.if-not-branch.false c.in_ok-make_first.ensures) in
+    subst (λ n. IsNext code (first_past bank) n c.enter_main.result c.enter_main.new.state)
+    (ap (enter (code.callee p.main) p.main []) (starts p bank s objects c.requires e)
+    ∙ sym (ap (begin_with code p.main s.now.input.now s.turns) (ap (each_made (first_objects p)) (sym c.requires.objects) ∙ made)))
+    (c.enter_main.ensures.next (first_past bank) 0)

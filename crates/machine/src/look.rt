@@ -1,0 +1,112 @@
+ghost use Rattle.std.specs.Prelude.{◌≡◌, slice_get};
+ghost use Rattle.flow.specs.Truths.{seen_truth, seen_order, seen_sign, object_at, number_at, partner_number, seen_pair, seen_by, looked};
+ghost use Rattle.cbi_base.specs.Scalars.{truth_of, sign_of};
+ghost use Rattle.machine.specs.Data.{data_of};
+
+use crate::now::Now;
+use c_store::Word;
+use cbi_base::{Scalar, Seen, Trap};
+use flow::{Partner, Program, SiteKind, Slot};
+use std::cmp::Ordering;
+
+fn seen_order(order: Ordering) -> Seen
+    ensures { result ≡ seen_order order }
+{
+    match order {
+        Ordering::Less => Seen::First,
+        Ordering::Equal => Seen::Second,
+        Ordering::Greater => Seen::Third,
+    }
+}
+
+/// The object of a variable.
+fn object_at(now: &Now<'_>, slot: Slot) -> Option<u64>
+    ensures { result ≡ object_at slot (data_of now.now).locals }
+{
+    match slot {
+        Slot::Local { index } => now.locals.get(index),
+        Slot::Global { index } => Some(u64::from(index)),
+    }
+}
+
+/// The number in a variable's first cell, where it holds one.
+fn number_at(now: &Now<'_>, slot: Slot) -> Option<i64>
+    ensures { result ≡ number_at slot (data_of now.now) }
+{
+    let number = object_at(now, slot)?;
+    let cells = now.objects.cells(number)?;
+    cells.first()?.number_value()
+}
+
+/// The number that a variable's new value is compared with, where there is one.
+fn partner_number(now: &Now<'_>, partner: &Partner) -> Option<i64>
+    ensures { result ≡ partner_number partner.now (data_of now.now) }
+{
+    match partner {
+        Partner::Variable { slot, .. } => number_at(now, *slot),
+        Partner::Constant { value } => Some(*value),
+    }
+}
+
+/// How a variable's new value stands to its partner.
+fn seen_pair(now: &Now<'_>, slot: Slot, partner: &Partner) -> Result<Seen, Trap>
+    ensures { result ≡ seen_pair (number_at slot (data_of now.now)) (partner_number partner.now (data_of now.now)) }
+{
+    let value = number_at(now, slot).ok_or(Trap::Internal)?;
+    match partner_number(now, partner) {
+        None => Ok(Seen::Nothing),
+        Some(other) => Ok(seen_order(value.cmp(&other))),
+    }
+}
+
+/// Whether a condition is true.
+fn seen_truth(value: Word) -> Result<Seen, Trap>
+    ensures { result ≡ seen_truth (truth_of value) }
+{
+    if value.truth()? {
+        Ok(Seen::First)
+    } else {
+        Ok(Seen::Second)
+    }
+}
+
+/// How a returned value stands to zero.
+fn seen_sign(value: Word) -> Seen
+    ensures { result ≡ seen_sign (sign_of value) }
+{
+    match value.scalar() {
+        Scalar::Number { value, .. } => seen_order(value.cmp(&0)),
+        Scalar::Place { .. } => Seen::Third,
+        Scalar::Null => Seen::Second,
+        Scalar::Undefined => Seen::Nothing,
+    }
+}
+
+/// What a site of this kind sees.
+#[tactic(auto, using(crate::proofs::LookLemmas::branch_top, crate::proofs::LookLemmas::branch_none, crate::proofs::LookLemmas::return_top, crate::proofs::LookLemmas::return_none))]
+fn seen_by(now: &Now<'_>, kind: &SiteKind) -> Result<Seen, Trap>
+    ensures { result ≡ seen_by kind.now (data_of now.now).operands (data_of now.now) }
+{
+    match kind {
+        SiteKind::Branch { .. } => match now.operands.peek() {
+            None => Err(Trap::Internal),
+            Some(value) => seen_truth(value),
+        },
+        SiteKind::Return { .. } => match now.operands.peek() {
+            None => Err(Trap::Internal),
+            Some(value) => Ok(seen_sign(value)),
+        },
+        SiteKind::Pair { slot, partner, .. } => seen_pair(now, *slot, partner),
+    }
+}
+
+/// What a site sees.
+#[tactic(auto, unfolding(flow::specs::Truths::looked))]
+pub fn look(program: &Program, now: &Now<'_>, site: u32) -> Result<Seen, Trap>
+    ensures { result ≡ looked (slice_get program.now.sites site) (data_of now.now) }
+{
+    match program.table().sites().get(site as usize) {
+        None => Err(Trap::Internal),
+        Some(site) => seen_by(now, &site.kind),
+    }
+}
