@@ -11,6 +11,11 @@ Caused Write read write refused = write
 Caused (Refused refusal) read write refused = refused refusal
 Caused Memory read write refused = Unit {0}
 
+-- a fact of the name that wasn't read
+abbrev pub OfRead : Fault → (List ℕ → Type 0) → Type 0
+OfRead (Read name) P = P name.now
+OfRead fault P = Unit {0}
+
 -- the status of each fault
 abbrev pub status_of : Fault → ℕ
 status_of (Read name) = 3
@@ -18,12 +23,13 @@ status_of Write = 4
 status_of (Refused refusal) = 5
 status_of Memory = 7
 
--- What a fault leaves on out: what was there, or a prefix of the due text besides; want of memory leaves one of them.
-abbrev pub LeftBy : Fault → (unchanged part : Type 0) → Type 0
-LeftBy (Read name) unchanged part = unchanged
-LeftBy Write unchanged part = part
-LeftBy (Refused refusal) unchanged part = unchanged
-LeftBy Memory unchanged part = unchanged ⊎ part
+-- What a fault leaves on out and with the watchers: what was there, or a prefix of the due text besides; want of memory leaves what was there, or
+-- what it leaves within the command.
+abbrev pub LeftBy : Fault → (unmoved part wanting : Type 0) → Type 0
+LeftBy (Read name) unmoved part wanting = unmoved
+LeftBy Write unmoved part wanting = part
+LeftBy (Refused refusal) unmoved part wanting = unmoved
+LeftBy Memory unmoved part wanting = unmoved ⊎ wanting
 
 -- a fault that is a refusal or may come before one
 abbrev pub Precedes : Fault → Type 0

@@ -1,6 +1,11 @@
 pub mod Words
-pub mod RunWords
+pub mod Asked
+pub mod Turns
+pub mod Outside
+pub mod Names
 pub mod Run
+pub mod Watched
+pub mod Commands
 pub mod Faults
 pub mod Statuses
 pub mod Told

@@ -6,11 +6,10 @@ use Rattle.cbi_base.specs.Store.{Held}
 use Rattle.cbi_base.specs.declared.refusal.Refusal.{Refusal}
 use Rattle.cbi.specs.declared.fault.Fault.{Fault}
 use Rattle.cbi.specs.declared.fault.Fault.TheVariants.{Read, Write, Refused, Memory}
-use Rattle.cbi.specs.Words.{Command}
-use Rattle.cbi.specs.Run.{IsNamed, IsRefusedBy}
+use Rattle.cbi.specs.Names.{IsOneOf, IsFirstMissing}
 
 abbrev pub usage_line : List ℕ
-usage_line = codes "usage: cbi run [--input I] [--turns N] PROG\n"
+usage_line = codes "usage: cbi run [--bank B] [--input I] [--turns N] PROG\n"
 
 abbrev pub read_line : List ℕ → List ℕ
 read_line name = codes "cbi: read fault " ++ name ++ codes "\n"
@@ -34,14 +33,15 @@ IsTold rose before now line = Takes before now line ⊎ (rose × TakesPrefix bef
 abbrev pub Tells : (status result : ℕ) → (told nothing : Type 0) → Type 0
 Tells status result told nothing = ((result ≡ status) × told) ⊎ ((result ≡ 7) × nothing)
 
--- told of a file that wasn't read
-pub record ReadTold (told : List ℕ → Type 0) (command : Command) : Type 0 where
+-- told of a file that wasn't read: a name of the command, and over a sound store the first of them that isn't held
+pub record ReadTold (names : List (List ℕ)) (held : Option Held) (sound : Type 0) (told : List ℕ → Type 0) : Type 0 where
   pub name : List ℕ
-  pub is_named : IsNamed command name
+  pub is_named : IsOneOf names name
+  pub missing : sound → IsFirstMissing held names name
   pub is : told (read_line name)
 
 -- told of a refusal of the bytes read
-pub record RefusalTold (held : Option Held) (told : List ℕ → Type 0) (command : Command) : Type 0 where
+pub record RefusalTold (refused_by : Refusal → Type 0) (told : List ℕ → Type 0) : Type 0 where
   pub refusal : Refusal
-  pub refused : IsRefusedBy held command refusal
+  pub refused : refused_by refusal
   pub is : told (refusal_line refusal)

@@ -1,6 +1,7 @@
 //! Cooperative bug isolation, from the command line.
 #![tactic(auto)]
 
+mod commands;
 mod fault;
 mod files;
 mod message;
@@ -11,7 +12,8 @@ mod tests;
 mod top;
 mod words;
 
-use cbi_base::{FileStore, StdSink};
+use cbi_base::{FileStore, Memory, StdSink};
+use probes::{FirstSeen, Hottest, LastSeen, Probe};
 use std::env;
 use std::io::ErrorKind;
 use std::process::ExitCode;
@@ -30,16 +32,26 @@ fn words_of(rt: &HostRuntime) -> Result<Vec<String>, u8> {
     }
 }
 
+/// Does what the words ask for, with three watchers of its runs.
+fn call(rt: &HostRuntime, words: &Vec<String>) -> Result<u8, Memory> {
+    let alloc = rt.alloc();
+    let mut store = FileStore::new(rt.clone()?);
+    let mut out = StdSink::new(rt.stdout());
+    let mut err = StdSink::new(rt.stderr());
+    let mut probes: Vec<Box<dyn Probe>> = Vec::new(alloc);
+    probes.push(Box::new(alloc, FirstSeen::new(alloc))?)?;
+    probes.push(Box::new(alloc, Hottest::new(alloc))?)?;
+    probes.push(Box::new(alloc, LastSeen::new(alloc))?)?;
+    Ok(cbi(alloc, words, &mut store, &mut out, &mut err, &mut probes))
+}
+
 fn main(rt: HostRuntime) -> ExitCode {
     let words = match words_of(&rt) {
         Ok(words) => words,
         Err(status) => return ExitCode::from(status),
     };
-    let Ok(files) = rt.clone() else {
-        return ExitCode::from(7);
-    };
-    let mut store = FileStore::new(files);
-    let mut out = StdSink::new(rt.stdout());
-    let mut err = StdSink::new(rt.stderr());
-    ExitCode::from(cbi(rt.alloc(), &words, &mut store, &mut out, &mut err))
+    match call(&rt, &words) {
+        Ok(status) => ExitCode::from(status),
+        Err(Memory) => ExitCode::from(7),
+    }
 }

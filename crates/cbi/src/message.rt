@@ -1,12 +1,20 @@
-ghost use Rattle.std.specs.Prelude.{◌≡◌, IfOk};
+ghost use Rattle.std.specs.Prelude.{◌≡◌, ◌≤◌, Some, IfOk};
+ghost use Rattle.std.specs.List.{flat_map};
 ghost use Rattle.cbi_base.specs.Faults.{Rose};
+ghost use Rattle.cbi.specs.Asked.{command_in};
+ghost use Rattle.cbi.specs.Commands.{done_text};
 ghost use Rattle.cbi.specs.Faults.{status_of};
 ghost use Rattle.cbi.specs.Statuses.{IsUnchangedOr};
 ghost use Rattle.cbi.specs.Told.{Tells, IsTold, usage_line, fault_line, memory_line};
 
 use crate::fault::Fault;
+use crate::words::Command;
 use cbi_base::{Memory, Sink, SinkError};
+use probes::{Probe, push_lines};
 use std::alloc::Global;
+
+/// The status of a command that is done.
+const DONE: u8 = 0;
 
 /// The status of words that read as no command.
 const USAGE: u8 = 2;
@@ -37,6 +45,8 @@ fn put_line<E: Sink>(err: &mut E, line: &[u8], status: u8) -> u8
     ensures told { Tells status result
         (IsTold (Rose (E.faults err.old) (E.faults err.new)) (E.taken err.old) (E.taken err.new) line.now)
         (E.taken err.new ≡ E.taken err.old) }
+    ensures rises { E.faults err.old ≤ E.faults err.new }
+    ensures sound { E.is_sound err.old → E.is_sound err.new }
     ensures stays { E.is_sound err.old → E.faults err.new ≡ E.faults err.old }
 {
     match err.put(line) {
@@ -50,9 +60,15 @@ pub fn tell_usage<E: Sink>(err: &mut E) -> u8
     ensures told { Tells 2 result
         (IsTold (Rose (E.faults err.old) (E.faults err.new)) (E.taken err.old) (E.taken err.new) usage_line)
         (E.taken err.new ≡ E.taken err.old) }
+    ensures rises { E.faults err.old ≤ E.faults err.new }
+    ensures sound { E.is_sound err.old → E.is_sound err.new }
     ensures stays { E.is_sound err.old → E.faults err.new ≡ E.faults err.old }
 {
-    put_line(err, b"usage: cbi run [--input I] [--turns N] PROG\n", USAGE)
+    put_line(
+        err,
+        b"usage: cbi run [--bank B] [--input I] [--turns N] PROG\n",
+        USAGE,
+    )
 }
 
 /// Tells err of a fault, or that there is no memory to do so.
@@ -61,10 +77,58 @@ pub fn tell_fault<E: Sink>(alloc: Global, err: &mut E, fault: &Fault<'_>) -> u8
         (IsTold (Rose (E.faults err.old) (E.faults err.new)) (E.taken err.old) (E.taken err.new) (fault_line fault.now))
         (IsUnchangedOr (E.taken err.old) (E.taken err.new)
         (IsTold (Rose (E.faults err.old) (E.faults err.new)) (E.taken err.old) (E.taken err.new) memory_line)) }
+    ensures rises { E.faults err.old ≤ E.faults err.new }
+    ensures sound { E.is_sound err.old → E.is_sound err.new }
     ensures stays { E.is_sound err.old → E.faults err.new ≡ E.faults err.old }
 {
     match fault_line(alloc, fault) {
         Ok(line) => put_line(err, line.as_slice(), fault.status()),
         Err(Memory) => put_line(err, b"cbi: out of memory\n", OUT_OF_MEMORY),
+    }
+}
+
+/// The line of each watcher, in order.
+fn lines_of(alloc: Global, probes: &Vec<Box<dyn Probe>>) -> Result<Vec<u8>, Memory>
+    ensures { IfOk result (λ lines. lines.items ≡ flat_map (λ b. line_text b) probes.now.items) }
+{
+    let mut lines = Vec::new(alloc);
+    push_lines(probes, &mut lines)?;
+    Ok(lines)
+}
+
+/// Tells err the line of each watcher, in order, or that there is no memory to do so.
+fn tell_lines<E: Sink>(alloc: Global, err: &mut E, probes: &Vec<Box<dyn Probe>>) -> u8
+    ensures told { Tells 0 result
+        (IsTold (Rose (E.faults err.old) (E.faults err.new)) (E.taken err.old) (E.taken err.new) (flat_map (λ b. line_text b) probes.now.items))
+        (IsUnchangedOr (E.taken err.old) (E.taken err.new)
+        (IsTold (Rose (E.faults err.old) (E.faults err.new)) (E.taken err.old) (E.taken err.new) memory_line)) }
+    ensures rises { E.faults err.old ≤ E.faults err.new }
+    ensures sound { E.is_sound err.old → E.is_sound err.new }
+    ensures stays { E.is_sound err.old → E.faults err.new ≡ E.faults err.old }
+{
+    match lines_of(alloc, probes) {
+        Ok(lines) => put_line(err, lines.as_slice(), DONE),
+        Err(Memory) => put_line(err, b"cbi: out of memory\n", OUT_OF_MEMORY),
+    }
+}
+
+/// Tells err what is due where the command is done.
+pub fn tell_done<E: Sink>(
+    alloc: Global,
+    err: &mut E,
+    command: &Command<'_>,
+    probes: &Vec<Box<dyn Probe>>,
+) -> u8
+    ensures told { Tells 0 result
+        (IsTold (Rose (E.faults err.old) (E.faults err.new)) (E.taken err.old) (E.taken err.new)
+        (done_text (Some (command_in command.now)) (flat_map (λ b. line_text b) probes.now.items)))
+        (IsUnchangedOr (E.taken err.old) (E.taken err.new)
+        (IsTold (Rose (E.faults err.old) (E.faults err.new)) (E.taken err.old) (E.taken err.new) memory_line)) }
+    ensures rises { E.faults err.old ≤ E.faults err.new }
+    ensures sound { E.is_sound err.old → E.is_sound err.new }
+    ensures stays { E.is_sound err.old → E.faults err.new ≡ E.faults err.old }
+{
+    match command {
+        Command::Run(_) => tell_lines(alloc, err, probes),
     }
 }

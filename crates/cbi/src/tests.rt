@@ -1,5 +1,8 @@
+ghost use Rattle.std.specs.Prelude.{None, codes};
+
 use crate::top::cbi;
-use cbi_base::{File, MemSink, MemStore};
+use cbi_base::{File, FileStore, MemSink, MemStore, Memory, Observation, Sink, SinkError};
+use probes::{FirstSeen, Hottest, LastSeen, Probe};
 use std::alloc::Global;
 use std::process::Abort;
 use std::test::Fail;
@@ -20,10 +23,50 @@ const UPPER: &str =
 const SUM: &str =
     "cbi-program 1\ntexts 0\nglobals 0\nfunctions 1\nfunction main value 0 3 65\nmain 0\nsites 0\nlocals 1 1 1\nlocal 1 1\npush i 0 2\nstore 3\ndrop 4\nlocal 2 5\npush i 1 6\nstore 7\ndrop 8\nlocal 0 9\nget 10\nstore 11\npush i -1 12\nmath ne 13\nfork 14 23\nlocal 1 15\nlocal 1 16\nload i 17\nlocal 0 18\nload i 19\nmath add 20\nstore 21\ndrop 22\nagain 8\nlocal 1 24\nload i 25\nlocal 2 26\nload i 27\nmath div 28\npush i 10 29\nmath ge 30\nfork 31 39\nlocal 2 32\nlocal 2 33\nload i 34\npush i 10 35\nmath mul 36\nstore 37\ndrop 38\nagain 23\nlocal 1 40\nload i 41\nlocal 2 42\nload i 43\nmath div 44\npush i 10 45\nmath rem 46\npush i 48 47\nmath add 48\nput 49\ndrop 50\nlocal 2 51\nlocal 2 52\nload i 53\npush i 10 54\nmath div 55\nstore 56\npush i 0 57\nmath gt 58\nfork 59 60\nagain 39\npush i 10 61\nput 62\ndrop 63\npush i 0 64\nreturn\nend\n";
 
-/// What a call is made with: the program file, its input, the words, and the numbers of the calls of the store and of the puts that fail.
+/// The program file with a loop, `for (i = 0; i < 7; i = i + 1) ;`, which visits the site of its condition eight times.
+const LOOP: &str =
+    "cbi-program 1\ntexts 0\nglobals 0\nfunctions 1\nfunction main value 0 1 20\nmain 0\nsites 1\nsite branch 0 1 0 for\nlocals 1\nlocal 0 1\npush i 0 2\nstore 3\ndrop 4\nlocal 0 5\nload i 6\npush i 7 7\nmath lt 8\ntest 0 9\nfork 10 18\nlocal 0 11\nlocal 0 12\nload i 13\npush i 1 14\nmath add 15\nstore 16\ndrop 17\nagain 4\npush i 0 19\nreturn\nend\n";
+
+/// The program file that visits eight sites, one after another.
+const EIGHT: &str =
+    "cbi-program 1\ntexts 0\nglobals 0\nfunctions 1\nfunction main value 0 0 10\nmain 0\nsites 8\nsite branch 0 1 0 if\nsite branch 0 2 0 if\nsite branch 0 3 0 if\nsite branch 0 4 0 if\nsite branch 0 5 0 if\nsite branch 0 6 0 if\nsite branch 0 7 0 if\nsite branch 0 8 0 if\nlocals\npush i 1 1\ntest 0 2\ntest 1 3\ntest 2 4\ntest 3 5\ntest 4 6\ntest 5 7\ntest 6 8\ntest 7 9\nreturn\nend\n";
+
+/// The program file that observes its site twice, and then aborts.
+const ABORTS: &str =
+    "cbi-program 1\ntexts 0\nglobals 0\nfunctions 1\nfunction main value 0 0 4\nmain 0\nsites 1\nsite branch 0 1 0 if\nlocals\npush i 1 1\nmark 0 2\nmark 0 3\nabort\nend\n";
+
+/// A watcher that wants memory where it is told more than so many observations. Its line is always the same.
+#[derive(Drop)]
+struct Few {
+    most: usize,
+    observations: Vec<Observation>,
+}
+
+impl Probe for Few {
+    ghost seen = { λ p. p.observations.items };
+
+    ghost line_text = { λ _. codes "few\n" };
+
+    fn see(&mut self, observation: Observation) -> Result<(), Memory> {
+        if self.observations.len() >= self.most {
+            return Err(Memory);
+        }
+        self.observations.push(observation)?;
+        Ok(())
+    }
+
+    fn line(&self, text: &mut Vec<u8>) -> Result<(), Memory> {
+        text.extend_from_slice(b"few\n")?;
+        Ok(())
+    }
+}
+
+/// What a call is made with: the program file, its bank and its input, the words, and the numbers of the calls of the store and of the puts that
+/// fail.
 #[derive(Clone, Copy)]
 struct Case<'a> {
     file: &'a str,
+    bank: &'a str,
     input: &'a str,
     words: &'a [&'a str],
     store_fails: &'a [u64],
@@ -38,7 +81,15 @@ struct Came {
     err: Vec<u8>,
 }
 
-fn come(alloc: Global, case: &Case<'_>) -> Result<Came, Fail> {
+fn words_of(alloc: Global, words: &[&str]) -> Result<Vec<String>, Fail> {
+    let mut list = Vec::new(alloc);
+    for word in words {
+        list.push(String::from_str(alloc, word)?)?;
+    }
+    Ok(list)
+}
+
+fn store_of(alloc: Global, case: &Case<'_>) -> Result<MemStore, Fail> {
     let mut files = Vec::new(alloc);
     files.push(File {
         name: String::from_str(alloc, "prog")?,
@@ -48,14 +99,20 @@ fn come(alloc: Global, case: &Case<'_>) -> Result<Came, Fail> {
         name: String::from_str(alloc, "in")?,
         bytes: Vec::from_slice(alloc, case.input.as_bytes())?,
     })?;
-    let mut words = Vec::new(alloc);
-    for word in case.words {
-        words.push(String::from_str(alloc, word)?)?;
-    }
-    let mut store = MemStore::new(files, Vec::from_slice(alloc, case.store_fails)?);
+    files.push(File {
+        name: String::from_str(alloc, "bank")?,
+        bytes: Vec::from_slice(alloc, case.bank.as_bytes())?,
+    })?;
+    let failing = Vec::from_slice(alloc, case.store_fails)?;
+    Ok(MemStore::new(files, failing))
+}
+
+fn come(alloc: Global, case: &Case<'_>, probes: &mut Vec<Box<dyn Probe>>) -> Result<Came, Fail> {
+    let words = words_of(alloc, case.words)?;
+    let mut store = store_of(alloc, case)?;
     let mut out = MemSink::new(Vec::from_slice(alloc, case.out_fails)?);
     let mut err = MemSink::new(Vec::new(alloc));
-    let status = cbi(alloc, &words, &mut store, &mut out, &mut err);
+    let status = cbi(alloc, &words, &mut store, &mut out, &mut err, probes);
     Ok(Came {
         status,
         out: Vec::from_slice(alloc, out.taken())?,
@@ -71,7 +128,7 @@ fn expect(
     out: &str,
     err: &str,
 ) -> Result<(), Fail> {
-    let came = come(alloc, case)?;
+    let came = come(alloc, case, &mut Vec::new(alloc))?;
     assert_eq!(rt; came.status, status);
     assert_eq!(rt; came.out.as_slice(), out.as_bytes());
     assert_eq!(rt; came.err.as_slice(), err.as_bytes());
@@ -83,6 +140,7 @@ const GOOD: &[&str] = &["cbi", "run", "prog"];
 fn of_file<'a>(file: &'a str) -> Case<'a> {
     Case {
         file,
+        bank: "1\n",
         input: "",
         words: GOOD,
         store_fails: &[],
@@ -93,6 +151,7 @@ fn of_file<'a>(file: &'a str) -> Case<'a> {
 fn of_words<'a>(words: &'a [&'a str]) -> Case<'a> {
     Case {
         file: PROGRAM,
+        bank: "1\n",
         input: "",
         words,
         store_fails: &[],
@@ -185,8 +244,8 @@ fn a_failing_device_has_its_status(rt: HostRuntime) -> Result<(), Fail> {
 
 #[test]
 fn words_that_read_as_no_command(rt: HostRuntime) -> Result<(), Fail> {
-    let usage = "usage: cbi run [--input I] [--turns N] PROG\n";
-    let cases: [&[&str]; 16] = [
+    let usage = "usage: cbi run [--bank B] [--input I] [--turns N] PROG\n";
+    let cases: [&[&str]; 19] = [
         &[],
         &["cbi"],
         &["cbi", "run"],
@@ -203,12 +262,92 @@ fn words_that_read_as_no_command(rt: HostRuntime) -> Result<(), Fail> {
         &["cbi", "run", "--turns", "1", "--turns", "1", "prog"],
         &["cbi", "run", "--turns", "1", "--input", "in", "prog"],
         &["cbi", "run", "prog", "--input", "in"],
+        &["cbi", "run", "--bank", "bank"],
+        &["cbi", "run", "--bank", "--input", "in", "prog"],
+        &["cbi", "run", "--input", "in", "--bank", "bank", "prog"],
     ];
     for words in cases {
         expect(&rt, rt.alloc(), &of_words(words), 2, "", usage)?;
     }
     let missing = of_words(&["cbi", "run", "other"]);
-    expect(&rt, rt.alloc(), &missing, 3, "", "cbi: read fault other\n")
+    expect(&rt, rt.alloc(), &missing, 3, "", "cbi: read fault other\n")?;
+    let no_name = of_words(&["cbi", "run", ""]);
+    expect(&rt, rt.alloc(), &no_name, 3, "", "cbi: read fault \n")
+}
+
+/// A sink that has no memory for any piece.
+#[derive(Drop)]
+struct NoMemory;
+
+impl Sink for NoMemory {
+    ghost taken = { λ _. None };
+
+    ghost faults = { λ _. 0 };
+
+    ghost is_sound = { λ _. ⊥ };
+
+    fn put(&mut self, _piece: &[u8]) -> Result<(), SinkError> {
+        Err(SinkError::Memory)
+    }
+}
+
+#[test]
+fn devices_without_memory(rt: HostRuntime) -> Result<(), Fail> {
+    let alloc = rt.alloc();
+    let case = of_file(PROGRAM);
+    let words = words_of(alloc, case.words)?;
+    let mut store = store_of(alloc, &case)?;
+    let mut out = NoMemory;
+    let mut err = MemSink::new(Vec::new(alloc));
+    assert_eq!(rt;
+        cbi(
+            alloc,
+            &words,
+            &mut store,
+            &mut out,
+            &mut err,
+            &mut Vec::new(alloc)
+        ),
+        7
+    );
+    assert_eq!(rt; err.taken(), b"cbi: out of memory\n".as_slice());
+    let missing = words_of(alloc, &["cbi", "run", "other"])?;
+    let mut none = NoMemory;
+    assert_eq!(rt;
+        cbi(
+            alloc,
+            &missing,
+            &mut store,
+            &mut out,
+            &mut none,
+            &mut Vec::new(alloc)
+        ),
+        7
+    );
+    Ok(())
+}
+
+#[test]
+fn a_missing_file_is_a_read_fault(rt: HostRuntime) -> Result<(), Fail> {
+    let alloc = rt.alloc();
+    let words = words_of(alloc, &["cbi", "run", "no such file"])?;
+    let mut store = FileStore::new(rt.clone()?);
+    let mut out = MemSink::new(Vec::new(alloc));
+    let mut err = MemSink::new(Vec::new(alloc));
+    assert_eq!(rt;
+        cbi(
+            alloc,
+            &words,
+            &mut store,
+            &mut out,
+            &mut err,
+            &mut Vec::new(alloc)
+        ),
+        3
+    );
+    assert_eq!(rt; out.taken(), b"".as_slice());
+    assert_eq!(rt; err.taken(), b"cbi: read fault no such file\n".as_slice());
+    Ok(())
 }
 
 #[test]
@@ -263,4 +402,118 @@ fn an_input_that_is_missing_or_too_large(rt: HostRuntime) -> Result<(), Fail> {
         "",
         "cbi: refusal 28 InputTooLarge\n",
     )
+}
+
+const WITH_BANK: &[&str] = &["cbi", "run", "--bank", "bank", "prog"];
+
+/// Looks at the status, and at what err is told, of a call with the three watchers of the tool.
+fn expect_lines(
+    rt: &impl Abort,
+    alloc: Global,
+    case: &Case<'_>,
+    status: u8,
+    err: &str,
+) -> Result<(), Fail> {
+    let mut probes: Vec<Box<dyn Probe>> = Vec::new(alloc);
+    probes.push(Box::new(alloc, FirstSeen::new(alloc))?)?;
+    probes.push(Box::new(alloc, Hottest::new(alloc))?)?;
+    probes.push(Box::new(alloc, LastSeen::new(alloc))?)?;
+    let came = come(alloc, case, &mut probes)?;
+    assert_eq!(rt; came.status, status);
+    assert_eq!(rt; came.err.as_slice(), err.as_bytes());
+    Ok(())
+}
+
+#[test]
+fn watchers_are_told_what_the_bank_samples(rt: HostRuntime) -> Result<(), Fail> {
+    let cases = [
+        (
+            PROGRAM,
+            GOOD,
+            "1\n",
+            "first none\nhottest none\nlast none\n",
+        ),
+        (
+            LOOP,
+            GOOD,
+            "3\n1\n",
+            "first 0\nhottest 0 8\nlast 0 0 0 0 0 0 0 0\n",
+        ),
+        (
+            LOOP,
+            WITH_BANK,
+            "3\n1\n",
+            "first 0\nhottest 0 4\nlast 0 0 0 0\n",
+        ),
+        (
+            EIGHT,
+            WITH_BANK,
+            "3\n1\n",
+            "first 2 3 6 7\nhottest 2 1\nlast 2 3 6 7\n",
+        ),
+        (ABORTS, WITH_BANK, "5\n", "first 0\nhottest 0 2\nlast 0 0\n"),
+    ];
+    for (file, words, bank, err) in cases {
+        let case = Case {
+            bank,
+            words,
+            ..of_file(file)
+        };
+        expect_lines(&rt, rt.alloc(), &case, 0, err)?;
+    }
+    Ok(())
+}
+
+#[test]
+fn a_damaged_bank_is_refused_at_its_line(rt: HostRuntime) -> Result<(), Fail> {
+    let cases = [
+        ("0\n", 1),
+        ("", 1),
+        ("3\n1", 2),
+        ("3\n2147483648\n", 2),
+        ("3\n\n", 2),
+    ];
+    for (bank, line) in cases {
+        let case = Case {
+            bank,
+            words: WITH_BANK,
+            ..of_file(PROGRAM)
+        };
+        let told = format!(in rt.alloc(); "cbi: refusal 21 BadBank line {line}\n")?;
+        expect_lines(&rt, rt.alloc(), &case, 5, told.as_str())?;
+    }
+    let both = Case {
+        bank: "0\n",
+        words: WITH_BANK,
+        ..of_file("")
+    };
+    let told = "cbi: refusal 20 BadProgram line 1\n";
+    expect_lines(&rt, rt.alloc(), &both, 5, told)
+}
+
+#[test]
+fn a_watcher_without_memory_ends_the_run(rt: HostRuntime) -> Result<(), Fail> {
+    let alloc = rt.alloc();
+    for (most, status, err) in [
+        (2, 7, "cbi: out of memory\n"),
+        (4, 0, "first 0\nfew\nlast 0 0 0 0\n"),
+    ] {
+        let case = Case {
+            bank: "3\n1\n",
+            words: WITH_BANK,
+            ..of_file(LOOP)
+        };
+        let mut probes: Vec<Box<dyn Probe>> = Vec::new(alloc);
+        probes.push(Box::new(alloc, FirstSeen::new(alloc))?)?;
+        let few = Few {
+            most,
+            observations: Vec::new(alloc),
+        };
+        probes.push(Box::new(alloc, few)?)?;
+        probes.push(Box::new(alloc, LastSeen::new(alloc))?)?;
+        let came = come(alloc, &case, &mut probes)?;
+        assert_eq!(rt; came.status, status);
+        assert_eq!(rt; came.err.as_slice(), err.as_bytes());
+    }
+    Ok(())
 }

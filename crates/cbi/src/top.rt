@@ -1,78 +1,97 @@
 ghost use Rattle.std.specs.Prelude.{◌≡◌, ◌≤◌, ◌⊎◌, IsNone, IsSome};
+ghost use Rattle.std.specs.List.{flat_map};
 ghost use Rattle.cbi_base.specs.Faults.{Rose};
-ghost use Rattle.cbi.specs.Run.{OfCommand, Ran, StoppedWithin, IsRefused, ReadsHeld};
-ghost use Rattle.cbi.specs.Words.{command_of, texts_of};
+ghost use Rattle.cbi.specs.Words.{asked};
+ghost use Rattle.cbi.specs.Outside.{outside, AllStayBut, IsUnmovedOr};
+ghost use Rattle.cbi.specs.Names.{AreHeld};
+ghost use Rattle.cbi.specs.Commands.{names_of, written_by, Did, LeftOn, LeftWanting, done_text, IsRefused, IsRefusedBy, WriteFault};
 ghost use Rattle.cbi.specs.Statuses.{IsStatus, IsUntouched, IsPast, IsUnchangedOr};
 ghost use Rattle.cbi.specs.Told.{IsTold, ReadTold, RefusalTold, usage_line, write_line, memory_line};
 
-use crate::message::{tell_fault, tell_usage};
-use crate::run_file::run_file;
+use crate::commands::obey;
+use crate::message::{tell_done, tell_fault, tell_usage};
 use crate::words::read_words;
 use cbi_base::{Sink, Store};
+use probes::Probe;
 use std::alloc::Global;
 
 /// Does what the words ask for, over this store, and answers the status of the process.
 ///
 /// 0: done. 2: the words read as no command. 3: a file wasn't read. 4: out didn't take the text. 5: a file is refused. 7: memory is wanting.
-/// What went wrong is told to err in a line; a fault of err changes no status, and want of memory there is status 7.
+/// Where it is done err is told the watchers' lines, and else a line of what went wrong. A fault of err leaves a prefix of that and changes no status.
+/// Where memory is wanting, to tell it too, the status is 7 and err may have taken nothing.
 pub fn cbi<S: Store, O: Sink, E: Sink>(
     alloc: Global,
     words: &Vec<String>,
     store: &mut S,
     out: &mut O,
     err: &mut E,
+    probes: &mut Vec<Box<dyn Probe>>,
 ) -> u8
     ensures status { IsStatus result }
 
-    // Done: out grew by the output of the machine on the program that the bytes read spell.
-    ensures done { result ≡ 0 → OfCommand (command_of (texts_of words.now.items)) (Ran (S.holds store.old) (O.taken out.old) (O.taken out.new)) }
+    // Done: what the command asks for.
+    ensures done { result ≡ 0 → Did (λ b. seen b) (asked words.now.items)
+        (outside (S.holds store.old) (O.taken out.old) probes.old.items) (outside (S.holds store.new) (O.taken out.new) probes.new.items) }
 
     // Each other status has its cause.
-    ensures usage { result ≡ 2 → IsNone (command_of (texts_of words.now.items)) }
+    ensures usage { result ≡ 2 → IsNone (asked words.now.items) }
     ensures read_fault { result ≡ 3 → Rose (S.read_faults store.old) (S.read_faults store.new) }
-    ensures write_fault { result ≡ 4 → Rose (O.faults out.old) (O.faults out.new) }
-    ensures refused { result ≡ 5 → OfCommand (command_of (texts_of words.now.items)) (IsRefused (S.holds store.old)) }
+    ensures write_fault { result ≡ 4 → WriteFault (asked words.now.items) (Rose (O.faults out.old) (O.faults out.new)) (Rose (S.write_faults store.old) (S.write_faults store.new)) }
+    ensures refused { result ≡ 5 → IsRefused (asked words.now.items) (S.holds store.old) }
 
     // Where a cause holds that is exact, its status comes, but for want of memory and what comes before it.
-    ensures usage_only { IsNone (command_of (texts_of words.now.items)) → (result ≡ 2) ⊎ (result ≡ 7) }
-    ensures refused_only { OfCommand (command_of (texts_of words.now.items)) (IsRefused (S.holds store.old)) → IsSome (S.holds store.old)
-        → (result ≡ 3) ⊎ ((result ≡ 5) ⊎ (result ≡ 7)) }
+    ensures usage_only { IsNone (asked words.now.items) → (result ≡ 2) ⊎ (result ≡ 7) }
+    ensures refused_only { IsRefused (asked words.now.items) (S.holds store.old) → IsSome (S.holds store.old) → (result ≡ 3) ⊎ ((result ≡ 5) ⊎ (result ≡ 7)) }
 
     // Where the words read as a command, no count rose and nothing is refused, it is done, but for want of memory.
-    ensures complete { IsSome (command_of (texts_of words.now.items)) → (Rose (S.read_faults store.old) (S.read_faults store.new) → ⊥) → (Rose (O.faults out.old) (O.faults out.new) → ⊥)
-        → (OfCommand (command_of (texts_of words.now.items)) (IsRefused (S.holds store.old)) → ⊥) → (result ≡ 0) ⊎ (result ≡ 7) }
+    ensures complete { IsSome (asked words.now.items) → (Rose (S.read_faults store.old) (S.read_faults store.new) → ⊥)
+        → (WriteFault (asked words.now.items) (Rose (O.faults out.old) (O.faults out.new)) (Rose (S.write_faults store.old) (S.write_faults store.new)) → ⊥)
+        → (IsRefused (asked words.now.items) (S.holds store.old) → ⊥) → (result ≡ 0) ⊎ (result ≡ 7) }
 
     // What err is told.
-    ensures quiet { result ≡ 0 → E.taken err.new ≡ E.taken err.old }
+    ensures told_done { result ≡ 0 → IsTold (Rose (E.faults err.old) (E.faults err.new)) (E.taken err.old) (E.taken err.new)
+        (done_text (asked words.now.items) (flat_map (λ b. line_text b) probes.new.items)) }
     ensures told_usage { result ≡ 2 → IsTold (Rose (E.faults err.old) (E.faults err.new)) (E.taken err.old) (E.taken err.new) usage_line }
-    ensures told_read { result ≡ 3 → OfCommand (command_of (texts_of words.now.items))
-        (ReadTold (IsTold (Rose (E.faults err.old) (E.faults err.new)) (E.taken err.old) (E.taken err.new))) }
+    ensures told_read { result ≡ 3 → ReadTold (names_of (asked words.now.items)) (S.holds store.old) (S.is_sound store.old)
+        (IsTold (Rose (E.faults err.old) (E.faults err.new)) (E.taken err.old) (E.taken err.new)) }
     ensures told_write { result ≡ 4 → IsTold (Rose (E.faults err.old) (E.faults err.new)) (E.taken err.old) (E.taken err.new) write_line }
-    ensures told_refusal { result ≡ 5 → OfCommand (command_of (texts_of words.now.items))
-        (RefusalTold (S.holds store.old) (IsTold (Rose (E.faults err.old) (E.faults err.new)) (E.taken err.old) (E.taken err.new))) }
+    ensures told_refusal { result ≡ 5 → RefusalTold (IsRefusedBy (asked words.now.items) (S.holds store.old))
+        (IsTold (Rose (E.faults err.old) (E.faults err.new)) (E.taken err.old) (E.taken err.new)) }
     ensures told_memory { result ≡ 7 → IsUnchangedOr (E.taken err.old) (E.taken err.new)
         (IsTold (Rose (E.faults err.old) (E.faults err.new)) (E.taken err.old) (E.taken err.new) memory_line) }
-    ensures err_stays { E.is_sound err.old → E.faults err.new ≡ E.faults err.old }
 
-    // What is left on out, and in the store.
+    // What is left on out, with the watchers and in the store, and which names were held.
     ensures untouched { IsUntouched result → O.taken out.new ≡ O.taken out.old }
-    ensures part { result ≡ 4 → OfCommand (command_of (texts_of words.now.items)) (StoppedWithin (S.holds store.old) (O.taken out.old) (O.taken out.new)) }
-    ensures wanting { result ≡ 7 → IsUnchangedOr (O.taken out.old) (O.taken out.new)
-        (OfCommand (command_of (texts_of words.now.items)) (StoppedWithin (S.holds store.old) (O.taken out.old) (O.taken out.new))) }
-    ensures was_held { IsPast result → OfCommand (command_of (texts_of words.now.items)) (ReadsHeld (S.holds store.old)) }
+    ensures untold { IsUntouched result → probes.new.items ≡ probes.old.items }
+    ensures unwritten { IsUntouched result → S.holds store.new ≡ S.holds store.old }
+    ensures part { result ≡ 4 → LeftOn (λ b. seen b) (asked words.now.items)
+        (outside (S.holds store.old) (O.taken out.old) probes.old.items) (outside (S.holds store.new) (O.taken out.new) probes.new.items) }
+    ensures wanting { result ≡ 7 → IsUnmovedOr (outside (S.holds store.old) (O.taken out.old) probes.old.items) (outside (S.holds store.new) (O.taken out.new) probes.new.items)
+        (LeftWanting (λ b. seen b) (asked words.now.items)
+        (outside (S.holds store.old) (O.taken out.old) probes.old.items) (outside (S.holds store.new) (O.taken out.new) probes.new.items)) }
+    ensures was_held { IsPast result → AreHeld (S.holds store.old) (names_of (asked words.now.items)) }
+    ensures held { AllStayBut (written_by (asked words.now.items)) (S.holds store.old) (S.holds store.new) }
+    ensures no_write { IsNone (written_by (asked words.now.items)) → S.write_faults store.new ≡ S.write_faults store.old }
 
-    // Over devices that are sound no count rises, and every valid input is done, but for want of memory.
-    ensures reads_stay { S.is_sound store.old → OfCommand (command_of (texts_of words.now.items)) (ReadsHeld (S.holds store.old))
-        → S.read_faults store.new ≡ S.read_faults store.old }
+    // No count falls. Devices that are sound stay so, and no count of theirs rises where the names that are read are held.
+    ensures reads_rise { S.read_faults store.old ≤ S.read_faults store.new }
+    ensures writes_rise { S.write_faults store.old ≤ S.write_faults store.new }
+    ensures out_rises { O.faults out.old ≤ O.faults out.new }
+    ensures err_rises { E.faults err.old ≤ E.faults err.new }
+    ensures store_sound { S.is_sound store.old → S.is_sound store.new }
+    ensures out_sound { O.is_sound out.old → O.is_sound out.new }
+    ensures err_sound { E.is_sound err.old → E.is_sound err.new }
+    ensures reads_stay { S.is_sound store.old → AreHeld (S.holds store.old) (names_of (asked words.now.items)) → S.read_faults store.new ≡ S.read_faults store.old }
+    ensures writes_stay { S.is_sound store.old → S.write_faults store.new ≡ S.write_faults store.old }
     ensures out_stays { O.is_sound out.old → O.faults out.new ≡ O.faults out.old }
-    ensures held { S.holds store.new ≡ S.holds store.old }
-    ensures writes { S.write_faults store.new ≡ S.write_faults store.old }
+    ensures err_stays { E.is_sound err.old → E.faults err.new ≡ E.faults err.old }
 {
-    let Some(run) = read_words(words.as_slice()) else {
+    let Some(command) = read_words(words.as_slice()) else {
         return tell_usage(err);
     };
-    match run_file(alloc, run, store, out) {
-        Ok(()) => 0,
+    match obey(alloc, command, store, out, probes) {
+        Ok(()) => tell_done(alloc, err, &command, probes),
         Err(fault) => tell_fault(alloc, err, &fault),
     }
 }

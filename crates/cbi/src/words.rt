@@ -1,8 +1,9 @@
 ghost use Rattle.std.specs.Prelude.{◌≡◌, ◌≤◌, MatchOption, None, Some, Option, List, ℕ, IfSome};
 ghost use Rattle.std.specs.Option.{option_map};
-ghost use Rattle.program_file.specs.Fields.{number_of};
-ghost use Rattle.cbi.specs.Words.{Command, command_of, with_input, with_turns, with_program, texts_of, is_name};
-ghost use Rattle.cbi.specs.RunWords.{command_in};
+ghost use Rattle.cbi_base.specs.Numbers.{number_of};
+ghost use Rattle.cbi.specs.Words.{command_of, with_bank, with_input, with_turns, with_program, texts_of, is_name};
+ghost use Rattle.cbi.specs.Asked.{running_in, command_in};
+ghost use Rattle.cbi.specs.Turns.{TurnsFit};
 
 use cbi_base::read_decimal;
 
@@ -12,15 +13,23 @@ const DEFAULT_TURNS: u32 = 1000000;
 /// The greatest bound of turns that the words may give.
 const MOST_TURNS: u64 = 100000000;
 
-/// What `run [--input I] [--turns N] PROG` asks for.
+/// What `run [--bank B] [--input I] [--turns N] PROG` asks for.
 #[derive(Clone, Copy)]
 pub struct RunWords<'a> {
+    /// The name of the bank's file; without it the bank is that of the one number 1.
+    pub bank: Option<&'a str>,
     /// The name of the input's file; without it the input is empty.
     pub input: Option<&'a str>,
     /// The bound of turns, at most 100,000,000.
     pub turns: u32,
     /// The name of the program file.
     pub program: &'a str,
+}
+
+/// What a command line asks for.
+#[derive(Clone, Copy)]
+pub enum Command<'a> {
+    Run(RunWords<'a>),
 }
 
 // The name of a file: `-`, or a word that doesn't begin with `-`.
@@ -46,9 +55,14 @@ fn turns(word: &str) -> Option<u32>
 }
 
 // The name of the program file, which comes last.
-fn with_program<'a>(input: Option<&'a str>, turns: u32, words: &'a [String]) -> Option<RunWords<'a>>
+fn with_program<'a>(
+    bank: Option<&'a str>,
+    input: Option<&'a str>,
+    turns: u32,
+    words: &'a [String],
+) -> Option<RunWords<'a>>
     requires { turns ≤ 100000000 }
-    ensures value { option_map command_in result ≡ with_program (option_map (λ name. name.now) input.entry) turns (texts_of words.now) }
+    ensures value { option_map running_in result ≡ with_program (option_map (λ name. name.now) bank.entry) (option_map (λ name. name.now) input.entry) turns (texts_of words.now) }
     ensures most { IfSome result (λ run. run.turns ≤ 100000000) }
 {
     let [program] = words else {
@@ -58,6 +72,7 @@ fn with_program<'a>(input: Option<&'a str>, turns: u32, words: &'a [String]) -> 
         return None;
     }
     Some(RunWords {
+        bank,
         input,
         turns,
         program: program.as_str(),
@@ -65,48 +80,72 @@ fn with_program<'a>(input: Option<&'a str>, turns: u32, words: &'a [String]) -> 
 }
 
 // `--turns N`, where it is given.
-fn with_turns<'a>(input: Option<&'a str>, words: &'a [String]) -> Option<RunWords<'a>>
-    ensures value { option_map command_in result ≡ with_turns (option_map (λ name. name.now) input.entry) (texts_of words.now) }
+fn with_turns<'a>(
+    bank: Option<&'a str>,
+    input: Option<&'a str>,
+    words: &'a [String],
+) -> Option<RunWords<'a>>
+    ensures value { option_map running_in result ≡ with_turns (option_map (λ name. name.now) bank.entry) (option_map (λ name. name.now) input.entry) (texts_of words.now) }
     ensures most { IfSome result (λ run. run.turns ≤ 100000000) }
 {
     match words {
         [] => None,
-        [_] => with_program(input, DEFAULT_TURNS, words),
+        [_] => with_program(bank, input, DEFAULT_TURNS, words),
         [word, value, rest @ ..] => {
             if word.as_str() != "--turns" {
                 return None;
             }
             let bound = turns(value.as_str())?;
-            with_program(input, bound, rest)
+            with_program(bank, input, bound, rest)
         }
     }
 }
 
 // `--input I`, where it is given.
-fn with_input<'a>(words: &'a [String]) -> Option<RunWords<'a>>
-    ensures value { option_map command_in result ≡ with_input (texts_of words.now) }
+fn with_input<'a>(bank: Option<&'a str>, words: &'a [String]) -> Option<RunWords<'a>>
+    ensures value { option_map running_in result ≡ with_input (option_map (λ name. name.now) bank.entry) (texts_of words.now) }
     ensures most { IfSome result (λ run. run.turns ≤ 100000000) }
 {
     match words {
         [] => None,
-        [_] => with_turns(None, words),
+        [_] => with_turns(bank, None, words),
         [word, value, rest @ ..] => {
             if word.as_str() != "--input" {
-                return with_turns(None, words);
+                return with_turns(bank, None, words);
             }
             if !is_name(value.as_str()) {
                 return None;
             }
-            with_turns(Some(value.as_str()), rest)
+            with_turns(bank, Some(value.as_str()), rest)
+        }
+    }
+}
+
+// `--bank B`, where it is given.
+fn with_bank<'a>(words: &'a [String]) -> Option<RunWords<'a>>
+    ensures value { option_map running_in result ≡ with_bank (texts_of words.now) }
+    ensures most { IfSome result (λ run. run.turns ≤ 100000000) }
+{
+    match words {
+        [] => None,
+        [_] => with_input(None, words),
+        [word, value, rest @ ..] => {
+            if word.as_str() != "--bank" {
+                return with_input(None, words);
+            }
+            if !is_name(value.as_str()) {
+                return None;
+            }
+            with_input(Some(value.as_str()), rest)
         }
     }
 }
 
 /// The command that the words read as: any word first, then `run`, then its options in their order, then the name of a program file.
 #[tactic(auto, unfolding(crate::specs::Words::command_of))]
-pub fn read_words(words: &[String]) -> Option<RunWords<'_>>
+pub fn read_words(words: &[String]) -> Option<Command<'_>>
     ensures value { option_map command_in result ≡ command_of (texts_of words.now) }
-    ensures most { IfSome result (λ run. run.turns ≤ 100000000) }
+    ensures most { IfSome result TurnsFit }
 {
     let [_, command, rest @ ..] = words else {
         return None;
@@ -114,5 +153,5 @@ pub fn read_words(words: &[String]) -> Option<RunWords<'_>>
     if command.as_str() != "run" {
         return None;
     }
-    with_input(rest)
+    with_bank(rest).map(Command::Run)
 }

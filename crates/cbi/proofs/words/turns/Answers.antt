@@ -1,7 +1,6 @@
 use Rattle.std.proofs.Common.{ap, ◌∙◌, arith}
-use Rattle.program_file.specs.Fields.{number_of}
-use Rattle.program_file.proofs.Lines.{none-some}
-use Rattle.program_file.proofs.Reading.{answers-number, answers-no-number}
+use Rattle.cbi_base.specs.Numbers.{number_of}
+use Rattle.cbi_base.proofs.NumberLemmas.{none-some, answers-number, answers-no-number}
 use Rattle.cbi.proofs.words.turns.Goals as goal
 
 pub returns-in-Some-clause-value : goal.returns-in-Some-clause-value
