@@ -1,0 +1,4 @@
+pub mod WordRule
+pub mod Options
+pub mod Reading
+pub mod Answers

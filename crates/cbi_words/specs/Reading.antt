@@ -1,0 +1,58 @@
+-- What words read as: the table of the commands with their options, positionals and defaults. The first word isn't looked at, and the second one is the command.
+use Rattle.std.specs.Prelude.{ℕ, if◌then◌else◌, List, [], ◌∷◌, Option, None, Some, codes}
+use Rattle.cbi_base.specs.Numbers.{is_word, ◌>>=◌}
+use Rattle.cbi_words.specs.declared.given.Given.{Given}
+use Rattle.cbi_words.specs.declared.command.Command.{Command}
+use Rattle.cbi_words.specs.declared.command.Command.TheVariants.{Run, Bank}
+use Rattle.cbi_words.specs.WordRule.{cut}
+use Rattle.cbi_words.specs.Options.{are_asked, value_of, number_or, number_wanted}
+
+-- the one positional, where there is one alone
+abbrev pub only : List (List ℕ) → Option (List ℕ)
+only [] = None
+only (word ∷ []) = Some word
+only (word ∷ next ∷ more) = None
+
+-- `run [--bank B] [--input I] [--expect FILE] [--turns N] [--run R] [--report F] PROG`
+abbrev pub run_options : List (List ℕ)
+run_options = codes "--bank" ∷ codes "--input" ∷ codes "--expect" ∷ codes "--turns" ∷ codes "--run" ∷ codes "--report" ∷ []
+
+abbrev pub run_of : Given → Option Command
+run_of given = do
+  turns ← number_or 1000000 0 100000000 (value_of (codes "--turns") given.options)
+  run ← number_or 1 1 4294967295 (value_of (codes "--run") given.options)
+  program ← only given.positionals
+  Some (Run (value_of (codes "--bank") given.options) (value_of (codes "--input") given.options) (value_of (codes "--expect") given.options) turns run (value_of (codes "--report") given.options) program)
+
+-- `bank --rate D --count N --seed S [--stream I]`
+abbrev pub bank_options : List (List ℕ)
+bank_options = codes "--rate" ∷ codes "--count" ∷ codes "--seed" ∷ codes "--stream" ∷ []
+
+abbrev pub no_positional : List (List ℕ) → Given → Option Given
+no_positional [] given = Some given
+no_positional (word ∷ more) given = None
+
+abbrev pub bank_of : Given → Option Command
+bank_of given = do
+  rate ← number_wanted 1 65536 (value_of (codes "--rate") given.options)
+  count ← number_wanted 1 65536 (value_of (codes "--count") given.options)
+  seed ← number_wanted 0 18446744073709551615 (value_of (codes "--seed") given.options)
+  stream ← number_or 0 0 18446744073709551615 (value_of (codes "--stream") given.options)
+  none ← no_positional given.positionals given
+  Some (Bank rate count seed stream)
+
+-- what is given after a command with these options
+abbrev pub asked : List (List ℕ) → List (List ℕ) → Option Given
+asked options words = cut None words >>= λ given. if are_asked options given then Some given else None
+
+-- the commands, by their names, with the words that follow
+unfoldable pub command_in : List ℕ → List (List ℕ) → Option Command
+command_in name words =
+    if is_word name (codes "run") then (asked run_options words >>= run_of)
+    else (if is_word name (codes "bank") then (asked bank_options words >>= bank_of) else None)
+
+-- the command that the words read as
+abbrev pub reads : List (List ℕ) → Option Command
+reads [] = None
+reads (first ∷ []) = None
+reads (first ∷ name ∷ words) = command_in name words

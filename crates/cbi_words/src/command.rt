@@ -1,0 +1,34 @@
+use crate::word::Word;
+
+/// What the words ask for. A command that isn't built has no variant.
+#[derive(Debug, Drop)]
+pub enum Command {
+    /// `run`: runs a program file.
+    Run {
+        /// The name of the bank's file; without it the bank is the one number 1.
+        bank: Option<Word>,
+        /// The name of the input's file; without it the input is empty.
+        input: Option<Word>,
+        /// The name of the file that the output is to equal; without it any output is as it should be.
+        expect: Option<Word>,
+        /// The bound of turns, at most 100,000,000.
+        turns: u32,
+        /// The run's number, at least 1.
+        run: u32,
+        /// The name under which the report is written; without it none is.
+        report: Option<Word>,
+        /// The name of the program file.
+        program: Word,
+    },
+    /// `bank`: makes a bank.
+    Bank {
+        /// From 1 to 65,536: one word in so many is hit.
+        rate: u32,
+        /// From 1 to 65,536: so many numbers are made.
+        count: u32,
+        /// The seed of the generator.
+        seed: u64,
+        /// The generator's stream.
+        stream: u64,
+    },
+}

@@ -1,0 +1,15 @@
+//! The words of a command line: which command they read as.
+#![tactic(auto)]
+
+mod command;
+mod error;
+mod given;
+mod numbers;
+mod read;
+mod usage;
+mod word;
+
+pub use command::Command;
+pub use error::WordsError;
+pub use read::read_words;
+pub use word::Word;

@@ -1,0 +1,62 @@
+ghost use Rattle.std.specs.Prelude.{◌≡◌, ◌≤◌, ◌^◌, ◌<◌, IfOk, IfSome, OnOk};
+ghost use Rattle.cbi_words.specs.Answers.{ReadAs};
+ghost use Rattle.cbi_base.specs.Numbers.{number_of};
+ghost use Rattle.cbi_words.specs.Options.{number_in, number_or, number_wanted, value_of};
+
+use crate::error::Fault;
+use crate::given::Given;
+use cbi_base::read_decimal;
+
+/// The bounds of a number.
+#[derive(Clone, Copy)]
+pub struct Bounds {
+    pub least: u64,
+    pub most: u64,
+}
+
+// The number that a decimal spells, at most `most`.
+fn number_of(value: &str, most: u64) -> Option<u64>
+    ensures value { result ≡ number_of most value.now }
+    ensures most { IfSome result (λ n. n ≤ most) }
+{
+    read_decimal(value.as_bytes(), most)
+}
+
+// The number that an option's value spells.
+fn number_in(option: &'static str, value: &str, bounds: Bounds) -> Result<u64, Fault>
+    ensures reads { ReadAs result (number_in bounds.least bounds.most value.now) }
+    ensures most { IfOk result (λ n. n ≤ bounds.most) }
+{
+    match number_of(value, bounds.most) {
+        Some(number) if bounds.least <= number => Ok(number),
+        _ => Err(Fault::BadValue { option }),
+    }
+}
+
+/// The number that an option gives, or the default where it isn't given.
+pub fn number_or(
+    given: &Given,
+    option: &'static str,
+    default: u64,
+    bounds: Bounds,
+) -> Result<u64, Fault>
+    requires { default ≤ bounds.most }
+    ensures reads { ReadAs result (number_or default bounds.least bounds.most (value_of option.entry.now given.now.options)) }
+    ensures most { IfOk result (λ n. n ≤ bounds.most) }
+{
+    match given.value_of(option) {
+        None => Ok(default),
+        Some(value) => number_in(option, value, bounds),
+    }
+}
+
+/// The number of an option that must be given.
+pub fn number_wanted(given: &Given, option: &'static str, bounds: Bounds) -> Result<u64, Fault>
+    ensures reads { ReadAs result (number_wanted bounds.least bounds.most (value_of option.entry.now given.now.options)) }
+    ensures most { IfOk result (λ n. n ≤ bounds.most) }
+{
+    match given.value_of(option) {
+        None => Err(Fault::Usage),
+        Some(value) => number_in(option, value, bounds),
+    }
+}

@@ -1,0 +1,148 @@
+ghost use Rattle.std.specs.Prelude.{◌≡◌, None, Some, IfOk, map};
+ghost use Rattle.cbi_words.specs.Answers.{ReadAs, OnUsage};
+ghost use Rattle.cbi_words.specs.Reading.{asked, bank_of, bank_options, command_in, reads, run_of, run_options};
+ghost use Rattle.cbi_words.specs.WordRule.{texts_of};
+
+use crate::command::Command;
+use crate::error::{Fault, WordsError};
+use crate::given::{Given, cut};
+use crate::numbers::{Bounds, number_or, number_wanted};
+use crate::usage::{bad_value, usage};
+use std::alloc::Global;
+
+/// The bound of turns, where the words give none.
+const DEFAULT_TURNS: u64 = 1000000;
+
+/// The bounds that the words may give to a bound of turns.
+const TURNS: Bounds = Bounds {
+    least: 0,
+    most: 100000000,
+};
+
+/// The bounds of a run's number.
+const RUNS: Bounds = Bounds {
+    least: 1,
+    most: 4294967295,
+};
+
+/// The bounds of a bank's rate and of its length.
+const RATES: Bounds = Bounds {
+    least: 1,
+    most: 65536,
+};
+
+/// The bounds of a seed and of a stream.
+const SEEDS: Bounds = Bounds {
+    least: 0,
+    most: 18446744073709551615,
+};
+
+// What is given after `run`.
+fn run_of(alloc: Global, given: &Given) -> Result<Command, Fault>
+    ensures { ReadAs result (run_of given.now) }
+{
+    let [program] = given.positionals.as_slice() else {
+        return Err(Fault::Usage);
+    };
+    let turns = number_or(given, "--turns", DEFAULT_TURNS, TURNS)?;
+    let run = number_or(given, "--run", 1, RUNS)?;
+    Ok(Command::Run {
+        bank: given.copy_of(alloc, "--bank")?,
+        input: given.copy_of(alloc, "--input")?,
+        expect: given.copy_of(alloc, "--expect")?,
+        turns: turns as u32,
+        run: run as u32,
+        report: given.copy_of(alloc, "--report")?,
+        program: program.try_clone()?,
+    })
+}
+
+// What is given after `bank`.
+fn bank_of(given: &Given) -> Result<Command, Fault>
+    ensures { ReadAs result (bank_of given.now) }
+{
+    if !given.positionals.is_empty() {
+        return Err(Fault::Usage);
+    }
+    let rate = number_wanted(given, "--rate", RATES)?;
+    let count = number_wanted(given, "--count", RATES)?;
+    let seed = number_wanted(given, "--seed", SEEDS)?;
+    let stream = number_or(given, "--stream", 0, SEEDS)?;
+    Ok(Command::Bank {
+        rate: rate as u32,
+        count: count as u32,
+        seed,
+        stream,
+    })
+}
+
+// What the words give after a command with these options.
+fn asked(alloc: Global, options: &[&str], words: &[String]) -> Result<Given, Fault>
+    ensures { ReadAs result (asked (map (λ name. name.now) options.now) (texts_of words.now)) }
+{
+    let Some(given) = cut(alloc, words)? else {
+        return Err(Fault::Usage);
+    };
+    if given.has_only(options) && given.are_single() {
+        Ok(given)
+    } else {
+        Err(Fault::Usage)
+    }
+}
+
+// What is given after the name of a command.
+#[tactic(auto, unfolding(crate::specs::Reading::command_in))]
+fn command_in(alloc: Global, name: &str, words: &[String]) -> Result<Command, Fault>
+    ensures { ReadAs result (command_in name.now (texts_of words.now)) }
+{
+    if name == "run" {
+        let options = [
+            "--bank", "--input", "--expect", "--turns", "--run", "--report",
+        ];
+        let given = asked(alloc, &options, words)?;
+        return run_of(alloc, &given);
+    }
+    if name == "bank" {
+        let options = ["--rate", "--count", "--seed", "--stream"];
+        let given = asked(alloc, &options, words)?;
+        return bank_of(&given);
+    }
+    Err(Fault::Usage)
+}
+
+// The first word isn't looked at, and the second one is the name of the command.
+fn command_of(alloc: Global, words: &[String]) -> Result<Command, Fault>
+    ensures { ReadAs result (reads (texts_of words.now)) }
+{
+    let [_, name, rest @ ..] = words else {
+        return Err(Fault::Usage);
+    };
+    command_in(alloc, name.as_str(), rest)
+}
+
+// The name of the command that the words call for, where there is one.
+fn command_word(words: &[String]) -> &str {
+    match words {
+        [_, command, ..] => command.as_str(),
+        _ => "",
+    }
+}
+
+/// The command that the words read as. The first word isn't looked at, the second one is the command, and the others are options and positionals.
+pub fn read_words(alloc: Global, words: &Vec<String>) -> Result<Command, WordsError>
+    // What is read is what the words read as.
+    ensures reads { IfOk result (λ command. reads (texts_of words.now.items) ≡ Some command) }
+    // Words are refused where they read as no command, and nowhere else.
+    ensures usage { OnUsage result (reads (texts_of words.now.items) ≡ None) }
+{
+    match command_of(alloc, words.as_slice()) {
+        Ok(command) => Ok(command),
+        Err(Fault::Memory) => Err(WordsError::Memory),
+        Err(Fault::BadValue { option }) => Err(WordsError::Usage {
+            text: bad_value(alloc, option)?,
+        }),
+        Err(Fault::Usage) => Err(WordsError::Usage {
+            text: usage(alloc, command_word(words.as_slice()))?,
+        }),
+    }
+}

@@ -1,0 +1,116 @@
+use cbi_base::Memory;
+use clap::{Arg, ArgAction};
+use std::alloc::{AllocError, Global};
+
+// An option with a value.
+fn option(
+    alloc: Global,
+    name: &'static str,
+    value: &'static str,
+    help: &'static str,
+) -> Arg<'static> {
+    Arg::new(alloc, name)
+        .long(name)
+        .value_name(value)
+        .help(help)
+        .action(ArgAction::Set)
+}
+
+// A command, whose options and positionals are added next. `--help` is none of them.
+fn command(alloc: Global, name: &'static str, about: &'static str) -> clap::Command<'static> {
+    clap::Command::new(alloc, name)
+        .about(about)
+        .disable_help_flag(true)
+        .disable_help_subcommand(true)
+}
+
+// A positional that must be given.
+fn positional(alloc: Global, name: &'static str, help: &'static str) -> Arg<'static> {
+    Arg::new(alloc, name).required(true).help(help)
+}
+
+fn run_line(alloc: Global) -> Result<clap::Command<'static>, AllocError> {
+    command(
+        alloc,
+        "run",
+        "Run a program file; its output goes to standard output",
+    )
+    .arg(option(
+        alloc,
+        "bank",
+        "B",
+        "The bank's file; without it the bank is the one number 1",
+    ))?
+    .arg(option(
+        alloc,
+        "input",
+        "I",
+        "The input's file; without it the input is empty",
+    ))?
+    .arg(option(
+        alloc,
+        "expect",
+        "FILE",
+        "A file that the output is to equal",
+    ))?
+    .arg(option(
+        alloc,
+        "turns",
+        "N",
+        "The bound of turns, at most 100000000 [default: 1000000]",
+    ))?
+    .arg(option(
+        alloc,
+        "run",
+        "R",
+        "The run's number, from 1 to 4294967295 [default: 1]",
+    ))?
+    .arg(option(
+        alloc,
+        "report",
+        "F",
+        "The file to which the report is written",
+    ))?
+    .arg(positional(alloc, "PROG", "The program file"))
+}
+
+fn bank_line(alloc: Global) -> Result<clap::Command<'static>, AllocError> {
+    command(alloc, "bank", "Make a bank")
+        .arg(option(
+            alloc,
+            "rate",
+            "D",
+            "One word in so many is hit, from 1 to 65536",
+        )
+        .required(true))?
+        .arg(option(
+            alloc,
+            "count",
+            "N",
+            "So many numbers are made, from 1 to 65536",
+        )
+        .required(true))?
+        .arg(option(alloc, "seed", "S", "The generator's seed").required(true))?
+        .arg(option(alloc, "stream", "I", "The generator's stream [default: 0]"))
+}
+
+fn tool_line(alloc: Global) -> Result<clap::Command<'static>, AllocError> {
+    command(alloc, "cbi", "Cooperative bug isolation")
+        .subcommand(run_line(alloc)?)?
+        .subcommand(bank_line(alloc)?)
+}
+
+/// How the command is used, or the tool, where the word names no command.
+pub fn usage(alloc: Global, word: &str) -> Result<String, Memory> {
+    let mut line = match word {
+        "run" => run_line(alloc)?.bin_name("cbi run")?,
+        "bank" => bank_line(alloc)?.bin_name("cbi bank")?,
+        _ => tool_line(alloc)?,
+    };
+    Ok(line.render_help()?)
+}
+
+/// What err is told of a value that isn't spelled as it should be.
+pub fn bad_value(alloc: Global, option: &str) -> Result<String, Memory> {
+    Ok(format!(in alloc; "cbi: bad value of {option}\n")?)
+}
