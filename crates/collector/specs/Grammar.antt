@@ -1,0 +1,93 @@
+-- The grammar of collections, line by line, both versions as one: which line may come next, and what is due after it.
+use Rattle.std.specs.Prelude.{◌≡◌, ◌⊎◌, ◌+◌, ◌<◌, ◌≤◌, ℕ, List, [], ◌∷◌, ◌++◌, length, None, Some, codes, replicate}
+use Rattle.std.specs.Global.{Global}
+use Rattle.std.specs.Option.{option_to_list}
+use Rattle.cbi_base.specs.ProgramId.{IsId}
+use Rattle.cbi_base.specs.Text.{spaced}
+use Rattle.cbi_base.specs.declared.identity.ProgramId.{ProgramId}
+use Rattle.report_file.specs.declared.draft.Version.{Version}
+use Rattle.report_file.specs.declared.draft.Version.TheVariants as version
+use Rattle.report_file.specs.declared.report.Entry.{Entry}
+use Rattle.report_file.specs.declared.report.Report.{Report}
+use Rattle.report_file.specs.declared.run_line.RunLine.{RunLine}
+use Rattle.report_file.specs.Grammar.{IsNextEntry}
+use Rattle.report_file.specs.RunLine.{IsRunLine, run_line_fields}
+use Rattle.report_file.specs.Spelling.{program_fields, site_fields}
+use Rattle.collector.specs.Collected.{mark_limit, report_limit}
+use Rattle.collector.specs.Spelling.{title_fields}
+use Rattle.collector.specs.declared.draft.Draft.{Draft}
+use Rattle.collector.specs.declared.draft.Due.{Due}
+use Rattle.collector.specs.declared.draft.Due.TheVariants as due
+
+-- nothing is read yet
+abbrev pub start : Global → Draft
+start alloc = record {
+  alloc = alloc;
+  due = due.Title;
+  version = version.Second;
+  program = record { bytes = replicate 32 0 };
+  reports = [];
+  current = None;
+  run = 0;
+  site = 0;
+  marks = 0;
+}
+
+-- the reports so far, with the one that goes on
+abbrev pub whole : Draft → List Report
+whole d = d.reports ++ option_to_list d.current
+
+abbrev pub closed : Draft → Draft
+closed d = record d { reports = whole d; current = None }
+
+pub record TitleFollows (d : Draft) (line : List ℕ) (after : Draft) : Type 0 where
+  pub value : Version
+  pub line_is : line ≡ spaced (title_fields value)
+  pub after_is : after ≡ record d { due = due.Program; version = value }
+
+pub record ProgramFollows (d : Draft) (line : List ℕ) (after : Draft) : Type 0 where
+  pub value : ProgramId
+  pub is_id : IsId value
+  pub line_is : line ≡ spaced (program_fields value)
+  pub after_is : after ≡ record d { due = due.Runs; program = value }
+
+-- a report whose sites are still to come
+abbrev pub begun : ProgramId → RunLine → Report
+begun program x = record { program = program; run = x.run; outcome = x.outcome; label = x.label; work = x.work; entries = [] }
+
+-- the line of a run, which is greater than those before it, where a report more may come
+pub record RunFollows (d : Draft) (line : List ℕ) (after : Draft) : Type 0 where
+  pub value : RunLine
+  pub is_line : IsRunLine d.version value
+  pub rises : d.run ≤ value.run
+  pub room : length (whole d) < report_limit
+  pub line_is : line ≡ spaced (run_line_fields d.version value)
+  pub after_is : after ≡ record d { reports = whole d; current = Some (begun d.program value); run = value.run + 1; site = 0 }
+
+-- the line of a site of the run before it, where a site line more may come
+pub record SiteFollows (d : Draft) (line : List ℕ) (after : Draft) : Type 0 where
+  pub report : Report
+  pub value : Entry
+  pub is_current : d.current ≡ Some report
+  pub is_next : IsNextEntry d.site value
+  pub room : d.marks < mark_limit
+  pub line_is : line ≡ spaced (site_fields value)
+  pub after_is : after ≡ record d { current = Some (record report { entries = report.entries ++ value ∷ [] }); site = value.site + 1; marks = d.marks + 1 }
+
+pub record EndFollows (d : Draft) (line : List ℕ) (after : Draft) : Type 0 where
+  pub line_is : line ≡ codes "end"
+  pub after_is : after ≡ record (closed d) { due = due.Nothing }
+
+-- the line that is due
+abbrev pub Comes : Due → Draft → List ℕ → Draft → Type 0
+Comes due.Title d line after = TitleFollows d line after
+Comes due.Program d line after = ProgramFollows d line after
+Comes due.Runs d line after = RunFollows d line after ⊎ (SiteFollows d line after ⊎ EndFollows d line after)
+Comes due.Nothing d line after = ⊥
+
+abbrev pub Follows : Draft → List ℕ → Draft → Type 0
+Follows d line after = Comes d.due d line after
+
+-- the text may end where nothing is due
+abbrev pub Ends : Draft → Type 0
+Ends d = d.due ≡ due.Nothing
