@@ -1,0 +1,130 @@
+#!/usr/bin/env python3
+"""Times the machine on program files that take many turns, beside the same programs in Lua.
+
+usage: machine.py CBI      where CBI is the built tool (README.md says how it is built)
+
+Each program is written here as nodes; a label names the node after it. Printed are the processor seconds of the process and the most
+memory that it held, and for Lua the same, where lua5.4 is on the path.
+"""
+import os
+import shutil
+import subprocess
+import sys
+import tempfile
+import time
+
+TURNS = "100000000"
+
+
+def nodes(lines):
+    """Node lines from lines such as 'push i 0', which go on at the next, with labels 'name:' and uses '@name'."""
+    labels, rows = {}, []
+    for line in lines:
+        if line.endswith(":"):
+            labels[line[:-1]] = len(rows)
+        else:
+            rows.append(line.split())
+    last = {"return", "leave", "exit", "abort", "fork", "again"}
+    text = []
+    for place, row in enumerate(rows):
+        fields = [str(labels[f[1:]]) if f.startswith("@") else f for f in row]
+        if row[0] not in last:
+            fields.append(str(place + 1))
+        text.append(" ".join(fields))
+    return text
+
+
+def program(functions, main):
+    """The text of a program of functions (name, result, parameters, sizes of locals, node lines)."""
+    head = ["cbi-program 1", "texts 0", "globals 0", f"functions {len(functions)}"]
+    bodies = []
+    for name, result, params, sizes, lines in functions:
+        body = nodes(lines)
+        head.append(f"function {name} {result} {params} {len(sizes)} {len(body)}")
+        bodies.append("locals" + "".join(f" {s}" for s in sizes))
+        bodies.extend(body)
+    return "\n".join(head + [f"main {main}", "sites 0"] + bodies + ["end", ""])
+
+
+def put(index, value):
+    """Stores a number in a local of one cell."""
+    return [f"local {index}", f"push i {value}", "store", "drop"]
+
+
+def get(index):
+    return [f"local {index}", "load i"]
+
+
+def step(index):
+    """index = index + 1"""
+    return [f"local {index}"] + get(index) + ["push i 1", "math add", "store", "drop"]
+
+
+def below(index, bound, inside, outside):
+    return get(index) + [f"push i {bound}", "math lt", f"fork @{inside} @{outside}"]
+
+
+def counted(index, bound, name, body):
+    """A loop that counts a local from 0 to the bound."""
+    return (put(index, 0) + [f"{name}:"] + below(index, bound, f"{name}_in", f"{name}_out")
+            + [f"{name}_in:"] + body + step(index) + [f"again @{name}", f"{name}_out:"])
+
+
+END = ["push i 0", "return"]
+
+LOOP = program([("main", "value", 0, [1, 1],
+                 put(1, 0) + counted(0, 10000000, "loop", ["local 1"] + get(1) + get(0) + ["math add", "push i 1023", "math rem", "store", "drop"]) + END)], 0)
+
+FIB = program([("fib", "value", 1, [1],
+                get(0) + ["push i 2", "math lt", "fork @small @large", "small:"] + get(0) + ["return", "large:"]
+                + get(0) + ["push i 1", "math sub", "call 0"] + get(0) + ["push i 2", "math sub", "call 0", "math add", "return"]),
+               ("main", "value", 0, [], ["push i 32", "call 0", "drop"] + END)], 1)
+
+ARRAY = program([("main", "value", 0, [1, 1, 1000],
+                  ["zero 2 i"] + counted(0, 10000, "rounds",
+                                         counted(1, 1000, "cells", ["local 2"] + get(1) + ["move 1", "local 2"] + get(1)
+                                                 + ["move 1", "load i"] + get(1) + ["math add", "push i 1023", "math rem", "store", "drop"])) + END)], 0)
+
+STRIDED = program([("main", "value", 0, [1, 1, 1],
+                    ["local 2", "push u 4000000", "alloc", "store", "drop"]
+                    + counted(0, 16, "rounds", put(1, 0) + ["cells:"] + below(1, 4000000, "cells_in", "cells_out") + ["cells_in:", "local 2", "load p"] + get(1)
+                              + ["move 1"] + get(0) + ["store", "drop", "local 1"] + get(1) + ["push i 7", "math add", "store", "drop", "again @cells", "cells_out:"]) + END)], 0)
+
+PUTCHAR = program([("main", "value", 0, [1], counted(0, 10000000, "loop", ["push i 97", "put", "drop"]) + END)], 0)
+
+LUA = {
+    "loop": "local s=0 for i=0,9999999 do s=(s+i)%1023 end",
+    "calls": "local function fib(n) if n<2 then return n end return fib(n-1)+fib(n-2) end fib(32)",
+    "array": "local a={} for i=0,999 do a[i]=0 end for r=1,10000 do for i=0,999 do a[i]=(a[i]+i)%1023 end end",
+    "strided": "local a={} for i=0,3999999 do a[i]=0 end for r=0,15 do for i=0,3999999,7 do a[i]=r end end",
+    "putchar": "local w=io.write for i=1,10000000 do w('a') end",
+}
+PROGRAMS = {"loop": LOOP, "calls": FIB, "array": ARRAY, "strided": STRIDED, "putchar": PUTCHAR}
+
+
+def measured(words):
+    """Status, processor seconds, and most memory in MB of a process."""
+    with open(os.devnull, "wb") as sink:
+        started = subprocess.Popen(words, stdout=sink)
+        _, status, usage = os.wait4(started.pid, 0)
+    return os.waitstatus_to_exitcode(status), usage.ru_utime + usage.ru_stime, usage.ru_maxrss / 1024
+
+
+def main():
+    tool = sys.argv[1]
+    lua = shutil.which("lua5.4")
+    print(f"{os.cpu_count()} processors, {time.strftime('%Y-%m-%d')}")
+    with tempfile.TemporaryDirectory() as folder:
+        for name, text in PROGRAMS.items():
+            path = os.path.join(folder, name)
+            with open(path, "w") as file:
+                file.write(text)
+            status, seconds, memory = min(measured([tool, "run", "--turns", TURNS, path]) for _ in range(3))
+            line = f"{name:8} cbi {seconds:6.2f} s {memory:7.1f} MB status {status}"
+            if lua:
+                _, by_lua, lua_memory = min(measured([lua, "-e", LUA[name]]) for _ in range(3))
+                line += f"   lua {by_lua:6.2f} s {lua_memory:7.1f} MB   ratio {seconds / by_lua:5.2f}"
+            print(line, flush=True)
+
+
+main()
