@@ -2,22 +2,4 @@
 #![tactic(auto)]
 
 #[cfg(test)]
-mod banks;
-#[cfg(test)]
 mod base;
-#[cfg(test)]
-mod collections;
-#[cfg(test)]
-mod machines;
-#[cfg(test)]
-mod predicates;
-#[cfg(test)]
-mod programs;
-#[cfg(test)]
-mod reports;
-#[cfg(test)]
-mod traps;
-#[cfg(test)]
-mod watchers;
-#[cfg(test)]
-mod words;
