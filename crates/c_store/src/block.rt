@@ -36,6 +36,7 @@ impl Model for Block {
 }
 
 impl Block {
+    #[inline(always)]
     pub fn of_words(class: Class, cells: Vec<Word>) -> Block
         ensures { result ≡ record { class = class; cells = cells.items } }
     {
@@ -62,6 +63,7 @@ impl Block {
     }
 
     /// An object with this first cell; the others are undefined.
+    #[inline(always)]
     pub fn beginning(alloc: Global, class: Class, first: Word, size: u32) -> Result<Block, Memory>
         ensures { IfOk result (λ b. b ≡ record { class = class; cells = first ∷ replicate (size - 1) Undefined }) }
     {

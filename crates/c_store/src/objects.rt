@@ -86,6 +86,7 @@ fn words_of(alloc: Global, values: &[Scalar]) -> Result<Vec<Word>, Memory>
 }
 
 /// The arguments behind the first one.
+#[inline(always)]
 fn behind_first(arguments: &[Word]) -> &[Word]
     ensures { result.now ≡ drop 1 arguments.now }
 {
@@ -117,6 +118,7 @@ impl Objects {
     }
 
     /// Whether one more object of so many cells fits.
+    #[inline(always)]
     fn has_room(&self, cells: usize) -> bool
         ensures { result ≡ has_room cells self.now }
     {
@@ -124,6 +126,7 @@ impl Objects {
     }
 
     /// One more object, for which there is room.
+    #[inline(always)]
     fn add(&mut self, block: Block) -> Result<Made, Memory>
         requires { IsTrue (has_room (length block.cells) self.old) }
         ensures made { IfOk result (IsMade (Some (one_more block.class block.cells self.old)) self.old self.new) }
@@ -179,6 +182,7 @@ impl Objects {
     }
 
     /// The object of a variable of this size, with the first of the arguments in its first cell where there is one.
+    #[inline(always)]
     fn make_local(&mut self, arguments: &[Word], size: u32) -> Result<Made, Memory>
         ensures made { IfOk result (IsMade (made_with Local (cells_at_start arguments.now size) self.old) self.old self.new) }
         ensures back { IfOk result (λ m. IsObject m → undone self.new ≡ self.old) }
@@ -246,6 +250,7 @@ impl Objects {
     }
 
     /// The object is dead from now on, where it lives.
+    #[inline(always)]
     pub fn kill(&mut self, object: u64)
         ensures { self.new ≡ killed object self.old }
     {
@@ -255,6 +260,7 @@ impl Objects {
     }
 
     /// The object so many numbers behind another is dead from now on, where it lives.
+    #[inline(always)]
     fn kill_behind(&mut self, first: u64, more: u32)
         ensures { self.new ≡ killed (first + more) self.old }
     {
@@ -342,7 +348,8 @@ impl Objects {
                 }
             }
         }
-        self.load_at(pointer.scalar(), want)
+        let word = self.load_at(pointer.scalar(), want)?;
+        Ok(word)
     }
 
     /// A cell that is found without a search.
@@ -381,8 +388,22 @@ impl Objects {
         Ok(value.scalar())
     }
 
-    /// Stores a value at a pointer.
+    /// Stores a value at a place.
+    #[inline(always)]
     #[tactic(auto, using(crate::proofs::Storing::stored_place, crate::proofs::Storing::lifted), unfolding(cbi_base::specs::Objects::stored))]
+    fn store_in(&mut self, object: u64, offset: u32, value: Word) -> Result<(), Trap>
+        ensures value { stored (Scalar.Place object offset) value self.old ≡ after result self.new }
+        ensures trap { OnErr result (self.new ≡ self.old) }
+    {
+        if value.is_undefined() {
+            return Err(Trap::Undefined);
+        }
+        self.table.set(object, offset, value)
+    }
+
+    /// Stores a value at a pointer.
+    #[inline(never)]
+    #[tactic(auto, unfolding(cbi_base::specs::Objects::stored))]
     fn store_at(&mut self, pointer: Scalar, value: Word) -> Result<(), Trap>
         ensures value { stored pointer value self.old ≡ after result self.new }
         ensures trap { OnErr result (self.new ≡ self.old) }
@@ -394,7 +415,7 @@ impl Objects {
             Scalar::Undefined => Err(Trap::Undefined),
             Scalar::Number { .. } => Err(Trap::Internal),
             Scalar::Null => Err(Trap::NullUse),
-            Scalar::Place { object, offset } => self.table.set(object, offset, value),
+            Scalar::Place { object, offset } => self.store_in(object, offset, value),
         }
     }
 
@@ -404,6 +425,10 @@ impl Objects {
         ensures value { stored pointer value self.old ≡ after result self.new }
         ensures trap { OnErr result (self.new ≡ self.old) }
     {
+        if let Some((object, offset)) = pointer.place_parts() {
+            self.store_in(object, offset, value)?;
+            return Ok(());
+        }
         self.store_at(pointer.scalar(), value)
     }
 
@@ -416,7 +441,7 @@ impl Objects {
         self.store_at(pointer, Word::of(value))
     }
 
-    #[inline(always)]
+    #[inline(never)]
     #[tactic(auto, unfolding(cbi_base::specs::Objects::moved))]
     fn move_at(&self, pointer: Scalar, cells: i64) -> Result<Word, Trap>
         ensures { result ≡ moved pointer cells self.now }
@@ -434,12 +459,32 @@ impl Objects {
         }
     }
 
+    /// How many cells an object has that is found without a search.
+    #[inline(always)]
+    fn quick_length(&self, object: u64) -> Option<u32>
+        ensures value { IfSome result (λ n. option_map (λ o. length o.cells) (get self.now.live object) ≡ Some n) }
+        ensures limit { IfSome result (λ n. n ≤ cell_limit) }
+    {
+        let Some(block) = self.table.quick(object) else {
+            return None;
+        };
+        Some(block.len() as u32)
+    }
+
     /// The pointer moved by so many cells, within its object or to its end.
     #[inline(always)]
+    #[tactic(auto, unfolding(cbi_base::specs::Objects::moved))]
     pub fn move_word(&self, pointer: Word, cells: i64) -> Result<Word, Trap>
         ensures { result ≡ moved pointer cells self.now }
     {
-        self.move_at(pointer.scalar(), cells)
+        if let Some((object, offset)) = pointer.place_parts() {
+            if let Some(length) = self.quick_length(object) {
+                let place = move_in(object, offset, cells, length)?;
+                return Ok(place);
+            }
+        }
+        let place = self.move_at(pointer.scalar(), cells)?;
+        Ok(place)
     }
 
     /// The pointer moved by so many cells, within its object or to its end.

@@ -57,6 +57,7 @@ impl Notes {
     }
 
     /// Notes the place of a number, unless one with the same rest stands at the noted place.
+    #[inline(always)]
     pub fn note(&mut self, numbers: &[u64], place: usize, number: u64) {
         let rest = (number % NOTES as u64) as usize;
         let noted = self.places[rest];
@@ -79,6 +80,7 @@ pub fn search(numbers: &[u64], number: u64) -> Option<usize>
 }
 
 /// Whether the number is above all of these.
+#[inline(always)]
 pub fn is_above(number: u64, numbers: &[u64]) -> bool
     requires { IsRising numbers.now }
     ensures { IsTrue result → IsBelow numbers.now number }

@@ -43,6 +43,7 @@ impl Model for Table {
 }
 
 /// Where the number stands among those in order; None where it stands apart, or nowhere.
+#[inline(always)]
 #[tactic(auto, using(crate::proofs::StackedLemmas::apart_is_missing))]
 fn place_of(
     numbers: &[u64],
@@ -110,6 +111,7 @@ impl Table {
     }
 
     /// Puts an object at a number that no live one has.
+    #[inline(always)]
     pub fn insert(&mut self, number: u64, block: Block) -> Result<(), Memory>
         requires { map.get self.old number ≡ None }
         ensures ok { OnOk result (self.new ≡ map.insert self.old number block) }
@@ -130,6 +132,7 @@ impl Table {
     }
 
     /// Takes out the object of a number.
+    #[inline(always)]
     pub fn remove(&mut self, number: u64) -> Option<Block>
         ensures value { result ≡ map.get self.old number }
         ensures rest { self.new ≡ map.remove self.old number }

@@ -11,4 +11,5 @@ pub mod LocalsFit
 pub mod Counted
 pub mod Starting
 pub mod Begun
+pub mod Reached
 pub mod Going

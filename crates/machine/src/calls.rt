@@ -24,6 +24,7 @@ use flow::{Function, Node, Program};
 const ACTIVE_LIMIT: u32 = 512;
 
 /// A function of the program.
+#[inline(always)]
 pub fn function_of(program: &Program, number: u32) -> Option<&Function>
     ensures value { option_map (λ f. f.now) result ≡ slice_get program.now.functions number }
     ensures is_program { IsProgram program.now }
@@ -32,6 +33,7 @@ pub fn function_of(program: &Program, number: u32) -> Option<&Function>
 }
 
 /// The nodes of a function.
+#[inline(always)]
 pub fn nodes_of(program: &Program, number: u32) -> &[Node]
     ensures { result.now ≡ nodes_of (slice_get program.now.functions number) }
 {
@@ -42,6 +44,7 @@ pub fn nodes_of(program: &Program, number: u32) -> &[Node]
 }
 
 /// Whether a function has a result.
+#[inline(always)]
 fn has_result(program: &Program, number: u32) -> bool
     ensures { result ≡ has_result (callee_of (slice_get program.now.functions number)) }
 {
@@ -52,6 +55,7 @@ fn has_result(program: &Program, number: u32) -> bool
 }
 
 /// Makes the objects of a function's locals, unless too many functions are active.
+#[inline(always)]
 pub fn make_locals(
     objects: &mut Objects,
     active: u32,
@@ -71,6 +75,7 @@ pub fn make_locals(
 }
 
 /// Takes so many arguments, and makes the objects of a function's locals with them.
+#[inline(always)]
 fn take_arguments(
     now: &mut Now<'_>,
     active: u32,
@@ -89,6 +94,7 @@ fn take_arguments(
 }
 
 /// The running function waits, and will go on at this node.
+#[inline(always)]
 fn wait(state: &mut State<'_>, next: u32) -> Result<(), Memory>
     ensures { OnOk result (state.new ≡ waited next state.old) }
 {
@@ -102,6 +108,7 @@ fn wait(state: &mut State<'_>, next: u32) -> Result<(), Memory>
 }
 
 /// A function runs that has these nodes and these locals, without a copy of the countdown.
+#[inline(always)]
 pub fn stand<'a>(state: &mut State<'a>, number: u32, nodes: &'a [Node], locals: Locals)
     requires { state.old.active < active_limit }
     ensures { state.new ≡ record state.old { function = number; nodes = nodes.entry; now = record state.old.now { locals = locals }; copy = None; active = state.old.active + 1 } }
@@ -164,6 +171,7 @@ pub fn call<'a>(
 }
 
 /// The objects of the running function die, and the one that waits goes on.
+#[inline(always)]
 fn resume<'a>(program: &'a Program, state: &mut State<'a>, frame: Frame)
     ensures value { state.new ≡ resumed state.new.nodes frame state.old }
     ensures running { IsRunning program.entry.now state.new }
@@ -182,6 +190,7 @@ fn resume<'a>(program: &'a Program, state: &mut State<'a>, frame: Frame)
 }
 
 /// How the run is over where the first function is left with a value.
+#[inline(always)]
 fn end_with(value: Word) -> Outcome
     ensures { (s : machine.State) → ended_with value s ≡ over result s }
 {
@@ -199,6 +208,7 @@ fn end_with(value: Word) -> Outcome
 }
 
 /// Takes a value, and leaves the running function with it.
+#[inline(always)]
 #[tactic(auto, unfolding(flow::specs::Machine::next_of))]
 pub fn give<'a>(program: &'a Program, state: &mut State<'a>, place: u32) -> Result<u32, Stop>
     requires { place < node_limit }
@@ -225,6 +235,7 @@ pub fn give<'a>(program: &'a Program, state: &mut State<'a>, place: u32) -> Resu
 }
 
 /// Leaves the running function, with an undefined value where it has a result.
+#[inline(always)]
 #[tactic(auto, unfolding(flow::specs::Machine::next_of))]
 pub fn quit<'a>(program: &'a Program, state: &mut State<'a>, place: u32) -> Result<u32, Stop>
     requires { place < node_limit }

@@ -11,6 +11,7 @@ use cbi_base::{Observation, Trap};
 use flow::Program;
 
 /// The countdown in force: the running function's copy, or the shared one.
+#[inline(always)]
 fn in_force(state: &State<'_>) -> u32
     ensures { result ≡ force_in state.entry.now }
 {
@@ -21,6 +22,7 @@ fn in_force(state: &State<'_>) -> u32
 }
 
 /// Sets the countdown in force.
+#[inline(always)]
 pub fn set_force(state: &mut State<'_>, count: u32)
     ensures { state.new ≡ set_in state.old.copy count state.old }
 {
@@ -31,6 +33,7 @@ pub fn set_force(state: &mut State<'_>, count: u32)
 }
 
 /// Lowers the countdown to a number above zero.
+#[inline(always)]
 #[tactic(auto, unfolding(flow::specs::Machine::next_of))]
 pub fn skip(
     program: &Program,
@@ -53,6 +56,7 @@ pub fn skip(
 }
 
 /// Goes to the fast copy where the countdown is greater than the weight, and else to the slow one.
+#[inline(always)]
 #[tactic(auto, unfolding(flow::specs::Machine::next_of))]
 pub fn pick(
     program: &Program,
@@ -79,6 +83,7 @@ pub fn pick(
 }
 
 /// The running function takes a copy of the shared countdown.
+#[inline(always)]
 #[tactic(auto, unfolding(flow::specs::Machine::next_of))]
 pub fn import(program: &Program, state: &mut State<'_>, place: u32, next: u32) -> Result<u32, Stop>
     requires { IsLater place next }
@@ -91,6 +96,7 @@ pub fn import(program: &Program, state: &mut State<'_>, place: u32, next: u32) -
 }
 
 /// The running function gives its copy of the countdown back.
+#[inline(always)]
 #[tactic(auto, unfolding(flow::specs::Machine::next_of))]
 pub fn export(program: &Program, state: &mut State<'_>, place: u32, next: u32) -> Result<u32, Stop>
     requires { IsLater place next }
@@ -107,6 +113,7 @@ pub fn export(program: &Program, state: &mut State<'_>, place: u32, next: u32) -
 }
 
 /// Looks at a site.
+#[inline(always)]
 #[tactic(auto, unfolding(flow::specs::Machine::next_of))]
 pub fn mark(
     program: &Program,
@@ -129,6 +136,7 @@ pub fn mark(
 }
 
 /// Lowers the countdown by one, and looks at a site where it is then zero.
+#[inline(always)]
 #[tactic(auto, unfolding(flow::specs::Machine::next_of))]
 pub fn test(
     program: &Program,

@@ -9,6 +9,7 @@ mod now;
 mod operands;
 mod output;
 mod printing;
+mod quick;
 mod rows;
 mod runs;
 mod start;

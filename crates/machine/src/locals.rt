@@ -25,6 +25,7 @@ impl Model for Locals {
 }
 
 impl Locals {
+    #[inline(always)]
     pub fn new(first: u64, count: u32) -> Locals
         requires { LocalsFit first count }
         ensures { result ≡ record { first = first; count = count } }
@@ -45,6 +46,7 @@ impl Locals {
     }
 
     /// The number of the first object.
+    #[inline(always)]
     pub fn first(self) -> u64
         ensures { result ≡ self.first }
     {
@@ -52,6 +54,7 @@ impl Locals {
     }
 
     /// How many there are.
+    #[inline(always)]
     pub fn count(self) -> u32
         ensures { result ≡ self.count }
     {

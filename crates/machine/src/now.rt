@@ -1,8 +1,8 @@
-ghost use Rattle.std.specs.Prelude.{◌≡◌, ◌∷◌, [], IfErr, OnOk};
+ghost use Rattle.std.specs.Prelude.{◌≡◌, ◌≤◌, ◌∷◌, [], length, IfErr, OnOk};
 ghost use Rattle.std.specs.Result.{result_ok};
 ghost use Rattle.cbi_base.specs.declared.trap.Trap.TheVariants as trap;
 ghost use Rattle.flow.specs.Now.{any, int, unsigned, two, local_at, pushed, next_on, write, Goes};
-ghost use Rattle.machine.specs.Data.{data_of};
+ghost use Rattle.machine.specs.Data.{data_of, without};
 ghost use Rattle.machine.specs.Effects.{taken_of, IsEffect};
 
 use crate::locals::Locals;
@@ -44,16 +44,33 @@ impl<'a> Now<'a> {
         self.operands.pop().ok_or(Trap::Internal)
     }
 
-    /// Takes two values, the top one last.
+    /// The top value, which may be undefined. It stays.
     #[inline(always)]
-    pub fn take_two(&mut self) -> Result<(Word, Word), Trap>
-        ensures taken { two (data_of self.old) ≡ taken_of result (data_of self.new) }
-        ensures output { self.new.output ≡ self.old.output }
+    pub fn see_any(&self) -> Result<Word, Trap>
+        ensures seen { any (data_of self.now) ≡ taken_of result (without 1 (data_of self.now)) }
+        ensures enough { OnOk result (1 ≤ length self.now.operands.top) }
+    {
+        self.operands.peek().ok_or(Trap::Internal)
+    }
+
+    /// The two values on top, the top one last. They stay.
+    #[inline(always)]
+    pub fn see_two(&self) -> Result<(Word, Word), Trap>
+        ensures seen { two (data_of self.now) ≡ taken_of result (without 2 (data_of self.now)) }
+        ensures enough { OnOk result (2 ≤ length self.now.operands.top) }
+    {
+        self.operands.peek_two().ok_or(Trap::Internal)
+    }
+
+    /// A value takes the place of so many on top.
+    #[inline(always)]
+    pub fn replace(&mut self, count: usize, value: Word)
+        requires some { 1 ≤ count }
+        requires enough { count ≤ length self.old.operands.top }
+        ensures replaced { data_of self.new ≡ pushed value (without count (data_of self.old)) }
         ensures kept { self.new.operands.below ≡ self.old.operands.below }
     {
-        let right = self.operands.pop().ok_or(Trap::Internal)?;
-        let left = self.operands.pop().ok_or(Trap::Internal)?;
-        Ok((left, right))
+        self.operands.replace(count, value);
     }
 
     /// Takes an `int`.

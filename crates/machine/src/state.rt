@@ -34,6 +34,7 @@ pub struct State<'a> {
 }
 
 /// Takes a value, and goes on where its truth says.
+#[inline(always)]
 #[tactic(auto, unfolding(flow::specs::Machine::next_of))]
 pub fn fork(
     program: &Program,
@@ -53,6 +54,7 @@ pub fn fork(
 }
 
 /// Spends a turn, where one is left.
+#[inline(always)]
 #[tactic(auto, unfolding(flow::specs::Machine::next_of))]
 pub fn again(program: &Program, state: &mut State<'_>, place: u32, next: u32) -> Result<u32, Stop>
     ensures next { Follows program.now (view.Turns next) place state.old result state.new }

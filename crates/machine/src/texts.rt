@@ -5,8 +5,9 @@ ghost use Rattle.flow.specs.declared.node.Node.TheVariants as node;
 ghost use Rattle.flow.specs.Code.{statics_of};
 ghost use Rattle.flow.specs.Limits.{byte_limit};
 ghost use Rattle.flow.specs.Rows.{act, char_of, spelled};
+ghost use Rattle.flow.specs.View.{view};
 ghost use Rattle.machine.specs.Data.{data_of, no_statics};
-ghost use Rattle.machine.specs.Effects.{IsEffect};
+ghost use Rattle.machine.specs.Effects.{IsActed};
 
 use crate::now::Now;
 use crate::printing::{put_format, put_line, take_values};
@@ -16,14 +17,15 @@ use cbi_base::{Kind, Trap};
 use flow::Program;
 
 /// Pushes the place of a text's first byte.
+#[inline(always)]
 #[tactic(auto, unfolding(flow::specs::Rows::act))]
-pub fn text(program: &Program, now: &mut Now<'_>, index: u32) -> Result<(), Stop>
-    ensures effect { IsEffect (act (statics_of program.now) (node.Text index 0) (data_of now.old)) result (data_of now.new) }
+pub fn text(program: &Program, now: &mut Now<'_>, index: u32, next: u32) -> Result<u32, Stop>
+    ensures effect { IsActed (statics_of program.now) (view (node.Text index next)) (data_of now.old) result (data_of now.new) }
     ensures kept { OnOk result (now.new.operands.below ≡ now.old.operands.below) }
 {
     let globals = program.globals().len() as u64;
     now.push(Word::place(globals + u64::from(index), 0))?;
-    Ok(())
+    Ok(next)
 }
 
 /// The bytes of a text.
@@ -56,9 +58,16 @@ fn spell_into(objects: &mut Objects, object: u64, bytes: &[u8]) -> Result<(), Tr
 }
 
 /// Stores a text's bytes into a local, from its first cell on.
+#[inline(always)]
 #[tactic(auto, unfolding(flow::specs::Rows::act))]
-pub fn spell(program: &Program, now: &mut Now<'_>, index: u32, text: u32) -> Result<(), Stop>
-    ensures effect { IsEffect (act (statics_of program.now) (node.Spell index text 0) (data_of now.old)) result (data_of now.new) }
+pub fn spell(
+    program: &Program,
+    now: &mut Now<'_>,
+    index: u32,
+    text: u32,
+    next: u32,
+) -> Result<u32, Stop>
+    ensures effect { IsActed (statics_of program.now) (view (node.Spell index text next)) (data_of now.old) result (data_of now.new) }
     ensures kept { OnOk result (now.new.operands.below ≡ now.old.operands.below) }
 {
     let object = now.local(index)?;
@@ -66,25 +75,33 @@ pub fn spell(program: &Program, now: &mut Now<'_>, index: u32, text: u32) -> Res
         return Err(Stop::from(Trap::Internal));
     };
     spell_into(&mut now.objects, object, bytes)?;
-    Ok(())
+    Ok(next)
 }
 
 /// Writes the string at a pointer and a newline.
+#[inline(always)]
 #[tactic(auto, using(crate::proofs::TextLemmas::line_goes, crate::proofs::TextLemmas::line_stops), unfolding(flow::specs::Rows::act))]
-pub fn puts(now: &mut Now<'_>) -> Result<(), Stop>
-    ensures effect { IsEffect (act no_statics (node.Puts 0) (data_of now.old)) result (data_of now.new) }
+pub fn puts(now: &mut Now<'_>, next: u32) -> Result<u32, Stop>
+    ensures effect { IsActed no_statics (view (node.Puts next)) (data_of now.old) result (data_of now.new) }
     ensures kept { OnOk result (now.new.operands.below ≡ now.old.operands.below) }
 {
     let pointer = now.take_any()?;
     put_line(&mut now.output, &now.objects, pointer)?;
     now.push(Word::number(Kind::Int, 0))?;
-    Ok(())
+    Ok(next)
 }
 
 /// Writes values by a text as format.
+#[inline(always)]
 #[tactic(auto, unfolding(flow::specs::Rows::act))]
-pub fn format(program: &Program, now: &mut Now<'_>, text: u32, count: u32) -> Result<(), Stop>
-    ensures effect { IsEffect (act (statics_of program.now) (node.Format text count 0) (data_of now.old)) result (data_of now.new) }
+pub fn format(
+    program: &Program,
+    now: &mut Now<'_>,
+    text: u32,
+    count: u32,
+    next: u32,
+) -> Result<u32, Stop>
+    ensures effect { IsActed (statics_of program.now) (view (node.Format text count next)) (data_of now.old) result (data_of now.new) }
     ensures kept { OnOk result (now.new.operands.below ≡ now.old.operands.below) }
 {
     let Some(bytes) = bytes_of(program, text) else {
@@ -96,5 +113,5 @@ pub fn format(program: &Program, now: &mut Now<'_>, text: u32, count: u32) -> Re
     }
     put_format(&mut now.output, &now.objects, bytes, values)?;
     now.operands.drop_last(count as usize);
-    Ok(())
+    Ok(next)
 }

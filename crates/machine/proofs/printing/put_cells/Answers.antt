@@ -1,4 +1,4 @@
-use Rattle.std.proofs.Common.{Some, None, get_or, drop, suc, false, subst, sym, ap, ◌∙◌, arith}
+use Rattle.std.proofs.Common.{Some, None, get_or, drop, suc, subst, sym, arith}
 use Rattle.std.specs.Prelude.{Ok}
 use Rattle.std.proofs.Math.Seq.{drop-cons}
 use Rattle.flow.specs.Printing.{string_on}

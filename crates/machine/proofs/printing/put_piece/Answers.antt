@@ -1,4 +1,4 @@
-use Rattle.std.proofs.Common.{◌∷◌, ◌-◌, length, take, drop, IsTrue, ap, subst, sym, ◌∙◌}
+use Rattle.std.proofs.Common.{◌∷◌, ◌-◌, length, take, drop, IsTrue, subst, sym}
 use Rattle.flow.specs.Printing.{Conversion, take_values, printed}
 use Rattle.machine.specs.Strings.{Continues, piece_of}
 use Rattle.machine.proofs.StringLemmas.{tail_is, piece_goes}

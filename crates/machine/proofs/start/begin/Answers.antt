@@ -1,4 +1,4 @@
-use Rattle.std.proofs.Common.{[], true, ap, subst, sym, ◌∙◌}
+use Rattle.std.proofs.Common.{[], ap, subst, sym, ◌∙◌}
 use Rattle.flow.specs.Calls.{enter}
 use Rattle.flow.specs.Code.{code_of}
 use Rattle.flow.specs.Machine.{first_objects, each_made, begin_with}

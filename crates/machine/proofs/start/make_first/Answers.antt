@@ -1,4 +1,4 @@
-use Rattle.std.proofs.Common.{true, false, map, length, subst, sym}
+use Rattle.std.proofs.Common.{true, false, map, length, subst}
 use Rattle.flow.specs.Machine.{global_object, text_object, each_made}
 use Rattle.machine.specs.Starting.{IsAllMade}
 use Rattle.machine.proofs.StartLemmas.{first_none, first_some}

@@ -1,4 +1,4 @@
-use Rattle.std.proofs.Common.{◌≡◌, length, drop}
+use Rattle.std.proofs.Common.{◌≡◌, drop}
 use Rattle.flow.specs.Rows.{spelled}
 use Rattle.machine.proofs.texts.spell_into.Given as goal
 

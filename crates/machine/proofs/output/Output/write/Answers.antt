@@ -1,4 +1,4 @@
-use Rattle.std.proofs.Common.{None, length, get_or, drop, suc, add-one, subst, sym, arith}
+use Rattle.std.proofs.Common.{None, get_or, drop, suc, add-one, subst, sym, arith}
 use Rattle.std.proofs.Math.Seq.{drop-cons}
 use Rattle.flow.specs.Printing.{these}
 use Rattle.machine.specs.Printed.{IsPrinted}

@@ -1,4 +1,4 @@
-use Rattle.std.proofs.Common.{ℕ, List, Option, drop}
+use Rattle.std.proofs.Common.{drop}
 use Rattle.flow.specs.Printing.{these}
 use Rattle.machine.specs.Strings.{Continues}
 use Rattle.machine.proofs.output.Output.write.Given as goal

@@ -1,8 +1,8 @@
 use Rattle.c_store.proofs.Keeping.{kept_by_store}
-use Rattle.c_store.proofs.objects.Objects.store_at.Goals as goal
+use Rattle.c_store.proofs.objects.Objects.store_in.Goals as goal
 
 pub invariant_of-self : goal.invariant_of-self
 invariant_of-self c =
     let s = c.self.inside in
-    kept_by_store s.cells (record { made = s.made; live = s.table }) c.self.invariant c.in-Place.object c.in-Place.offset c.args.value
+    kept_by_store s.cells (record { made = s.made; live = s.table }) c.self.invariant c.args.object c.args.offset c.args.value
     c.set.result c.set.new.self c.set.ensures.value c.set.ensures.trap
