@@ -13,3 +13,4 @@ pub mod Whole
 pub mod Taken
 pub mod Alloc
 pub mod WriteLemmas
+pub mod KnownLemmas

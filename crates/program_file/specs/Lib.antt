@@ -8,3 +8,4 @@ pub mod Draft
 pub mod Errors
 pub mod WrongLine
 pub mod Written
+pub mod Known

@@ -6,6 +6,7 @@ mod draft;
 mod error;
 mod head_line;
 mod identity;
+mod known;
 mod lists;
 mod next;
 mod node_line;

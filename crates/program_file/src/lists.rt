@@ -1,8 +1,10 @@
-ghost use Rattle.std.specs.Prelude.{◌≡◌, ◌+◌, ◌<◌, ◌≤◌, [], ◌∷◌, ◌++◌, length, slice_get, MatchOption, OnSome, None, OnOk, OnErr};
+ghost use Rattle.std.specs.Prelude.{◌≡◌, ◌≢◌, ◌↔◌, IsTrue, ◌+◌, ◌<◌, ◌≤◌, [], ◌∷◌, ◌++◌, length, slice_get, MatchOption, OnSome, None, OnOk, OnErr};
+ghost use Rattle.std.specs.List.{All};
 ghost use Rattle.flow.specs.Limits.{byte_limit, static_limit, local_limit, node_limit};
 ghost use Rattle.program_file.specs.Sums.{bytes_in, cells_in, locals_in, nodes_in};
 
 use crate::head_line::Head;
+use crate::known::KnownNames;
 use cbi_base::Memory;
 use flow::{Global as Variable, Text};
 use std::alloc::Global;
@@ -149,10 +151,11 @@ impl Globals {
     }
 }
 
-/// The heads of the functions so far, and how many locals and nodes they have together. Contracts see the list of the heads.
+/// The heads of the functions so far, the names that they have, and how many locals and nodes they have together. Contracts see the list of the heads.
 #[derive(Drop)]
 pub struct Heads {
     items: Vec<Head>,
+    names: KnownNames,
     locals: u32,
     nodes: u32,
 }
@@ -161,13 +164,16 @@ impl Model for Heads {
     ghost use Rattle.std.specs.Prelude.{◌≡◌, ◌≤◌, List, length};
     ghost use Rattle.flow.specs.Spelling.{Head};
     ghost use Rattle.flow.specs.Limits.{local_limit, node_limit};
+    ghost use Rattle.program_file.specs.Known.{AreNamesOf};
     ghost use Rattle.program_file.specs.Sums.{AreNumbered, locals_in, nodes_in};
 
     ghost Value = { List Head };
 
     ghost view = { λ h. h.items.items };
 
-    ghost invariant = { λ h. AreNumbered (length h.items.items) × (((h.locals ≡ locals_in h.items.items) × (h.locals ≤ local_limit)) × ((h.nodes ≡ nodes_in h.items.items) × (h.nodes ≤ node_limit))) };
+    ghost invariant = { λ h. AreNumbered (length h.items.items)
+        × (((h.locals ≡ locals_in h.items.items) × (h.locals ≤ local_limit))
+        × (((h.nodes ≡ nodes_in h.items.items) × (h.nodes ≤ node_limit)) × AreNamesOf h.items.items h.names)) };
 }
 
 impl Heads {
@@ -176,6 +182,7 @@ impl Heads {
     {
         Heads {
             items: Vec::new(alloc),
+            names: KnownNames::new(alloc),
             locals: 0,
             nodes: 0,
         }
@@ -199,6 +206,13 @@ impl Heads {
         ensures fits { OnSome result (number ≤ 4294967295) }
     {
         self.items.get(number)
+    }
+
+    /// Whether no function has this name.
+    pub fn is_fresh(&self, name: &[u8]) -> bool
+        ensures { IsTrue result ↔ All (λ g. g.name ≢ name.now) self.now }
+    {
+        !self.names.has(name)
     }
 
     /// How many locals the functions have together.
@@ -227,7 +241,12 @@ impl Heads {
     {
         let locals = head.locals;
         let nodes = head.nodes;
+        let name = head.name.try_clone()?;
         self.items.push(head)?;
+        let Ok(()) = self.names.add(name.bytes()) else {
+            self.items.pop();
+            return Err(Memory);
+        };
         self.locals += locals;
         self.nodes += nodes;
         Ok(())

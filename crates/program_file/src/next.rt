@@ -87,12 +87,6 @@ fn are_single(sizes: &[u32]) -> bool
     sizes.iter().all(|size| *size == 1)
 }
 
-fn is_fresh(heads: &[Head], name: &[u8]) -> bool
-    ensures { IsTrue result ↔ All (λ g. g.name ≢ name.now) heads.now }
-{
-    heads.iter().all(|head| head.name.bytes() != name)
-}
-
 fn is_head(head: &Head) -> bool
     ensures { IsTrue result ↔ IsHead head.now }
 {
@@ -194,7 +188,7 @@ impl Draft {
         if head.nodes > NODE_LIMIT - self.heads.nodes() {
             return Err(LineError::Bad);
         }
-        if !is_head(&head) || !is_fresh(self.heads.as_slice(), head.name.bytes()) {
+        if !is_head(&head) || !self.heads.is_fresh(head.name.bytes()) {
             return Err(LineError::Bad);
         }
         Ok(head)

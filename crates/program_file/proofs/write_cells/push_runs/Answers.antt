@@ -1,4 +1,4 @@
-use Rattle.std.proofs.Common.{◌≡◌, ◌<◌, ◌++◌, length, map, sym, ◌∙◌, rules}
+use Rattle.std.proofs.Common.{◌<◌, ◌++◌, length, map, sym, ◌∙◌, rules}
 use Rattle.flow.specs.Spelling.{run_word, runs_of}
 use Rattle.program_file.specs.Written.{behind}
 use Rattle.program_file.proofs.WriteLemmas.{room-ends, room-grows, run-ends, run-grows}
