@@ -10,14 +10,14 @@ use Rattle.report_file.specs.Spelling.{site_fields}
 use Rattle.collector.specs.declared.draft.Draft.{Draft}
 use Rattle.collector.specs.Grammar.{EndFollows, RunFollows, SiteFollows}
 
-run-begins : (v : Version) (x : RunLine) (line : List ℕ) → line ≡ spaced (run_line_fields v x) → get_or line 0 0 ≡ 114
+pub run-begins : (v : Version) (x : RunLine) (line : List ℕ) → line ≡ spaced (run_line_fields v x) → get_or line 0 0 ≡ 114
 run-begins First x line is = ap (λ l. get_or l 0 0) is
 run-begins Second x line is = ap (λ l. get_or l 0 0) is
 
-site-begins : (e : Entry) (line : List ℕ) → line ≡ spaced (site_fields e) → get_or line 0 0 ≡ 115
+pub site-begins : (e : Entry) (line : List ℕ) → line ≡ spaced (site_fields e) → get_or line 0 0 ≡ 115
 site-begins e line is = ap (λ l. get_or l 0 0) is
 
-end-begins : (line : List ℕ) → line ≡ codes "end" → get_or line 0 0 ≡ 101
+pub end-begins : (line : List ℕ) → line ≡ codes "end" → get_or line 0 0 ≡ 101
 end-begins line is = ap (λ l. get_or l 0 0) is
 
 abbrev AnyFollows : Draft → List ℕ → Draft → Type 0

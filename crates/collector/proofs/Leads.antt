@@ -83,7 +83,7 @@ abbrev AllOf : ProgramId → List Report → Type 0
 AllOf program [] = Unit {0}
 AllOf program (r ∷ more) = (r.program ≡ program) × AllOf program more
 
-is-run-line : (v : Version) (r : Report) → IsReport r → (v ≡ version.First → r.label ≡ label_of r.outcome true) → IsRunLine v (line_of r)
+pub is-run-line : (v : Version) (r : Report) → IsReport r → (v ≡ version.First → r.label ≡ label_of r.outcome true) → IsRunLine v (line_of r)
 is-run-line v r is plain = record { run = is.run; outcome = is.outcome; work = is.work; label = plain }
 
 reports-lead : (alloc : Global) (program : ProgramId) (v : Version) (reports : List Report) (current : Option Report) (run site marks : ℕ) (more : List Report) → AreReports more → AllOf program more → (v ≡ version.First → ArePlain more) → RunsFrom run more → length (reports ++ option_to_list current) + length more ≤ report_limit → marks + marks_of more ≤ mark_limit → Arrives alloc program v (at alloc program v reports current run site marks) (map spaced (flat_map (report_rows v) more)) ((reports ++ option_to_list current) ++ more)
@@ -168,7 +168,7 @@ text-reads alloc v text b is plain text_is =
       reports_are = all.whole_is;
     }
 
-second-not-first : version.Second ≡ version.First → ⊥
+pub second-not-first : version.Second ≡ version.First → ⊥
 second-not-first e = cc
 
 pub spelled-reads : (alloc : Global) (text : List ℕ) (b : Bundle) → SpellsBundle text b → IsRead alloc text b

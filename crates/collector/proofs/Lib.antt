@@ -4,3 +4,8 @@ pub mod Relabelling
 pub mod Bundles
 pub mod Leads
 pub mod Choices
+pub mod RunTexts
+pub mod Taking
+pub mod Maps
+pub mod Keeps
+pub mod Once

@@ -1,13 +1,14 @@
 -- Reports under rising runs are determined by which they are.
-use Rattle.std.proofs.Common.{◌≡◌, ◌⊎◌, ◌↔◌, ◌<◌, ℕ, Bool, true, false, cond, ◌==◌, inl, inr, ⊎_elim, List, [], ◌∷◌, ap, sym, subst, ◌∙◌, refl, arith}
+use Rattle.std.proofs.Common.{◌≡◌, ◌⊎◌, ◌↔◌, ◌+◌, ◌<◌, ◌≤◌, ℕ, Bool, true, false, cond, ◌==◌, inl, inr, ⊎_elim, List, [], ◌∷◌, length, ap, sym, subst, ◌∙◌, refl, arith}
 use Rattle.std.specs.Prelude.{nat_lt}
 use Rattle.std.proofs.lemmas.Bool.{eqb-true, ltb-true}
 use Rattle.std.proofs.lemmas.Bool.Decides.{nat_tests}
 use Rattle.report_file.specs.declared.report.Report.{Report}
-use Rattle.collector.specs.Collected.{with_report}
+use Rattle.collector.specs.Collected.{marks_of, with_report}
 use Rattle.collector.specs.Order.{AreAlike, IsOneOf, SameReports, map_of}
+use Rattle.collector.specs.Spelling.{RunsFrom}
 
-abbrev AreAbove : ℕ → List Report → Type 0
+abbrev pub AreAbove : ℕ → List Report → Type 0
 AreAbove run [] = Unit {0}
 AreAbove run (x ∷ more) = (run < x.run) × AreAbove run more
 
@@ -19,12 +20,12 @@ above-less : (low run : ℕ) (reports : List Report) → low < run → AreAbove 
 above-less low run [] h above = tt
 above-less low run (x ∷ more) h above = (omega (arith, above.0), above-less low run more h above.1)
 
-above-member : (run : ℕ) (reports : List Report) (r : Report) → AreAbove run reports → IsOneOf r reports → run < r.run
+pub above-member : (run : ℕ) (reports : List Report) (r : Report) → AreAbove run reports → IsOneOf r reports → run < r.run
 above-member run [] r above is = absurd is
 above-member run (x ∷ more) r above is =
     ⊎_elim (λ (same : r ≡ x). subst (λ (y : Report). run < y.run) (sym same) above.0) (λ (other : IsOneOf r more). above-member run more r above.1 other) is
 
-abbrev with_by : Bool → Bool → Report → Report → List Report → List Report → List Report
+abbrev pub with_by : Bool → Bool → Report → Report → List Report → List Report → List Report
 with_by p q r x more rest = cond p (r ∷ x ∷ more) (cond q (r ∷ more) (x ∷ rest))
 
 -- a report in its place keeps the runs rising
@@ -48,7 +49,7 @@ rising-with-by false true r x more is_p is_q rising others =
     (subst (λ k. AreAbove k more) (sym (eqb-true r.run x.run is_q)) rising.0, rising.1)
 rising-with-by false false r x more is_p is_q rising others = (above-with x.run r more (greater r.run x.run is_p is_q) rising.0, others)
 
-rising-with : (r : Report) (reports : List Report) → AreRising reports → AreRising (with_report r reports)
+pub rising-with : (r : Report) (reports : List Report) → AreRising reports → AreRising (with_report r reports)
 rising-with r [] rising = (tt, tt)
 rising-with r (x ∷ more) rising = rising-with-by (nat_lt r.run x.run) (r.run == x.run) r x more refl refl rising (rising-with r more rising.1)
 
@@ -63,7 +64,7 @@ member-with-by false true r x y more is rest = ⊎_elim (λ (same : y ≡ r). in
 member-with-by false false r x y more is rest =
     ⊎_elim (λ (same : y ≡ x). inr (inl same)) (λ (other : IsOneOf y (with_report r more)). ⊎_elim (λ (here : y ≡ r). inl here) (λ (there : IsOneOf y more). inr (inr there)) (rest other)) is
 
-member-with : (r y : Report) (reports : List Report) → IsOneOf y (with_report r reports) → (y ≡ r) ⊎ IsOneOf y reports
+pub member-with : (r y : Report) (reports : List Report) → IsOneOf y (with_report r reports) → (y ≡ r) ⊎ IsOneOf y reports
 member-with r y [] is = is
 member-with r y (x ∷ more) is = member-with-by (nat_lt r.run x.run) (r.run == x.run) r x y more is (member-with r y more)
 
@@ -72,7 +73,7 @@ here-with-by true q r x more rest = inl refl
 here-with-by false true r x more rest = inl refl
 here-with-by false false r x more rest = inr rest
 
-here-with : (r : Report) (reports : List Report) → IsOneOf r (with_report r reports)
+pub here-with : (r : Report) (reports : List Report) → IsOneOf r (with_report r reports)
 here-with r [] = inl refl
 here-with r (x ∷ more) = here-with-by (nat_lt r.run x.run) (r.run == x.run) r x more (here-with r more)
 
@@ -83,7 +84,7 @@ stays-with-by false true r x y more is_q alike is rest =
     ⊎_elim (λ (same : y ≡ x). inl (alike (ap (λ (z : Report). z.run) same ∙ sym (eqb-true r.run x.run is_q)))) (λ (other : IsOneOf y more). inr other) is
 stays-with-by false false r x y more is_q alike is rest = ⊎_elim (λ (same : y ≡ x). inl same) (λ (other : IsOneOf y more). inr (rest other)) is
 
-stays-with : (r y : Report) (reports : List Report) → (y.run ≡ r.run → y ≡ r) → IsOneOf y reports → IsOneOf y (with_report r reports)
+pub stays-with : (r y : Report) (reports : List Report) → (y.run ≡ r.run → y ≡ r) → IsOneOf y reports → IsOneOf y (with_report r reports)
 stays-with r y [] alike is = absurd is
 stays-with r y (x ∷ more) alike is = stays-with-by (nat_lt r.run x.run) (r.run == x.run) r x y more refl alike is (stays-with r y more alike)
 
@@ -108,7 +109,7 @@ drop-head : (x : Report) (xs ys : List Report) (r : Report) → AreAbove x.run x
 drop-head x xs ys r above is step =
     ⊎_elim (λ (same : r ≡ x). let a = above-member x.run xs r above is in let e = ap (λ (z : Report). z.run) same in absurd (omega arith)) (λ (other : IsOneOf r ys). other) (step (inr is))
 
-rising-once : (xs ys : List Report) → AreRising xs → AreRising ys → ((r : Report) → IsOneOf r xs → IsOneOf r ys) → ((r : Report) → IsOneOf r ys → IsOneOf r xs) → xs ≡ ys
+pub rising-once : (xs ys : List Report) → AreRising xs → AreRising ys → ((r : Report) → IsOneOf r xs → IsOneOf r ys) → ((r : Report) → IsOneOf r ys → IsOneOf r xs) → xs ≡ ys
 rising-once [] [] rx ry to from = refl
 rising-once [] (y ∷ ys) rx ry to from = absurd (from y (inl refl))
 rising-once (x ∷ xs) [] rx ry to from = absurd (to x (inl refl))
@@ -120,7 +121,7 @@ rising-once (x ∷ xs) (y ∷ ys) rx ry to from =
     let rest = rising-once xs ys rx.1 ry.1 (λ r is. drop-head x xs ys r rx.0 is (to_x r)) (λ r is. drop-head x ys xs r above_x is (from_x r)) in
     ap (λ z. z ∷ xs) head ∙ ap (λ zs. y ∷ zs) rest
 
-alike-same : (xs ys : List Report) → AreAlike xs → SameReports xs ys → AreAlike ys
+pub alike-same : (xs ys : List Report) → AreAlike xs → SameReports xs ys → AreAlike ys
 alike-same xs ys alike same = λ a b is_a is_b run. alike a b ((same a).1 is_a) ((same b).1 is_b) run
 
 pub map-same : (xs ys : List Report) → AreAlike xs → SameReports xs ys → map_of xs ≡ map_of ys
@@ -128,3 +129,52 @@ map-same xs ys alike same =
     rising-once (map_of xs) (map_of ys) (rising-map xs) (rising-map ys)
     (λ r is. (map-members ys (alike-same xs ys alike same) r).1 ((same r).0 ((map-members xs alike r).0 is)))
     (λ r is. (map-members xs alike r).1 ((same r).1 ((map-members ys (alike-same xs ys alike same) r).0 is)))
+
+-- rising runs, as texts have them
+above-from : (low run : ℕ) (reports : List Report) → RunsFrom run reports → low < run → AreAbove low reports
+above-from low run [] rise h = tt
+above-from low run (x ∷ more) rise h = (omega (arith, rise.0), above-from low (x.run + 1) more rise.1 (omega (arith, rise.0)))
+
+pub from-rising : (run : ℕ) (reports : List Report) → RunsFrom run reports → AreRising reports
+from-rising run [] rise = tt
+from-rising run (x ∷ more) rise = (above-from x.run (x.run + 1) more rise.1 (omega arith), from-rising (x.run + 1) more rise.1)
+
+rising-above : (low : ℕ) (reports : List Report) → AreAbove low reports → AreRising reports → RunsFrom (low + 1) reports
+rising-above low [] above rising = tt
+rising-above low (x ∷ more) above rising = (omega (arith, above.0), rising-above x.run more rising.0 rising.1)
+
+pub rising-from : (reports : List Report) → AreRising reports → RunsFrom 0 reports
+rising-from [] rising = tt
+rising-from (x ∷ more) rising = (omega arith, rising-above x.run more rising.0 rising.1)
+
+-- each run has one report there
+pub rising-alike : (reports : List Report) → AreRising reports → AreAlike reports
+rising-alike [] rising = λ a b is_a is_b e. absurd is_a
+rising-alike (x ∷ more) rising = λ a b is_a is_b e.
+    ⊎_elim (λ (a_x : a ≡ x). ⊎_elim (λ (b_x : b ≡ x). a_x ∙ sym b_x) (λ (b_more : IsOneOf b more).
+    let less = above-member x.run more b rising.0 b_more in let n = ap (λ (z : Report). z.run) a_x in absurd (omega (arith, e))) is_b)
+    (λ (a_more : IsOneOf a more). ⊎_elim (λ (b_x : b ≡ x). let less = above-member x.run more a rising.0 a_more in let n = ap (λ (z : Report). z.run) b_x in absurd (omega (arith, e)))
+    (λ (b_more : IsOneOf b more). rising-alike more rising.1 a b a_more b_more e) is_b) is_a
+
+-- a list with no other reports is no longer, and has no more entries
+head-fewer : (x y : Report) (xs ys : List Report) → x ≡ y → (length xs ≤ length ys) × (marks_of xs ≤ marks_of ys) → (length (x ∷ xs) ≤ length (y ∷ ys)) × (marks_of (x ∷ xs) ≤ marks_of (y ∷ ys))
+head-fewer x y xs ys same rest =
+    let e = ap (λ (z : Report). length z.entries) same in (omega (arith, rest.0), omega (arith, rest.1, e))
+
+later-fewer : (y : Report) (xs ys : List Report) → (length xs ≤ length ys) × (marks_of xs ≤ marks_of ys) → (length xs ≤ length (y ∷ ys)) × (marks_of xs ≤ marks_of (y ∷ ys))
+later-fewer y xs ys rest = (omega (arith, rest.0), omega (arith, rest.1))
+
+at-or-above : (x r : Report) (xs : List Report) → AreAbove x.run xs → IsOneOf r (x ∷ xs) → x.run ≤ r.run
+at-or-above x r xs above is =
+    ⊎_elim (λ (same : r ≡ x). let n = ap (λ (z : Report). z.run) same in omega arith) (λ (other : IsOneOf r xs). let less = above-member x.run xs r above other in omega arith) is
+
+behind-head : (x y r : Report) (xs ys : List Report) → AreAbove x.run xs → AreAbove y.run ys → IsOneOf x ys → IsOneOf r (x ∷ xs) → IsOneOf r (y ∷ ys) → IsOneOf r ys
+behind-head x y r xs ys above_x above_y later is to =
+    ⊎_elim (λ (same : r ≡ y). let n = ap (λ (z : Report). z.run) same in let low = at-or-above x r xs above_x is in let high = above-member y.run ys x above_y later in absurd (omega arith)) (λ (other : IsOneOf r ys). other) to
+
+pub rising-fewer : (xs ys : List Report) → AreRising xs → AreRising ys → ((r : Report) → IsOneOf r xs → IsOneOf r ys) → (length xs ≤ length ys) × (marks_of xs ≤ marks_of ys)
+rising-fewer [] ys rx ry to = (omega arith, omega arith)
+rising-fewer (x ∷ xs) [] rx ry to = absurd (to x (inl refl))
+rising-fewer (x ∷ xs) (y ∷ ys) rx ry to =
+    ⊎_elim (λ (same : x ≡ y). head-fewer x y xs ys same (rising-fewer xs ys rx.1 ry.1 (λ r is. drop-head x xs ys r rx.0 is (λ all. subst (λ z. IsOneOf r (z ∷ ys)) (sym same) (to r all)))))
+    (λ (later : IsOneOf x ys). later-fewer y (x ∷ xs) ys (rising-fewer (x ∷ xs) ys rx ry.1 (λ r is. behind-head x y r xs ys rx.0 ry.0 later is (to r is)))) (to x (inl refl))

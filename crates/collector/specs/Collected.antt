@@ -63,4 +63,5 @@ Adds c r (Err (Conflict run)) after = IsOurs c r × (run ≡ r.run) × ((held : 
 Adds c r (Err (TooManyReports run)) after = IsOurs c r × (run ≡ r.run) × (report_at run c.reports ≡ None) × (report_limit ≤ length c.reports)
 Adds c r (Err (TooManyMarks run)) after =
     IsOurs c r × (run ≡ r.run) × (report_at run c.reports ≡ None) × (length c.reports < report_limit) × (mark_limit < marks_of c.reports + length r.entries)
-Adds c r (Err Memory) after = IsOurs c r × (report_at r.run c.reports ≡ None)
+Adds c r (Err Memory) after =
+    IsOurs c r × (report_at r.run c.reports ≡ None) × (length c.reports < report_limit) × (marks_of c.reports + length r.entries ≤ mark_limit)

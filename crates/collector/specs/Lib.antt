@@ -6,3 +6,5 @@ pub mod Merging
 pub mod Spelling
 pub mod Grammar
 pub mod Answers
+pub mod RunText
+pub mod Collecting

@@ -1,7 +1,9 @@
 ghost use Rattle.std.specs.Prelude.{◌≡◌, ◌↔◌, false, is_some, ◌+◌, ◌<◌, ◌≤◌, [], length, IfOk, IfSome, map, None, OnErr, OnOk, IsTrue};
 ghost use Rattle.std.specs.Option.{option_copied};
 ghost use Rattle.std.specs.List.{flat_map};
+ghost use Rattle.cbi_base.specs.ProgramId.{IsId};
 ghost use Rattle.cbi_base.specs.Text.{spaced, text_of};
+ghost use Rattle.collector.specs.Collecting.{IsCollection};
 ghost use Rattle.collector.specs.Merging.{IsBundle, Merges};
 ghost use Rattle.collector.specs.Spelling.{collection_text};
 ghost use Rattle.report_file.specs.RunLine.{line_rows};
@@ -62,6 +64,13 @@ impl Model for Collection {
     ghost invariant = { λ c. IsKept c.program c.branches c.reports.entries c.marks };
 }
 
+/// What the type of an identity says of it.
+pub fn is_identity(program: ProgramId)
+    ensures { IsId program }
+{
+    let _program = program;
+}
+
 impl Collection {
     /// No reports of the program with this table.
     pub fn new(alloc: Global, program: ProgramId, table: &SiteTable) -> Result<Collection, Memory>
@@ -81,6 +90,14 @@ impl Collection {
         ensures most { result ≤ 100000 }
     {
         self.reports.len() as u32
+    }
+
+    /// What a collection keeps: the runs rise, each report can be spelled and is of the program and its sites, and the limits hold.
+    pub fn keeps(&self)
+        ensures { IsCollection self.now }
+    {
+        let _count = self.reports.len();
+        is_identity(self.program);
     }
 
     /// Adds a report. It is of the program and its sites, or else refused; then nothing more is held.

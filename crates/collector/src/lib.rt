@@ -6,9 +6,14 @@ mod collection;
 mod draft;
 mod laws;
 mod reading;
+mod run_text;
 mod sites;
 
 pub use answers::{AddFault, Added, Merged};
 pub use collection::{Bundle, Collection, Held, write_collection};
-pub use laws::order_does_not_matter;
+pub use laws::{
+    collections_are_maps, groups_do_not_matter, one_collection, one_run_text, one_state,
+    order_does_not_matter, reports_are_taken_whole, written_collection,
+};
 pub use reading::{CollectionError, read_collection};
+pub use run_text::{RunText, read_run};
