@@ -1,0 +1,16 @@
+pub mod PredicateLemmas
+pub mod ChangeLemmas
+pub mod ScanLemmas
+pub mod ScanState
+pub mod SiteChanges
+pub mod EntryChanges
+pub mod TotalLemmas
+pub mod RunLemmas
+pub mod StepLemmas
+pub mod BooksLemmas
+pub mod SlotLemmas
+pub mod Gathering
+pub mod HolderLemmas
+pub mod EliminationLemmas
+pub mod TableLemmas
+pub mod UniqueLemmas
