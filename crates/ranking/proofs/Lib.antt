@@ -1,0 +1,3 @@
+pub mod RankingLemmas
+pub mod PlainLemmas
+pub mod EliminationRows

@@ -1,0 +1,4 @@
+pub mod Shares
+pub mod Ranking
+pub mod Plain
+pub mod Laws

@@ -1,0 +1,12 @@
+//! The text of a ranking: CSV with a header, and a row for each listed predicate.
+#![tactic(auto)]
+
+mod laws;
+mod line;
+mod place;
+mod plain;
+mod ranking;
+mod shares;
+
+pub use laws::eliminations_are_rows;
+pub use ranking::ranking_text;
