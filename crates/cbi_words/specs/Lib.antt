@@ -1,4 +1,5 @@
 pub mod WordRule
 pub mod Options
+pub mod Within
 pub mod Reading
 pub mod Answers

@@ -1,9 +1,11 @@
 -- What the given options say: which may be given, and what they give.
-use Rattle.std.specs.Prelude.{ℕ, Bool, true, ◌&&◌, not, if◌then◌else◌, nat_le, List, [], ◌∷◌, Option, None, Some}
+use Rattle.std.specs.Prelude.{ℕ, Bool, true, ◌&&◌, not, if◌then◌else◌, nat_le, List, [], ◌∷◌, Option, None, Some, codes}
 use Rattle.std.specs.Option.{option_map}
 use Rattle.std.specs.List.{list_any, list_all, find}
 use Rattle.cbi_words.specs.declared.given.Choice.{Choice}
 use Rattle.cbi_words.specs.declared.given.Given.{Given}
+use Rattle.cbi_base.specs.declared.policy.Policy.{Policy}
+use Rattle.cbi_base.specs.declared.policy.Policy.TheVariants.{All, Failing, Relabel}
 use Rattle.cbi_base.specs.Numbers.{is_word, number_of, ◌>>=◌}
 
 -- the name is one of these
@@ -39,3 +41,15 @@ number_or default least most (Some value) = number_in least most value
 -- the number of an option that must be given
 abbrev pub number_wanted : ℕ → ℕ → Option (List ℕ) → Option ℕ
 number_wanted least most given = given >>= number_in least most
+
+-- the policy that a value names
+abbrev pub policy_of : List ℕ → Option Policy
+policy_of value =
+    if is_word value (codes "all") then Some All
+    else (if is_word value (codes "failing") then Some Failing
+    else (if is_word value (codes "relabel") then Some Relabel else None))
+
+-- the policy that an option gives, or another one where it isn't given
+abbrev pub policy_or : Policy → Option (List ℕ) → Option Policy
+policy_or default None = Some default
+policy_or default (Some value) = policy_of value

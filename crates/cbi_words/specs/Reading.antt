@@ -1,11 +1,13 @@
 -- What words read as: the table of the commands with their options, positionals and defaults. The first word isn't looked at, and the second one is the command.
 use Rattle.std.specs.Prelude.{ℕ, if◌then◌else◌, List, [], ◌∷◌, Option, None, Some, codes}
+use Rattle.cbi_base.specs.declared.policy.Policy.{Policy}
+use Rattle.cbi_base.specs.declared.policy.Policy.TheVariants.{All}
 use Rattle.cbi_base.specs.Numbers.{is_word, ◌>>=◌}
 use Rattle.cbi_words.specs.declared.given.Given.{Given}
 use Rattle.cbi_words.specs.declared.command.Command.{Command}
-use Rattle.cbi_words.specs.declared.command.Command.TheVariants.{Run, Bank}
+use Rattle.cbi_words.specs.declared.command.Command.TheVariants.{Run, Bank, Collect, Rank}
 use Rattle.cbi_words.specs.WordRule.{cut}
-use Rattle.cbi_words.specs.Options.{are_asked, value_of, number_or, number_wanted}
+use Rattle.cbi_words.specs.Options.{are_asked, value_of, number_or, number_wanted, policy_or}
 
 -- the one positional, where there is one alone
 abbrev pub only : List (List ℕ) → Option (List ℕ)
@@ -41,6 +43,36 @@ bank_of given = do
   none ← no_positional given.positionals given
   Some (Bank rate count seed stream)
 
+-- `collect --program PROG FILE...`
+abbrev pub collect_options : List (List ℕ)
+collect_options = codes "--program" ∷ []
+
+abbrev pub one_or_more : List (List ℕ) → Option (List (List ℕ))
+one_or_more [] = None
+one_or_more (word ∷ more) = Some (word ∷ more)
+
+abbrev pub collect_of : Given → Option Command
+collect_of given = do
+  program ← value_of (codes "--program") given.options
+  files ← one_or_more given.positionals
+  Some (Collect program files)
+
+-- `rank [--policy all|failing|relabel] PROG COLL`
+abbrev pub rank_options : List (List ℕ)
+rank_options = codes "--policy" ∷ []
+
+-- the two positionals
+abbrev pub rank_files : Policy → List (List ℕ) → Option Command
+rank_files policy [] = None
+rank_files policy (program ∷ []) = None
+rank_files policy (program ∷ collection ∷ []) = Some (Rank policy program collection)
+rank_files policy (program ∷ collection ∷ word ∷ more) = None
+
+abbrev pub rank_of : Given → Option Command
+rank_of given = do
+  policy ← policy_or All (value_of (codes "--policy") given.options)
+  rank_files policy given.positionals
+
 -- what is given after a command with these options
 abbrev pub asked : List (List ℕ) → List (List ℕ) → Option Given
 asked options words = cut None words >>= λ given. if are_asked options given then Some given else None
@@ -49,7 +81,9 @@ asked options words = cut None words >>= λ given. if are_asked options given th
 unfoldable pub command_in : List ℕ → List (List ℕ) → Option Command
 command_in name words =
     if is_word name (codes "run") then (asked run_options words >>= run_of)
-    else (if is_word name (codes "bank") then (asked bank_options words >>= bank_of) else None)
+    else (if is_word name (codes "bank") then (asked bank_options words >>= bank_of)
+    else (if is_word name (codes "collect") then (asked collect_options words >>= collect_of)
+    else (if is_word name (codes "rank") then (asked rank_options words >>= rank_of) else None)))
 
 -- the command that the words read as
 abbrev pub reads : List (List ℕ) → Option Command

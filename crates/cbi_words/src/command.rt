@@ -1,4 +1,5 @@
 use crate::word::Word;
+use cbi_base::{Policy, Seq};
 
 /// What the words ask for. A command that isn't built has no variant.
 #[derive(Debug, Drop)]
@@ -30,5 +31,21 @@ pub enum Command {
         seed: u64,
         /// The generator's stream.
         stream: u64,
+    },
+    /// `collect`: collects reports of runs of a program.
+    Collect {
+        /// The name of the program file.
+        program: Word,
+        /// The names of the files of reports, of which there is one at least.
+        files: Seq<Word>,
+    },
+    /// `rank`: ranks the predicates of a program by the runs of a collection.
+    Rank {
+        /// What is done after each leader.
+        policy: Policy,
+        /// The name of the program file.
+        program: Word,
+        /// The name of the collection's file.
+        collection: Word,
     },
 }

@@ -5,6 +5,7 @@ mod command;
 mod error;
 mod given;
 mod numbers;
+mod policies;
 mod read;
 mod usage;
 mod word;

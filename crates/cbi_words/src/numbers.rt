@@ -25,6 +25,7 @@ fn number_of(value: &str, most: u64) -> Option<u64>
 // The number that an option's value spells.
 fn number_in(option: &'static str, value: &str, bounds: Bounds) -> Result<u64, Fault>
     ensures reads { ReadAs result (number_in bounds.least bounds.most value.now) }
+    ensures least { IfOk result (λ n. bounds.least ≤ n) }
     ensures most { IfOk result (λ n. n ≤ bounds.most) }
 {
     match number_of(value, bounds.most) {
@@ -40,8 +41,10 @@ pub fn number_or(
     default: u64,
     bounds: Bounds,
 ) -> Result<u64, Fault>
-    requires { default ≤ bounds.most }
+    requires least { bounds.least ≤ default }
+    requires most { default ≤ bounds.most }
     ensures reads { ReadAs result (number_or default bounds.least bounds.most (value_of option.entry.now given.now.options)) }
+    ensures least { IfOk result (λ n. bounds.least ≤ n) }
     ensures most { IfOk result (λ n. n ≤ bounds.most) }
 {
     match given.value_of(option) {
@@ -53,6 +56,7 @@ pub fn number_or(
 /// The number of an option that must be given.
 pub fn number_wanted(given: &Given, option: &'static str, bounds: Bounds) -> Result<u64, Fault>
     ensures reads { ReadAs result (number_wanted bounds.least bounds.most (value_of option.entry.now given.now.options)) }
+    ensures least { IfOk result (λ n. bounds.least ≤ n) }
     ensures most { IfOk result (λ n. n ≤ bounds.most) }
 {
     match given.value_of(option) {

@@ -1,13 +1,16 @@
 ghost use Rattle.std.specs.Prelude.{◌≡◌, None, Some, IfOk, map};
 ghost use Rattle.cbi_words.specs.Answers.{ReadAs, OnUsage};
-ghost use Rattle.cbi_words.specs.Reading.{asked, bank_of, bank_options, command_in, reads, run_of, run_options};
+ghost use Rattle.cbi_words.specs.Reading.{asked, bank_of, collect_of, command_in, rank_of, reads, run_of};
+ghost use Rattle.cbi_words.specs.Within.{IsWithin};
 ghost use Rattle.cbi_words.specs.WordRule.{texts_of};
 
 use crate::command::Command;
 use crate::error::{Fault, WordsError};
 use crate::given::{Given, cut};
 use crate::numbers::{Bounds, number_or, number_wanted};
+use crate::policies::policy_or;
 use crate::usage::{bad_value, usage};
+use cbi_base::Policy;
 use std::alloc::Global;
 
 /// The bound of turns, where the words give none.
@@ -39,7 +42,8 @@ const SEEDS: Bounds = Bounds {
 
 // What is given after `run`.
 fn run_of(alloc: Global, given: &Given) -> Result<Command, Fault>
-    ensures { ReadAs result (run_of given.now) }
+    ensures reads { ReadAs result (run_of given.now) }
+    ensures within { IfOk result IsWithin }
 {
     let [program] = given.positionals.as_slice() else {
         return Err(Fault::Usage);
@@ -59,7 +63,8 @@ fn run_of(alloc: Global, given: &Given) -> Result<Command, Fault>
 
 // What is given after `bank`.
 fn bank_of(given: &Given) -> Result<Command, Fault>
-    ensures { ReadAs result (bank_of given.now) }
+    ensures reads { ReadAs result (bank_of given.now) }
+    ensures within { IfOk result IsWithin }
 {
     if !given.positionals.is_empty() {
         return Err(Fault::Usage);
@@ -73,6 +78,40 @@ fn bank_of(given: &Given) -> Result<Command, Fault>
         count: count as u32,
         seed,
         stream,
+    })
+}
+
+// What is given after `collect`.
+fn collect_of(alloc: Global, given: Given) -> Result<Command, Fault>
+    ensures reads { ReadAs result (collect_of given) }
+    ensures within { IfOk result IsWithin }
+{
+    let Some(program) = given.copy_of(alloc, "--program")? else {
+        return Err(Fault::Usage);
+    };
+    let Given { positionals, .. } = given;
+    if positionals.is_empty() {
+        return Err(Fault::Usage);
+    }
+    Ok(Command::Collect {
+        program,
+        files: positionals,
+    })
+}
+
+// What is given after `rank`.
+fn rank_of(given: &Given) -> Result<Command, Fault>
+    ensures reads { ReadAs result (rank_of given.now) }
+    ensures within { IfOk result IsWithin }
+{
+    let [program, collection] = given.positionals.as_slice() else {
+        return Err(Fault::Usage);
+    };
+    let policy = policy_or(given, "--policy", Policy::All)?;
+    Ok(Command::Rank {
+        policy,
+        program: program.try_clone()?,
+        collection: collection.try_clone()?,
     })
 }
 
@@ -93,7 +132,8 @@ fn asked(alloc: Global, options: &[&str], words: &[String]) -> Result<Given, Fau
 // What is given after the name of a command.
 #[tactic(auto, unfolding(crate::specs::Reading::command_in))]
 fn command_in(alloc: Global, name: &str, words: &[String]) -> Result<Command, Fault>
-    ensures { ReadAs result (command_in name.now (texts_of words.now)) }
+    ensures reads { ReadAs result (command_in name.now (texts_of words.now)) }
+    ensures within { IfOk result IsWithin }
 {
     if name == "run" {
         let options = [
@@ -107,12 +147,21 @@ fn command_in(alloc: Global, name: &str, words: &[String]) -> Result<Command, Fa
         let given = asked(alloc, &options, words)?;
         return bank_of(&given);
     }
+    if name == "collect" {
+        let given = asked(alloc, &["--program"], words)?;
+        return collect_of(alloc, given);
+    }
+    if name == "rank" {
+        let given = asked(alloc, &["--policy"], words)?;
+        return rank_of(&given);
+    }
     Err(Fault::Usage)
 }
 
 // The first word isn't looked at, and the second one is the name of the command.
 fn command_of(alloc: Global, words: &[String]) -> Result<Command, Fault>
-    ensures { ReadAs result (reads (texts_of words.now)) }
+    ensures reads { ReadAs result (reads (texts_of words.now)) }
+    ensures within { IfOk result IsWithin }
 {
     let [_, name, rest @ ..] = words else {
         return Err(Fault::Usage);
@@ -132,6 +181,8 @@ fn command_word(words: &[String]) -> &str {
 pub fn read_words(alloc: Global, words: &Vec<String>) -> Result<Command, WordsError>
     // What is read is what the words read as.
     ensures reads { IfOk result (λ command. reads (texts_of words.now.items) ≡ Some command) }
+    // Its numbers lie in their bounds.
+    ensures within { IfOk result IsWithin }
     // Words are refused where they read as no command, and nowhere else.
     ensures usage { OnUsage result (reads (texts_of words.now.items) ≡ None) }
 {

@@ -94,10 +94,40 @@ fn bank_line(alloc: Global) -> Result<clap::Command<'static>, AllocError> {
         .arg(option(alloc, "stream", "I", "The generator's stream [default: 0]"))
 }
 
+fn collect_line(alloc: Global) -> Result<clap::Command<'static>, AllocError> {
+    command(alloc, "collect", "Collect reports of runs of a program")
+        .arg(option(alloc, "program", "PROG", "The program file").required(true))?
+        .arg(
+            Arg::new(alloc, "FILE")
+                .required(true)
+                .num_args(1..)
+                .action(ArgAction::Append)
+                .help("A report, or a collection of reports"),
+        )
+}
+
+fn rank_line(alloc: Global) -> Result<clap::Command<'static>, AllocError> {
+    command(
+        alloc,
+        "rank",
+        "Rank the predicates of a program by the runs of a collection",
+    )
+    .arg(option(
+        alloc,
+        "policy",
+        "POLICY",
+        "What is done after each leader: all, failing or relabel [default: all]",
+    ))?
+    .arg(positional(alloc, "PROG", "The program file"))?
+    .arg(positional(alloc, "COLL", "The collection's file"))
+}
+
 fn tool_line(alloc: Global) -> Result<clap::Command<'static>, AllocError> {
     command(alloc, "cbi", "Cooperative bug isolation")
         .subcommand(run_line(alloc)?)?
-        .subcommand(bank_line(alloc)?)
+        .subcommand(bank_line(alloc)?)?
+        .subcommand(collect_line(alloc)?)?
+        .subcommand(rank_line(alloc)?)
 }
 
 /// How the command is used, or the tool, where the word names no command.
@@ -105,6 +135,8 @@ pub fn usage(alloc: Global, word: &str) -> Result<String, Memory> {
     let mut line = match word {
         "run" => run_line(alloc)?.bin_name("cbi run")?,
         "bank" => bank_line(alloc)?.bin_name("cbi bank")?,
+        "collect" => collect_line(alloc)?.bin_name("cbi collect")?,
+        "rank" => rank_line(alloc)?.bin_name("cbi rank")?,
         _ => tool_line(alloc)?,
     };
     Ok(line.render_help()?)
