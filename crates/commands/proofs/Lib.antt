@@ -1,0 +1,12 @@
+pub mod DeviceLemmas
+pub mod ReportLemmas
+pub mod RunLemmas
+pub mod RefusedBy
+pub mod NameLemmas
+pub mod Adding
+pub mod Holding
+pub mod CollectLemmas
+pub mod FileLemmas
+pub mod GatherLemmas
+pub mod MergeLemmas
+pub mod RankLemmas

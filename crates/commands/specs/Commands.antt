@@ -1,0 +1,115 @@
+-- What each command reads, does, leaves, tells and refuses. Where the words read as none, nothing is done, left, told or refused.
+-- `told` is what one watcher was told.
+use Rattle.std.specs.Prelude.{◌≡◌, ◌⊎◌, ℕ, List, [], ◌++◌, codes, decimal, Option, Some, None, IsSome}
+use Rattle.cbi_base.specs.declared.observation.Observation.{Observation}
+use Rattle.cbi_base.specs.Store.{Held}
+use Rattle.cbi_base.specs.declared.policy.Policy.{Policy}
+use Rattle.cbi_base.specs.declared.refusal.Refusal.{Refusal}
+use Rattle.cbi_words.specs.declared.command.Command.{Command}
+use Rattle.cbi_words.specs.declared.command.Command.TheVariants.{Run, Bank, Collect, Rank}
+use Rattle.commands.specs.declared.done.Done.{Done}
+use Rattle.commands.specs.declared.done.Done.TheVariants.{Lines, Nothing, Added}
+use Rattle.commands.specs.declared.words.RunWords.{RunWords}
+use Rattle.commands.specs.declared.words.BankWords.{BankWords}
+use Rattle.commands.specs.declared.words.CollectWords.{CollectWords}
+use Rattle.commands.specs.declared.words.RankWords.{RankWords}
+use Rattle.commands.specs.Outside.{Outside, Wrote, WroteWithin}
+use Rattle.commands.specs.Files.{run_names}
+use Rattle.commands.specs.Run.{Ran, StoppedWithin, BrokeOff, RunRefused, RunRefusedBy}
+use Rattle.commands.specs.MadeBank.{IsMadeText}
+use Rattle.commands.specs.Collect.{CollectRefused, CollectRefusedBy, IsCollected, IsCollectedText, collect_names}
+use Rattle.commands.specs.Rank.{IsRanked, RankRefused, RankRefusedBy, rank_names}
+
+-- the words of each command, by their names
+abbrev pub run_words : (bank input expect : Option (List ℕ)) → (turns run : ℕ) → (report : Option (List ℕ)) → (program : List ℕ) → RunWords
+run_words bank input expect turns run report program =
+    record { bank = bank; input = input; expect = expect; turns = turns; run = run; report = report; program = program }
+
+abbrev pub bank_words : (rate count seed stream : ℕ) → BankWords
+bank_words rate count seed stream = record { rate = rate; count = count; seed = seed; stream = stream }
+
+abbrev pub collect_words : (program : List ℕ) → (files : List (List ℕ)) → CollectWords
+collect_words program files = record { program = program; files = files }
+
+abbrev pub rank_words : Policy → (program collection : List ℕ) → RankWords
+rank_words policy program collection = record { policy = policy; program = program; collection = collection }
+
+-- the names that it reads, in the order of its reads
+abbrev pub names_of : Option Command → List (List ℕ)
+names_of None = []
+names_of (Some (Run bank input expect turns run report program)) = run_names (run_words bank input expect turns run report program)
+names_of (Some (Bank rate count seed stream)) = []
+names_of (Some (Collect program files)) = collect_names (collect_words program files)
+names_of (Some (Rank policy program collection)) = rank_names (rank_words policy program collection)
+
+-- the name that it writes, where there is one
+abbrev pub written_by : Option Command → Option (List ℕ)
+written_by None = None
+written_by (Some (Run bank input expect turns run report program)) = report
+written_by (Some (Bank rate count seed stream)) = None
+written_by (Some (Collect program files)) = None
+written_by (Some (Rank policy program collection)) = None
+
+-- what it does where nothing goes wrong, and what it says of it
+abbrev pub Did : {B : Type 0} → (told : B → List Observation) → Option Command → (before after : Outside B) → (said : Done) → Type 0
+Did told None before after said = ⊥
+Did told (Some (Run bank input expect turns run report program)) before after said =
+    Ran told (run_words bank input expect turns run report program) before after × (said ≡ Lines)
+Did told (Some (Bank rate count seed stream)) before after said = Wrote (IsMadeText (bank_words rate count seed stream)) before after × (said ≡ Nothing)
+Did told (Some (Collect program files)) before after said = Wrote (IsCollected before.held (collect_words program files) said) before after
+Did told (Some (Rank policy program collection)) before after said =
+    Wrote (IsRanked before.held (rank_words policy program collection)) before after × (said ≡ Nothing)
+
+-- what err is told of it, of the lines of the watchers
+abbrev pub done_text : (said : Done) → (lines : List ℕ) → List ℕ
+done_text Lines lines = lines
+done_text Nothing lines = []
+done_text (Added added repeated) lines = codes "added " ++ decimal added ++ codes " repeated " ++ decimal repeated ++ codes "\n"
+
+-- what it leaves where out or the store doesn't take all that is written
+abbrev pub LeftOn : {B : Type 0} → (told : B → List Observation) → Option Command → (before after : Outside B) → Type 0
+LeftOn told None before after = ⊥
+LeftOn told (Some (Run bank input expect turns run report program)) before after =
+    StoppedWithin told (run_words bank input expect turns run report program) before after
+LeftOn told (Some (Bank rate count seed stream)) before after = WroteWithin (IsMadeText (bank_words rate count seed stream)) before after
+LeftOn told (Some (Collect program files)) before after = WroteWithin (IsCollectedText before.held (collect_words program files)) before after
+LeftOn told (Some (Rank policy program collection)) before after = WroteWithin (IsRanked before.held (rank_words policy program collection)) before after
+
+-- what it leaves where memory is wanting before it is done
+abbrev pub LeftWithin : {B : Type 0} → (told : B → List Observation) → Option Command → (before after : Outside B) → Type 0
+LeftWithin told None before after = ⊥
+LeftWithin told (Some (Run bank input expect turns run report program)) before after =
+    BrokeOff told (run_words bank input expect turns run report program) before after
+    ⊎ StoppedWithin told (run_words bank input expect turns run report program) before after
+LeftWithin told (Some (Bank rate count seed stream)) before after = ⊥
+LeftWithin told (Some (Collect program files)) before after = ⊥
+LeftWithin told (Some (Rank policy program collection)) before after = ⊥
+
+-- what it leaves where memory is wanting before it is done, or when what came of it is to be told
+abbrev pub LeftWanting : {B : Type 0} → (told : B → List Observation) → Option Command → (before after : Outside B) → Type 0
+LeftWanting told command before after =
+    LeftWithin told command before after ⊎ (LeftOn told command before after ⊎ ((said : Done) × Did told command before after said))
+
+-- the bytes read are refused
+abbrev pub IsRefused : Option Command → Option Held → Type 0
+IsRefused None held = ⊥
+IsRefused (Some (Run bank input expect turns run report program)) held = RunRefused (run_words bank input expect turns run report program) held
+IsRefused (Some (Bank rate count seed stream)) held = ⊥
+IsRefused (Some (Collect program files)) held = CollectRefused (collect_words program files) held
+IsRefused (Some (Rank policy program collection)) held = RankRefused (rank_words policy program collection) held
+
+-- the refusal that is told of them
+abbrev pub IsRefusedBy : Option Command → Option Held → Refusal → Type 0
+IsRefusedBy None held refusal = ⊥
+IsRefusedBy (Some (Run bank input expect turns run report program)) held refusal =
+    RunRefusedBy (run_words bank input expect turns run report program) held refusal
+IsRefusedBy (Some (Bank rate count seed stream)) held refusal = ⊥
+IsRefusedBy (Some (Collect program files)) held refusal = CollectRefusedBy (collect_words program files) held refusal
+IsRefusedBy (Some (Rank policy program collection)) held refusal = RankRefusedBy (rank_words policy program collection) held refusal
+
+-- a write met a fault: one to out, or one to the store of a command that writes there
+abbrev pub WriteFaultOf : (report : Option (List ℕ)) → (out store : Type 0) → Type 0
+WriteFaultOf report out store = out ⊎ (IsSome report × store)
+
+abbrev pub WriteFault : Option Command → (out store : Type 0) → Type 0
+WriteFault command out store = WriteFaultOf (written_by command) out store

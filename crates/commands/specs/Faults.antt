@@ -1,0 +1,52 @@
+-- Why a command didn't do what it was asked, and the cause that stands behind each answer.
+use Rattle.std.specs.Prelude.{◌⊎◌, ℕ, List, Result, Ok, Err}
+use Rattle.cbi_base.specs.declared.refusal.Refusal.{Refusal}
+use Rattle.commands.specs.declared.fault.Fault.{Fault}
+use Rattle.commands.specs.declared.fault.Fault.TheVariants.{Read, Write, Refused, Memory}
+
+-- the cause of each fault, by the name that wasn't read and by the refusal; want of memory has none
+abbrev pub Caused : Fault → (read : List ℕ → Type 0) → (write : Type 0) → (refused : Refusal → Type 0) → Type 0
+Caused (Read name) read write refused = read name
+Caused Write read write refused = write
+Caused (Refused refusal) read write refused = refused refusal
+Caused Memory read write refused = Unit {0}
+
+-- a fact of the name that wasn't read
+abbrev pub OfRead : Fault → (List ℕ → Type 0) → Type 0
+OfRead (Read name) P = P name
+OfRead fault P = Unit {0}
+
+-- a fact where memory was wanting
+abbrev pub OfMemory : Fault → Type 0 → Type 0
+OfMemory Memory P = P
+OfMemory fault P = Unit {0}
+
+-- the status of each fault
+abbrev pub status_of : Fault → ℕ
+status_of (Read name) = 3
+status_of Write = 4
+status_of (Refused refusal) = 5
+status_of Memory = 7
+
+-- What a fault leaves: what was there, or what is left where a write met a fault; want of memory leaves what was there, or what it leaves within the
+-- command.
+abbrev pub LeftBy : Fault → (unmoved part wanting : Type 0) → Type 0
+LeftBy (Read name) unmoved part wanting = unmoved
+LeftBy Write unmoved part wanting = part
+LeftBy (Refused refusal) unmoved part wanting = unmoved
+LeftBy Memory unmoved part wanting = unmoved ⊎ wanting
+
+-- a fault that is a refusal or may come before one
+abbrev pub Precedes : Fault → Type 0
+Precedes (Read name) = Unit {0}
+Precedes Write = ⊥
+Precedes (Refused refusal) = Unit {0}
+Precedes Memory = Unit {0}
+
+-- a fact of each answer that comes after the files were read
+abbrev pub Passed : {A : Type 0} → Result A Fault → Type 0 → Type 0
+Passed (Ok done) P = P
+Passed (Err (Read name)) P = Unit {0}
+Passed (Err Write) P = P
+Passed (Err (Refused refusal)) P = P
+Passed (Err Memory) P = Unit {0}

@@ -1,0 +1,10 @@
+pub mod Outside
+pub mod Names
+pub mod Files
+pub mod Run
+pub mod MadeBank
+pub mod Collect
+pub mod Gathered
+pub mod Rank
+pub mod Commands
+pub mod Faults

@@ -1,0 +1,113 @@
+ghost use Rattle.std.specs.Prelude.{◌≡◌, ◌≤◌, [], IfOk, IfErr, IsErrAnd, IsNone, IsSome, Some};
+ghost use Rattle.cbi_base.specs.Faults.{Rose};
+ghost use Rattle.cbi_words.specs.Within.{IsWithin};
+ghost use Rattle.commands.specs.Outside.{outside, AllStayBut, IsUnmoved};
+ghost use Rattle.commands.specs.Names.{IsOneOf, IsFirstMissing, AreHeld};
+ghost use Rattle.commands.specs.Commands.{names_of, written_by, Did, LeftOn, LeftWithin, IsRefused, IsRefusedBy, WriteFault};
+ghost use Rattle.commands.specs.Faults.{Caused, LeftBy, OfRead, Precedes, Passed};
+
+use crate::collect_files::collect_files;
+use crate::done::Done;
+use crate::fault::Fault;
+use crate::make_bank::make_bank;
+use crate::rank_runs::rank_runs;
+use crate::run_file::run_file;
+use crate::words::{BankWords, CollectWords, RankWords, RunWords};
+use cbi_base::{Sink, Store};
+use cbi_words::Command;
+use probes::Probe;
+use std::alloc::Global;
+
+/// Does the command.
+pub fn obey<S: Store, O: Sink>(
+    alloc: Global,
+    command: Command,
+    store: &mut S,
+    out: &mut O,
+    probes: &mut Vec<Box<dyn Probe>>,
+) -> Result<Done, Fault>
+    requires { IsWithin command }
+    ensures ok { IfOk result (Did (λ b. seen b) (Some command)
+        (outside (S.holds store.old) (O.taken out.old) probes.old.items) (outside (S.holds store.new) (O.taken out.new) probes.new.items)) }
+    ensures fault { IfErr result (λ e. Caused e
+        (λ name. IsOneOf (names_of (Some command)) name × Rose (S.read_faults store.old) (S.read_faults store.new))
+        (WriteFault (Some command) (Rose (O.faults out.old) (O.faults out.new)) (Rose (S.write_faults store.old) (S.write_faults store.new)))
+        (IsRefusedBy (Some command) (S.holds store.old))) }
+    ensures refused { IsRefused (Some command) (S.holds store.old) → IsSome (S.holds store.old) → IsErrAnd result Precedes }
+
+    // What is left after a fault, and which names were held.
+    ensures left { IfErr result (λ e. LeftBy e
+        (IsUnmoved (outside (S.holds store.old) (O.taken out.old) probes.old.items) (outside (S.holds store.new) (O.taken out.new) probes.new.items))
+        (LeftOn (λ b. seen b) (Some command)
+        (outside (S.holds store.old) (O.taken out.old) probes.old.items) (outside (S.holds store.new) (O.taken out.new) probes.new.items))
+        (LeftWithin (λ b. seen b) (Some command)
+        (outside (S.holds store.old) (O.taken out.old) probes.old.items) (outside (S.holds store.new) (O.taken out.new) probes.new.items))) }
+    ensures was_held { Passed result (AreHeld (S.holds store.old) (names_of (Some command))) }
+    ensures missing { S.is_sound store.old → IfErr result (λ e. OfRead e (IsFirstMissing (S.holds store.old) (names_of (Some command)))) }
+    ensures held { AllStayBut (written_by (Some command)) (S.holds store.old) (S.holds store.new) }
+    ensures no_read { names_of (Some command) ≡ [] → S.read_faults store.new ≡ S.read_faults store.old }
+    ensures no_write { IsNone (written_by (Some command)) → S.write_faults store.new ≡ S.write_faults store.old }
+
+    // No count falls, and devices that are sound stay so, with their counts.
+    ensures reads_rise { S.read_faults store.old ≤ S.read_faults store.new }
+    ensures writes_rise { S.write_faults store.old ≤ S.write_faults store.new }
+    ensures out_rises { O.faults out.old ≤ O.faults out.new }
+    ensures store_sound { S.is_sound store.old → S.is_sound store.new }
+    ensures out_sound { O.is_sound out.old → O.is_sound out.new }
+    ensures reads_stay { S.is_sound store.old → AreHeld (S.holds store.old) (names_of (Some command)) → S.read_faults store.new ≡ S.read_faults store.old }
+    ensures writes_stay { S.is_sound store.old → S.write_faults store.new ≡ S.write_faults store.old }
+    ensures out_stays { O.is_sound out.old → O.faults out.new ≡ O.faults out.old }
+{
+    match command {
+        Command::Run {
+            bank,
+            input,
+            expect,
+            turns,
+            run,
+            report,
+            program,
+        } => {
+            let words = RunWords {
+                bank,
+                input,
+                expect,
+                turns,
+                run,
+                report,
+                program,
+            };
+            run_file(alloc, &words, store, out, probes)
+        }
+        Command::Bank {
+            rate,
+            count,
+            seed,
+            stream,
+        } => {
+            let words = BankWords {
+                rate,
+                count,
+                seed,
+                stream,
+            };
+            make_bank(alloc, words, out)
+        }
+        Command::Collect { program, files } => {
+            let words = CollectWords { program, files };
+            collect_files(alloc, &words, store, out)
+        }
+        Command::Rank {
+            policy,
+            program,
+            collection,
+        } => {
+            let words = RankWords {
+                policy,
+                program,
+                collection,
+            };
+            rank_runs(alloc, &words, store, out)
+        }
+    }
+}

@@ -1,0 +1,84 @@
+ghost use Rattle.std.specs.Prelude.{◌≡◌, ◌≤◌, IfOk, OnOk, IfErr, IsErrAnd, IsSome};
+ghost use Rattle.cbi_base.specs.Faults.{Rose};
+ghost use Rattle.collector.specs.Sites.{branches_of};
+ghost use Rattle.commands.specs.Faults.{Caused, LeftBy, OfRead, Precedes, Passed};
+ghost use Rattle.commands.specs.Names.{IsOneOf, IsFirstMissing, AreHeld};
+ghost use Rattle.commands.specs.Outside.{TookDue, TookWithin};
+ghost use Rattle.commands.specs.Rank.{IsRanked, IsRankingOf, RankRefused, RankRefusedBy, rank_names};
+ghost use Rattle.commands.specs.declared.done.Done.TheVariants.{Nothing};
+
+use crate::devices::put;
+use crate::done::Done;
+use crate::fault::Fault;
+use crate::rank_texts::{load, read_rank_texts};
+use crate::words::RankWords;
+use cbi_base::{Memory, Policy, Sink, Store};
+use collector::Collection;
+use elimination::elimination;
+use flow::Program;
+use ranking::{eliminations_are_rows, ranking_text};
+use std::alloc::Global;
+
+/// The text of the leaders of the collection's runs, under the policy.
+fn ranking_of(
+    alloc: Global,
+    program: &Program,
+    collection: &Collection,
+    policy: Policy,
+) -> Result<Vec<u8>, Memory>
+    requires { collection.now.branches ≡ branches_of program.now.sites }
+    ensures { IfOk result (λ text. IsRankingOf program.now policy collection.now.reports text.items) }
+{
+    let _runs = collection.reports_held();
+    let rows = elimination(alloc, collection, program.table(), policy)?;
+    eliminations_are_rows();
+    ranking_text(alloc, rows.as_slice(), program.table())
+}
+
+/// Ranks the predicates of the program by the runs of the collection, and writes the ranking's text to out.
+pub fn rank_runs<S: Store, O: Sink>(
+    alloc: Global,
+    words: &RankWords,
+    store: &mut S,
+    out: &mut O,
+) -> Result<Done, Fault>
+    ensures took { OnOk result (TookDue (IsRanked (S.holds store.old) words.now) (O.taken out.old) (O.taken out.new)) }
+    ensures said { IfOk result (λ said. said ≡ Nothing) }
+    ensures fault { IfErr result (λ e. Caused e
+        (λ name. IsOneOf (rank_names words.now) name × Rose (S.read_faults store.old) (S.read_faults store.new))
+        (Rose (O.faults out.old) (O.faults out.new)) (RankRefusedBy words.now (S.holds store.old))) }
+    ensures refused { RankRefused words.now (S.holds store.old) → IsSome (S.holds store.old) → IsErrAnd result Precedes }
+
+    // What is left after a fault, and which names were held.
+    ensures left { IfErr result (λ e. LeftBy e (O.taken out.new ≡ O.taken out.old)
+        (TookWithin (IsRanked (S.holds store.old) words.now) (O.taken out.old) (O.taken out.new)) ⊥) }
+    ensures was_held { Passed result (AreHeld (S.holds store.old) (rank_names words.now)) }
+    ensures missing { S.is_sound store.old → IfErr result (λ e. OfRead e (IsFirstMissing (S.holds store.old) (rank_names words.now))) }
+    ensures held { S.holds store.new ≡ S.holds store.old }
+    ensures writes { S.write_faults store.new ≡ S.write_faults store.old }
+
+    // No count falls, and devices that are sound stay so, with their counts.
+    ensures reads_rise { S.read_faults store.old ≤ S.read_faults store.new }
+    ensures out_rises { O.faults out.old ≤ O.faults out.new }
+    ensures store_sound { S.is_sound store.old → S.is_sound store.new }
+    ensures out_sound { O.is_sound out.old → O.is_sound out.new }
+    ensures reads_stay { S.is_sound store.old → AreHeld (S.holds store.old) (rank_names words.now) → S.read_faults store.new ≡ S.read_faults store.old }
+    ensures out_stays { O.is_sound out.old → O.faults out.new ≡ O.faults out.old }
+{
+    let texts = match read_rank_texts(alloc, store, words) {
+        Ok(texts) => texts,
+        Err(fault) => return Err(fault),
+    };
+    let (program, collection) = match load(alloc, &texts) {
+        Ok(loaded) => loaded,
+        Err(fault) => return Err(fault),
+    };
+    let text = match ranking_of(alloc, &program, &collection, words.policy) {
+        Ok(text) => text,
+        Err(Memory) => return Err(Fault::Memory),
+    };
+    match put(out, text.as_slice()) {
+        Ok(()) => Ok(Done::Nothing),
+        Err(fault) => Err(fault),
+    }
+}
