@@ -4,12 +4,11 @@ use Rattle.cbi_base.specs.Sink.{Takes, TakesPrefix}
 use Rattle.cbi_base.specs.Refusal.{refusal_line}
 use Rattle.cbi_base.specs.Store.{Held}
 use Rattle.cbi_base.specs.declared.refusal.Refusal.{Refusal}
-use Rattle.cbi.specs.declared.fault.Fault.{Fault}
-use Rattle.cbi.specs.declared.fault.Fault.TheVariants.{Read, Write, Refused, Memory}
-use Rattle.cbi.specs.Names.{IsOneOf, IsFirstMissing}
-
-abbrev pub usage_line : List ℕ
-usage_line = codes "usage: cbi run [--bank B] [--input I] [--turns N] PROG\n"
+use Rattle.commands.specs.Commands.{done_text}
+use Rattle.commands.specs.Names.{IsOneOf, IsFirstMissing}
+use Rattle.commands.specs.declared.done.Done.{Done}
+use Rattle.commands.specs.declared.fault.Fault.{Fault}
+use Rattle.commands.specs.declared.fault.Fault.TheVariants.{Read, Write, Refused, Memory}
 
 abbrev pub read_line : List ℕ → List ℕ
 read_line name = codes "cbi: read fault " ++ name ++ codes "\n"
@@ -21,7 +20,7 @@ abbrev pub memory_line : List ℕ
 memory_line = codes "cbi: out of memory\n"
 
 abbrev pub fault_line : Fault → List ℕ
-fault_line (Read name) = read_line name.now
+fault_line (Read name) = read_line name
 fault_line Write = write_line
 fault_line (Refused refusal) = refusal_line refusal
 fault_line Memory = memory_line
@@ -32,6 +31,17 @@ IsTold rose before now line = Takes before now line ⊎ (rose × TakesPrefix bef
 -- The status after a line was to be told: as it was with the line told, or 7 where nothing was taken for want of memory.
 abbrev pub Tells : (status result : ℕ) → (told nothing : Type 0) → Type 0
 Tells status result told nothing = ((result ≡ status) × told) ⊎ ((result ≡ 7) × nothing)
+
+-- told of how the tool is used: some text
+pub record UsageTold (told : List ℕ → Type 0) : Type 0 where
+  pub text : List ℕ
+  pub is : told text
+
+-- done, and told of what is said of it
+pub record DoneTold (did : Done → Type 0) (lines : List ℕ) (told : List ℕ → Type 0) : Type 0 where
+  pub said : Done
+  pub is_done : did said
+  pub is_told : told (done_text said lines)
 
 -- told of a file that wasn't read: a name of the command, and over a sound store the first of them that isn't held
 pub record ReadTold (names : List (List ℕ)) (held : Option Held) (sound : Type 0) (told : List ℕ → Type 0) : Type 0 where

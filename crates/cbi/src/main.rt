@@ -1,16 +1,12 @@
 //! Cooperative bug isolation, from the command line.
 #![tactic(auto)]
 
-mod commands;
-mod fault;
-mod files;
 mod message;
-mod read_file;
-mod run_file;
+#[cfg(test)]
+mod rank_tests;
 #[cfg(test)]
 mod tests;
 mod top;
-mod words;
 
 use cbi_base::{FileStore, Memory, StdSink};
 use probes::{FirstSeen, Hottest, LastSeen, Probe};

@@ -1,15 +1,14 @@
-ghost use Rattle.std.specs.Prelude.{◌≡◌, ◌≤◌, Some, IfOk};
+ghost use Rattle.std.specs.Prelude.{◌≡◌, ◌≤◌, [], IfOk};
 ghost use Rattle.std.specs.List.{flat_map};
 ghost use Rattle.cbi_base.specs.Faults.{Rose};
-ghost use Rattle.cbi.specs.Asked.{command_in};
-ghost use Rattle.cbi.specs.Commands.{done_text};
-ghost use Rattle.cbi.specs.Faults.{status_of};
+ghost use Rattle.commands.specs.Commands.{done_text};
+ghost use Rattle.commands.specs.declared.done.Done.TheVariants.{Added};
+ghost use Rattle.commands.specs.Faults.{status_of};
 ghost use Rattle.cbi.specs.Statuses.{IsUnchangedOr};
-ghost use Rattle.cbi.specs.Told.{Tells, IsTold, usage_line, fault_line, memory_line};
+ghost use Rattle.cbi.specs.Told.{Tells, IsTold, fault_line, memory_line};
 
-use crate::fault::Fault;
-use crate::words::Command;
-use cbi_base::{Memory, Sink, SinkError};
+use cbi_base::{Memory, Sink, SinkError, push_decimal};
+use commands::{Done, Fault};
 use probes::{Probe, push_lines};
 use std::alloc::Global;
 
@@ -23,14 +22,14 @@ const USAGE: u8 = 2;
 const OUT_OF_MEMORY: u8 = 7;
 
 /// The line that tells of a fault.
-fn fault_line(alloc: Global, fault: &Fault<'_>) -> Result<Vec<u8>, Memory>
+fn fault_line(alloc: Global, fault: &Fault) -> Result<Vec<u8>, Memory>
     ensures { IfOk result (λ line. line.items ≡ fault_line fault.now) }
 {
     let mut line = Vec::new(alloc);
     match fault {
         Fault::Read { name } => {
             line.extend_from_slice(b"cbi: read fault ")?;
-            line.extend_from_slice(name.as_bytes())?;
+            line.extend_from_slice(name.as_str().as_bytes())?;
             line.push(b'\n')?;
         }
         Fault::Write => line.extend_from_slice(b"cbi: write fault\n")?,
@@ -40,7 +39,7 @@ fn fault_line(alloc: Global, fault: &Fault<'_>) -> Result<Vec<u8>, Memory>
     Ok(line)
 }
 
-/// Tells err the line. The status is as given, or 7 where memory is wanting; a fault of err changes none.
+/// Tells err the text, where it isn't empty. The status is as given, or 7 where memory is wanting; a fault of err changes none.
 fn put_line<E: Sink>(err: &mut E, line: &[u8], status: u8) -> u8
     ensures told { Tells status result
         (IsTold (Rose (E.faults err.old) (E.faults err.new)) (E.taken err.old) (E.taken err.new) line.now)
@@ -49,6 +48,9 @@ fn put_line<E: Sink>(err: &mut E, line: &[u8], status: u8) -> u8
     ensures sound { E.is_sound err.old → E.is_sound err.new }
     ensures stays { E.is_sound err.old → E.faults err.new ≡ E.faults err.old }
 {
+    if line.is_empty() {
+        return status;
+    }
     match err.put(line) {
         Err(SinkError::Memory) => OUT_OF_MEMORY,
         _ => status,
@@ -56,23 +58,19 @@ fn put_line<E: Sink>(err: &mut E, line: &[u8], status: u8) -> u8
 }
 
 /// Tells err of words that read as no command.
-pub fn tell_usage<E: Sink>(err: &mut E) -> u8
+pub fn tell_usage<E: Sink>(err: &mut E, text: &str) -> u8
     ensures told { Tells 2 result
-        (IsTold (Rose (E.faults err.old) (E.faults err.new)) (E.taken err.old) (E.taken err.new) usage_line)
+        (IsTold (Rose (E.faults err.old) (E.faults err.new)) (E.taken err.old) (E.taken err.new) text.now)
         (E.taken err.new ≡ E.taken err.old) }
     ensures rises { E.faults err.old ≤ E.faults err.new }
     ensures sound { E.is_sound err.old → E.is_sound err.new }
     ensures stays { E.is_sound err.old → E.faults err.new ≡ E.faults err.old }
 {
-    put_line(
-        err,
-        b"usage: cbi run [--bank B] [--input I] [--turns N] PROG\n",
-        USAGE,
-    )
+    put_line(err, text.as_bytes(), USAGE)
 }
 
 /// Tells err of a fault, or that there is no memory to do so.
-pub fn tell_fault<E: Sink>(alloc: Global, err: &mut E, fault: &Fault<'_>) -> u8
+pub fn tell_fault<E: Sink>(alloc: Global, err: &mut E, fault: &Fault) -> u8
     ensures told { Tells (status_of fault.now) result
         (IsTold (Rose (E.faults err.old) (E.faults err.new)) (E.taken err.old) (E.taken err.new) (fault_line fault.now))
         (IsUnchangedOr (E.taken err.old) (E.taken err.new)
@@ -89,26 +87,34 @@ pub fn tell_fault<E: Sink>(alloc: Global, err: &mut E, fault: &Fault<'_>) -> u8
 
 /// The line of each watcher, in order.
 fn lines_of(alloc: Global, probes: &Vec<Box<dyn Probe>>) -> Result<Vec<u8>, Memory>
-    ensures { IfOk result (λ lines. lines.items ≡ flat_map (λ b. line_text b) probes.now.items) }
+    ensures { IfOk result (λ text. text.items ≡ flat_map (λ b. line_text b) probes.now.items) }
 {
-    let mut lines = Vec::new(alloc);
-    push_lines(probes, &mut lines)?;
-    Ok(lines)
+    let mut text = Vec::new(alloc);
+    push_lines(probes, &mut text)?;
+    Ok(text)
 }
 
-/// Tells err the line of each watcher, in order, or that there is no memory to do so.
-fn tell_lines<E: Sink>(alloc: Global, err: &mut E, probes: &Vec<Box<dyn Probe>>) -> u8
-    ensures told { Tells 0 result
-        (IsTold (Rose (E.faults err.old) (E.faults err.new)) (E.taken err.old) (E.taken err.new) (flat_map (λ b. line_text b) probes.now.items))
-        (IsUnchangedOr (E.taken err.old) (E.taken err.new)
-        (IsTold (Rose (E.faults err.old) (E.faults err.new)) (E.taken err.old) (E.taken err.new) memory_line)) }
-    ensures rises { E.faults err.old ≤ E.faults err.new }
-    ensures sound { E.is_sound err.old → E.is_sound err.new }
-    ensures stays { E.is_sound err.old → E.faults err.new ≡ E.faults err.old }
+/// The line that tells of a collection.
+fn added_line(alloc: Global, added: u32, repeated: u128) -> Result<Vec<u8>, Memory>
+    ensures { IfOk result (λ line. line.items ≡ done_text (Added added repeated) []) }
 {
-    match lines_of(alloc, probes) {
-        Ok(lines) => put_line(err, lines.as_slice(), DONE),
-        Err(Memory) => put_line(err, b"cbi: out of memory\n", OUT_OF_MEMORY),
+    let mut line = Vec::new(alloc);
+    line.extend_from_slice(b"added ")?;
+    push_decimal(&mut line, u128::from(added))?;
+    line.extend_from_slice(b" repeated ")?;
+    push_decimal(&mut line, repeated)?;
+    line.push(b'\n')?;
+    Ok(line)
+}
+
+/// What err is told of a command that is done.
+fn done_text(alloc: Global, done: Done, probes: &Vec<Box<dyn Probe>>) -> Result<Vec<u8>, Memory>
+    ensures { IfOk result (λ text. text.items ≡ done_text done (flat_map (λ b. line_text b) probes.now.items)) }
+{
+    match done {
+        Done::Lines => lines_of(alloc, probes),
+        Done::Nothing => Ok(Vec::new(alloc)),
+        Done::Added { added, repeated } => added_line(alloc, added, repeated),
     }
 }
 
@@ -116,19 +122,19 @@ fn tell_lines<E: Sink>(alloc: Global, err: &mut E, probes: &Vec<Box<dyn Probe>>)
 pub fn tell_done<E: Sink>(
     alloc: Global,
     err: &mut E,
-    command: &Command<'_>,
+    done: Done,
     probes: &Vec<Box<dyn Probe>>,
 ) -> u8
     ensures told { Tells 0 result
-        (IsTold (Rose (E.faults err.old) (E.faults err.new)) (E.taken err.old) (E.taken err.new)
-        (done_text (Some (command_in command.now)) (flat_map (λ b. line_text b) probes.now.items)))
+        (IsTold (Rose (E.faults err.old) (E.faults err.new)) (E.taken err.old) (E.taken err.new) (done_text done (flat_map (λ b. line_text b) probes.now.items)))
         (IsUnchangedOr (E.taken err.old) (E.taken err.new)
         (IsTold (Rose (E.faults err.old) (E.faults err.new)) (E.taken err.old) (E.taken err.new) memory_line)) }
     ensures rises { E.faults err.old ≤ E.faults err.new }
     ensures sound { E.is_sound err.old → E.is_sound err.new }
     ensures stays { E.is_sound err.old → E.faults err.new ≡ E.faults err.old }
 {
-    match command {
-        Command::Run(_) => tell_lines(alloc, err, probes),
+    match done_text(alloc, done, probes) {
+        Ok(text) => put_line(err, text.as_slice(), DONE),
+        Err(Memory) => put_line(err, b"cbi: out of memory\n", OUT_OF_MEMORY),
     }
 }

@@ -1,7 +1,7 @@
 ghost use Rattle.std.specs.Prelude.{None, codes};
 
 use crate::top::cbi;
-use cbi_base::{File, FileStore, MemSink, MemStore, Memory, Observation, Sink, SinkError};
+use cbi_base::{File, FileStore, MemSink, MemStore, Memory, Observation, Sink, SinkError, Store};
 use probes::{FirstSeen, Hottest, LastSeen, Probe};
 use std::alloc::Global;
 use std::process::Abort;
@@ -61,24 +61,26 @@ impl Probe for Few {
     }
 }
 
-/// What a call is made with: the program file, its bank and its input, the words, and the numbers of the calls of the store and of the puts that
-/// fail.
+/// What a call is made with: the program file, its bank, its input and what it is to write, the words, and the numbers of the calls of the store and of
+/// the puts that fail.
 #[derive(Clone, Copy)]
-struct Case<'a> {
+pub struct Case<'a> {
     file: &'a str,
     bank: &'a str,
     input: &'a str,
+    want: &'a str,
     words: &'a [&'a str],
     store_fails: &'a [u64],
     out_fails: &'a [u64],
 }
 
-/// What a call came to.
+/// What a call came to; of the report what its name holds, and nothing where it isn't held.
 #[derive(Drop)]
 struct Came {
     status: u8,
     out: Vec<u8>,
     err: Vec<u8>,
+    report: Vec<u8>,
 }
 
 fn words_of(alloc: Global, words: &[&str]) -> Result<Vec<String>, Fail> {
@@ -89,7 +91,7 @@ fn words_of(alloc: Global, words: &[&str]) -> Result<Vec<String>, Fail> {
     Ok(list)
 }
 
-fn store_of(alloc: Global, case: &Case<'_>) -> Result<MemStore, Fail> {
+pub fn store_of(alloc: Global, case: &Case<'_>) -> Result<MemStore, Fail> {
     let mut files = Vec::new(alloc);
     files.push(File {
         name: String::from_str(alloc, "prog")?,
@@ -102,6 +104,10 @@ fn store_of(alloc: Global, case: &Case<'_>) -> Result<MemStore, Fail> {
     files.push(File {
         name: String::from_str(alloc, "bank")?,
         bytes: Vec::from_slice(alloc, case.bank.as_bytes())?,
+    })?;
+    files.push(File {
+        name: String::from_str(alloc, "want")?,
+        bytes: Vec::from_slice(alloc, case.want.as_bytes())?,
     })?;
     let failing = Vec::from_slice(alloc, case.store_fails)?;
     Ok(MemStore::new(files, failing))
@@ -117,6 +123,7 @@ fn come(alloc: Global, case: &Case<'_>, probes: &mut Vec<Box<dyn Probe>>) -> Res
         status,
         out: Vec::from_slice(alloc, out.taken())?,
         err: Vec::from_slice(alloc, err.taken())?,
+        report: Vec::from_slice(alloc, store.bytes_of("report").unwrap_or(b"".as_slice()))?,
     })
 }
 
@@ -137,11 +144,12 @@ fn expect(
 
 const GOOD: &[&str] = &["cbi", "run", "prog"];
 
-fn of_file<'a>(file: &'a str) -> Case<'a> {
+pub fn of_file<'a>(file: &'a str) -> Case<'a> {
     Case {
         file,
         bank: "1\n",
         input: "",
+        want: "",
         words: GOOD,
         store_fails: &[],
         out_fails: &[],
@@ -153,6 +161,7 @@ fn of_words<'a>(words: &'a [&'a str]) -> Case<'a> {
         file: PROGRAM,
         bank: "1\n",
         input: "",
+        want: "",
         words,
         store_fails: &[],
         out_fails: &[],
@@ -221,57 +230,187 @@ fn a_damaged_file_is_refused_at_its_line(rt: HostRuntime) -> Result<(), Fail> {
     Ok(())
 }
 
+const WHOLE: &[&str] = &[
+    "cbi", "run", "--bank", "bank", "--input", "in", "--expect", "want", "--run", "7", "--report",
+    "report", "prog",
+];
+
 #[test]
 fn a_failing_device_has_its_status(rt: HostRuntime) -> Result<(), Fail> {
-    let first_call = Case {
-        store_fails: &[1],
-        ..of_file(PROGRAM)
-    };
-    expect(
-        &rt,
-        rt.alloc(),
-        &first_call,
-        3,
-        "",
-        "cbi: read fault prog\n",
-    )?;
-    let first_put = Case {
-        out_fails: &[1],
-        ..of_file(PROGRAM)
-    };
-    expect(&rt, rt.alloc(), &first_put, 4, "", "cbi: write fault\n")
+    let bank: &[&str] = &["cbi", "bank", "--rate", "1", "--count", "2", "--seed", "5"];
+    let collect: &[&str] = &["cbi", "collect", "--program", "prog", "in"];
+    let rank: &[&str] = &["cbi", "rank", "prog", "in"];
+    let unwritten = "cbi: write fault\n";
+    // The call of the store and the put that fail, or 0.
+    let cases = [
+        (WHOLE, 1, 0, 3, "", "cbi: read fault prog\n"),
+        (WHOLE, 2, 0, 3, "", "cbi: read fault bank\n"),
+        (WHOLE, 3, 0, 3, "", "cbi: read fault in\n"),
+        (WHOLE, 4, 0, 3, "", "cbi: read fault want\n"),
+        (WHOLE, 5, 0, 4, "A", unwritten),
+        (WHOLE, 0, 1, 4, "", unwritten),
+        (GOOD, 1, 0, 3, "", "cbi: read fault prog\n"),
+        (GOOD, 0, 1, 4, "", unwritten),
+        (collect, 1, 0, 3, "", "cbi: read fault prog\n"),
+        (collect, 2, 0, 3, "", "cbi: read fault in\n"),
+        (rank, 1, 0, 3, "", "cbi: read fault prog\n"),
+        (rank, 2, 0, 3, "", "cbi: read fault in\n"),
+        (bank, 1, 0, 0, "1\n1\n", ""),
+        (bank, 0, 1, 4, "", unwritten),
+    ];
+    for (words, call, put, status, out, err) in cases {
+        let case = Case {
+            words,
+            store_fails: &[call],
+            out_fails: &[put],
+            ..of_file(PROGRAM)
+        };
+        let came = come(rt.alloc(), &case, &mut Vec::new(rt.alloc()))?;
+        assert_eq!(rt; came.status, status);
+        assert_eq!(rt; came.out.as_slice(), out.as_bytes());
+        assert_eq!(rt; came.err.as_slice(), err.as_bytes());
+        assert_eq!(rt; came.report.as_slice(), b"".as_slice());
+    }
+    Ok(())
+}
+
+/// Looks at the report that the call writes, but for the line of the identity.
+fn expect_report(
+    rt: &impl Abort,
+    alloc: Global,
+    case: &Case<'_>,
+    report: &str,
+) -> Result<(), Fail> {
+    let came = come(alloc, case, &mut Vec::new(alloc))?;
+    assert_eq!(rt; came.status, 0);
+    assert!(rt;
+        came.report
+            .as_slice()
+            .starts_with(b"cbi-report 2\nprogram ")
+    );
+    assert!(rt; came.report.as_slice().ends_with(report.as_bytes()));
+    Ok(())
+}
+
+#[test]
+fn a_report_says_how_the_run_ended(rt: HostRuntime) -> Result<(), Fail> {
+    let plain: &[&str] = &["cbi", "run", "prog", "--report=report"];
+    let equal: &[&str] = &[
+        "cbi", "run", "--report", "report", "--expect", "want", "prog",
+    ];
+    let banked: &[&str] = &["cbi", "run", "--report", "report", "--bank", "bank", "prog"];
+    let cut: &[&str] = &[
+        "cbi", "run", "--report", "report", "--turns", "1", "--expect", "want", "prog",
+    ];
+    let cases = [
+        (
+            PROGRAM,
+            "A",
+            WHOLE,
+            "\nrun 7\noutcome ended 0\nlabel pass\nwork 0 0 0\nend\n",
+        ),
+        (
+            PROGRAM,
+            "",
+            plain,
+            "\nrun 1\noutcome ended 0\nlabel pass\nwork 0 0 0\nend\n",
+        ),
+        (
+            PROGRAM,
+            "A",
+            equal,
+            "\nrun 1\noutcome ended 0\nlabel pass\nwork 0 0 0\nend\n",
+        ),
+        (
+            PROGRAM,
+            "AA",
+            equal,
+            "\nrun 1\noutcome ended 0\nlabel fail\nwork 0 0 0\nend\n",
+        ),
+        (
+            PROGRAM,
+            "",
+            equal,
+            "\nrun 1\noutcome ended 0\nlabel fail\nwork 0 0 0\nend\n",
+        ),
+        (
+            LOOP,
+            "",
+            cut,
+            "\nrun 1\noutcome cut turns\nlabel none\nwork 0 0 2\nsite 0 2 0 0\nend\n",
+        ),
+        (
+            LOOP,
+            "",
+            plain,
+            "\nrun 1\noutcome ended 0\nlabel pass\nwork 0 0 8\nsite 0 7 1 0\nend\n",
+        ),
+        (
+            EIGHT,
+            "",
+            banked,
+            "\nrun 1\noutcome ended 1\nlabel pass\nwork 0 0 8\nsite 2 1 0 0\nsite 5 1 0 0\nend\n",
+        ),
+        (
+            ABORTS,
+            "",
+            equal,
+            "\nrun 1\noutcome trapped 14\nlabel fail\nwork 0 0 0\nsite 0 2 0 0\nend\n",
+        ),
+    ];
+    for (file, want, words, report) in cases {
+        let case = Case {
+            want,
+            bank: "3\n",
+            words,
+            ..of_file(file)
+        };
+        expect_report(&rt, rt.alloc(), &case, report)?;
+    }
+    let missing = of_words(&["cbi", "run", "--expect", "other", "prog"]);
+    expect(&rt, rt.alloc(), &missing, 3, "", "cbi: read fault other\n")
+}
+
+#[test]
+fn a_made_bank(rt: HostRuntime) -> Result<(), Fail> {
+    let first: &[&str] = &[
+        "cbi", "bank", "--rate", "2", "--count", "1", "--seed", "42", "--stream", "54",
+    ];
+    let ones: &[&str] = &["cbi", "bank", "--rate", "1", "--count", "3", "--seed", "5"];
+    expect(&rt, rt.alloc(), &of_words(first), 0, "2\n", "")?;
+    expect(&rt, rt.alloc(), &of_words(ones), 0, "1\n1\n1\n", "")
 }
 
 #[test]
 fn words_that_read_as_no_command(rt: HostRuntime) -> Result<(), Fail> {
-    let usage = "usage: cbi run [--bank B] [--input I] [--turns N] PROG\n";
-    let cases: [&[&str]; 19] = [
+    let cases: [&[&str]; 8] = [
         &[],
         &["cbi"],
         &["cbi", "run"],
         &["cbi", "walk", "prog"],
         &["cbi", "run", "-prog"],
-        &["cbi", "run", "prog", "prog"],
-        &["cbi", "run", "--turns", "100000001", "prog"],
-        &["cbi", "run", "--turns", "01", "prog"],
-        &["cbi", "run", "--turns", "prog"],
-        &["cbi", "run", "prog", "--turns"],
-        &["cbi", "run", "--input", "in"],
-        &["cbi", "run", "--input", "--turns", "1", "prog"],
         &["cbi", "run", "--input", "in", "--input", "in", "prog"],
-        &["cbi", "run", "--turns", "1", "--turns", "1", "prog"],
-        &["cbi", "run", "--turns", "1", "--input", "in", "prog"],
-        &["cbi", "run", "prog", "--input", "in"],
-        &["cbi", "run", "--bank", "bank"],
-        &["cbi", "run", "--bank", "--input", "in", "prog"],
-        &["cbi", "run", "--input", "in", "--bank", "bank", "prog"],
+        &["cbi", "bank", "--rate", "1", "--count", "1"],
+        &["cbi", "run", "--help"],
     ];
     for words in cases {
-        expect(&rt, rt.alloc(), &of_words(words), 2, "", usage)?;
+        let came = come(rt.alloc(), &of_words(words), &mut Vec::new(rt.alloc()))?;
+        assert_eq!(rt; came.status, 2);
+        assert_eq!(rt; came.out.len(), 0);
+        assert!(rt; came.err.len() > 0);
     }
-    let missing = of_words(&["cbi", "run", "other"]);
-    expect(&rt, rt.alloc(), &missing, 3, "", "cbi: read fault other\n")?;
-    let no_name = of_words(&["cbi", "run", ""]);
+    let turns = of_words(&["cbi", "run", "--turns", "01", "prog"]);
+    expect(
+        &rt,
+        rt.alloc(),
+        &turns,
+        2,
+        "",
+        "cbi: bad value of --turns\n",
+    )?;
+    let rate = of_words(&["cbi", "bank", "--rate", "0", "--count", "1", "--seed", "5"]);
+    expect(&rt, rt.alloc(), &rate, 2, "", "cbi: bad value of --rate\n")?;
+    let no_name = of_words(&["cbi", "run", "", "--turns=1"]);
     expect(&rt, rt.alloc(), &no_name, 3, "", "cbi: read fault \n")
 }
 
@@ -514,6 +653,111 @@ fn a_watcher_without_memory_ends_the_run(rt: HostRuntime) -> Result<(), Fail> {
         let came = come(alloc, &case, &mut probes)?;
         assert_eq!(rt; came.status, status);
         assert_eq!(rt; came.err.as_slice(), err.as_bytes());
+    }
+    Ok(())
+}
+
+/// Calls the tool over this store, with devices that don't fail, and looks at the status and at err.
+pub fn call(
+    rt: &impl Abort,
+    alloc: Global,
+    store: &mut MemStore,
+    words: &[&str],
+    status: u8,
+    told: &str,
+) -> Result<Vec<u8>, Fail> {
+    let words = words_of(alloc, words)?;
+    let mut out = MemSink::new(Vec::new(alloc));
+    let mut err = MemSink::new(Vec::new(alloc));
+    let came = cbi(
+        alloc,
+        &words,
+        store,
+        &mut out,
+        &mut err,
+        &mut Vec::new(alloc),
+    );
+    assert_eq!(rt; came, status);
+    assert_eq!(rt; err.taken(), told.as_bytes());
+    Ok(Vec::from_slice(alloc, out.taken())?)
+}
+
+#[test]
+fn reports_are_collected_in_any_order(rt: HostRuntime) -> Result<(), Fail> {
+    let alloc = rt.alloc();
+    let case = Case {
+        bank: "3\n",
+        want: "cbi-collection 3\n",
+        ..of_file(EIGHT)
+    };
+    let mut store = store_of(alloc, &case)?;
+    let runs: [&[&str]; 4] = [
+        &[
+            "cbi", "run", "--run", "5", "--bank", "bank", "--report", "five", "prog",
+        ],
+        &[
+            "cbi", "run", "--run", "3", "--bank", "bank", "--report", "three", "prog",
+        ],
+        &["cbi", "run", "--run", "5", "--report", "other", "prog"],
+        &["cbi", "run", "--report", "own", "prog"],
+    ];
+    for words in runs {
+        call(&rt, alloc, &mut store, words, 0, "")?;
+    }
+    let first: &[&str] = &[
+        "cbi",
+        "collect",
+        "--program",
+        "prog",
+        "five",
+        "three",
+        "five",
+    ];
+    let out = call(&rt, alloc, &mut store, first, 0, "added 2 repeated 1\n")?;
+    let lines =
+        "\nrun 3 ended 1 label pass work 0 0 8\nsite 2 1 0 0\nsite 5 1 0 0\nrun 5 ended 1 label pass work 0 0 8\nsite 2 1 0 0\nsite 5 1 0 0\nend\n";
+    assert!(rt; out.as_slice().starts_with(b"cbi-collection 2\nprogram "));
+    assert!(rt; out.as_slice().ends_with(lines.as_bytes()));
+    store.write(alloc, "both", out.as_slice())?;
+    let cases: [(&[&str], u8, &str); 6] = [
+        (
+            &["cbi", "collect", "three", "--program", "prog", "five"],
+            0,
+            "added 2 repeated 0\n",
+        ),
+        (
+            &["cbi", "collect", "--program=prog", "five", "both", "three"],
+            0,
+            "added 2 repeated 2\n",
+        ),
+        (
+            &["cbi", "collect", "--program", "prog", "five", "missing"],
+            3,
+            "cbi: read fault missing\n",
+        ),
+        (
+            &["cbi", "collect", "--program", "prog", "five", "other", "in"],
+            5,
+            "cbi: refusal 22 BadReport file 3 line 1\n",
+        ),
+        (
+            &["cbi", "collect", "--program", "prog", "want", "in"],
+            5,
+            "cbi: refusal 27 BadCollection file 1 line 1\n",
+        ),
+        (
+            &["cbi", "collect", "--program", "prog", "both", "other"],
+            5,
+            "cbi: refusal 24 Conflict run 5\n",
+        ),
+    ];
+    for (words, status, told) in cases {
+        let text = call(&rt, alloc, &mut store, words, status, told)?;
+        if status == 0 {
+            assert_eq!(rt; text.as_slice(), out.as_slice());
+        } else {
+            assert_eq!(rt; text.len(), 0);
+        }
     }
     Ok(())
 }

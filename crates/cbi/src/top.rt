@@ -1,24 +1,24 @@
-ghost use Rattle.std.specs.Prelude.{◌≡◌, ◌≤◌, ◌⊎◌, IsNone, IsSome};
+ghost use Rattle.std.specs.Prelude.{◌≡◌, ◌≤◌, ◌⊎◌, [], IsNone, IsSome};
 ghost use Rattle.std.specs.List.{flat_map};
 ghost use Rattle.cbi_base.specs.Faults.{Rose};
-ghost use Rattle.cbi.specs.Words.{asked};
-ghost use Rattle.cbi.specs.Outside.{outside, AllStayBut, IsUnmovedOr};
-ghost use Rattle.cbi.specs.Names.{AreHeld};
-ghost use Rattle.cbi.specs.Commands.{names_of, written_by, Did, LeftOn, LeftWanting, done_text, IsRefused, IsRefusedBy, WriteFault};
+ghost use Rattle.commands.specs.Outside.{outside, AllStayBut, IsUnmovedOr};
+ghost use Rattle.commands.specs.Names.{AreHeld};
+ghost use Rattle.commands.specs.Commands.{names_of, written_by, Did, LeftOn, LeftWanting, IsRefused, IsRefusedBy, WriteFault};
+ghost use Rattle.cbi.specs.Asked.{asked};
 ghost use Rattle.cbi.specs.Statuses.{IsStatus, IsUntouched, IsPast, IsUnchangedOr};
-ghost use Rattle.cbi.specs.Told.{IsTold, ReadTold, RefusalTold, usage_line, write_line, memory_line};
+ghost use Rattle.cbi.specs.Told.{IsTold, DoneTold, ReadTold, RefusalTold, UsageTold, write_line, memory_line};
 
-use crate::commands::obey;
 use crate::message::{tell_done, tell_fault, tell_usage};
-use crate::words::read_words;
 use cbi_base::{Sink, Store};
+use cbi_words::{WordsError, read_words};
+use commands::{Fault, obey};
 use probes::Probe;
 use std::alloc::Global;
 
 /// Does what the words ask for, over this store, and answers the status of the process.
 ///
-/// 0: done. 2: the words read as no command. 3: a file wasn't read. 4: out didn't take the text. 5: a file is refused. 7: memory is wanting.
-/// Where it is done err is told the watchers' lines, and else a line of what went wrong. A fault of err leaves a prefix of that and changes no status.
+/// 0: done. 2: the words read as no command. 3: a file wasn't read. 4: out didn't take the text, or the store the report. 5: a file is refused. 7: memory
+/// is wanting. Where it is done err is told what the command says of it, at 2 how the tool is used, and else a line of what went wrong. A fault of err leaves a prefix of that and changes no status.
 /// Where memory is wanting, to tell it too, the status is 7 and err may have taken nothing.
 pub fn cbi<S: Store, O: Sink, E: Sink>(
     alloc: Global,
@@ -30,9 +30,10 @@ pub fn cbi<S: Store, O: Sink, E: Sink>(
 ) -> u8
     ensures status { IsStatus result }
 
-    // Done: what the command asks for.
-    ensures done { result ≡ 0 → Did (λ b. seen b) (asked words.now.items)
-        (outside (S.holds store.old) (O.taken out.old) probes.old.items) (outside (S.holds store.new) (O.taken out.new) probes.new.items) }
+    // Done: what the command asks for, and err is told what is said of it.
+    ensures done { result ≡ 0 → DoneTold (Did (λ b. seen b) (asked words.now.items)
+        (outside (S.holds store.old) (O.taken out.old) probes.old.items) (outside (S.holds store.new) (O.taken out.new) probes.new.items))
+        (flat_map (λ b. line_text b) probes.new.items) (IsTold (Rose (E.faults err.old) (E.faults err.new)) (E.taken err.old) (E.taken err.new)) }
 
     // Each other status has its cause.
     ensures usage { result ≡ 2 → IsNone (asked words.now.items) }
@@ -50,9 +51,7 @@ pub fn cbi<S: Store, O: Sink, E: Sink>(
         → (IsRefused (asked words.now.items) (S.holds store.old) → ⊥) → (result ≡ 0) ⊎ (result ≡ 7) }
 
     // What err is told.
-    ensures told_done { result ≡ 0 → IsTold (Rose (E.faults err.old) (E.faults err.new)) (E.taken err.old) (E.taken err.new)
-        (done_text (asked words.now.items) (flat_map (λ b. line_text b) probes.new.items)) }
-    ensures told_usage { result ≡ 2 → IsTold (Rose (E.faults err.old) (E.faults err.new)) (E.taken err.old) (E.taken err.new) usage_line }
+    ensures told_usage { result ≡ 2 → UsageTold (IsTold (Rose (E.faults err.old) (E.faults err.new)) (E.taken err.old) (E.taken err.new)) }
     ensures told_read { result ≡ 3 → ReadTold (names_of (asked words.now.items)) (S.holds store.old) (S.is_sound store.old)
         (IsTold (Rose (E.faults err.old) (E.faults err.new)) (E.taken err.old) (E.taken err.new)) }
     ensures told_write { result ≡ 4 → IsTold (Rose (E.faults err.old) (E.faults err.new)) (E.taken err.old) (E.taken err.new) write_line }
@@ -72,6 +71,7 @@ pub fn cbi<S: Store, O: Sink, E: Sink>(
         (outside (S.holds store.old) (O.taken out.old) probes.old.items) (outside (S.holds store.new) (O.taken out.new) probes.new.items)) }
     ensures was_held { IsPast result → AreHeld (S.holds store.old) (names_of (asked words.now.items)) }
     ensures held { AllStayBut (written_by (asked words.now.items)) (S.holds store.old) (S.holds store.new) }
+    ensures no_read { names_of (asked words.now.items) ≡ [] → S.read_faults store.new ≡ S.read_faults store.old }
     ensures no_write { IsNone (written_by (asked words.now.items)) → S.write_faults store.new ≡ S.write_faults store.old }
 
     // No count falls. Devices that are sound stay so, and no count of theirs rises where the names that are read are held.
@@ -87,11 +87,13 @@ pub fn cbi<S: Store, O: Sink, E: Sink>(
     ensures out_stays { O.is_sound out.old → O.faults out.new ≡ O.faults out.old }
     ensures err_stays { E.is_sound err.old → E.faults err.new ≡ E.faults err.old }
 {
-    let Some(command) = read_words(words.as_slice()) else {
-        return tell_usage(err);
+    let command = match read_words(alloc, words) {
+        Ok(command) => command,
+        Err(WordsError::Usage { text }) => return tell_usage(err, text.as_str()),
+        Err(WordsError::Memory) => return tell_fault(alloc, err, &Fault::Memory),
     };
     match obey(alloc, command, store, out, probes) {
-        Ok(()) => tell_done(alloc, err, &command, probes),
+        Ok(done) => tell_done(alloc, err, done, probes),
         Err(fault) => tell_fault(alloc, err, &fault),
     }
 }

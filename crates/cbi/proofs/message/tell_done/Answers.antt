@@ -1,6 +1,6 @@
 use Rattle.std.proofs.Common.{◌⊎◌, inl, inr, ℕ}
 use Rattle.cbi.specs.Told.{Tells}
-use Rattle.cbi.proofs.message.tell_lines.Goals as goal
+use Rattle.cbi.proofs.message.tell_done.Goals as goal
 
 -- want of memory is told, or it isn't for want of memory
 memory-told : (status result : ℕ) (done told nothing : Type 0) → Tells 7 result told nothing → Tells status result done (nothing ⊎ told)
