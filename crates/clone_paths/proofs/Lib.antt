@@ -1,0 +1,10 @@
+mod DebtLemmas
+mod SheetLemmas
+mod RightLemmas
+mod ChunkLemmas
+mod KnownLemmas
+mod ResolveLemmas
+mod PrepareLemmas
+mod FitLemmas
+mod PlaceLemmas
+mod ProgramLemmas

@@ -1,0 +1,235 @@
+-- Each node is what its label says.
+use Rattle.std.proofs.Common.{◌≡◌, ◌⊎◌, inl, inr, ℕ, zero, suc, ◌+◌, ◌<◌, Bool, true, false, not, ◌&&◌, if◌then◌else◌, nat_lt, List, [], ◌∷◌, Option, Some, slice_index, refl, sym, ap, ◌∙◌, subst, arith}
+use Rattle.std.specs.Bool.{MatchBool}
+use Rattle.std.specs.List.{Contains}
+use Rattle.std.proofs.lemmas.Bool.Decides.{nat_tests}
+use Rattle.flow.specs.declared.node.View.{View}
+use Rattle.flow.specs.declared.node.View.TheVariants.{Row, Halts, Forks, Turns, Calls, Gives, Quits, Marks, Skips, Tests, Picks, Imports, Exports, Nowhere}
+use Rattle.flow.specs.Nodes.{led_to}
+use Rattle.regions.specs.Blocks.{IsStart, After, LeadsTo, ends_block}
+use Rattle.regions.specs.Headers.{IsHeader, begun_after}
+use Rattle.regions.specs.Headers as region
+use Rattle.weights.specs.Paths.{mark_count}
+use Rattle.weights.specs.Weight.{IsWeight}
+use Rattle.clone_paths.specs.declared.label.Label.{Label}
+use Rattle.clone_paths.specs.declared.label.Label.TheVariants.{Gate, In, Out}
+use Rattle.clone_paths.specs.declared.label.Side.{Side}
+use Rattle.clone_paths.specs.declared.label.Side.TheVariants.{Fast, Slow}
+use Rattle.clone_paths.specs.Cloned.{IsPlain}
+use Rattle.clone_paths.specs.Form.{Cloning, Labelled, Here, IsFree, IsIn, IsOwing, IsSame, is_last, is_outlet}
+use Rattle.clone_paths.specs.Layout.{place_of}
+use Rattle.clone_paths.specs.Made.{Tables, made_free, made_in, made_paid, made_same}
+use Rattle.clone_paths.specs.Parts.{is_inside, pays}
+
+abbrev pub cloning : Tables → (ℕ → Option Label) → Cloning
+cloning t label = record { weighty = t.weighty; at = t.at; starts = t.starts; label = label }
+
+-- what is known of a function, and of where its labels stand
+pub record Known (t : Tables) (n : ℕ) (debt : ℕ → ℕ) (header : ℕ → Bool) (label : ℕ → Option Label) : Type 0 where
+  pub plain : (i : ℕ) → IsPlain (t.at i)
+  pub there : (i : ℕ) → i < n → t.at i ≡ Nowhere → ⊥
+  pub begins : (x : ℕ) → IsStart t.at x → t.starts x ≡ true
+  pub within : (place next : ℕ) → LeadsTo t.at place next → next < n
+  pub entry : 0 < n
+  pub heads : (x : ℕ) → IsHeader t.weighty t.at x → header x ≡ true
+  pub none : (x : ℕ) → t.starts x ≡ true → debt x ≡ 0
+  pub more : (place next : ℕ) → LeadsTo t.at place next → t.starts next ≡ false → debt next ≡ debt place + mark_count (t.at place)
+  pub weights : (i : ℕ) → i < n → IsWeight t.weighty t.at i (t.weight i)
+  pub head_starts : (x : ℕ) → header x ≡ true → t.starts x ≡ true
+  pub gate : (i : ℕ) → i < n → header i ≡ true → label (slice_index t.sheet.gates i) ≡ Some (Gate i)
+  pub slow : (i : ℕ) → i < n → label (place_of t.sheet Slow i) ≡ Some (In Slow i 0)
+  pub fast : (i : ℕ) → i < n → Labelled (cloning t label) Fast (place_of t.sheet Fast i) i (debt i)
+
+-- what a copy owes before a node
+abbrev pub owed_by : (ℕ → ℕ) → Side → ℕ → ℕ
+owed_by debt Fast i = debt i
+owed_by debt Slow i = 0
+
+labelled : (t : Tables) (n : ℕ) (debt : ℕ → ℕ) (header : ℕ → Bool) (label : ℕ → Option Label) → Known t n debt header label → (side : Side) (i : ℕ) → i < n →
+    Labelled (cloning t label) side (place_of t.sheet side i) i (owed_by debt side i)
+labelled t n debt header label k Fast i l = k.fast i l
+labelled t n debt header label k Slow i l = Here (k.slow i l)
+
+-- the node at the place leads to these
+leads : (t : Tables) (node x : ℕ) (v : View) → t.at node ≡ v → Contains (led_to v) x → LeadsTo t.at node x
+leads t node x v e c = subst (λ (w : View). Contains (led_to w) x) (sym e) c
+
+first_in : (a : ℕ) (xs : List ℕ) → Contains (a ∷ xs) a
+first_in a xs = (0, omega arith, refl)
+
+second_in : (a b : ℕ) (xs : List ℕ) → Contains (a ∷ b ∷ xs) b
+second_in a b xs = (1, omega arith, refl)
+
+one_leads : (t : Tables) (n : ℕ) (debt : ℕ → ℕ) (header : ℕ → Bool) (label : ℕ → Option Label) → Known t n debt header label → (side : Side) (owed node x : ℕ) →
+    ((y : ℕ) → LeadsTo t.at node y → owed_by debt side y ≡ owed) → LeadsTo t.at node x → Labelled (cloning t label) side (place_of t.sheet side x) x owed
+one_leads t n debt header label k side owed node x flow lead =
+    subst (λ (d : ℕ). Labelled (cloning t label) side (place_of t.sheet side x) x d) (flow x lead) (labelled t n debt header label k side x (k.within node x lead))
+
+same_right : (t : Tables) (n : ℕ) (debt : ℕ → ℕ) (header : ℕ → Bool) (label : ℕ → Option Label) → Known t n debt header label → (side : Side) (owed node : ℕ) (v : View) →
+    t.at node ≡ v → node < n → ((y : ℕ) → LeadsTo t.at node y → owed_by debt side y ≡ owed) → is_outlet t.weighty v ≡ false → mark_count v ≡ 0 →
+    IsSame (cloning t label) side owed v (made_same t side v)
+same_right t n debt header label k side owed node (Row op next) e l flow o m =
+    (place_of t.sheet side next, refl, one_leads t n debt header label k side owed node next flow (leads t node next (Row op next) e (first_in next [])))
+same_right t n debt header label k side owed node (Halts op) e l flow o m = refl
+same_right t n debt header label k side owed node (Forks a b) e l flow o m = (
+  place_of t.sheet side a,
+  place_of t.sheet side b,
+  refl,
+  one_leads t n debt header label k side owed node a flow (leads t node a (Forks a b) e (first_in a (b ∷ []))),
+  one_leads t n debt header label k side owed node b flow (leads t node b (Forks a b) e (second_in a b [])),
+)
+same_right t n debt header label k side owed node (Turns next) e l flow o m =
+    let inside = k.within node next (leads t node next (Turns next) e (first_in next [])) in
+    (slice_index t.sheet.gates next, refl, k.gate next inside (k.heads next (region.After node (ap (begun_after t.weighty) e))))
+same_right t n debt header label k side owed node (Calls function next) e l flow o m =
+    (place_of t.sheet side next, refl, one_leads t n debt header label k side owed node next flow (leads t node next (Calls function next) e (first_in next [])))
+same_right t n debt header label k side owed node Gives e l flow o m = cc
+same_right t n debt header label k side owed node Quits e l flow o m = cc
+same_right t n debt header label k side owed node (Marks site next) e l flow o m = absurd (omega arith)
+same_right t n debt header label k side owed node (Skips by next) e l flow o m = subst IsPlain e (k.plain node)
+same_right t n debt header label k side owed node (Tests site next) e l flow o m = subst IsPlain e (k.plain node)
+same_right t n debt header label k side owed node (Picks weight fast slow) e l flow o m = subst IsPlain e (k.plain node)
+same_right t n debt header label k side owed node (Imports next) e l flow o m = subst IsPlain e (k.plain node)
+same_right t n debt header label k side owed node (Exports next) e l flow o m = subst IsPlain e (k.plain node)
+same_right t n debt header label k side owed node Nowhere e l flow o m = absurd (k.there node l e)
+
+-- where nothing is owed
+free_by : (t : Tables) (label : ℕ → Option Label) (side : Side) (node place : ℕ) (v : View) (b : Bool) → (b ≡ true → label (place + 1) ≡ Some (Out side node)) →
+    (b ≡ false → IsSame (cloning t label) side 0 v (made_same t side v)) →
+    MatchBool b ((m : ℕ) × ((if b then Exports (place + 1) else made_same t side v) ≡ Exports m) × (label m ≡ Some (Out side node)))
+    (IsSame (cloning t label) side 0 v (if b then Exports (place + 1) else made_same t side v))
+free_by t label side node place v true out same = (place + 1, refl, out refl)
+free_by t label side node place v false out same = same refl
+
+-- where something is owed
+owing_by : (t : Tables) (label : ℕ → Option Label) (side : Side) (node owed place : ℕ) (v : View) (b : Bool) → (b ≡ true → label (place + 1) ≡ Some (In side node 0)) →
+    (b ≡ false → IsSame (cloning t label) side (suc owed) v (made_free t side place v)) →
+    MatchBool b ((m : ℕ) × ((if b then Skips (suc owed) (place + 1) else made_free t side place v) ≡ Skips (suc owed) m) × Labelled (cloning t label) side m node 0)
+    (IsSame (cloning t label) side (suc owed) v (if b then Skips (suc owed) (place + 1) else made_free t side place v))
+owing_by t label side node owed place v true pay same = (place + 1, refl, Here (pay refl))
+owing_by t label side node owed place v false pay same = same refl
+
+no_debt : (b : Bool) → (nat_lt 0 0 && b) ≡ false
+no_debt b = refl
+
+some_debt : (owed : ℕ) (b : Bool) → (nat_lt 0 (suc owed) && b) ≡ b
+some_debt owed b = grind (arith, nat_tests)
+
+pub pays_is : (starts : ℕ → Bool) (owed : ℕ) (v : View) → mark_count v ≡ 0 → pays starts owed v ≡ (nat_lt 0 owed && is_last starts (led_to v))
+pays_is starts owed (Marks site next) m = absurd (omega arith)
+pays_is starts owed (Row op next) m = refl
+pays_is starts owed (Halts op) m = refl
+pays_is starts owed (Forks a b) m = refl
+pays_is starts owed (Turns next) m = refl
+pays_is starts owed (Calls function next) m = refl
+pays_is starts owed Gives m = refl
+pays_is starts owed Quits m = refl
+pays_is starts owed (Skips by next) m = refl
+pays_is starts owed (Tests site next) m = refl
+pays_is starts owed (Picks weight fast slow) m = refl
+pays_is starts owed (Imports next) m = refl
+pays_is starts owed (Exports next) m = refl
+pays_is starts owed Nowhere m = refl
+
+pub pays_zero : (starts : ℕ → Bool) (v : View) → pays starts 0 v ≡ false
+pays_zero starts (Marks site next) = refl
+pays_zero starts (Row op next) = refl
+pays_zero starts (Halts op) = refl
+pays_zero starts (Forks a b) = refl
+pays_zero starts (Turns next) = refl
+pays_zero starts (Calls function next) = refl
+pays_zero starts Gives = refl
+pays_zero starts Quits = refl
+pays_zero starts (Skips by next) = refl
+pays_zero starts (Tests site next) = refl
+pays_zero starts (Picks weight fast slow) = refl
+pays_zero starts (Imports next) = refl
+pays_zero starts (Exports next) = refl
+pays_zero starts Nowhere = refl
+
+-- an outlet is the last node of its block
+not_outlet : (t : Tables) (n : ℕ) (debt : ℕ → ℕ) (header : ℕ → Bool) (label : ℕ → Option Label) → Known t n debt header label → (node : ℕ) (v : View) → t.at node ≡ v →
+    is_last t.starts (led_to v) ≡ false → is_outlet t.weighty v ≡ false
+not_outlet t n debt header label k node Gives e last = cc
+not_outlet t n debt header label k node Quits e last = cc
+not_outlet t n debt header label k node (Calls function next) e last =
+    let begins = k.begins next (After node (ap ends_block e) (leads t node next (Calls function next) e (first_in next []))) in cc
+not_outlet t n debt header label k node (Row op next) e last = refl
+not_outlet t n debt header label k node (Halts op) e last = refl
+not_outlet t n debt header label k node (Forks a b) e last = refl
+not_outlet t n debt header label k node (Turns next) e last = refl
+not_outlet t n debt header label k node (Marks site next) e last = refl
+not_outlet t n debt header label k node (Skips by next) e last = refl
+not_outlet t n debt header label k node (Tests site next) e last = refl
+not_outlet t n debt header label k node (Picks weight fast slow) e last = refl
+not_outlet t n debt header label k node (Imports next) e last = refl
+not_outlet t n debt header label k node (Exports next) e last = refl
+not_outlet t n debt header label k node Nowhere e last = refl
+
+-- what a copy owes at a node and after it agree: what it owes is what its block owes, or it was paid at the end of the block
+pub record Agrees (t : Tables) (debt : ℕ → ℕ) (label : ℕ → Option Label) (side : Side) (node owed place : ℕ) : Type 0 where
+  pub flow : (owed ≡ 0) ⊎ (is_last t.starts (led_to (t.at node)) ≡ false) → mark_count (t.at node) ≡ 0 → (y : ℕ) → LeadsTo t.at node y → owed_by debt side y ≡ owed
+  pub pay : pays t.starts owed (t.at node) ≡ true → label (place + 1) ≡ Some (In side node 0)
+  pub out : owed ≡ 0 → is_outlet t.weighty (t.at node) ≡ true → label (place + 1) ≡ Some (Out side node)
+  pub last : side ≡ Fast → is_inside t.starts (t.at node) ≡ false
+
+owing_right : (t : Tables) (n : ℕ) (debt : ℕ → ℕ) (header : ℕ → Bool) (label : ℕ → Option Label) → Known t n debt header label → (side : Side) (node owed place : ℕ) (v : View) →
+    t.at node ≡ v → node < n → mark_count v ≡ 0 → Agrees t debt label side node owed place → IsOwing (cloning t label) side node owed v (made_paid t side owed place v)
+owing_right t n debt header label k side node zero place v e l m a =
+    let none : pays t.starts 0 v ≡ false = pays_is t.starts 0 v m ∙ no_debt (is_last t.starts (led_to v)) in
+    let q : made_paid t side 0 place v ≡ made_free t side place v = ap (λ (b : Bool). if b then Skips 0 (place + 1) else made_free t side place v) none in
+    let free : IsFree (cloning t label) side node v (made_free t side place v) =
+    free_by t label side node place v (is_outlet t.weighty v) (λ o. a.out refl (ap (is_outlet t.weighty) e ∙ o))
+    (λ o. same_right t n debt header label k side 0 node v e l (a.flow (inl refl) (ap mark_count e ∙ m)) o m)
+    in
+    subst (λ (w : View). IsFree (cloning t label) side node v w) (sym q) free
+owing_right t n debt header label k side node (suc owed) place v e l m a =
+    let is : pays t.starts (suc owed) v ≡ is_last t.starts (led_to v) = pays_is t.starts (suc owed) v m ∙ some_debt owed (is_last t.starts (led_to v)) in
+    let q : made_paid t side (suc owed) place v ≡ (if is_last t.starts (led_to v) then Skips (suc owed) (place + 1) else made_free t side place v) =
+    ap (λ (b : Bool). if b then Skips (suc owed) (place + 1) else made_free t side place v) is
+    in
+    let owing = owing_by t label side node owed place v (is_last t.starts (led_to v))
+    (λ h. a.pay (ap (pays t.starts (suc owed)) e ∙ is ∙ h))
+    (λ h.
+    let o = not_outlet t n debt header label k node v e h in
+    let f : made_free t side place v ≡ made_same t side v = ap (λ (b : Bool). if b then Exports (place + 1) else made_same t side v) o in
+    let h' : is_last t.starts (led_to (t.at node)) ≡ false = ap (λ (w : View). is_last t.starts (led_to w)) e ∙ h in
+    subst (λ (w : View). IsSame (cloning t label) side (suc owed) v w) (sym f)
+    (same_right t n debt header label k side (suc owed) node v e l (a.flow (inr h') (ap mark_count e ∙ m)) o m))
+    in
+    subst (λ (w : View). IsOwing (cloning t label) side node (suc owed) v w) (sym q) owing
+
+not_not : (b : Bool) → not b ≡ false → b ≡ true
+not_not true e = refl
+not_not false e = cc
+
+visit_right : (t : Tables) (n : ℕ) (debt : ℕ → ℕ) (header : ℕ → Bool) (label : ℕ → Option Label) → Known t n debt header label → (side : Side) (node owed place site next : ℕ) →
+    t.at node ≡ Marks site next → node < n → Agrees t debt label side node owed place → IsIn (cloning t label) side node owed (Marks site next) (made_in t side owed place (Marks site next))
+visit_right t n debt header label k Slow node owed place site next e l a =
+    let inside = k.within node next (leads t node next (Marks site next) e (first_in next [])) in
+    (place_of t.sheet Slow next, refl, Here (k.slow next inside))
+visit_right t n debt header label k Fast node owed place site next e l a =
+    let inside = k.within node next (leads t node next (Marks site next) e (first_in next [])) in
+    let begins : t.starts next ≡ true = not_not (t.starts next) (ap (is_inside t.starts) (sym e) ∙ a.last refl) in (
+      place_of t.sheet Fast next,
+      begins,
+      refl,
+      subst (λ (d : ℕ). Labelled (cloning t label) Fast (place_of t.sheet Fast next) next d) (k.none next begins) (k.fast next inside),
+    )
+
+pub in_right : (t : Tables) (n : ℕ) (debt : ℕ → ℕ) (header : ℕ → Bool) (label : ℕ → Option Label) → Known t n debt header label → (side : Side) (node owed place : ℕ) (v : View) →
+    t.at node ≡ v → node < n → Agrees t debt label side node owed place → IsIn (cloning t label) side node owed v (made_in t side owed place v)
+in_right t n debt header label k side node owed place (Marks site next) e l a = visit_right t n debt header label k side node owed place site next e l a
+in_right t n debt header label k side node owed place (Row op next) e l a = owing_right t n debt header label k side node owed place (Row op next) e l refl a
+in_right t n debt header label k side node owed place (Halts op) e l a = owing_right t n debt header label k side node owed place (Halts op) e l refl a
+in_right t n debt header label k side node owed place (Forks x y) e l a = owing_right t n debt header label k side node owed place (Forks x y) e l refl a
+in_right t n debt header label k side node owed place (Turns next) e l a = owing_right t n debt header label k side node owed place (Turns next) e l refl a
+in_right t n debt header label k side node owed place (Calls function next) e l a = owing_right t n debt header label k side node owed place (Calls function next) e l refl a
+in_right t n debt header label k side node owed place Gives e l a = owing_right t n debt header label k side node owed place Gives e l refl a
+in_right t n debt header label k side node owed place Quits e l a = owing_right t n debt header label k side node owed place Quits e l refl a
+in_right t n debt header label k side node owed place (Skips by next) e l a = owing_right t n debt header label k side node owed place (Skips by next) e l refl a
+in_right t n debt header label k side node owed place (Tests site next) e l a = owing_right t n debt header label k side node owed place (Tests site next) e l refl a
+in_right t n debt header label k side node owed place (Picks w f s) e l a = owing_right t n debt header label k side node owed place (Picks w f s) e l refl a
+in_right t n debt header label k side node owed place (Imports next) e l a = owing_right t n debt header label k side node owed place (Imports next) e l refl a
+in_right t n debt header label k side node owed place (Exports next) e l a = owing_right t n debt header label k side node owed place (Exports next) e l refl a
+in_right t n debt header label k side node owed place Nowhere e l a = owing_right t n debt header label k side node owed place Nowhere e l refl a

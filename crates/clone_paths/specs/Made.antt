@@ -1,0 +1,100 @@
+-- The nodes of a sampled function, from where the copies of each node stand.
+use Rattle.std.specs.Prelude.{Option, None, Some, ◌≡◌, ℕ, zero, suc, ◌+◌, ◌<◌, List, length, Bool, false, if◌then◌else◌, slice_index}
+use Rattle.flow.specs.declared.node.Node.{Node}
+use Rattle.flow.specs.declared.node.View.{View}
+use Rattle.flow.specs.declared.node.View.TheVariants.{Row, Forks, Turns, Calls, Marks, Skips, Tests, Picks, Imports, Exports}
+use Rattle.flow.specs.Limits.{node_limit}
+use Rattle.regions.specs.Flags.{is_in}
+use Rattle.regions.specs.Weighty.{views_of}
+use Rattle.clone_paths.specs.declared.label.Label.{Label}
+use Rattle.clone_paths.specs.declared.label.Label.TheVariants.{Enter, Gate, Back, In, Out}
+use Rattle.clone_paths.specs.declared.label.Side.{Side}
+use Rattle.clone_paths.specs.declared.label.Side.TheVariants.{Fast, Slow}
+use Rattle.flow.specs.View.{view}
+use Rattle.clone_paths.specs.declared.parts.Part.{Part}
+use Rattle.clone_paths.specs.Form.{is_outlet}
+use Rattle.clone_paths.specs.Layout.{Sheet, at_entry, laid, place_of}
+use Rattle.clone_paths.specs.Parts.{is_inside, part_of, pays}
+
+-- what is known of the original function's nodes, and where the choice before each and its copies stand
+pub record Tables : Type 0 where
+  pub weighty : ℕ → Bool
+  pub at : ℕ → View
+  pub starts : ℕ → Bool
+  pub weight : ℕ → ℕ
+  pub sheet : Sheet
+
+abbrev pub tables_of : List Bool → List Node → List Bool → List ℕ → Sheet → Tables
+tables_of weighty nodes starts weights s = record {
+  weighty = is_in weighty;
+  at = views_of nodes;
+  starts = is_in starts;
+  weight = λ node. slice_index weights node;
+  sheet = s;
+}
+
+-- the same node within the copy
+abbrev pub made_same : Tables → Side → View → View
+made_same t side (Row op next) = Row op (place_of t.sheet side next)
+made_same t side (Forks when_true when_false) = Forks (place_of t.sheet side when_true) (place_of t.sheet side when_false)
+made_same t side (Turns next) = Turns (slice_index t.sheet.gates next)
+made_same t side (Calls function next) = Calls function (place_of t.sheet side next)
+made_same t side other = other
+
+abbrev pub made_free : Tables → Side → ℕ → View → View
+made_free t side place v = if is_outlet t.weighty v then Exports (place + 1) else made_same t side v
+
+-- what is owed is paid before it
+abbrev pub made_paid : Tables → Side → ℕ → ℕ → View → View
+made_paid t side owed place v = if pays t.starts owed v then Skips owed (place + 1) else made_free t side place v
+
+abbrev pub made_visit : Sheet → Side → ℕ → ℕ → ℕ → View
+made_visit sheet Slow owed site next = Tests site (place_of sheet Slow next)
+made_visit sheet Fast owed site next = Skips (owed + 1) (place_of sheet Fast next)
+
+abbrev pub made_in : Tables → Side → ℕ → ℕ → View → View
+made_in t side owed place (Marks site next) = made_visit t.sheet side owed site next
+made_in t side owed place v = made_paid t side owed place v
+
+abbrev pub made_out : ℕ → View → View
+made_out place (Calls function next) = Calls function (place + 1)
+made_out place v = v
+
+-- the node with this label at the place
+abbrev pub made : Tables → ℕ → Label → View
+made t place Enter = Imports (slice_index t.sheet.gates 0)
+made t place (Gate node) = Picks (t.weight node) (place_of t.sheet Fast node) (place_of t.sheet Slow node)
+made t place (Back node) = Imports (slice_index t.sheet.gates node)
+made t place (In side node owed) = made_in t side owed place (t.at node)
+made t place (Out side node) = made_out place (t.at node)
+
+-- the label is that of one of so many nodes
+abbrev pub IsOf : ℕ → Label → Type 0
+IsOf nodes (In side node owed) = (node < nodes) × (owed < node_limit)
+IsOf nodes (Out side node) = node < nodes
+IsOf nodes other = Unit {0}
+
+-- the node to which a visit within a block leads
+abbrev pub next_visited : (ℕ → Bool) → View → Option ℕ
+next_visited starts (Marks site next) = if starts next then None else Some next
+next_visited starts other = None
+
+-- a visit within a block has the place of the node after it
+pub record Resolved (starts : List Bool) (nodes : List Node) (old new : List ℕ) : Type 0 where
+  pub few : length new ≡ length old
+  pub other : (place : ℕ) → is_inside (is_in starts) (views_of nodes place) ≡ false → slice_index new place ≡ slice_index old place
+  pub inside : (place site next : ℕ) → place < length nodes → views_of nodes place ≡ Marks site next → is_in starts next ≡ false →
+      slice_index new place ≡ slice_index new next
+
+-- the labels of a function's nodes, so many of them
+abbrev pub sheet_at : (ℕ → Bool) → (ℕ → Part) → ℕ → Sheet
+sheet_at header part zero = at_entry
+sheet_at header part (suc count) = laid (header count) count (part count) (sheet_at header part count)
+
+-- what the clones need to know of each node, from what is owed before it
+abbrev pub parts_from : List Bool → List Node → List Bool → List ℕ → ℕ → Part
+parts_from weighty nodes starts debts place = part_of (is_in weighty) (is_in starts) (slice_index debts place) (views_of nodes place)
+
+-- a node with its label
+abbrev pub IsMade : Tables → ℕ → Label → Node → Type 0
+IsMade t place label node = view node ≡ made t place label

@@ -1,0 +1,100 @@
+ghost use Rattle.std.specs.Prelude.{◌≡◌, ◌++◌, ◌≤◌, ◌<◌, ◌^◌, IfOk, OnOk, length};
+ghost use Rattle.clone_paths.specs.Layout.{at_entry, copy_labels, fast_labels, gate_labels, laid, out_labels, sheet_of};
+
+use crate::label::{Label, Side};
+use crate::parts::{Outlet, Part};
+use cbi_base::Memory;
+use std::alloc::Global;
+
+/// The labels of a sampled function in the order of its nodes, and for each node of the original one the places of the choice before it, of
+/// its slow copy and of its fast copy.
+#[derive(Drop)]
+pub(crate) struct Layout {
+    pub labels: Vec<Label>,
+    pub gates: Vec<u32>,
+    pub slow: Vec<u32>,
+    pub fast: Vec<u32>,
+}
+
+/// Adds the outlet itself, and the return from a call.
+fn push_out(labels: &mut Vec<Label>, side: Side, node: u32, outlet: Outlet) -> Result<(), Memory>
+    ensures { OnOk result (labels.new.items ≡ labels.old.items ++ out_labels side node outlet) }
+{
+    match outlet {
+        Outlet::None => {}
+        Outlet::Leaves => labels.push(Label::Out { side, node })?,
+        Outlet::Calls { next } => {
+            labels.push(Label::Out { side, node })?;
+            labels.push(Label::Back { node: next })?;
+        }
+    }
+    Ok(())
+}
+
+/// Adds a node in a copy, twice where what is owed is paid before it.
+fn push_copy(
+    labels: &mut Vec<Label>,
+    side: Side,
+    node: u32,
+    owed: u32,
+    pays: bool,
+    outlet: Outlet,
+) -> Result<(), Memory>
+    ensures { OnOk result (labels.new.items ≡ labels.old.items ++ copy_labels side node owed pays outlet) }
+{
+    labels.push(Label::In { side, node, owed })?;
+    if pays {
+        let owed = 0;
+        labels.push(Label::In { side, node, owed })?;
+    }
+    push_out(labels, side, node, outlet)
+}
+
+/// Adds the choice before a node, where a region begins there.
+fn push_gate(labels: &mut Vec<Label>, header: bool, node: u32) -> Result<(), Memory>
+    ensures { OnOk result (labels.new.items ≡ labels.old.items ++ gate_labels header node) }
+{
+    if header {
+        labels.push(Label::Gate { node })?;
+    }
+    Ok(())
+}
+
+/// Adds the fast copy of a node.
+fn push_fast(labels: &mut Vec<Label>, node: u32, part: Part) -> Result<(), Memory>
+    ensures { OnOk result (labels.new.items ≡ labels.old.items ++ fast_labels node part) }
+{
+    if !part.inside {
+        push_copy(labels, Side::Fast, node, part.owed, part.pays, part.outlet)?;
+    }
+    Ok(())
+}
+
+impl Layout {
+    /// The entry, and no node of the original function yet.
+    pub(crate) fn entry(alloc: Global) -> Result<Layout, Memory>
+        ensures { IfOk result (λ l. sheet_of l ≡ at_entry) }
+    {
+        let labels = vec![in alloc; Label::Enter]?;
+        Ok(Layout {
+            labels,
+            gates: Vec::new(alloc),
+            slow: Vec::new(alloc),
+            fast: Vec::new(alloc),
+        })
+    }
+
+    /// Adds the labels for the next node.
+    pub(crate) fn add(&mut self, header: bool, node: u32, part: Part) -> Result<(), Memory>
+        requires { length self.old.labels.items ≤ 16000000 }
+        ensures { OnOk result (sheet_of self.new ≡ laid header node part (sheet_of self.old)) }
+    {
+        self.gates.push(self.labels.len() as u32)?;
+        push_gate(&mut self.labels, header, node)?;
+        self.slow.push(self.labels.len() as u32)?;
+        push_copy(&mut self.labels, Side::Slow, node, 0, false, part.outlet)?;
+        self.fast.push(self.labels.len() as u32)?;
+        push_fast(&mut self.labels, node, part)?;
+        Ok(())
+    }
+}

@@ -1,0 +1,14 @@
+//! The sampled program: each weighty function in a fast and a slow copy, and the program that has them (PLDI 2003 section 2).
+#![tactic(auto)]
+
+mod clones;
+mod copies;
+mod debts;
+mod function;
+mod label;
+mod layout;
+mod nodes;
+mod parts;
+
+pub use clones::clone_program;
+pub use label::{Label, Side};

@@ -1,0 +1,154 @@
+ghost use Rattle.std.specs.Prelude.{◌≡◌, ◌+◌, ◌<◌, ◌≤◌, IfOk, length, slice_index};
+ghost use Rattle.flow.specs.Limits.{node_limit};
+ghost use Rattle.flow.specs.View.{view};
+ghost use Rattle.regions.specs.Flags.{is_in};
+ghost use Rattle.clone_paths.specs.Form.{is_outlet};
+ghost use Rattle.clone_paths.specs.Layout.{place_of, sheet_of};
+ghost use Rattle.clone_paths.specs.Made.{IsOf, made, made_in, made_out, made_paid, made_same, made_visit};
+ghost use Rattle.clone_paths.specs.Sources.{tables};
+
+use crate::label::{Label, Side};
+use crate::layout::Layout;
+use crate::parts::{is_outlet, pays};
+use flow::{Node, View, view_of, with_next};
+
+/// What is known of the nodes of a weighty function: which functions are weighty, where blocks begin, and the weights.
+#[derive(Clone, Copy)]
+pub(crate) struct Source<'a> {
+    pub weighty: &'a [bool],
+    pub nodes: &'a [Node],
+    pub starts: &'a [bool],
+    pub weights: &'a [u32],
+}
+
+/// A number of a table, which has none past its end.
+pub(crate) fn at(table: &[u32], node: u32) -> u32
+    ensures { result ≡ slice_index table.now node }
+{
+    table.get(node as usize).copied().unwrap_or(0)
+}
+
+/// Where a node stands in a copy.
+fn place_of(layout: &Layout, side: Side, node: u32) -> u32
+    ensures { result ≡ place_of (sheet_of layout.now) side node }
+{
+    match side {
+        Side::Fast => at(&layout.fast, node),
+        Side::Slow => at(&layout.slow, node),
+    }
+}
+
+/// The same node within the copy.
+fn same_node(source: &Source, layout: &Layout, side: Side, node: Node) -> Node
+    ensures { view result ≡ made_same (tables source.now (sheet_of layout.now)) side (view node) }
+{
+    match view_of(node) {
+        View::Forks { yes, no } => Node::Fork {
+            yes: place_of(layout, side, yes),
+            no: place_of(layout, side, no),
+        },
+        View::Turns { next } => Node::Again {
+            next: at(&layout.gates, next),
+        },
+        View::Row { next, .. } | View::Calls { next, .. } => {
+            with_next(node, place_of(layout, side, next))
+        }
+        _ => node,
+    }
+}
+
+/// The node for a visit of a site in a copy, where so much is owed.
+fn visit_node(layout: &Layout, side: Side, owed: u32, site: u32, next: u32) -> Node
+    requires { owed < node_limit }
+    ensures { view result ≡ made_visit (sheet_of layout.now) side owed site next }
+{
+    let next = place_of(layout, side, next);
+    match side {
+        Side::Slow => Node::Test { site, next },
+        Side::Fast => Node::Skip { by: owed + 1, next },
+    }
+}
+
+/// The node of a copy at this place, where so much is owed.
+fn copied_node(
+    source: &Source,
+    layout: &Layout,
+    place: u32,
+    side: Side,
+    owed: u32,
+    node: Node,
+) -> Node
+    requires place { place < node_limit }
+    requires owed { owed < node_limit }
+    ensures { view result ≡ made_in (tables source.now (sheet_of layout.now)) side owed place (view node) }
+{
+    match view_of(node) {
+        View::Marks { site, next } => visit_node(layout, side, owed, site, next),
+        _ => free_node(source, layout, place, side, owed, node),
+    }
+}
+
+/// The node of a copy at this place, where it is no visit of a site.
+fn free_node(
+    source: &Source,
+    layout: &Layout,
+    place: u32,
+    side: Side,
+    owed: u32,
+    node: Node,
+) -> Node
+    requires { place < node_limit }
+    ensures { view result ≡ made_paid (tables source.now (sheet_of layout.now)) side owed place (view node) }
+{
+    let next = place + 1;
+    if pays(source.starts, owed, node) {
+        return Node::Skip { by: owed, next };
+    }
+    if is_outlet(source.weighty, node) {
+        return Node::Export { next };
+    }
+    same_node(source, layout, side, node)
+}
+
+/// The outlet at this place.
+fn out_node(place: u32, node: Node) -> Node
+    requires { place < node_limit }
+    ensures { view result ≡ made_out place (view node) }
+{
+    match view_of(node) {
+        View::Calls { .. } => with_next(node, place + 1),
+        _ => node,
+    }
+}
+
+/// The node with this label at the place.
+pub(crate) fn node_for(source: &Source, layout: &Layout, place: u32, label: Label) -> Node
+    requires place { place < node_limit }
+    requires of { IsOf (length source.now.nodes.now) label }
+    ensures { view result ≡ made (tables source.now (sheet_of layout.now)) place label }
+{
+    match label {
+        Label::Enter => Node::Import {
+            next: at(&layout.gates, 0),
+        },
+        Label::Gate { node } => Node::Choose {
+            weight: at(source.weights, node),
+            fast: at(&layout.fast, node),
+            slow: at(&layout.slow, node),
+        },
+        Label::Back { node } => Node::Import {
+            next: at(&layout.gates, node),
+        },
+        Label::In { side, node, owed } => {
+            copied_node(
+                source,
+                layout,
+                place,
+                side,
+                owed,
+                source.nodes[node as usize],
+            )
+        }
+        Label::Out { node, .. } => out_node(place, source.nodes[node as usize]),
+    }
+}
