@@ -1,0 +1,10 @@
+pub mod Tallies
+pub mod Matching
+pub mod Entering
+pub mod Settling
+pub mod Passing
+pub mod Faults
+pub mod Visits
+pub mod Steps
+pub mod Forms
+pub mod Whole

@@ -1,0 +1,4 @@
+pub mod Copies
+pub mod Tally
+pub mod Follows
+pub mod Runs
