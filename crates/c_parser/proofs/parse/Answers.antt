@@ -1,0 +1,8 @@
+use Rattle.c_parser.proofs.OneTree.{read-as, refused-if}
+use Rattle.c_parser.proofs.parse.Goals as goal
+
+pub returns-clause-read : goal.returns-clause-read
+returns-clause-read c = read-as c.args.tokens.now c.tree.result c.tree.ensures
+
+pub returns-clause-refused : goal.returns-clause-refused
+returns-clause-refused c = refused-if c.args.tokens.now c.tree.result c.tree.ensures
