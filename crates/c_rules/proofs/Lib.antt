@@ -1,0 +1,3 @@
+pub mod Capped
+pub mod Same
+pub mod Numbers

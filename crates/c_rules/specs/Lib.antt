@@ -1,0 +1,11 @@
+pub mod TypeTree
+pub mod Plain
+pub mod Faults
+pub mod Conversions
+pub mod Sizes
+pub mod Assigning
+pub mod Operators
+pub mod Selecting
+pub mod Functions
+pub mod Library
+pub mod Laws
