@@ -1,0 +1,154 @@
+ghost use Rattle.std.specs.Prelude.{◌≡◌, [], ◌∷◌, OnOk, MatchOption};
+ghost use Rattle.c_types.specs.Names.{found, declared_as, meaning_of, is_here, is_reserved, is_taken};
+ghost use Rattle.c_types.specs.declared.names.ScopeEntry.TheVariants.{Opens, Declares};
+
+use c_rules::{Library, library_named};
+use cbi_base::{Memory, Name};
+use std::alloc::Global;
+use std::marker::Model;
+
+/// What a name means: a variable, a function or a struct by its number, or a function of the library.
+#[derive(Clone, Copy, Debug)]
+pub enum Meaning {
+    Variable { index: u32 },
+    Function { index: u32 },
+    Library { function: Library },
+    Struct { index: u32 },
+}
+
+/// The beginning of a scope, or a declared name.
+#[derive(Debug, Drop)]
+pub enum ScopeEntry {
+    Opens,
+    Declares { name: Name, meaning: Meaning },
+}
+
+/// The names that are in scope, the latest first, with the beginning of each scope.
+#[derive(Debug, Drop)]
+pub struct Names {
+    entries: Vec<ScopeEntry>,
+}
+
+impl Model for Names {
+    ghost use Rattle.std.specs.Prelude.{List, reverse};
+    ghost use Rattle.c_types.specs.declared.names.ScopeEntry.{ScopeEntry};
+
+    ghost Value = { List ScopeEntry };
+
+    ghost view = { λ n. reverse n.entries.items };
+}
+
+/// What an entry makes of a name.
+fn declared_as(entry: &ScopeEntry, name: &Name) -> Option<Meaning>
+    ensures { result ≡ declared_as name.now entry.now }
+{
+    match entry {
+        ScopeEntry::Opens => None,
+        ScopeEntry::Declares {
+            name: known,
+            meaning,
+        } => {
+            if known.bytes() == name.bytes() {
+                Some(*meaning)
+            } else {
+                None
+            }
+        }
+    }
+}
+
+/// Whether the name is one of the library.
+pub fn is_reserved(name: &Name) -> bool
+    ensures { result ≡ is_reserved name.now }
+{
+    library_named(name.bytes()).is_some()
+}
+
+impl Names {
+    /// No names.
+    pub fn new(alloc: Global) -> Names
+        ensures { result ≡ [] }
+    {
+        Names {
+            entries: Vec::new(alloc),
+        }
+    }
+
+    /// What a name was declared as.
+    #[tactic(auto, using(crate::proofs::Found::found_before))]
+    pub fn find(&self, name: &Name) -> Option<Meaning>
+        ensures { result ≡ found name.now self.now }
+    {
+        let mut left = self.entries.len();
+        while left > 0 {
+            left -= 1;
+            if let Some(meaning) = declared_as(&self.entries[left], name) {
+                return Some(meaning);
+            }
+        }
+        None
+    }
+
+    /// What a name means, a function of the library too.
+    pub fn meaning_of(&self, name: &Name) -> Option<Meaning>
+        ensures { result ≡ meaning_of name.now self.now }
+    {
+        if let Some(meaning) = self.find(name) {
+            return Some(meaning);
+        }
+        match library_named(name.bytes()) {
+            None => None,
+            Some(function) => Some(Meaning::Library { function }),
+        }
+    }
+
+    /// Whether the name is declared in the latest scope.
+    #[tactic(auto, using(crate::proofs::Found::here_before))]
+    pub fn is_here(&self, name: &Name) -> bool
+        ensures { result ≡ is_here name.now self.now }
+    {
+        let mut left = self.entries.len();
+        while left > 0 {
+            left -= 1;
+            match &self.entries[left] {
+                ScopeEntry::Opens => return false,
+                ScopeEntry::Declares { name: known, .. } => {
+                    if known.bytes() == name.bytes() {
+                        return true;
+                    }
+                }
+            }
+        }
+        false
+    }
+
+    /// Whether the name is one of the library or declared in the latest scope.
+    pub fn is_taken(&self, name: &Name) -> bool
+        ensures { result ≡ is_taken name.now self.now }
+    {
+        is_reserved(name) || self.is_here(name)
+    }
+
+    /// A name is declared.
+    pub fn declare(&mut self, name: Name, meaning: Meaning) -> Result<(), Memory>
+        ensures { OnOk result (self.new ≡ Declares name meaning ∷ self.old) }
+    {
+        self.entries.push(ScopeEntry::Declares { name, meaning })?;
+        Ok(())
+    }
+
+    /// A scope begins.
+    pub fn open(&mut self) -> Result<(), Memory>
+        ensures { OnOk result (self.new ≡ Opens ∷ self.old) }
+    {
+        self.entries.push(ScopeEntry::Opens)?;
+        Ok(())
+    }
+
+    /// Takes the latest entry.
+    pub fn pop(&mut self) -> Option<ScopeEntry>
+        ensures { MatchOption result ((self.old ≡ []) × (self.new ≡ [])) (λ entry. self.old ≡ entry ∷ self.new) }
+    {
+        self.entries.pop()
+    }
+}
