@@ -11,10 +11,10 @@ each process, and whether both wrote the same bytes.
 import hashlib
 import os
 import random
-import subprocess
 import sys
 import tempfile
-import time
+
+from timing import timed
 
 SITES = 1000
 MOST_REPORTS = 100000
@@ -137,19 +137,6 @@ def collect_by_dict(path, files):
         out.writelines(sites)
     out.write("end\n")
     print(f"added {len(held)} repeated {given - len(held)}", file=sys.stderr)
-
-
-def timed(command, out_path):
-    """The status, processor seconds, seconds and megabytes of a process, and the hash of what it wrote."""
-    began = time.time()
-    with open(out_path, "wb") as out:
-        child = subprocess.Popen(command, stdout=out, stderr=subprocess.PIPE)
-        said = child.stderr.read()
-        _, status, used = os.wait4(child.pid, 0)
-    with open(out_path, "rb") as text:
-        digest = hashlib.sha256(text.read()).hexdigest()
-    seconds = used.ru_utime + used.ru_stime
-    return os.waitstatus_to_exitcode(status), seconds, time.time() - began, used.ru_maxrss // 1024, digest, said.decode("ascii", "replace").strip()
 
 
 def main():

@@ -14,7 +14,8 @@ import random
 import subprocess
 import sys
 import tempfile
-import time
+
+from timing import timed
 
 CAUSES = 20
 HEADER = "rank,predicate,scheme,function,line,text,f,s,fobs,sobs,failure,context,increase,importance"
@@ -121,18 +122,6 @@ def rank_by_numpy(program_path, path):
         left[run_of[(site_of == site) & shown[kind]]] = False
 
 
-def timed(command, out_path):
-    """The status, processor seconds, seconds and megabytes of a process, and the hash of what it wrote."""
-    began = time.time()
-    with open(out_path, "wb") as out:
-        child = subprocess.Popen(command, stdout=out, stderr=subprocess.PIPE)
-        said = child.stderr.read()
-        _, status, used = os.wait4(child.pid, 0)
-    with open(out_path, "rb") as text:
-        digest = hashlib.sha256(text.read()).hexdigest()
-    return os.waitstatus_to_exitcode(status), used.ru_utime + used.ru_stime, time.time() - began, used.ru_maxrss // 1024, digest, said
-
-
 def show_types(path):
     """The types that pandas gives the columns, where it is there."""
     script = "import pandas, sys; print(pandas.read_csv(sys.argv[1]).dtypes.to_string())"
@@ -164,7 +153,7 @@ def main():
             if status == 0:
                 digests.append(digest)
             else:
-                print(said.decode("ascii", "replace")[-300:])
+                print(said[-300:])
             if who == "cbi" and status == 0:
                 show_types(out)
         print("  the same bytes" if len(digests) == 2 and digests[0] == digests[1] else "  not compared" if len(digests) < 2 else "  OTHER BYTES")
