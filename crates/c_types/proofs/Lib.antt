@@ -1,3 +1,14 @@
-pub mod Found
+pub mod Indexes
 pub mod Replicated
 pub mod Hiding
+pub mod Stacks
+pub mod Known
+pub mod Noted
+pub mod NotedExprs
+pub mod NotedStatements
+pub mod NotedItems
+pub mod TokenLaws
+pub mod Summed
+pub mod NumberLaws
+pub mod FunctionLaws
+pub mod Options

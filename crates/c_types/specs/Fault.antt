@@ -76,6 +76,11 @@ abbrev pub fault_in : Walked Done → Option (ℕ × ℕ)
 fault_in (Fine value known) = None
 fault_in (Faulty kind index) = Some (number_of kind, index)
 
+-- what is known at the end, where no fault was met
+abbrev pub known_in : Walked Done → Option Walk
+known_in (Fine value known) = Some known
+known_in (Faulty kind index) = None
+
 -- the first fault of a text: the number of its kind, and the index of the token at which it stands
 abbrev pub fault_of : SourceTree → Option (ℕ × ℕ)
 fault_of t = fault_in (walk_tree t)

@@ -8,3 +8,7 @@ pub mod ItemWalk
 pub mod Fault
 pub mod Answers
 pub mod Hiding
+pub mod Indexed
+pub mod Parts
+pub mod Laid
+pub mod Numbers

@@ -1,23 +1,21 @@
-ghost use Rattle.std.specs.Prelude.{◌≡◌, ◌≤◌, Some, None, IfOk, IfErr, IsTrue, OnOk, length, option_copied, option_map};
+ghost use Rattle.std.specs.Prelude.{◌≡◌, Some};
 ghost use Rattle.c_syntax.specs.Plain.{plain_tree};
-ghost use Rattle.c_rules.specs.Plain.{plain_type};
-ghost use Rattle.c_rules.specs.Sizes.{cells_of, is_complete, most_cells};
-ghost use Rattle.c_types.specs.Answers.{IsChecked, IsTypeFault, declared_at, ends_behind, function_at, known_of, noted, offset_at, place_at, scope_holds, tree_of, type_at, variable_at};
-ghost use Rattle.c_types.specs.Fault.{begins_program, fault_of, first_undefined, has_main, is_main, lacks_definition, last_fault};
+ghost use Rattle.c_types.specs.Fault.{known_in, walk_tree};
 
-use crate::item_walk::{is_defined, walk_items};
+use crate::answers::{ends_behind, note_at};
 use crate::names::Meaning;
-use crate::walk::{Definition, FunctionEntry, Stop, Variable, VariableEntry, Walk};
-use c_rules::{CType, FaultKind, cells_of};
+use crate::walk::{Definition, FunctionEntry, Variable, VariableEntry, Walk};
+use c_rules::{CType, StructType, Type, cells_of};
 use c_syntax::Tree;
-use cbi_base::{Memory, Name};
-use std::alloc::Global;
+use cbi_base::Name;
 
 /// A tree without a fault, with what is known of it.
 #[derive(Drop)]
 pub struct Checked {
     tree: Tree,
     walk: Walk,
+    /// What is known is what the walk through the tree comes to.
+    ghost walked: { known_in (walk_tree (plain_tree tree)) ≡ Some walk },
 }
 
 /// Why a tree is refused: the number of the kind of its first fault and the index of the token at which that stands, or
@@ -28,112 +26,30 @@ pub enum TypeFault {
     Memory,
 }
 
-/// Whether a function is `int main` without parameters.
-fn begins_program(function: &FunctionEntry) -> bool
-    ensures { result ≡ begins_program (Some function.now) }
-{
-    matches!(function.ctype.gives.shape(), CType::Int) && function.ctype.params.is_empty()
-}
-
-/// Whether a name means a definition of `int main` without parameters.
-fn is_main(walk: &Walk, meaning: Option<Meaning>) -> bool
-    ensures { result ≡ is_main meaning walk.now }
-{
-    let Some(Meaning::Function { index }) = meaning else {
-        return false;
-    };
-    match walk.functions.as_slice().get(index as usize) {
-        None => false,
-        Some(function) => {
-            begins_program(function) && is_defined(index, walk.defined_as.as_slice())
-        }
-    }
-}
-
-/// Whether the text has a definition of `int main` without parameters.
-fn has_main(alloc: Global, walk: &Walk) -> Result<bool, Memory>
-    ensures { IfOk result (λ has. has ≡ has_main walk.now) }
-{
-    match Name::new(alloc, b"main".as_slice())? {
-        None => Ok(false),
-        Some(name) => Ok(is_main(walk, walk.names.find(&name))),
-    }
-}
-
-/// Whether a function without definition is called.
-fn lacks_definition(call: &Option<u32>, defined_as: &[Option<u32>]) -> bool
-    ensures { result ≡ lacks_definition call.now defined_as.now }
-{
-    match call {
-        None => false,
-        Some(index) => !is_defined(*index, defined_as),
-    }
-}
-
-/// The first token at which a function without definition is called.
-fn first_undefined(calls: &[Option<u32>], defined_as: &[Option<u32>]) -> Option<usize>
-    ensures { result ≡ first_undefined 0 calls.now defined_as.now }
-{
-    let mut token = 0;
-    for call in calls {
-        if lacks_definition(call, defined_as) {
-            return Some(token);
-        }
-        token += 1;
-    }
-    None
-}
-
-/// The fault behind the last item: no definition of `main`, or a called function without one.
-fn last_fault(
-    alloc: Global,
-    walk: &Walk,
-    count: usize,
-) -> Result<Option<(FaultKind, usize)>, Memory>
-    ensures { IfOk result (λ fault. fault ≡ last_fault count walk.now) }
-{
-    if !has_main(alloc, walk)? {
-        return Ok(Some((FaultKind::NoMain, count)));
-    }
-    let calls = walk.functions_at.as_slice();
-    match first_undefined(calls, walk.defined_as.as_slice()) {
-        None => Ok(None),
-        Some(token) => Ok(Some((FaultKind::NoDefinition, token))),
-    }
-}
-
-/// Walks a tree. It is accepted exactly where the walk meets no fault; else the answer is its first fault.
-pub fn check(alloc: Global, tree: Tree) -> Result<Checked, TypeFault>
-    ensures accepted { OnOk result (fault_of (plain_tree tree) ≡ None) }
-    ensures same { IfOk result (λ c. tree_of c ≡ plain_tree tree) }
-    ensures known { IfOk result (λ c. IsChecked c) }
-    ensures refused { IfErr result (λ e. IsTypeFault (fault_of (plain_tree tree)) e) }
-{
-    let count = tree.lines.len();
-    let Ok(mut walk) = Walk::new(alloc, count) else {
-        return Err(TypeFault::Memory);
-    };
-    match walk_items(alloc, &mut walk, tree.items.as_slice()) {
-        Err(Stop::Memory) => return Err(TypeFault::Memory),
-        Err(Stop::Fault { kind, index }) => {
-            return Err(TypeFault::BadType {
-                kind: kind.number(),
-                index: index as usize,
-            });
-        }
-        Ok(()) => {}
-    }
-    match last_fault(alloc, &walk, count) {
-        Err(_) => Err(TypeFault::Memory),
-        Ok(Some((kind, index))) => Err(TypeFault::BadType {
-            kind: kind.number(),
-            index,
-        }),
-        Ok(None) => Ok(Checked { tree, walk }),
-    }
-}
-
 impl Checked {
+    ghost use Rattle.std.specs.Prelude.{◌≡◌, ◌≤◌, IsTrue, option_copied, option_map};
+    ghost use Rattle.c_syntax.specs.Plain.{plain_tree};
+    ghost use Rattle.c_rules.specs.Plain.{plain_type};
+    ghost use Rattle.c_rules.specs.Sizes.{cells_of, is_complete, most_cells};
+    ghost use Rattle.c_types.specs.Answers.{IsChecked, declared_at, function_at, known_of, offset_at, place_at, scope_holds, tree_of, type_at, variable_at};
+    ghost use Rattle.c_types.specs.Fault.{walk_tree};
+    ghost use Rattle.c_types.specs.Names.{found};
+    ghost use Rattle.c_types.specs.Walked.{Fine};
+
+    /// A tree through which the walk came, with what it came to know.
+    pub(crate) fn new(tree: Tree, walk: Walk) -> Checked
+        requires { walk_tree (plain_tree tree) ≡ Fine tt walk }
+        ensures same { tree_of result ≡ plain_tree tree }
+        ensures known { known_of result ≡ walk }
+    {
+        Checked { tree, walk }
+    }
+
+    /// What is known of a checked tree is always what the walk through it comes to. It does nothing: a caller learns it.
+    pub fn facts(&self)
+        ensures { IsChecked self.now }
+    {}
+
     /// The tree itself.
     pub fn tree(&self) -> &Tree
         ensures { plain_tree result.now ≡ tree_of self.now }
@@ -232,6 +148,41 @@ impl Checked {
         self.walk.definitions.as_slice()
     }
 
+    /// The structs, by their numbers.
+    pub fn structs(&self) -> &[StructType]
+        ensures { result.now ≡ (known_of self.now).structs }
+    {
+        self.walk.structs.as_slice()
+    }
+
+    /// The types of the variables, in the order of their declarations, an array as such.
+    pub fn declared_types(&self) -> &[Type]
+        ensures { result.now ≡ (known_of self.now).declared_types }
+    {
+        self.walk.declared_types.as_slice()
+    }
+
+    /// How many globals there are.
+    pub fn globals(&self) -> u32
+        ensures { result ≡ (known_of self.now).globals }
+    {
+        self.walk.globals
+    }
+
+    /// The number of each declared function's definition.
+    pub fn defined_as(&self) -> &[Option<u32>]
+        ensures { result.now ≡ (known_of self.now).defined_as }
+    {
+        self.walk.defined_as.as_slice()
+    }
+
+    /// What a name was declared as outside all functions.
+    pub fn find(&self, name: &Name) -> Option<Meaning>
+        ensures { result ≡ found name.now (known_of self.now).names }
+    {
+        self.walk.names.find(name)
+    }
+
     /// Whether the token lies in the scope of the variable at this place.
     pub fn scope_holds(&self, place: usize, token: u32) -> bool
         ensures { result ≡ scope_holds (known_of self.now) place token }
@@ -242,25 +193,5 @@ impl Checked {
             (Some(entry), Some(end)) => entry.from < token && ends_behind(token, end),
             _ => false,
         }
-    }
-}
-
-/// Whether a scope with this last token goes to the token.
-fn ends_behind(token: u32, end: &Option<u32>) -> bool
-    ensures { result ≡ ends_behind token end.now }
-{
-    match end {
-        None => true,
-        Some(last) => token <= *last,
-    }
-}
-
-/// What was noted at the place.
-fn note_at(notes: &[Option<u32>], place: usize) -> Option<u32>
-    ensures { result ≡ noted notes.now place }
-{
-    match notes.get(place) {
-        None => None,
-        Some(note) => *note,
     }
 }

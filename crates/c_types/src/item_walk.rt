@@ -74,8 +74,7 @@ fn add_function(
         return Ok(());
     }
     let index = next_number(walk.functions.len())?;
-    walk.names
-        .declare(name.try_clone()?, Meaning::Function { index })?;
+    walk.names.declare(name, Meaning::Function { index })?;
     walk.functions.push(FunctionEntry {
         name: name.try_clone()?,
         ctype: function,

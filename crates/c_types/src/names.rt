@@ -1,7 +1,8 @@
 ghost use Rattle.std.specs.Prelude.{◌≡◌, [], ◌∷◌, OnOk, MatchOption};
-ghost use Rattle.c_types.specs.Names.{found, declared_as, meaning_of, is_here, is_reserved, is_taken};
+ghost use Rattle.c_types.specs.Names.{found, meaning_of, is_here, is_reserved, is_taken};
 ghost use Rattle.c_types.specs.declared.names.ScopeEntry.TheVariants.{Opens, Declares};
 
+use crate::index::Index;
 use c_rules::{Library, library_named};
 use cbi_base::{Memory, Name};
 use std::alloc::Global;
@@ -24,37 +25,22 @@ pub enum ScopeEntry {
 }
 
 /// The names that are in scope, the latest first, with the beginning of each scope.
-#[derive(Debug, Drop)]
+#[derive(Drop)]
 pub struct Names {
     entries: Vec<ScopeEntry>,
+    index: Index,
 }
 
 impl Model for Names {
     ghost use Rattle.std.specs.Prelude.{List, reverse};
     ghost use Rattle.c_types.specs.declared.names.ScopeEntry.{ScopeEntry};
+    ghost use Rattle.c_types.specs.Indexed.{IsIndex};
 
     ghost Value = { List ScopeEntry };
 
     ghost view = { λ n. reverse n.entries.items };
-}
 
-/// What an entry makes of a name.
-fn declared_as(entry: &ScopeEntry, name: &Name) -> Option<Meaning>
-    ensures { result ≡ declared_as name.now entry.now }
-{
-    match entry {
-        ScopeEntry::Opens => None,
-        ScopeEntry::Declares {
-            name: known,
-            meaning,
-        } => {
-            if known.bytes() == name.bytes() {
-                Some(*meaning)
-            } else {
-                None
-            }
-        }
-    }
+    ghost invariant = { λ n. IsIndex (reverse n.entries.items) n.index };
 }
 
 /// Whether the name is one of the library.
@@ -71,22 +57,15 @@ impl Names {
     {
         Names {
             entries: Vec::new(alloc),
+            index: Index::new(alloc),
         }
     }
 
     /// What a name was declared as.
-    #[tactic(auto, using(crate::proofs::Found::found_before))]
     pub fn find(&self, name: &Name) -> Option<Meaning>
         ensures { result ≡ found name.now self.now }
     {
-        let mut left = self.entries.len();
-        while left > 0 {
-            left -= 1;
-            if let Some(meaning) = declared_as(&self.entries[left], name) {
-                return Some(meaning);
-            }
-        }
-        None
+        self.index.find(name)
     }
 
     /// What a name means, a function of the library too.
@@ -103,23 +82,10 @@ impl Names {
     }
 
     /// Whether the name is declared in the latest scope.
-    #[tactic(auto, using(crate::proofs::Found::here_before))]
     pub fn is_here(&self, name: &Name) -> bool
         ensures { result ≡ is_here name.now self.now }
     {
-        let mut left = self.entries.len();
-        while left > 0 {
-            left -= 1;
-            match &self.entries[left] {
-                ScopeEntry::Opens => return false,
-                ScopeEntry::Declares { name: known, .. } => {
-                    if known.bytes() == name.bytes() {
-                        return true;
-                    }
-                }
-            }
-        }
-        false
+        self.index.is_here(name)
     }
 
     /// Whether the name is one of the library or declared in the latest scope.
@@ -130,10 +96,14 @@ impl Names {
     }
 
     /// A name is declared.
-    pub fn declare(&mut self, name: Name, meaning: Meaning) -> Result<(), Memory>
-        ensures { OnOk result (self.new ≡ Declares name meaning ∷ self.old) }
+    pub fn declare(&mut self, name: &Name, meaning: Meaning) -> Result<(), Memory>
+        ensures { OnOk result (self.new ≡ Declares name.now meaning ∷ self.old) }
     {
-        self.entries.push(ScopeEntry::Declares { name, meaning })?;
+        let own = name.try_clone()?;
+        self.entries.reserve(1)?;
+        self.index.declare(name, meaning)?;
+        self.entries
+            .push(ScopeEntry::Declares { name: own, meaning })?;
         Ok(())
     }
 
@@ -141,6 +111,8 @@ impl Names {
     pub fn open(&mut self) -> Result<(), Memory>
         ensures { OnOk result (self.new ≡ Opens ∷ self.old) }
     {
+        self.entries.reserve(1)?;
+        self.index.open()?;
         self.entries.push(ScopeEntry::Opens)?;
         Ok(())
     }
@@ -149,6 +121,10 @@ impl Names {
     pub fn pop(&mut self) -> Option<ScopeEntry>
         ensures { MatchOption result ((self.old ≡ []) × (self.new ≡ [])) (λ entry. self.old ≡ entry ∷ self.new) }
     {
-        self.entries.pop()
+        let Some(entry) = self.entries.pop() else {
+            return None;
+        };
+        self.index.take(&entry);
+        Some(entry)
     }
 }

@@ -91,8 +91,7 @@ fn declare_tag(walk: &mut Walk, tag: &Name) -> Result<(), Stop>
     ensures { IsWalked (Fine tt (with_tag tag.now walk.old)) result walk.new }
 {
     let index = next_number(walk.structs.len())?;
-    walk.tags
-        .declare(tag.try_clone()?, Meaning::Struct { index })?;
+    walk.tags.declare(tag, Meaning::Struct { index })?;
     Ok(())
 }
 

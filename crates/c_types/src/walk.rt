@@ -41,7 +41,7 @@ pub struct Definition {
 }
 
 /// What the walk knows at a point: the names in scope, what was declared so far, and what was noted by token.
-#[derive(Debug, Drop)]
+#[derive(Drop)]
 pub struct Walk {
     pub names: Names,
     pub tags: Names,
@@ -186,7 +186,7 @@ pub fn add_variable(
     let place = next_number(walk.variables.len())?;
     let variable = number_variable(walk, global)?;
     let meaning = Meaning::Variable { index: place };
-    walk.names.declare(name.try_clone()?, meaning)?;
+    walk.names.declare(name, meaning)?;
     walk.variables.push(VariableEntry {
         name: name.try_clone()?,
         variable,

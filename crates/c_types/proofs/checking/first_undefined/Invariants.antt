@@ -1,6 +1,6 @@
 use Rattle.std.proofs.Common.{◌≡◌, drop}
 use Rattle.c_types.specs.Fault.{first_undefined}
-use Rattle.c_types.proofs.checked.first_undefined.Given as goal
+use Rattle.c_types.proofs.checking.first_undefined.Given as goal
 
 abbrev pub invariant-loop-call : goal.invariant-loop-call
 invariant-loop-call l = record {
