@@ -1,0 +1,4 @@
+pub mod ForLoops
+pub mod Sums
+pub mod Declared
+pub mod ZeroBehind

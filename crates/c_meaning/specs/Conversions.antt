@@ -1,0 +1,82 @@
+-- Where a value of one type is used as one of another (C99 6.3).
+use Rattle.std.specs.Prelude.{Bool, true, false, ◌&&◌, Option, Some, None, Result, Ok, Err}
+use Rattle.std.specs.Ordering.{int_eq}
+use Rattle.std.specs.Prelude.{pos}
+use Rattle.cbi_base.specs.declared.scalar.Kind.{Kind}
+use Rattle.cbi_base.specs.declared.scalar.Kind.TheVariants.{Char, Int, Unsigned}
+use Rattle.cbi_base.specs.declared.scalar.Scalar.{Scalar}
+use Rattle.cbi_base.specs.declared.scalar.Scalar.TheVariants.{Null, Undefined}
+use Rattle.cbi_base.specs.declared.scalar.Want.TheVariants as want
+use Rattle.cbi_base.specs.declared.trap.Trap.{Trap}
+use Rattle.cbi_base.specs.declared.trap.Trap.TheVariants as trap
+use Rattle.cbi_base.specs.Objects.{loaded}
+use Rattle.cbi_base.specs.Scalars.{converted}
+use Rattle.c_syntax.specs.ExprTree as e
+use Rattle.c_syntax.specs.ExprTree.{ExprTree}
+use Rattle.c_meaning.specs.declared.conversion.Conversion.{Conversion}
+use Rattle.c_meaning.specs.declared.conversion.Conversion.TheVariants.{Keep, To, Misfit}
+use Rattle.c_meaning.specs.declared.value_type.ValueType.{ValueType}
+use Rattle.c_meaning.specs.declared.value_type.ValueType.TheVariants as type
+use Rattle.c_meaning.specs.World.{World, Out, Go, answered, stuck}
+
+-- An array is a pointer to its first element, where its value is used (C99 6.3.2.1p3).
+abbrev pub decayed : Option ValueType → Option ValueType
+decayed (Some (type.Array size)) = Some (type.Pointer size)
+decayed of = of
+
+abbrev pub is_pointer : Option ValueType → Bool
+is_pointer (Some (type.Pointer size)) = true
+is_pointer (Some (type.Array size)) = true
+is_pointer of = false
+
+-- NULL, and a constant zero that isn't within parentheses (C99 6.3.2.3p3)
+abbrev pub is_null_constant : ExprTree → Bool
+is_null_constant (e.Null token) = true
+is_null_constant (e.Constant token kind value) = int_eq value (pos 0)
+is_null_constant x = false
+
+-- a null constant, where a pointer is wanted
+abbrev pub is_null_as : Option ValueType → ExprTree → Bool
+is_null_as wanted x = is_pointer wanted && is_null_constant x
+
+-- a number of one kind where one of another kind is wanted: no conversion is needed between equal kinds
+abbrev pub between : Kind → Kind → Conversion
+between Char Char = Keep
+between Int Int = Keep
+between Unsigned Unsigned = Keep
+between have wanted = To wanted
+
+abbrev pub fitting : Option ValueType → Option ValueType → Conversion
+fitting (Some (type.Number have)) (Some (type.Number wanted)) = between have wanted
+fitting (Some (type.Pointer size)) (Some (type.Pointer other)) = Keep
+fitting have wanted = Misfit
+
+-- a value of one type where one of another type is wanted, as by assignment (C99 6.5.16.1)
+abbrev pub conversion : Option ValueType → Option ValueType → Conversion
+conversion have wanted = fitting (decayed have) wanted
+
+abbrev pub converts : Conversion → Scalar → Result Scalar Trap
+converts Keep v = Ok v
+converts (To kind) v = converted kind v
+converts Misfit v = Err trap.Internal
+
+-- Where no conversion is needed, an undefined value is met by what uses the value.
+abbrev pub as_wanted : Conversion → Scalar → World → Out Scalar
+as_wanted c v w = answered (converts c v) w
+
+abbrev pub defined : Scalar → Result Scalar Trap
+defined Undefined = Err trap.Undefined
+defined v = Ok v
+
+-- A value is handed over as one of the type: an argument, an operand of a cast or of a unary `+`. An undefined one is met at once.
+abbrev pub handed : Option ValueType → Scalar → World → Out Scalar
+handed (Some (type.Number kind)) v w = answered (converted kind v) w
+handed (Some (type.Pointer size)) v w = answered (defined v) w
+handed other v w = stuck w
+
+-- the value of a place of this type (C99 6.3.2.1p2)
+abbrev pub load_at : Option ValueType → Scalar → World → Out Scalar
+load_at (Some (type.Number kind)) p w = answered (loaded (want.Number kind) p w.objects) w
+load_at (Some (type.Pointer size)) p w = answered (loaded want.Pointer p w.objects) w
+load_at (Some (type.Array size)) p w = Go p w
+load_at other p w = stuck w

@@ -1,0 +1,117 @@
+-- The operators on two values: what each does, by the types of its operands (C99 6.5.5 to 6.5.12).
+use Rattle.std.specs.Prelude.{ℕ, ℤ, pos, neg_ℤ, nat_le, Bool, true, false, ◌&&◌, if◌then◌else◌, Option, Some, None, Result, Ok, Err}
+use Rattle.cbi_base.specs.declared.scalar.Kind.{Kind}
+use Rattle.cbi_base.specs.declared.scalar.Kind.TheVariants.{Char, Int, Unsigned}
+use Rattle.cbi_base.specs.declared.scalar.Scalar.{Scalar}
+use Rattle.cbi_base.specs.declared.scalar.Scalar.TheVariants.{Number}
+use Rattle.cbi_base.specs.declared.operators.Binary.{Binary}
+use Rattle.cbi_base.specs.declared.operators.Binary.TheVariants as op
+use Rattle.cbi_base.specs.declared.operators.Order.{Order}
+use Rattle.cbi_base.specs.declared.operators.Order.TheVariants as order
+use Rattle.cbi_base.specs.declared.trap.Trap.{Trap}
+use Rattle.cbi_base.specs.declared.trap.Trap.TheVariants.{Internal}
+use Rattle.cbi_base.specs.Arithmetic.{flag, kind_given}
+use Rattle.cbi_base.specs.Objects.{Objects, ◌>>=◌, compared, difference}
+use Rattle.cbi_base.specs.Scalars.{applied}
+use Rattle.flow.specs.Rows.{moved_by}
+use Rattle.c_meaning.specs.declared.operation.Operation.{Operation}
+use Rattle.c_meaning.specs.declared.operation.Operation.TheVariants.{Numbers, MoveLeft, MoveRight, Span, Ordered, Wrong}
+use Rattle.c_meaning.specs.declared.value_type.ValueType.{ValueType}
+use Rattle.c_meaning.specs.declared.value_type.ValueType.TheVariants as type
+use Rattle.c_meaning.specs.Conversions.{decayed, between, converts}
+
+-- `char` is promoted to `int` (C99 6.3.1.1p2)
+abbrev pub promoted : Kind → Kind
+promoted Char = Int
+promoted kind = kind
+
+-- the usual arithmetic conversions (C99 6.3.1.8)
+abbrev pub common : Kind → Kind → Kind
+common Unsigned right = Unsigned
+common left Unsigned = Unsigned
+common left right = Int
+
+abbrev pub is_shift : Binary → Bool
+is_shift op.Shl = true
+is_shift op.Shr = true
+is_shift o = false
+
+-- The operands of a shift are promoted each for itself (C99 6.5.7p3); those of any other operator get their common type.
+abbrev pub left_kind : Binary → Kind → Kind → Kind
+left_kind o left right = if is_shift o then promoted left else common left right
+
+abbrev pub right_kind : Binary → Kind → Kind → Kind
+right_kind o left right = if is_shift o then promoted right else common left right
+
+-- how many cells an element has, where a pointer can be moved along elements
+abbrev pub is_step : ℕ → Bool
+is_step size = nat_le 1 size && nat_le size 1048576
+
+-- a pointer and a number (C99 6.5.6p8)
+abbrev pub moves_left : Binary → ℕ → Operation
+moves_left op.Add size = if is_step size then MoveLeft (pos size) else Wrong
+moves_left op.Sub size = if is_step size then MoveLeft (neg_ℤ (pos size)) else Wrong
+moves_left o size = Wrong
+
+-- a number and a pointer
+abbrev pub moves_right : Binary → ℕ → Operation
+moves_right op.Add size = if is_step size then MoveRight (pos size) else Wrong
+moves_right o size = Wrong
+
+abbrev pub order_of : Binary → Option Order
+order_of op.Lt = Some order.Lt
+order_of op.Le = Some order.Le
+order_of op.Gt = Some order.Gt
+order_of op.Ge = Some order.Ge
+order_of op.Eq = Some order.Eq
+order_of op.Ne = Some order.Ne
+order_of o = None
+
+abbrev pub ordered : Option Order → Operation
+ordered None = Wrong
+ordered (Some o) = Ordered o
+
+-- two pointers (C99 6.5.6p9, 6.5.8p5, 6.5.9p6)
+abbrev pub on_pointers : Binary → ℕ → Operation
+on_pointers op.Sub size = if is_step size then Span size else Wrong
+on_pointers o size = ordered (order_of o)
+
+abbrev pub on_values : Binary → Option ValueType → Option ValueType → Operation
+on_values o (Some (type.Number left)) (Some (type.Number right)) = Numbers o left right
+on_values o (Some (type.Pointer size)) (Some (type.Number kind)) = moves_left o size
+on_values o (Some (type.Number kind)) (Some (type.Pointer size)) = moves_right o size
+on_values o (Some (type.Pointer size)) (Some (type.Pointer other)) = on_pointers o size
+on_values o left right = Wrong
+
+abbrev pub operation : Binary → Option ValueType → Option ValueType → Operation
+operation o left right = on_values o (decayed left) (decayed right)
+
+abbrev pub flag_value : Bool → Scalar
+flag_value holds = Number Int (flag holds)
+
+abbrev pub flagged : Result Bool Trap → Result Scalar Trap
+flagged (Ok holds) = Ok (flag_value holds)
+flagged (Err t) = Err t
+
+abbrev pub counted : Result ℤ Trap → Result Scalar Trap
+counted (Ok count) = Ok (Number Int count)
+counted (Err t) = Err t
+
+-- Both operands are there: they are converted, and then calculated with.
+unfoldable pub operate : Operation → Scalar → Scalar → Objects → Result Scalar Trap
+operate (Numbers o left right) x y objects =
+    converts (between left (left_kind o left right)) x >>= λ a. converts (between right (right_kind o left right)) y >>= λ b. applied o a b
+operate (MoveLeft size) x y objects = moved_by size x y objects
+operate (MoveRight size) x y objects = moved_by size y x objects
+operate (Span size) x y objects = counted (difference x y size objects)
+operate (Ordered o) x y objects = flagged (compared o x y objects)
+operate Wrong x y objects = Err Internal
+
+-- the type of what an operation gives, with that of the pointer that it moves
+abbrev pub type_given : Operation → Option ValueType → Option ValueType
+type_given (Numbers o left right) moved = Some (type.Number (kind_given o (left_kind o left right)))
+type_given (MoveLeft size) moved = moved
+type_given (MoveRight size) moved = moved
+type_given (Span size) moved = Some (type.Number Int)
+type_given (Ordered o) moved = Some (type.Number Int)
+type_given Wrong moved = None

@@ -1,0 +1,49 @@
+-- What a run reads and writes (C99 7.19).
+use Rattle.std.specs.Prelude.{ℕ, ◌+◌, ◌-◌, nat_le, ℤ, pos, negsuc, List, [], ◌∷◌, ◌++◌, length, take, if◌then◌else◌, Option, Some, None}
+use Rattle.cbi_base.specs.declared.outcome.Outcome.TheVariants.{Trapped, CutOutput}
+use Rattle.cbi_base.specs.declared.scalar.Kind.TheVariants.{Int}
+use Rattle.cbi_base.specs.declared.scalar.Scalar.{Scalar}
+use Rattle.cbi_base.specs.declared.scalar.Scalar.TheVariants.{Number, Undefined}
+use Rattle.cbi_base.specs.declared.trap.Trap.{Trap}
+use Rattle.cbi_base.specs.declared.trap.Trap.TheVariants as trap
+use Rattle.flow.specs.Limits.{output_limit}
+use Rattle.flow.specs.Now.{byte_of}
+use Rattle.flow.specs.Printing.{Printed, pieces_of, printed, string_at, take_values, then_print, these}
+use Rattle.c_meaning.specs.World.{World, Out, Go, Stop, Done, bind, choose, nothing, stuck}
+
+-- Bytes are written; where there isn't room for all of them the run is cut, and those stay that there is room for.
+abbrev pub written : List ℕ → World → Done
+written bytes w =
+    if nat_le (length w.output + length bytes) output_limit
+    then Go tt (record w { output = w.output ++ bytes })
+    else Stop CutOutput (record w { output = w.output ++ take (output_limit - length w.output) bytes })
+
+abbrev pub stop_or : Option Trap → World → Done
+stop_or None w = Go tt w
+stop_or (Some t) w = Stop (Trapped t) w
+
+-- bytes that are written, and the trap that is met after them
+abbrev pub print : Printed → World → Done
+print p w = bind (written p.bytes w) (λ _. stop_or p.stop)
+
+-- `getchar`: the next byte, or -1 at the end of the input
+abbrev pub next_byte : List ℕ → World → Out Scalar
+next_byte [] w = Go (Number Int (negsuc 0)) w
+next_byte (byte ∷ rest) w = Go (Number Int (pos byte)) (record w { input = rest })
+
+-- `putchar` writes a value modulo 256, and gives that
+abbrev pub put_byte : Scalar → World → Out Scalar
+put_byte Undefined w = Stop (Trapped trap.Undefined) w
+put_byte (Number Int value) w = bind (written (byte_of value ∷ []) w) (λ _. Go (Number Int (pos (byte_of value))))
+put_byte other w = stuck w
+
+-- `puts` writes the string and a newline, and gives 0
+abbrev pub put_string : Scalar → World → Out Scalar
+put_string Undefined w = Stop (Trapped trap.Undefined) w
+put_string (Number kind value) w = stuck w
+put_string p w = bind (print (then_print (string_at p w.objects) (these (10 ∷ []))) w) (λ _. Go (Number Int (pos 0)))
+
+-- `printf` writes piece by piece, each conversion the value at its place
+abbrev pub put_format : List ℕ → List Scalar → World → Done
+put_format format values w =
+    choose (take_values (pieces_of format) values) (print (printed (pieces_of format) values w.objects)) stuck w

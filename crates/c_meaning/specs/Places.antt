@@ -1,0 +1,77 @@
+-- Variables and places: how they are found, read and changed (C99 6.5.2.3, 6.5.3.2, 6.5.16).
+use Rattle.std.specs.Prelude.{ℕ, ℤ, pos, Bool, true, false, Option, Some, None, Result, Ok, Err}
+use Rattle.cbi_base.specs.declared.scalar.Scalar.{Scalar}
+use Rattle.cbi_base.specs.declared.scalar.Scalar.TheVariants.{Number, Place, Null, Undefined}
+use Rattle.cbi_base.specs.declared.trap.Trap.{Trap}
+use Rattle.cbi_base.specs.declared.trap.Trap.TheVariants as trap
+use Rattle.cbi_base.specs.Arithmetic.{is_zero}
+use Rattle.cbi_base.specs.Objects.{stored, moved}
+use Rattle.flow.specs.declared.site.Slot.{Slot}
+use Rattle.flow.specs.declared.site.Slot.TheVariants as slot
+use Rattle.flow.specs.Now.{local_at}
+use Rattle.c_meaning.specs.declared.operation.Operation.{Operation}
+use Rattle.c_meaning.specs.declared.value_type.ValueType.{ValueType}
+use Rattle.c_meaning.specs.declared.value_type.ValueType.TheVariants as type
+use Rattle.c_meaning.specs.Conversions.{as_wanted, conversion, load_at}
+use Rattle.c_meaning.specs.Facts.{Setting}
+use Rattle.c_meaning.specs.Operation.{operation, operate, type_given}
+use Rattle.c_meaning.specs.Trees.{one_kind, step_of}
+use Rattle.c_meaning.specs.Visits.{visited}
+use Rattle.c_meaning.specs.World.{World, Out, Go, bind, answered, stuck}
+
+abbrev pub object_place : Option ℕ → World → Out Scalar
+object_place None w = stuck w
+object_place (Some number) w = Go (Place number 0) w
+
+-- the member at an offset, and the element of an array that is initialised (C99 6.5.2.3)
+abbrev pub member_place : Option ℕ → Scalar → World → Out Scalar
+member_place None p w = stuck w
+member_place (Some offset) p w = answered (moved p (pos offset) w.objects) w
+
+abbrev pub unless_zero : Bool → Scalar → Result Scalar Trap
+unless_zero true v = Err trap.Internal
+unless_zero false v = Ok v
+
+-- `*e`: null is no place. Whether the object lives is seen where the place is read or changed (C99 6.5.3.2p4).
+abbrev pub pointed : Scalar → Result Scalar Trap
+pointed Undefined = Err trap.Undefined
+pointed Null = Err trap.NullUse
+pointed (Number kind value) = unless_zero (is_zero value) (Number kind value)
+pointed v = Ok v
+
+-- the value is stored, and is what the whole gives (C99 6.5.16p3)
+abbrev pub store_at : Scalar → Scalar → World → Out Scalar
+store_at p v w = bind (answered (stored p v w.objects) w) (λ objects u. Go v (record u { objects = objects }))
+
+module _ (s : Setting) where
+  abbrev pub variable : Option Slot → World → Out Scalar
+  variable None w = stuck w
+  variable (Some (slot.Local index)) w = object_place (local_at index s.locals) w
+  variable (Some (slot.Global index)) w = Go (Place index 0) w
+
+  -- what is assigned at the token is stored, and then the sites there are visited
+  abbrev pub assigned : ℕ → Scalar → Scalar → World → Out Scalar
+  assigned token p v w = bind (store_at p v w) (visited s (s.sites.pairs_at token))
+
+  -- the old value is loaded, the operation is done on it and the right value, and the result is stored (C99 6.5.16.2)
+  abbrev pub changed : ℕ → Option ValueType → Operation → Scalar → Scalar → World → Out Scalar
+  changed token of o p right w =
+      bind (load_at of p w) (λ old u. bind (answered (operate o old right u.objects) u) (λ x y.
+      bind (as_wanted (conversion (type_given o of) of) x y) (assigned token p)))
+
+  -- `++` and `--`: 1 is added or subtracted in the common type
+  abbrev pub step : Bool → Option ValueType → Operation
+  step is_up of = operation (step_of is_up) of (Some (type.Number (one_kind of)))
+
+  abbrev pub one_beside : Option ValueType → Scalar
+  one_beside of = Number (one_kind of) (pos 1)
+
+  -- before a place they give the new value (C99 6.5.3.1)
+  abbrev pub stepped : Bool → ℕ → Option ValueType → Scalar → World → Out Scalar
+  stepped is_up token of p w = changed token of (step is_up of) p (one_beside of) w
+
+  -- behind a place they give the old value (C99 6.5.2.4)
+  abbrev pub stepped_behind : Bool → ℕ → Option ValueType → Scalar → World → Out Scalar
+  stepped_behind is_up token of p w =
+      bind (load_at of p w) (λ old u. bind (answered (operate (step is_up of) old (one_beside of) u.objects) u) (λ x y.
+      bind (as_wanted (conversion (type_given (step is_up of) of) of) x y) (λ z a. bind (assigned token p z a) (λ _. Go old))))

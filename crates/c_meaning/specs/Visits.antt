@@ -1,0 +1,37 @@
+-- The visits of sites (PLDI 2005 section 2): a condition's, a returned value's, and those of an assigned variable.
+use Rattle.std.specs.Prelude.{ℕ, List, [], ◌∷◌, ◌++◌, Bool, Option, Some, None}
+use Rattle.cbi_base.specs.declared.observation.Seen.{Seen}
+use Rattle.cbi_base.specs.declared.scalar.Scalar.{Scalar}
+use Rattle.cbi_base.specs.Scalars.{truth_of}
+use Rattle.flow.specs.Now.{Now, Locals}
+use Rattle.flow.specs.Truths.{looked}
+use Rattle.c_meaning.specs.Facts.{Setting}
+use Rattle.c_meaning.specs.World.{World, Out, Go, bind, answered}
+
+-- what a site can look at: the value, and the variables
+abbrev pub now_of : Locals → List Scalar → World → Now
+now_of locals operands w = record { operands = operands; locals = locals; objects = w.objects; input = w.input; output = w.output }
+
+abbrev pub with_seen : ℕ → Seen → World → World
+with_seen site seen w = record w { seen = w.seen ++ record { site = site; seen = seen } ∷ [] }
+
+abbrev pub listed : Option ℕ → List ℕ
+listed None = []
+listed (Some site) = site ∷ []
+
+abbrev pub truth : Scalar → World → Out Bool
+truth v w = answered (truth_of v) w
+
+module _ (s : Setting) where
+  -- one visit: the site sees the value, which goes on
+  abbrev pub observed : ℕ → Scalar → World → Out Scalar
+  observed site v w = bind (answered (looked (s.sites.site site) (now_of s.locals (v ∷ []) w)) w) (λ seen u. Go v (with_seen site seen u))
+
+  -- visits of several sites, one after another
+  abbrev pub visited : List ℕ → Scalar → World → Out Scalar
+  visited [] v w = Go v w
+  visited (site ∷ more) v w = bind (observed site v w) (visited more)
+
+  -- a condition's value, with the visit of its site
+  abbrev pub decided : ℕ → Scalar → World → Out Bool
+  decided token v w = bind (visited (listed (s.sites.branch_at token)) v w) truth

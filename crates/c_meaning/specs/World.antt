@@ -1,0 +1,69 @@
+-- What a run of a text has at a moment, and how a part of it goes.
+use Rattle.std.specs.Prelude.{ℕ, zero, suc, Bool, true, false, List, Option, Some, None, Result, Ok, Err}
+use Rattle.cbi_base.specs.declared.observation.Observation.{Observation}
+use Rattle.cbi_base.specs.declared.outcome.Outcome.{Outcome}
+use Rattle.cbi_base.specs.declared.outcome.Outcome.TheVariants.{Trapped, CutTurns}
+use Rattle.cbi_base.specs.declared.scalar.Scalar.{Scalar}
+use Rattle.cbi_base.specs.declared.trap.Trap.{Trap}
+use Rattle.cbi_base.specs.declared.trap.Trap.TheVariants.{Internal}
+use Rattle.cbi_base.specs.Objects.{Objects}
+
+-- the objects, the input left, the output so far, the turns left, how many functions are active, and what the sites saw so far
+pub record World : Type 0 where
+  pub objects : Objects
+  pub input : List ℕ
+  pub output : List ℕ
+  pub turns : ℕ
+  pub active : ℕ
+  pub seen : List Observation
+
+-- A part of a run goes on with what it gives, or the run is over.
+pub data Out (A : Type 0) : Type 0 where
+  Go : A → World → Out A
+  Stop : Outcome → World → Out A
+
+-- a part that gives nothing
+abbrev pub Done : Type 0
+Done = Out (Unit {0})
+
+-- one part, and then another one
+abbrev pub bind : {A B : Type 0} → Out A → (A → World → Out B) → Out B
+bind (Go x w) next = next x w
+bind (Stop outcome w) next = Stop outcome w
+
+abbrev pub nothing : World → Done
+nothing w = Go tt w
+
+-- what a part gives isn't taken
+abbrev pub done : {A : Type 0} → Out A → Done
+done part = bind part (λ _. nothing)
+
+-- the answer of an operation, or its trap
+abbrev pub answered : {A : Type 0} → Result A Trap → World → Out A
+answered (Ok x) w = Go x w
+answered (Err t) w = Stop (Trapped t) w
+
+-- What a text without a fault never comes to: something isn't known of it.
+abbrev pub stuck : {A : Type 0} → World → Out A
+stuck w = Stop (Trapped Internal) w
+
+-- one of two parts
+abbrev pub choose : {A : Type 0} → Bool → (World → Out A) → (World → Out A) → World → Out A
+choose true first second w = first w
+choose false first second w = second w
+
+-- a turn is spent, or the run is cut where none is left
+abbrev pub spend : {A : Type 0} → ℕ → World → (World → Out A) → Out A
+spend zero w go = Stop CutTurns w
+spend (suc turns) w go = go (record w { turns = turns })
+
+-- how control leaves a statement
+pub data Flow : Type 0 where
+  Next : Flow
+  Broken : Flow
+  Continued : Flow
+  Returned : Option Scalar → Flow
+
+-- how a function is called by its number, with its arguments, the last one first
+abbrev pub Caller : Type 0
+Caller = ℕ → List Scalar → World → Out Scalar
