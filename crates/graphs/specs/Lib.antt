@@ -1,0 +1,9 @@
+pub mod Paths
+pub mod Stands
+pub mod Values
+pub mod Operators
+pub mod Calls
+pub mod Expressions
+pub mod Initialisers
+pub mod Statements
+pub mod Functions
