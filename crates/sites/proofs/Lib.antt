@@ -1,0 +1,6 @@
+pub mod Owners
+pub mod Kept
+pub mod Rises
+pub mod RisesBodies
+pub mod RisesTable
+pub mod Named

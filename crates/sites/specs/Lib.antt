@@ -1,0 +1,10 @@
+pub mod Spots
+pub mod Bodies
+pub mod Constants
+pub mod Visible
+pub mod SitesAt
+pub mod Table
+pub mod Adding
+pub mod Ground
+pub mod Wanted
+pub mod Rising

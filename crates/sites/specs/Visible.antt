@@ -1,0 +1,53 @@
+-- The variables that are visible at a token, and those of them that a new value is compared with.
+use Rattle.std.specs.Prelude.{ℕ, suc, Bool, false, not, ◌&&◌, ◌||◌, ◌==◌, if◌then◌else◌, List, [], ◌∷◌, Option, Some, None}
+use Rattle.std.specs.Str.{bytes_eq}
+use Rattle.c_rules.specs.TypeTree.{TypeTree, same_type}
+use Rattle.c_types.specs.declared.walk.Variable.{Variable}
+use Rattle.c_types.specs.declared.walk.Variable.TheVariants as variable
+use Rattle.c_types.specs.declared.walk.VariableEntry.{VariableEntry}
+use Rattle.c_types.specs.declared.walk.Walk.{Walk}
+use Rattle.c_types.specs.Answers.{declared_at, scope_holds}
+use Rattle.flow.specs.declared.site.Partner.{Partner}
+use Rattle.flow.specs.declared.site.Partner.TheVariants as partner
+use Rattle.flow.specs.declared.site.Slot.{Slot}
+use Rattle.flow.specs.declared.site.Slot.TheVariants as slot
+
+abbrev pub slot_of : Variable → Slot
+slot_of (variable.Global index) = slot.Global index
+slot_of (variable.Local index) = slot.Local index
+
+-- whether one of these variables, the first of which has this place among all, has the name, and the token in its scope
+abbrev pub is_hidden : Walk → ℕ → List ℕ → ℕ → List VariableEntry → Bool
+is_hidden w token name place [] = false
+is_hidden w token name place (v ∷ later) = (bytes_eq v.name name && scope_holds w place token) || is_hidden w token name (suc place) later
+
+-- whether one of these variables has the name
+abbrev pub is_named : List ℕ → List VariableEntry → Bool
+is_named name [] = false
+is_named name (v ∷ later) = bytes_eq v.name name || is_named name later
+
+-- for each of these variables whether a later one has its name
+abbrev pub named_again : List VariableEntry → List Bool
+named_again [] = []
+named_again (v ∷ later) = is_named v.name later ∷ named_again later
+
+-- A variable is visible where its scope holds the token and none that is declared later hides its name (C99 6.2.1p4).
+abbrev pub is_visible : Walk → ℕ → ℕ → VariableEntry → List VariableEntry → Bool
+is_visible w token place v later = scope_holds w place token && not (is_hidden w token v.name (suc place) later)
+
+abbrev pub is_type : TypeTree → Option TypeTree → Bool
+is_type t None = false
+is_type t (Some other) = same_type other t
+
+-- a visible variable of the type, other than the one at the place `target`
+abbrev pub is_partner : Walk → ℕ → ℕ → TypeTree → ℕ → VariableEntry → List VariableEntry → Bool
+is_partner w token target t place v later = not (place == target) && is_type t (declared_at w v.from) && is_visible w token place v later
+
+-- Those of these variables, the first of which has this place among all, with which a new value of the variable at the place `target` is
+-- compared, in order of declaration.
+abbrev pub variable_partners : Walk → ℕ → ℕ → TypeTree → ℕ → List VariableEntry → List Partner
+variable_partners w token target t place [] = []
+variable_partners w token target t place (v ∷ later) =
+    if is_partner w token target t place v later
+    then partner.Variable v.name (slot_of v.variable) ∷ variable_partners w token target t (suc place) later
+    else variable_partners w token target t (suc place) later

@@ -1,0 +1,21 @@
+-- Which sites the schemes want.
+use Rattle.std.specs.Prelude.{Bool, true, false, List, filter}
+use Rattle.flow.specs.declared.site.SiteKind.{SiteKind}
+use Rattle.flow.specs.declared.site.SiteKind.TheVariants.{Branch, Return, Pair}
+use Rattle.flow.specs.declared.site.Site.{Site}
+use Rattle.sites.specs.declared.schemes.Schemes.{Schemes}
+
+abbrev pub all_schemes : Schemes
+all_schemes = record { branches = true; returns = true; pairs = true }
+
+abbrev pub no_schemes : Schemes
+no_schemes = record { branches = false; returns = false; pairs = false }
+
+abbrev pub is_wanted : Schemes → SiteKind → Bool
+is_wanted schemes (Branch word) = schemes.branches
+is_wanted schemes (Return callee) = schemes.returns
+is_wanted schemes (Pair target slot partner) = schemes.pairs
+
+-- those of the sites that are wanted
+abbrev pub wanted : Schemes → List Site → List Site
+wanted schemes sites = filter (λ s. is_wanted schemes s.kind) sites

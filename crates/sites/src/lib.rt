@@ -1,0 +1,15 @@
+//! The sites of a checked tree: the places at which a run of its program is observed.
+#![tactic(auto)]
+
+mod constants;
+mod ground;
+mod laws;
+mod partners;
+mod schemes;
+mod spots;
+mod statements;
+mod table;
+
+pub use laws::{schemes_choose_sites, sites_have_functions, sites_rise};
+pub use schemes::{Schemes, SiteError};
+pub use table::site_table;

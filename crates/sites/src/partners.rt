@@ -1,0 +1,316 @@
+ghost use Rattle.std.specs.Prelude.{◌≡◌, IfOk, ◌+◌, ◌∷◌, [], Some, map, length, option_copied, slice_get, ◌<◌, ◌^◌};
+ghost use Rattle.c_rules.specs.Plain.{plain_type};
+ghost use Rattle.c_types.specs.Answers.{declared_at, known_of};
+ghost use Rattle.flow.specs.declared.site.Partner.TheVariants as partner;
+ghost use Rattle.sites.specs.Adding.{IsAdded};
+ghost use Rattle.sites.specs.Ground.{body_of};
+ghost use Rattle.sites.specs.SitesAt.{pair_on, named_pairs, pairs_of, pairs_on, partners_of};
+ghost use Rattle.sites.specs.Visible.{is_hidden, is_named, is_partner, is_type, named_again, slot_of, variable_partners};
+
+use crate::ground::{Ground, Stand, add_site};
+use crate::schemes::SiteError;
+use c_rules::{CType, is_arithmetic, same_type};
+use c_types::{Checked, Variable, VariableEntry};
+use cbi_base::{Memory, Name, Seq};
+use flow::{Partner, Site, SiteKind, Slot};
+use std::alloc::Global;
+
+/// Where a variable's cells lie.
+fn slot_of(variable: Variable) -> Slot
+    ensures { result ≡ slot_of variable }
+{
+    match variable {
+        Variable::Global { index } => Slot::Global { index },
+        Variable::Local { index } => Slot::Local { index },
+    }
+}
+
+/// Whether one of these variables, of which the first has this place, hides the name at the token.
+fn is_hidden(
+    checked: &Checked,
+    token: u32,
+    name: &Name,
+    place: usize,
+    later: &[VariableEntry],
+) -> bool
+    requires { place + length later.now < 2 ^ 64 }
+    ensures { result ≡ is_hidden (known_of checked.now) token name.now place later.now }
+{
+    let mut place = place;
+    let mut left = later;
+    while let [variable, later @ ..] = left {
+        if variable.name.bytes() == name.bytes() && checked.scope_holds(place, token) {
+            return true;
+        }
+        place += 1;
+        left = later;
+    }
+    false
+}
+
+/// Whether one of these variables has the name.
+fn is_named(name: &Name, later: &[VariableEntry]) -> bool
+    ensures { result ≡ is_named name.now later.now }
+{
+    let mut left = later;
+    while let [variable, later @ ..] = left {
+        if variable.name.bytes() == name.bytes() {
+            return true;
+        }
+        left = later;
+    }
+    false
+}
+
+/// For each of these variables whether a later one has its name.
+pub fn named_again(alloc: Global, variables: &[VariableEntry]) -> Result<Seq<bool>, Memory>
+    ensures { IfOk result (λ again. again ≡ named_again variables.now) }
+{
+    let mut again = Seq::new(alloc);
+    let mut left = variables;
+    while let [variable, later @ ..] = left {
+        again.push(is_named(&variable.name, later))?;
+        left = later;
+    }
+    Ok(again)
+}
+
+/// Whether the variable whose name stands at the token has this type.
+fn has_type(checked: &Checked, token: u32, ctype: &CType) -> bool
+    ensures { result ≡ is_type (plain_type ctype.now) (declared_at (known_of checked.now) token) }
+{
+    match checked.declared_type(token as usize) {
+        None => false,
+        Some(other) => same_type(other, ctype),
+    }
+}
+
+/// A variable that gets a new value: what is known of it, its place and its type.
+#[derive(Clone, Copy)]
+struct Target<'a> {
+    entry: &'a VariableEntry,
+    place: u32,
+    ctype: &'a CType,
+}
+
+/// Whether the variable at the place, with those declared later, is a partner at the token.
+#[tactic(auto, using(crate::proofs::Named::not_hidden))]
+fn is_partner(
+    checked: &Checked,
+    token: u32,
+    target: &Target<'_>,
+    place: usize,
+    variable: &VariableEntry,
+    again: bool,
+    later: &[VariableEntry],
+) -> bool
+    requires again { again ≡ is_named variable.now.name later.now }
+    requires within { place + 1 + length later.now < 2 ^ 64 }
+    ensures { result ≡ is_partner (known_of checked.now) token target.now.place (plain_type target.now.ctype.now) place variable.now later.now }
+{
+    if place == target.place as usize {
+        return false;
+    }
+    if !has_type(checked, variable.from, target.ctype) {
+        return false;
+    }
+    if !checked.scope_holds(place, token) {
+        return false;
+    }
+    if !again {
+        return true;
+    }
+    !is_hidden(checked, token, &variable.name, place + 1, later)
+}
+
+/// Adds the site that compares the target with a partner.
+fn add_pair(
+    sites: &mut Seq<Site>,
+    stand: Stand,
+    target: &VariableEntry,
+    partner: Partner,
+) -> Result<(), SiteError>
+    ensures { IsAdded sites.old (pair_on stand target.now.name (slot_of target.now.variable) partner ∷ []) result sites.new }
+{
+    let name = target.name.try_clone()?;
+    let slot = slot_of(target.variable);
+    add_site(
+        sites,
+        stand,
+        SiteKind::Pair {
+            target: name,
+            slot,
+            partner,
+        },
+    )
+}
+
+/// Adds the site that compares the target with a variable.
+fn add_variable_pair(
+    sites: &mut Seq<Site>,
+    stand: Stand,
+    target: &VariableEntry,
+    other: &VariableEntry,
+) -> Result<(), SiteError>
+    ensures { IsAdded sites.old
+        (pair_on stand target.now.name (slot_of target.now.variable) (partner.Variable other.now.name (slot_of other.now.variable)) ∷ []) result sites.new }
+{
+    let name = other.name.try_clone()?;
+    let slot = slot_of(other.variable);
+    add_pair(sites, stand, target, Partner::Variable { name, slot })
+}
+
+/// Adds the sites that compare the target with variables.
+fn add_variable_pairs(
+    sites: &mut Seq<Site>,
+    checked: &Checked,
+    again: &[bool],
+    stand: Stand,
+    target: &Target<'_>,
+) -> Result<(), SiteError>
+    requires { again.now ≡ named_again (known_of checked.now).variables }
+    ensures { IsAdded sites.old
+        (map (pair_on stand target.now.entry.now.name (slot_of target.now.entry.now.variable))
+        (variable_partners (known_of checked.now) stand.token target.now.place (plain_type target.now.ctype.now) 0 (known_of checked.now).variables))
+        result sites.new }
+{
+    let mut place = 0;
+    let mut left = checked.variables();
+    let mut flags = again;
+    while let [variable, later @ ..] = left {
+        let [named_again, more @ ..] = flags else {
+            return Ok(());
+        };
+        if is_partner(
+            checked,
+            stand.token,
+            target,
+            place,
+            variable,
+            *named_again,
+            later,
+        ) {
+            add_variable_pair(sites, stand, target.entry, variable)?;
+        }
+        place += 1;
+        left = later;
+        flags = more;
+    }
+    Ok(())
+}
+
+/// Adds the site that compares the target with a constant.
+fn add_constant_pair(
+    sites: &mut Seq<Site>,
+    stand: Stand,
+    target: &VariableEntry,
+    value: i64,
+) -> Result<(), SiteError>
+    ensures { IsAdded sites.old (pair_on stand target.now.name (slot_of target.now.variable) (partner.Constant value) ∷ []) result sites.new }
+{
+    add_pair(sites, stand, target, Partner::Constant { value })
+}
+
+/// Adds the sites that compare the target with constants.
+fn add_constant_pairs(
+    sites: &mut Seq<Site>,
+    stand: Stand,
+    target: &VariableEntry,
+    constants: &[i64],
+) -> Result<(), SiteError>
+    ensures { IsAdded sites.old (map (pair_on stand target.now.name (slot_of target.now.variable)) (map partner.Constant constants.now)) result sites.new }
+{
+    for value in constants {
+        add_constant_pair(sites, stand, target, *value)?;
+    }
+    Ok(())
+}
+
+/// Adds the sites that compare the target with its partners.
+#[tactic(auto, unfolding(crate::specs::SitesAt::partners_of))]
+fn add_partners(
+    sites: &mut Seq<Site>,
+    ground: &Ground<'_>,
+    stand: Stand,
+    target: &Target<'_>,
+) -> Result<(), SiteError>
+    requires { ground.now.again.now ≡ named_again (known_of ground.now.checked.now).variables }
+    ensures { IsAdded sites.old
+        (map (pair_on stand target.now.entry.now.name (slot_of target.now.entry.now.variable))
+        (partners_of (known_of ground.now.checked.now) ground.now.constants.now stand.token target.now.place (plain_type target.now.ctype.now)))
+        result sites.new }
+{
+    add_variable_pairs(sites, ground.checked, ground.again, stand, target)?;
+    add_constant_pairs(sites, stand, target.entry, ground.constants)
+}
+
+/// The variable at the place.
+fn variable_at(checked: &Checked, place: u32) -> Option<&VariableEntry>
+    ensures { option_copied result ≡ slice_get (known_of checked.now).variables place }
+{
+    checked.variables().get(place as usize)
+}
+
+/// Adds the pairs of the variable at the place, which has this type.
+fn add_pairs_of(
+    sites: &mut Seq<Site>,
+    ground: &Ground<'_>,
+    stand: Stand,
+    place: u32,
+    ctype: &CType,
+) -> Result<(), SiteError>
+    requires { ground.now.again.now ≡ named_again (known_of ground.now.checked.now).variables }
+    ensures { IsAdded sites.old
+        (pairs_of (body_of ground.now) stand place (plain_type ctype.now) (slice_get (known_of ground.now.checked.now).variables place))
+        result sites.new }
+{
+    match variable_at(ground.checked, place) {
+        None => Ok(()),
+        Some(entry) => {
+            let target = Target {
+                entry,
+                place,
+                ctype,
+            };
+            add_partners(sites, ground, stand, &target)
+        }
+    }
+}
+
+/// Adds the pairs of the variable at the place whose name stands at the token, where it holds a number.
+fn add_pairs_on(
+    sites: &mut Seq<Site>,
+    ground: &Ground<'_>,
+    stand: Stand,
+    place: u32,
+    target: u32,
+) -> Result<(), SiteError>
+    requires { ground.now.again.now ≡ named_again (known_of ground.now.checked.now).variables }
+    ensures { IsAdded sites.old (pairs_on (body_of ground.now) stand (Some place) (declared_at (known_of ground.now.checked.now) target)) result sites.new }
+{
+    match ground.checked.declared_type(target as usize) {
+        None => Ok(()),
+        Some(ctype) => {
+            if !is_arithmetic(ctype) {
+                return Ok(());
+            }
+            add_pairs_of(sites, ground, stand, place, ctype)
+        }
+    }
+}
+
+/// Adds the pairs of the variable whose name stands at the token `target`, where it holds a number.
+pub fn add_pairs(
+    sites: &mut Seq<Site>,
+    ground: &Ground<'_>,
+    stand: Stand,
+    target: u32,
+) -> Result<(), SiteError>
+    requires { ground.now.again.now ≡ named_again (known_of ground.now.checked.now).variables }
+    ensures { IsAdded sites.old (named_pairs (body_of ground.now) stand target) result sites.new }
+{
+    match ground.checked.place_at(target as usize) {
+        None => Ok(()),
+        Some(place) => add_pairs_on(sites, ground, stand, place, target),
+    }
+}

@@ -1,0 +1,225 @@
+ghost use Rattle.std.specs.Prelude.{◌≡◌, ◌<◌, ◌++◌, length, IfOk, IfErr, IsErr, OnOk};
+ghost use Rattle.c_syntax.specs.Plain.{plain_entries, plain_item};
+ghost use Rattle.c_types.specs.Answers.{known_of, tree_of, type_at};
+ghost use Rattle.flow.specs.Limits.{site_limit};
+ghost use Rattle.sites.specs.declared.schemes.SiteError.TheVariants as error;
+ghost use Rattle.sites.specs.Adding.{IsAdded};
+ghost use Rattle.sites.specs.Bodies.{entries_spots};
+ghost use Rattle.sites.specs.Ground.{body_of};
+ghost use Rattle.sites.specs.SitesAt.{branch_sites, change_sites, gives_scalar, is_observed, return_sites, sites_at, sites_in, token_of};
+ghost use Rattle.sites.specs.Visible.{named_again};
+ghost use Rattle.sites.specs.Table.{body_sites, defined_by, functions_of, item_sites, sites_of};
+
+use crate::constants::constants_of;
+use crate::ground::{Ground, Stand, add_site, stand_at};
+use crate::partners::{add_pairs, named_again};
+use crate::schemes::{Schemes, SiteError};
+use crate::spots::Spot;
+use crate::statements::push_entries;
+use c_rules::is_scalar;
+use c_syntax::{Entry, Item};
+use c_types::Checked;
+use cbi_base::{Name, Seq};
+use flow::{BranchWord, Site, SiteKind, SiteTable, TableParts};
+use std::alloc::Global;
+
+/// Whether the expression at the token has a scalar type.
+fn gives_scalar(checked: &Checked, token: u32) -> bool
+    ensures { result ≡ gives_scalar (type_at (known_of checked.now) token) }
+{
+    match checked.type_at(token as usize) {
+        None => false,
+        Some(ctype) => is_scalar(ctype),
+    }
+}
+
+/// Whether the call at the token gives a scalar, and is one of a defined function, of `getchar` or of `malloc`.
+fn is_observed(checked: &Checked, token: u32, name: &Name) -> bool
+    ensures { result ≡ is_observed (known_of checked.now) token name.now }
+{
+    if !gives_scalar(checked, token) {
+        return false;
+    }
+    if checked.function_at(token as usize).is_some() {
+        return true;
+    }
+    name.bytes() == b"getchar".as_slice() || name.bytes() == b"malloc".as_slice()
+}
+
+/// Adds the site of a branch.
+fn add_branch(
+    sites: &mut Seq<Site>,
+    ground: &Ground<'_>,
+    stand: Stand,
+    word: BranchWord,
+) -> Result<(), SiteError>
+    ensures { IsAdded sites.old (branch_sites (body_of ground.now) stand word) result sites.new }
+{
+    if !ground.schemes.branches {
+        return Ok(());
+    }
+    add_site(sites, stand, SiteKind::Branch { word })
+}
+
+/// Adds the site of a call.
+fn add_return(
+    sites: &mut Seq<Site>,
+    ground: &Ground<'_>,
+    stand: Stand,
+    name: &Name,
+) -> Result<(), SiteError>
+    ensures { IsAdded sites.old (return_sites (body_of ground.now) stand name.now) result sites.new }
+{
+    if !ground.schemes.returns || !is_observed(ground.checked, stand.token, name) {
+        return Ok(());
+    }
+    let callee = name.try_clone()?;
+    add_site(sites, stand, SiteKind::Return { callee })
+}
+
+/// Adds the sites of a new value.
+fn add_change(
+    sites: &mut Seq<Site>,
+    ground: &Ground<'_>,
+    stand: Stand,
+    target: u32,
+) -> Result<(), SiteError>
+    requires { ground.now.again.now ≡ named_again (known_of ground.now.checked.now).variables }
+    ensures { IsAdded sites.old (change_sites (body_of ground.now) stand target) result sites.new }
+{
+    if !ground.schemes.pairs {
+        return Ok(());
+    }
+    add_pairs(sites, ground, stand, target)
+}
+
+/// The token at which the sites of a construct stand.
+fn token_of(spot: &Spot) -> Option<u32>
+    ensures { result ≡ token_of spot.now }
+{
+    match spot {
+        Spot::Branch { token, .. } | Spot::Call { token, .. } => Some(*token),
+        Spot::Change { token, .. } => Some(*token),
+        Spot::Constant { .. } => None,
+    }
+}
+
+/// Adds the sites that stand at a construct.
+fn add_sites_at(sites: &mut Seq<Site>, ground: &Ground<'_>, spot: &Spot) -> Result<(), SiteError>
+    requires { ground.now.again.now ≡ named_again (known_of ground.now.checked.now).variables }
+    ensures { IsAdded sites.old (sites_at (body_of ground.now) spot.now) result sites.new }
+{
+    let Some(token) = token_of(spot) else {
+        return Ok(());
+    };
+    let Some(stand) = stand_at(ground, token) else {
+        return Ok(());
+    };
+    match spot {
+        Spot::Branch { word, .. } => add_branch(sites, ground, stand, *word),
+        Spot::Call { name, .. } => add_return(sites, ground, stand, name),
+        Spot::Change { target, .. } => add_change(sites, ground, stand, *target),
+        Spot::Constant { .. } => Ok(()),
+    }
+}
+
+/// Adds the sites of a body's constructs.
+fn add_sites_in(sites: &mut Seq<Site>, ground: &Ground<'_>, spots: &[Spot]) -> Result<(), SiteError>
+    requires { ground.now.again.now ≡ named_again (known_of ground.now.checked.now).variables }
+    ensures { IsAdded sites.old (sites_in (body_of ground.now) spots.now) result sites.new }
+{
+    for spot in spots {
+        add_sites_at(sites, ground, spot)?;
+    }
+    Ok(())
+}
+
+/// Adds the sites of a function's body.
+fn add_body(
+    alloc: Global,
+    sites: &mut Seq<Site>,
+    checked: &Checked,
+    again: &[bool],
+    schemes: Schemes,
+    number: usize,
+    body: &[Entry],
+) -> Result<(), SiteError>
+    requires { again.now ≡ named_again (known_of checked.now).variables }
+    ensures { IsAdded sites.old
+        (body_sites (known_of checked.now) (tree_of checked.now).lines schemes number (entries_spots (plain_entries body.now))) result sites.new }
+{
+    let mut spots = Seq::new(alloc);
+    push_entries(&mut spots, body)?;
+    let constants = constants_of(alloc, spots.as_slice())?;
+    let function = u32::try_from(number).map_err(|_| SiteError::Memory)?;
+    let ground = Ground {
+        checked,
+        schemes,
+        function,
+        constants: constants.as_slice(),
+        again,
+    };
+    add_sites_in(sites, &ground, spots.as_slice())
+}
+
+/// Adds what an item has: a function that it defines, and the sites of that.
+fn add_item(
+    alloc: Global,
+    parts: &mut TableParts,
+    checked: &Checked,
+    again: &[bool],
+    schemes: Schemes,
+    item: &Item,
+) -> Result<(), SiteError>
+    requires { again.now ≡ named_again (known_of checked.now).variables }
+    ensures sites { IsAdded parts.old.sites
+        (item_sites (known_of checked.now) (tree_of checked.now).lines schemes (length parts.old.functions) (plain_item item.now))
+        result parts.new.sites }
+    ensures functions { OnOk result (parts.new.functions ≡ parts.old.functions ++ defined_by (plain_item item.now)) }
+{
+    match item {
+        Item::Function {
+            name,
+            body: Some(body),
+            ..
+        } => {
+            let number = parts.functions.len();
+            parts.functions.push(name.try_clone()?)?;
+            add_body(
+                alloc,
+                &mut parts.sites,
+                checked,
+                again,
+                schemes,
+                number,
+                body.as_slice(),
+            )
+        }
+        _ => Ok(()),
+    }
+}
+
+/// The site table of a tree, for some schemes.
+pub fn site_table(
+    alloc: Global,
+    checked: &Checked,
+    schemes: Schemes,
+) -> Result<SiteTable, SiteError>
+    ensures table { IfOk result (λ t. t.sites ≡ sites_of (tree_of checked.now) (known_of checked.now) schemes) }
+    ensures functions { IfOk result (λ t. t.functions ≡ functions_of (tree_of checked.now)) }
+    ensures too_many { IfErr result (λ e. e ≡ error.TooManySites → site_limit < length (sites_of (tree_of checked.now) (known_of checked.now) schemes)) }
+    ensures refused { site_limit < length (sites_of (tree_of checked.now) (known_of checked.now) schemes) → IsErr result }
+{
+    let mut parts = TableParts {
+        sites: Seq::new(alloc),
+        functions: Seq::new(alloc),
+    };
+    let again = named_again(alloc, checked.variables())?;
+    for item in checked.tree().items.as_slice() {
+        add_item(alloc, &mut parts, checked, again.as_slice(), schemes, item)?;
+    }
+    match SiteTable::new(parts.sites, parts.functions) {
+        Some(table) => Ok(table),
+        None => Err(SiteError::TooManySites),
+    }
+}
