@@ -13,64 +13,9 @@ import sys
 import tempfile
 import time
 
+from programs import END, below, counted, get, program, put
+
 TURNS = "100000000"
-
-
-def nodes(lines):
-    """Node lines from lines such as 'push i 0', which go on at the next, with labels 'name:' and uses '@name'."""
-    labels, rows = {}, []
-    for line in lines:
-        if line.endswith(":"):
-            labels[line[:-1]] = len(rows)
-        else:
-            rows.append(line.split())
-    last = {"return", "leave", "exit", "abort", "fork", "again"}
-    text = []
-    for place, row in enumerate(rows):
-        fields = [str(labels[f[1:]]) if f.startswith("@") else f for f in row]
-        if row[0] not in last:
-            fields.append(str(place + 1))
-        text.append(" ".join(fields))
-    return text
-
-
-def program(functions, main):
-    """The text of a program of functions (name, result, parameters, sizes of locals, node lines)."""
-    head = ["cbi-program 1", "texts 0", "globals 0", f"functions {len(functions)}"]
-    bodies = []
-    for name, result, params, sizes, lines in functions:
-        body = nodes(lines)
-        head.append(f"function {name} {result} {params} {len(sizes)} {len(body)}")
-        bodies.append("locals" + "".join(f" {s}" for s in sizes))
-        bodies.extend(body)
-    return "\n".join(head + [f"main {main}", "sites 0"] + bodies + ["end", ""])
-
-
-def put(index, value):
-    """Stores a number in a local of one cell."""
-    return [f"local {index}", f"push i {value}", "store", "drop"]
-
-
-def get(index):
-    return [f"local {index}", "load i"]
-
-
-def step(index):
-    """index = index + 1"""
-    return [f"local {index}"] + get(index) + ["push i 1", "math add", "store", "drop"]
-
-
-def below(index, bound, inside, outside):
-    return get(index) + [f"push i {bound}", "math lt", f"fork @{inside} @{outside}"]
-
-
-def counted(index, bound, name, body):
-    """A loop that counts a local from 0 to the bound."""
-    return (put(index, 0) + [f"{name}:"] + below(index, bound, f"{name}_in", f"{name}_out")
-            + [f"{name}_in:"] + body + step(index) + [f"again @{name}", f"{name}_out:"])
-
-
-END = ["push i 0", "return"]
 
 LOOP = program([("main", "value", 0, [1, 1],
                  put(1, 0) + counted(0, 10000000, "loop", ["local 1"] + get(1) + get(0) + ["math add", "push i 1023", "math rem", "store", "drop"]) + END)], 0)

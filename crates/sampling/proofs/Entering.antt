@@ -1,30 +1,26 @@
 -- How the sampled program comes into a copy of a function: at its entry, at a return into it, and at the choice before a region.
-use Rattle.std.proofs.Common.{◌≡◌, ℕ, zero, suc, ◌+◌, ◌<◌, ◌≤◌, Bool, true, false, if◌then◌else◌, nat_lt, List, [], ◌∷◌, ◌++◌, Option, None, Some, refl, sym, ap, ◌∙◌, subst, arith}
+use Rattle.std.proofs.Common.{◌≡◌, ℕ, ◌+◌, ◌<◌, Bool, true, false, if◌then◌else◌, nat_lt, List, [], ◌∷◌, None, Some, refl, sym, ap, subst, arith}
 use Rattle.std.proofs.lemmas.Bool.Decides.{nat_tests}
 use Rattle.cbi_base.specs.declared.outcome.Outcome.TheVariants.{Trapped}
-use Rattle.cbi_base.specs.declared.outcome.Work.{Work}
 use Rattle.cbi_base.specs.declared.scalar.Scalar.{Scalar}
 use Rattle.cbi_base.specs.declared.scalar.Scalar.TheVariants.{Number, Place, Null, Undefined}
 use Rattle.cbi_base.specs.declared.trap.Trap.TheVariants.{Internal}
 use Rattle.cbi_base.specs.declared.trap.Trap.TheVariants as fault
-use Rattle.cbi_base.specs.Objects.{Objects}
 use Rattle.flow.specs.declared.node.View.{View}
 use Rattle.flow.specs.declared.node.View.TheVariants.{Picks, Imports}
 use Rattle.flow.specs.Calls.{give, give_to, quit, resumed}
-use Rattle.flow.specs.Code.{Callee}
-use Rattle.flow.specs.Countdown.{in_force, pick}
-use Rattle.flow.specs.Machine.{next_of, step}
+use Rattle.flow.specs.Countdown.{pick}
+use Rattle.flow.specs.Machine.{next_of}
 use Rattle.flow.specs.Now.{Now, Lacks, Taken, Takes}
 use Rattle.flow.specs.State.{Frame, Next, On, State, Watch, over}
 use Rattle.weights.specs.Weight.{IsWeight}
-use Rattle.clone_paths.specs.declared.label.Label.{Label}
 use Rattle.clone_paths.specs.declared.label.Label.TheVariants.{Back, Enter, Gate}
 use Rattle.clone_paths.specs.declared.label.Side.TheVariants.{Fast, Slow}
 use Rattle.clone_paths.specs.Form.{Labelled}
 use Rattle.sampling.specs.Copies.{AreCopies, Copies, cloning, sampled}
-use Rattle.sampling.specs.Follows.{Copied, Follows, IsAbove, Own, Returns, Spot, Stands, Waits, Weightless, beside, refit}
+use Rattle.sampling.specs.Follows.{Copied, IsAbove, Own, Returns, Spot, Waits, Weightless, beside, refit}
 use Rattle.sampling.specs.Tally.{Tally}
-use Rattle.sampling.proofs.Matching.{Matches, Moved, Enters, at_first, ended_by, internal, over_both, stays, stepped}
+use Rattle.sampling.proofs.Matching.{Matches, Enters, at_first, ended_by, internal, over_both, stays, stepped}
 
 -- the sampled program's step, by the view of its node
 pub views : (t : Copies) (a : Next) (s : State) (own : Own) (v : View) → t.at s.function own.node ≡ v →

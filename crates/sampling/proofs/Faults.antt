@@ -1,6 +1,5 @@
 -- A site that can't be observed: the run meets a fault of the program itself, or the fork on the condition traps alike.
-use Rattle.std.proofs.Common.{◌≡◌, ◌⊎◌, inl, inr, ℕ, Bool, true, false, not, List, [], ◌∷◌, Option, None, Some, Result, Ok, Err, ℤ, refl, sym, ap, ◌∙◌}
-use Rattle.cbi_base.specs.declared.observation.Seen.{Seen}
+use Rattle.std.proofs.Common.{◌≡◌, ◌⊎◌, inl, inr, ℕ, Bool, true, false, not, List, [], ◌∷◌, Option, None, Some, Ok, Err, ℤ, ap}
 use Rattle.cbi_base.specs.declared.outcome.Outcome.TheVariants.{Trapped}
 use Rattle.cbi_base.specs.declared.scalar.Scalar.{Scalar}
 use Rattle.cbi_base.specs.declared.scalar.Scalar.TheVariants.{Number, Place, Null, Undefined}
@@ -12,7 +11,7 @@ use Rattle.flow.specs.declared.site.Site.{Site}
 use Rattle.flow.specs.declared.site.SiteKind.{SiteKind}
 use Rattle.flow.specs.declared.site.SiteKind.TheVariants.{Branch, Return, Pair}
 use Rattle.flow.specs.Machine.{fork}
-use Rattle.flow.specs.Now.{Now, any, any_on}
+use Rattle.flow.specs.Now.{Now, any_on}
 use Rattle.flow.specs.State.{State, over}
 use Rattle.flow.specs.Truths.{looked, number_at, partner_number, seen_by, seen_pair, seen_truth}
 use Rattle.sampling.specs.Copies.{IsBranch, IsBranchKind}

@@ -1,31 +1,32 @@
 -- A program in its cloned form beside the program that it was made from.
-use Rattle.std.proofs.Common.{◌≡◌, ◌⊎◌, inl, inr, ℕ, zero, suc, ◌+◌, ◌==◌, ◌<◌, Bool, true, false, ◌&&◌, List, [], ◌∷◌, length, map, Option, None, Some, IsTrue, slice_get, get_or, refl, sym, ap, ◌∙◌, subst, arith}
+use Rattle.std.proofs.Common.{◌≡◌, ℕ, zero, suc, ◌<◌, Bool, true, false, ◌&&◌, List, [], ◌∷◌, length, Option, None, Some, IsTrue, slice_get, refl, ap, ◌∙◌, subst, arith}
 use Rattle.std.specs.List.{Contains}
 use Rattle.std.proofs.lemmas.Bool.{eqb-true}
 use Rattle.std.proofs.lemmas.List.Elements.{All-get_or}
-use Rattle.std.proofs.lemmas.Option.{get_or_from_slice_get, slice_get-get_or, slice_get_within}
+use Rattle.std.proofs.lemmas.Option.{get_or_from_slice_get, slice_get_within}
 use Rattle.flow.specs.declared.node.Node.{Node}
 use Rattle.flow.specs.declared.node.Node.TheVariants.{Mark}
 use Rattle.flow.specs.declared.node.View.{View}
-use Rattle.flow.specs.declared.node.View.TheVariants.{Calls, Marks, Nowhere}
+use Rattle.flow.specs.declared.node.View.TheVariants.{Marks}
 use Rattle.flow.specs.declared.program.Function.{Function}
 use Rattle.flow.specs.declared.program.ProgramParts.{ProgramParts}
 use Rattle.flow.specs.declared.scope.Bounds.{Bounds}
 use Rattle.flow.specs.declared.scope.Names.{Names}
-use Rattle.flow.specs.declared.site.Site.{Site}
-use Rattle.flow.specs.Code.{Callee, Code, callee_of, code_of, node_of, view_at}
+use Rattle.flow.specs.Code.{Callee, callee_of, code_of, node_of, view_at}
 use Rattle.flow.specs.Nodes.{is_own, led_to, names_fit, node_fits, leads_rightly}
 use Rattle.flow.specs.Program.{IsFunction, IsProgram, bounds_of, names_of}
 use Rattle.flow.specs.View.{view}
-use Rattle.regions.specs.Blocks.{After, IsStart, ends_block}
+use Rattle.regions.specs.Blocks.{After, ends_block}
 use Rattle.regions.specs.Flags.{AreFlags, is_in}
-use Rattle.regions.specs.Weighty.{HasSite, IsWeighty, Own, Through, views_of}
+use Rattle.regions.specs.Weighty.{HasSite, IsWeighty, Own, Through}
 use Rattle.regions.proofs.FlagLemmas.{in_within}
 use Rattle.clone_paths.specs.declared.label.Label.{Label}
 use Rattle.clone_paths.specs.declared.label.Label.TheVariants.{Enter}
-use Rattle.clone_paths.specs.Cloned.{ArePlain, Cloned, FunctionCloned, IsPlain, MayClone, NodesCloned}
-use Rattle.clone_paths.specs.Form.{Cloning, IsRight}
-use Rattle.sampling.specs.Copies.{AreCopies, BranchesFork, Copies, cloning, sampled}
+use Rattle.clone_paths.specs.Cloned.{ArePlain, FunctionCloned, IsPlain, MayClone}
+use Rattle.clone_paths.specs.Form.{IsRight}
+use Rattle.sampling.proofs.Crossing.{not_true}
+use Rattle.sampling.specs.Copies.{AreCopies, Copies}
+use Rattle.sampling.specs.Runs.{IsReady}
 
 -- where the blocks of a function begin, and what its copies' nodes are labelled
 pub record Sheet : Type 0 where
@@ -82,11 +83,7 @@ copies_of p gs bank c = record {
   at = λ function place. node_of (slice_get gs function) place;
 }
 
-not_true : (b : Bool) → (b ≡ true → ⊥) → b ≡ false
-not_true true never = absurd (never refl)
-not_true false never = refl
-
-none_there : {A : Type 0} (xs : List A) (k : ℕ) → k < length xs → slice_get xs k ≡ None → ⊥
+pub none_there : {A : Type 0} (xs : List A) (k : ℕ) → k < length xs → slice_get xs k ≡ None → ⊥
 none_there [] k l e = omega arith
 none_there (x ∷ xs) zero l e = cc
 none_there (x ∷ xs) (suc k) l e = none_there xs k (omega arith) e
@@ -176,7 +173,7 @@ sheet_is p gs c function heavy =
     is_sheet (is_in c.weighty) function (slice_get p.functions function) (slice_get gs function) (c.each function) (is_in c.weighty function) refl heavy
     (none_there p.functions function (omega (arith, l, c.are_weighty.few))) (none_there gs function (omega (arith, l, c.are_weighty.few, c.few)))
 
-pub are_copies : (p : ProgramParts) (gs : List Function) (bank : ℕ → ℕ) (c : Pair p gs) → IsProgram p → MayClone p → BranchesFork (code_of p bank) →
+pub are_copies : (p : ProgramParts) (gs : List Function) (bank : ℕ → ℕ) (c : Pair p gs) → IsProgram p → MayClone p → IsReady p →
     AreCopies (copies_of p gs bank c)
 are_copies p gs bank c is may branches = record {
   plain = λ function place. plain_in p function place (slice_get p.functions function) may refl;

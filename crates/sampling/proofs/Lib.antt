@@ -1,6 +1,7 @@
 pub mod Tallies
 pub mod Matching
 pub mod Entering
+pub mod Crossing
 pub mod Settling
 pub mod Passing
 pub mod Faults
@@ -8,3 +9,6 @@ pub mod Visits
 pub mod Steps
 pub mod Forms
 pub mod Whole
+pub mod Labels
+pub mod Functions
+pub mod Labelling

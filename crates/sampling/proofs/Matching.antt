@@ -9,15 +9,15 @@ use Rattle.cbi_base.specs.declared.trap.Trap.{Trap}
 use Rattle.cbi_base.specs.declared.trap.Trap.TheVariants.{Internal, StackOverflow}
 use Rattle.cbi_base.specs.Objects.{Objects}
 use Rattle.cbi_base.specs.Scalars.{truth_of}
-use Rattle.flow.specs.Calls.{call_with, enter, entered, ended_with, give, give_to, locals_made, waiting}
+use Rattle.flow.specs.Calls.{call_with, enter, entered, ended_with, locals_made, waiting}
 use Rattle.flow.specs.Code.{Callee, Code}
 use Rattle.flow.specs.Limits.{active_limit}
 use Rattle.flow.specs.Machine.{EndsFrom, Ends, branch, fork, go_on, halt, spend, step}
 use Rattle.flow.specs.Now.{Effect, Goes, Lacks, Now, Stops, Taken, Takes}
-use Rattle.flow.specs.State.{Ending, Frame, Next, On, Over, State, over}
+use Rattle.flow.specs.State.{Ending, Next, On, Over, State, over}
 use Rattle.flow.proofs.Endings.{ends_over, leads_one}
 use Rattle.sampling.specs.Copies.{Copies, sampled}
-use Rattle.sampling.specs.Follows.{Follows, Own, beside, refit}
+use Rattle.sampling.specs.Follows.{Follows, Own, beside}
 use Rattle.sampling.specs.Runs.{IsSampleOf}
 use Rattle.sampling.specs.Tally.{Tally}
 

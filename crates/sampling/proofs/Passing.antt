@@ -1,7 +1,6 @@
 -- Control passes a node of a copy: it stays in the copy, or it leaves it by an outlet.
-use Rattle.std.proofs.Common.{◌≡◌, ℕ, zero, suc, ◌+◌, ◌<◌, Bool, true, false, if◌then◌else◌, List, [], ◌∷◌, Option, None, Some, refl, sym, ap, ◌∙◌, subst, arith}
+use Rattle.std.proofs.Common.{◌≡◌, ℕ, ◌+◌, Bool, true, false, if◌then◌else◌, List, [], ◌∷◌, None, Some, refl, sym, ap, subst, arith}
 use Rattle.std.specs.List.{Contains}
-use Rattle.cbi_base.specs.declared.scalar.Scalar.{Scalar}
 use Rattle.flow.specs.declared.node.View.{View}
 use Rattle.flow.specs.declared.node.View.TheVariants.{Row, Halts, Forks, Turns, Calls, Gives, Quits, Marks, Skips, Tests, Picks, Imports, Exports, Nowhere}
 use Rattle.flow.specs.Calls.{call, has_result, params_of, waiting}
@@ -9,19 +8,20 @@ use Rattle.flow.specs.Countdown.{at_node}
 use Rattle.flow.specs.Machine.{next_of}
 use Rattle.flow.specs.Now.{Now, any, several}
 use Rattle.flow.specs.Rows.{act}
-use Rattle.flow.specs.State.{Frame, Next, On, State}
+use Rattle.flow.specs.State.{Frame, On, State}
 use Rattle.regions.specs.Blocks.{ends_block}
-use Rattle.weights.specs.Paths.{IsPath, mark_count, marks_on, next_nodes}
-use Rattle.clone_paths.specs.declared.label.Label.TheVariants.{Back, Gate, In, Out}
+use Rattle.weights.specs.Paths.{mark_count, next_nodes}
+use Rattle.clone_paths.specs.declared.label.Label.TheVariants.{Back, Out}
 use Rattle.clone_paths.specs.declared.label.Side.{Side}
 use Rattle.clone_paths.specs.declared.label.Side.TheVariants.{Fast, Slow}
 use Rattle.clone_paths.specs.Form.{IsOut, IsSame, Labelled, MayOwe, is_outlet}
-use Rattle.sampling.specs.Copies.{AreCopies, Copies, cloning, sampled}
+use Rattle.sampling.specs.Copies.{AreCopies, Copies, cloning}
 use Rattle.sampling.specs.Follows.{Copied, Follows, IsAbove, MayRun, Own, Returns, Spot, Stands, Waits, beside}
 use Rattle.sampling.specs.Tally.{Tally}
 use Rattle.sampling.proofs.Entering.{Rest, at_entry, at_gate, give_by, quit_by, views}
 use Rattle.sampling.proofs.Matching.{Matches, call_by, fork_by, halt_by, put_off, row_by, spend_by}
-use Rattle.sampling.proofs.Settling.{Leaves, Passing, Remains, with_copy}
+use Rattle.sampling.proofs.Crossing.{Leaves, Passing, Remains}
+use Rattle.sampling.proofs.Settling.{with_copy}
 
 -- the countdown stays above what the paths from the next node visit
 above_next : (t : Copies) (function node next countdown left : ℕ) (v : View) → t.full.at function node ≡ v → Contains (next_nodes t.weighty v) next →
@@ -176,7 +176,7 @@ out_by t s own count place (Exports next) are tally heavy returns o h = cc
 out_by t s own count place Nowhere are tally heavy returns o h = cc
 
 pub pass_by : (t : Copies) (s : State) (own : Own) (side : Side) (countdown owed place : ℕ) (v : View) → Within t s own side countdown owed v →
-    Passing t side s.function s.node owed v (t.at s.function place) →
+    Passing (cloning t s.function) side s.node owed v (t.at s.function place) →
     Matches t (next_of t.full v s) (On (beside s (with_copy own place (countdown + owed))))
 unfolding next_of
 pass_by t s own side countdown owed place v w (Leaves m z o q label) =

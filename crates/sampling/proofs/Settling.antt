@@ -1,81 +1,27 @@
 -- What is owed is paid before control leaves the block.
-use Rattle.std.proofs.Common.{◌≡◌, ◌⊎◌, inl, inr, ℕ, zero, suc, ◌+◌, ◌-◌, ◌<◌, ◌≤◌, Bool, true, false, ◌||◌, if◌then◌else◌, nat_lt, List, [], ◌∷◌, Option, None, Some, refl, sym, ap, ◌∙◌, subst, arith}
+use Rattle.std.proofs.Common.{◌≡◌, ℕ, zero, suc, ◌+◌, ◌-◌, ◌<◌, Bool, true, false, if◌then◌else◌, nat_lt, Some, refl, sym, ap, ◌∙◌, subst, arith}
 use Rattle.std.specs.Bool.{MatchBool}
 use Rattle.std.specs.List.{Contains}
 use Rattle.std.proofs.lemmas.Bool.Decides.{nat_tests}
 use Rattle.cbi_base.specs.declared.outcome.Outcome.TheVariants.{Trapped}
 use Rattle.cbi_base.specs.declared.trap.Trap.TheVariants.{Internal}
 use Rattle.flow.specs.declared.node.View.{View}
-use Rattle.flow.specs.declared.node.View.TheVariants.{Row, Halts, Forks, Turns, Calls, Gives, Quits, Marks, Skips, Tests, Picks, Imports, Exports, Nowhere}
-use Rattle.flow.specs.Countdown.{at_node, skip, with_force}
+use Rattle.flow.specs.declared.node.View.TheVariants.{Skips}
+use Rattle.flow.specs.Countdown.{skip}
 use Rattle.flow.specs.Machine.{next_of}
 use Rattle.flow.specs.Nodes.{led_to}
 use Rattle.flow.specs.State.{Next, On, State, over}
 use Rattle.regions.specs.Blocks.{ends_block}
 use Rattle.weights.specs.Paths.{mark_count}
-use Rattle.clone_paths.specs.declared.label.Label.TheVariants.{In, Out}
+use Rattle.clone_paths.specs.declared.label.Label.TheVariants.{In}
 use Rattle.clone_paths.specs.declared.label.Side.{Side}
 use Rattle.clone_paths.specs.declared.label.Side.TheVariants.{Fast, Slow}
-use Rattle.clone_paths.specs.Form.{Cloning, Here, IsFree, IsIn, IsOwing, IsSame, Labelled, MayOwe, Owed, is_last, is_outlet}
-use Rattle.sampling.specs.Copies.{AreCopies, Copies, cloning, sampled}
+use Rattle.clone_paths.specs.Form.{Here, IsIn, IsOwing, IsSame, Labelled, MayOwe, Owed, is_last}
+use Rattle.sampling.specs.Copies.{AreCopies, Copies, cloning}
 use Rattle.sampling.specs.Follows.{Own, beside}
+use Rattle.sampling.proofs.Crossing.{Passing, all_last, free_passes, in_owing, remains}
 use Rattle.sampling.proofs.Entering.{views}
 use Rattle.sampling.proofs.Matching.{Matches}
-
--- control passes the node: it leaves the copy, or stays in it, where nothing is owed once the block ends
-pub data Passing (t : Copies) (side : Side) (function node owed : ℕ) (v q : View) : Type 0 where
-  Leaves : (place : ℕ) → owed ≡ 0 → is_outlet t.weighty v ≡ true → q ≡ Exports place → t.label function place ≡ Some (Out side node) →
-      Passing t side function node owed v q
-  Remains : is_outlet t.weighty v ≡ false → (ends_block v ≡ true → owed ≡ 0) → IsSame (cloning t function) side owed v q →
-      Passing t side function node owed v q
-
-free_by : (t : Copies) (side : Side) (function node : ℕ) (v q : View) (b : Bool) → is_outlet t.weighty v ≡ b →
-    MatchBool b ((m : ℕ) × (q ≡ Exports m) × (t.label function m ≡ Some (Out side node))) (IsSame (cloning t function) side 0 v q) →
-    Passing t side function node 0 v q
-free_by t side function node v q true e h = Leaves h.0 refl e h.1 h.2
-free_by t side function node v q false e h = Remains e (λ ends. refl) h
-
-free_passes : (t : Copies) (side : Side) (function node : ℕ) (v q : View) → IsFree (cloning t function) side node v q → Passing t side function node 0 v q
-free_passes t side function node v q h = free_by t side function node v q (is_outlet t.weighty v) refl h
-
--- a list of block starts
-all_last : (starts : ℕ → Bool) (l : List ℕ) → ((x : ℕ) → Contains l x → starts x ≡ true) → is_last starts l ≡ true
-all_last starts [] h = refl
-all_last starts (x ∷ []) h = h x (0, omega arith, refl)
-all_last starts (x ∷ y ∷ l) h = ap (λ (b : Bool). b || is_last starts (y ∷ l)) (h x (0, omega arith, refl))
-
-outlet_last : (weighty starts : ℕ → Bool) (v : View) → is_outlet weighty v ≡ true → (ends_block v ≡ true → is_last starts (led_to v) ≡ true) →
-    is_last starts (led_to v) ≡ true
-outlet_last weighty starts Gives o h = refl
-outlet_last weighty starts Quits o h = refl
-outlet_last weighty starts (Calls function next) o h = h refl
-outlet_last weighty starts (Row op next) o h = cc
-outlet_last weighty starts (Halts op) o h = cc
-outlet_last weighty starts (Forks a b) o h = cc
-outlet_last weighty starts (Turns next) o h = cc
-outlet_last weighty starts (Marks site next) o h = cc
-outlet_last weighty starts (Skips by next) o h = cc
-outlet_last weighty starts (Tests site next) o h = cc
-outlet_last weighty starts (Picks weight fast slow) o h = cc
-outlet_last weighty starts (Imports next) o h = cc
-outlet_last weighty starts (Exports next) o h = cc
-outlet_last weighty starts Nowhere o h = cc
-
-not_true : (b : Bool) → (b ≡ true → ⊥) → b ≡ false
-not_true true never = absurd (never refl)
-not_true false never = refl
-
-both_ways : (b : Bool) → b ≡ true → b ≡ false → ⊥
-both_ways b e f = cc
-
--- within a block control stays in the copy
-remains : (t : Copies) (side : Side) (function node owed : ℕ) (v q : View) → (ends_block v ≡ true → is_last (t.starts function) (led_to v) ≡ true) →
-    is_last (t.starts function) (led_to v) ≡ false → IsSame (cloning t function) side owed v q → Passing t side function node owed v q
-remains t side function node owed v q ends last same =
-    Remains
-    (not_true (is_outlet t.weighty v) (λ o. both_ways (is_last (t.starts function) (led_to v)) (outlet_last t.weighty (t.starts function) v o ends) last))
-    (λ e. absurd (both_ways (is_last (t.starts function) (led_to v)) (ends e) last))
-    same
 
 ends_last : (t : Copies) (function node : ℕ) (v : View) → AreCopies t → t.weighty function ≡ true → t.full.at function node ≡ v →
     ends_block v ≡ true → is_last (t.starts function) (led_to v) ≡ true
@@ -88,22 +34,6 @@ pub here_of : (t : Copies) (function : ℕ) (side : Side) (place node owed : ℕ
     mark_count (t.full.at function node) ≡ 0 → t.label function place ≡ Some (In side node owed)
 here_of t function side place node owed (Here e) m = e
 here_of t function side place node owed (Owed site next fast at starts rest) m = let k = ap mark_count at in absurd (omega arith)
-
-in_owing : (t : Cloning) (side : Side) (node owed : ℕ) (v q : View) → mark_count v ≡ 0 → IsIn t side node owed v q → IsOwing t side node owed v q
-in_owing t side node owed (Marks site next) q m h = absurd (omega arith)
-in_owing t side node owed (Row op next) q m h = h
-in_owing t side node owed (Halts op) q m h = h
-in_owing t side node owed (Forks a b) q m h = h
-in_owing t side node owed (Turns next) q m h = h
-in_owing t side node owed (Calls function next) q m h = h
-in_owing t side node owed Gives q m h = h
-in_owing t side node owed Quits q m h = h
-in_owing t side node owed (Skips by next) q m h = h
-in_owing t side node owed (Tests site next) q m h = h
-in_owing t side node owed (Picks weight fast slow) q m h = h
-in_owing t side node owed (Imports next) q m h = h
-in_owing t side node owed (Exports next) q m h = h
-in_owing t side node owed Nowhere q m h = h
 
 -- what the node in the copy is
 owing_of : (t : Copies) (function : ℕ) (side : Side) (place node owed : ℕ) (v : View) → AreCopies t → t.weighty function ≡ true → t.full.at function node ≡ v →
@@ -134,7 +64,7 @@ skip_by t a s own count by left place some is e h =
 -- the sampled program pays what it owes, where the block ends here, and then passes the node
 abbrev pub Onward : Copies → Next → State → Own → Side → ℕ → View → Type 0
 Onward t a s own side countdown v =
-    (place owed : ℕ) → MayOwe side owed → Passing t side s.function s.node owed v (t.at s.function place) → Matches t a (On (beside s (with_copy own place (countdown + owed))))
+    (place owed : ℕ) → MayOwe side owed → Passing (cloning t s.function) side s.node owed v (t.at s.function place) → Matches t a (On (beside s (with_copy own place (countdown + owed))))
 
 none_owed : (side : Side) → MayOwe side 0
 none_owed Fast = tt
@@ -149,16 +79,16 @@ settle_by : (t : Copies) (a : Next) (s : State) (own : Own) (side : Side) (count
 settle_by t a s own side countdown owed v true are some heavy e m may last h go =
     let owing = owing_of t s.function side h.0 s.node 0 v are heavy e m h.2 in
     skip_by t a s own (countdown + suc owed) (suc owed) (countdown + 0) h.0 (omega arith) (omega arith) h.1
-    (go h.0 0 (none_owed side) (free_passes t side s.function s.node v (t.at s.function h.0) owing))
+    (go h.0 0 (none_owed side) (free_passes (cloning t s.function) side s.node v (t.at s.function h.0) owing))
 settle_by t a s own side countdown owed v false are some heavy e m may last h go =
     go own.node (suc owed) may
-    (remains t side s.function s.node (suc owed) v (t.at s.function own.node) (ends_last t s.function s.node v are heavy e) last h)
+    (remains (cloning t s.function) side s.node (suc owed) v (t.at s.function own.node) (ends_last t s.function s.node v are heavy e) last h)
 
 pub settle : (t : Copies) (a : Next) (s : State) (own : Own) (side : Side) (countdown owed : ℕ) (v : View) → AreCopies t → 0 < countdown →
     t.weighty s.function ≡ true → t.full.at s.function s.node ≡ v → mark_count v ≡ 0 → MayOwe side owed →
     Labelled (cloning t s.function) side own.node s.node owed → Onward t a s own side countdown v → Matches t a (On (beside s (with_copy own own.node (countdown + owed))))
 settle t a s own side countdown zero v are some heavy e m may l go =
-    go own.node 0 may (free_passes t side s.function s.node v (t.at s.function own.node) (owing_of t s.function side own.node s.node 0 v are heavy e m l))
+    go own.node 0 may (free_passes (cloning t s.function) side s.node v (t.at s.function own.node) (owing_of t s.function side own.node s.node 0 v are heavy e m l))
 settle t a s own side countdown (suc owed) v are some heavy e m may l go =
     settle_by t a s own side countdown owed v (is_last (t.starts s.function) (led_to v)) are some heavy e m may refl
     (owing_of t s.function side own.node s.node (suc owed) v are heavy e m l) go

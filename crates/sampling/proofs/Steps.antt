@@ -1,48 +1,27 @@
 -- One step of the full program, and what the sampled one does meanwhile.
-use Rattle.std.proofs.Common.{◌≡◌, ◌⊎◌, inl, inr, ℕ, zero, suc, ◌+◌, Bool, true, false, List, [], ◌∷◌, Option, None, Some, refl, sym, ap, ◌∙◌, subst, arith}
+use Rattle.std.proofs.Common.{◌≡◌, inl, inr, ℕ, ◌+◌, Bool, false, ◌∷◌, Option, None, Some, refl, sym, ap, ◌∙◌, subst}
 use Rattle.flow.specs.declared.node.View.{View}
 use Rattle.flow.specs.declared.node.View.TheVariants.{Row, Halts, Forks, Turns, Calls, Gives, Quits, Marks, Skips, Tests, Picks, Imports, Exports, Nowhere}
-use Rattle.cbi_base.specs.declared.outcome.Outcome.TheVariants.{Trapped}
-use Rattle.cbi_base.specs.declared.trap.Trap.TheVariants.{Internal}
 use Rattle.flow.specs.Calls.{call, has_result, params_of, waiting}
 use Rattle.flow.specs.Countdown.{at_node}
 use Rattle.flow.specs.Machine.{next_of, step}
 use Rattle.flow.specs.Now.{Now, any, several}
 use Rattle.flow.specs.Rows.{act}
 use Rattle.flow.specs.Sampling.{IsPositive}
-use Rattle.flow.specs.State.{Frame, Next, On, State, over}
-use Rattle.weights.specs.Paths.{mark_count}
+use Rattle.flow.specs.State.{Frame, On, State}
 use Rattle.clone_paths.specs.Cloned.{IsPlain}
 use Rattle.clone_paths.specs.declared.label.Label.TheVariants.{In}
 use Rattle.clone_paths.specs.declared.label.Side.{Side}
-use Rattle.clone_paths.specs.Form.{Here, IsIn, IsVisit, Labelled, MayOwe, Owed}
+use Rattle.clone_paths.specs.Form.{Here, IsIn, IsVisit, Labelled, Owed}
 use Rattle.sampling.specs.Copies.{AreCopies, Copies, cloning}
-use Rattle.sampling.specs.Follows.{Copied, Follows, MayRun, Own, Returns, Spot, Stands, Waits, Weightless, beside}
+use Rattle.sampling.specs.Follows.{Copied, Follows, Own, Returns, Spot, Stands, Waits, Weightless, beside}
 use Rattle.sampling.specs.Tally.{Tally}
+use Rattle.sampling.proofs.Crossing.{visit_cases}
 use Rattle.sampling.proofs.Entering.{Rest, at_entry, give_by, quit_by, views}
 use Rattle.sampling.proofs.Matching.{Matches, call_by, fork_by, halt_by, internal, put_off, row_by, spend_by, stays}
 use Rattle.sampling.proofs.Passing.{Within, pass_by}
 use Rattle.sampling.proofs.Settling.{settle, with_copy}
 use Rattle.sampling.proofs.Visits.{owed_visit, visit_by}
-
-abbrev pub VisitCases : View → Type 0
-VisitCases v = (mark_count v ≡ 0) ⊎ ((site next : ℕ) × (v ≡ Marks site next))
-
-visit_cases : (v : View) → VisitCases v
-visit_cases (Marks site next) = inr (site, next, refl)
-visit_cases (Row op next) = inl refl
-visit_cases (Halts op) = inl refl
-visit_cases (Forks a b) = inl refl
-visit_cases (Turns next) = inl refl
-visit_cases (Calls function next) = inl refl
-visit_cases Gives = inl refl
-visit_cases Quits = inl refl
-visit_cases (Skips by next) = inl refl
-visit_cases (Tests site next) = inl refl
-visit_cases (Picks weight fast slow) = inl refl
-visit_cases (Imports next) = inl refl
-visit_cases (Exports next) = inl refl
-visit_cases Nowhere = inl refl
 
 -- a node that has a node of its own in the copy
 here_by : (t : Copies) (s : State) (own : Own) (side : Side) (countdown owed : ℕ) (v : View) → IsPositive t.full.bank → Within t s own side countdown owed v →

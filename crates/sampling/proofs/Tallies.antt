@@ -1,9 +1,9 @@
 -- The countdown after one more visit.
-use Rattle.std.proofs.Common.{◌≡◌, ◌⊎◌, inl, inr, ℕ, zero, suc, ◌+◌, ◌<◌, ◌≤◌, Bool, true, false, cond, List, [], ◌∷◌, ◌++◌, length, length-append, refl, sym, ap, ◌∙◌, arith}
+use Rattle.std.proofs.Common.{◌≡◌, inl, inr, ℕ, zero, suc, ◌+◌, ◌<◌, ◌≤◌, Bool, true, false, cond, List, [], ◌∷◌, ◌++◌, length, length-append, refl, sym, ap, ◌∙◌, arith}
 use Rattle.std.proofs.lemmas.Bool.{cases_lt}
 use Rattle.std.proofs.lemmas.List.{append-nil}
 use Rattle.cbi_base.specs.declared.observation.Observation.{Observation}
-use Rattle.flow.specs.Sampling.{total_of, IsPositive, IsSampled, is_sampled, samples}
+use Rattle.flow.specs.Sampling.{total_of, IsPositive, is_sampled, samples}
 use Rattle.flow.proofs.SampledTotals.{samples-more, sampled-found, sampled-tested, total-below}
 use Rattle.sampling.specs.Tally.{Tally}
 

@@ -1,37 +1,33 @@
 -- The visit of a site: in the fast copy the countdown is lowered, at once or later; in the slow copy it is tested.
-use Rattle.std.proofs.Common.{◌≡◌, ◌⊎◌, inl, inr, ℕ, zero, suc, ◌+◌, ◌-◌, ◌++◌, ◌<◌, Bool, true, false, List, [], ◌∷◌, Option, None, Some, Result, Ok, Err, refl, sym, ap, ◌∙◌, subst, arith}
-use Rattle.std.specs.List.{Contains}
+use Rattle.std.proofs.Common.{◌≡◌, inl, inr, ℕ, zero, suc, ◌+◌, ◌-◌, ◌++◌, ◌<◌, true, [], ◌∷◌, Some, Result, Ok, Err, refl, sym, ap, subst, arith}
 use Rattle.cbi_base.specs.declared.observation.Seen.{Seen}
 use Rattle.cbi_base.specs.declared.outcome.Outcome.TheVariants.{Trapped}
-use Rattle.cbi_base.specs.declared.outcome.Work.{Work}
 use Rattle.cbi_base.specs.declared.trap.Trap.{Trap}
-use Rattle.cbi_base.specs.declared.trap.Trap.TheVariants.{Internal}
-use Rattle.flow.specs.declared.node.View.{View}
 use Rattle.flow.specs.declared.node.View.TheVariants.{Forks, Marks, Skips, Tests}
 use Rattle.flow.specs.Countdown.{at_node, lowered, observed, redrawn, with_seen, with_test}
-use Rattle.flow.specs.Machine.{fork, next_of}
-use Rattle.flow.specs.Now.{any}
+use Rattle.flow.specs.Machine.{next_of}
 use Rattle.flow.specs.Sampling.{IsPositive}
-use Rattle.flow.specs.State.{Next, On, State, Watch, over}
+use Rattle.flow.specs.State.{Next, On, State, over}
 use Rattle.flow.specs.Truths.{looked}
 use Rattle.weights.specs.Paths.{mark_count}
 use Rattle.clone_paths.specs.declared.label.Side.{Side}
 use Rattle.clone_paths.specs.declared.label.Side.TheVariants.{Fast, Slow}
-use Rattle.clone_paths.specs.Form.{IsVisit, Labelled, MayOwe, is_outlet}
+use Rattle.clone_paths.specs.Form.{IsVisit, Labelled, MayOwe}
 use Rattle.sampling.specs.Copies.{AreCopies, Copies, cloning, sampled}
-use Rattle.sampling.specs.Follows.{Copied, Follows, IsAbove, MayRun, Own, Returns, Stands, Waits, beside}
+use Rattle.sampling.specs.Follows.{Copied, IsAbove, MayRun, Own, Returns, beside}
 use Rattle.sampling.specs.Tally.{Tally}
 use Rattle.sampling.proofs.Entering.{views}
+use Rattle.sampling.proofs.Crossing.{Leaves, Passing, Remains}
 use Rattle.sampling.proofs.Faults.{ForkTraps, unseen}
 use Rattle.sampling.proofs.Matching.{Matches, over_both, stays}
 use Rattle.sampling.proofs.Passing.{Within, run_next}
-use Rattle.sampling.proofs.Settling.{Leaves, Passing, Remains, settle, skip_by, with_copy}
+use Rattle.sampling.proofs.Settling.{settle, skip_by, with_copy}
 use Rattle.sampling.proofs.Tallies.{tally_hit, tally_miss}
 
 -- the fork traps in the copy too
 fault_passes : (t : Copies) (s : State) (own : Own) (side : Side) (countdown owed count place next a b : ℕ) (trap : Trap) →
     Tally t.full.bank s.watch.seen own.watch.seen countdown own.watch.drawn → ForkTraps s.now.operands s.now trap →
-    Passing t side s.function next owed (Forks a b) (t.at s.function place) →
+    Passing (cloning t s.function) side next owed (Forks a b) (t.at s.function place) →
     Matches t (over (Trapped trap) s) (On (beside s (with_copy own place count)))
 unfolding next_of
 fault_passes t s own side countdown owed count place next a b trap tally traps (Leaves m z o q label) = cc

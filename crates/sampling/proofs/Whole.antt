@@ -1,9 +1,8 @@
 -- Whole runs.
-use Rattle.std.proofs.Common.{◌≡◌, ℕ, zero, suc, ◌+◌, ◌<◌, ◌≤◌, Bool, true, false, List, [], ◌∷◌, length, Option, None, Some, slice_get, refl, sym, ap, ◌∙◌, subst, arith}
+use Rattle.std.proofs.Common.{◌≡◌, ℕ, zero, suc, Bool, true, false, List, [], Option, None, Some, slice_get, refl, sym, ap, ◌∙◌, subst, arith}
 use Rattle.std.proofs.Math.Path.{fun_ext}
 use Rattle.cbi_base.specs.declared.observation.Observation.{Observation}
 use Rattle.cbi_base.specs.declared.outcome.Outcome.TheVariants.{Trapped}
-use Rattle.cbi_base.specs.declared.outcome.Work.{Work}
 use Rattle.cbi_base.specs.declared.trap.Trap.TheVariants.{Internal, StackOverflow}
 use Rattle.cbi_base.specs.Objects.{Objects, no_objects}
 use Rattle.flow.specs.declared.program.Function.{Function}
@@ -11,21 +10,21 @@ use Rattle.flow.specs.declared.program.Global.{Global}
 use Rattle.flow.specs.declared.program.ProgramParts.{ProgramParts}
 use Rattle.flow.specs.declared.program.Text.{Text}
 use Rattle.flow.specs.declared.site.Site.{Site}
-use Rattle.flow.specs.Code.{Callee, Code, callee_of, code_of, node_of}
-use Rattle.flow.specs.Counting.{counts_of, result_of}
-use Rattle.flow.specs.Machine.{EndsFrom, Ends, MachineEnds, at_start, begin, begin_with, each_made, first_objects, no_work, run, step}
+use Rattle.flow.specs.Code.{Callee, Code, callee_of, code_of}
+use Rattle.flow.specs.Counting.{counts_of}
+use Rattle.flow.specs.Machine.{EndsFrom, MachineEnds, at_start, begin_with, each_made, first_objects, no_work, run, step}
 use Rattle.flow.specs.Program.{IsProgram, parts_of}
-use Rattle.flow.specs.Sampling.{IsPositive, samples, total_of}
-use Rattle.flow.specs.State.{Ending, Next, On, Over, State, Watch}
+use Rattle.flow.specs.Sampling.{IsPositive, total_of}
+use Rattle.flow.specs.State.{Ending, Next, On, Over, State}
 use Rattle.flow.proofs.Endings.{goes}
 use Rattle.clone_paths.specs.Cloned.{Cloned, MayClone}
 use Rattle.sampling.specs.Copies.{AreCopies, Copies, sampled}
 use Rattle.sampling.specs.Follows.{Follows, Own, beside}
-use Rattle.sampling.specs.Runs.{IsReady, IsSampleOf, RunsLike, SampledRuns}
+use Rattle.sampling.specs.Runs.{IsReady, RunsLike, SampledRuns}
 use Rattle.sampling.specs.Tally.{Tally}
 use Rattle.sampling.proofs.Entering.{Rest, at_entry}
 use Rattle.sampling.proofs.Forms.{Pair, are_copies, copies_of, same_callee}
-use Rattle.sampling.proofs.Matching.{Finished, Matches, Moved, enter_by, over_both}
+use Rattle.sampling.proofs.Matching.{Finished, Matches, enter_by, over_both}
 use Rattle.sampling.proofs.Steps.{followed}
 
 abbrev Faultless : Ending → Type 0
@@ -95,12 +94,12 @@ same_code p gs bank c =
     ap (λ (callee : ℕ → Option Callee). let code : Code = record (sampled t) { callee = callee } in code) callees
 
 with_functions : (p : ProgramParts) (gs : List Function) (input : List ℕ) (bank : ℕ → ℕ) (turns : ℕ) (full : Ending) → IsProgram p → MayClone p → IsReady p →
-    Pair p gs → IsPositive bank → MachineEnds p input bank turns full → RunsLike p (record p { functions = gs }) input bank turns full
-with_functions p gs input bank turns full is may ready c positive ends =
+    Pair p gs → IsPositive bank → MachineEnds p input bank turns full → Faultless full → RunsLike p (record p { functions = gs }) input bank turns full
+with_functions p gs input bank turns full is may ready c positive ends faultless =
     let t = copies_of p gs bank c in
-    let are = are_copies p gs bank c is may (ready.branches bank) in
+    let are = are_copies p gs bank c is may ready in
     let made = each_made (first_objects p) no_objects in
-    let f = ends_by t are positive full (ready.never input bank turns full ends) (begin_with t.full p.main input turns made)
+    let f = ends_by t are positive full faultless (begin_with t.full p.main input turns made)
     (begin_with (sampled t) p.main input turns made) (begins t p.main turns input made are positive) ends
     in
     record {
@@ -118,7 +117,7 @@ same_parts p q c =
     ∙ ap (λ (sites : List Site). parts_of q.texts q.globals q.functions q.main sites) (sym c.sites)
 
 pub sampled_runs : SampledRuns
-sampled_runs p q input bank turns full is may ready c positive ends =
+sampled_runs p q is may ready c input bank turns full positive ends faultless =
     subst (λ (x : ProgramParts). RunsLike p x input bank turns full) (same_parts p q c)
     (with_functions p q.functions input bank turns full is may ready
-    (record { weighty = c.weighty; are_weighty = c.are_weighty; few = c.functions.few; each = c.functions.each }) positive ends)
+    (record { weighty = c.weighty; are_weighty = c.are_weighty; few = c.functions.few; each = c.functions.each }) positive ends faultless)

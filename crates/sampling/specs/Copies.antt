@@ -39,10 +39,10 @@ IsBranch None = ⊥
 IsBranch (Some s) = IsBranchKind s.kind
 
 -- after the visit of a condition's site control forks
-abbrev pub BranchesFork : Code → Type 0
-BranchesFork code =
-    (function place site next : ℕ) → code.at function place ≡ Marks site next → IsBranch (code.site site) →
-    (when_true when_false : ℕ) × (code.at function next ≡ Forks when_true when_false)
+abbrev pub BranchesFork : (ℕ → ℕ → View) → (ℕ → Option Site) → Type 0
+BranchesFork at site_of =
+    (function place site next : ℕ) → at function place ≡ Marks site next → IsBranch (site_of site) →
+    (when_true when_false : ℕ) × (at function next ≡ Forks when_true when_false)
 
 -- the sampled program is in the cloned form. A weightless function visits no site, and calls weightless functions alone.
 pub record AreCopies (t : Copies) : Type 0 where
@@ -54,4 +54,4 @@ pub record AreCopies (t : Copies) : Type 0 where
       Contains (led_to (t.full.at function place)) next → t.starts function next ≡ true
   pub entry : (function : ℕ) → t.weighty function ≡ true → t.label function 0 ≡ Some Enter
   pub each : (function place : ℕ) (l : Label) → t.weighty function ≡ true → t.label function place ≡ Some l → IsRight (cloning t function) l (t.at function place)
-  pub branches : BranchesFork t.full
+  pub branches : BranchesFork t.full.at t.full.site

@@ -1,7 +1,6 @@
 -- When a state of the sampled program follows one of the full program. The state of the sampled program is built from the other: they share the
 -- running functions, operands, locals, objects, input, output and turns.
-use Rattle.std.specs.Prelude.{◌≡◌, ℕ, ◌+◌, ◌<◌, List, [], ◌∷◌, Bool, true, false, Option, None, Some}
-use Rattle.flow.specs.Code.{Code}
+use Rattle.std.specs.Prelude.{◌≡◌, ℕ, ◌+◌, ◌<◌, List, [], ◌∷◌, true, false, Option, None, Some}
 use Rattle.flow.specs.State.{Frame, State, Watch}
 use Rattle.weights.specs.Paths.{IsPath, marks_on}
 use Rattle.clone_paths.specs.declared.label.Label.TheVariants.{Back}

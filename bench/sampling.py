@@ -1,0 +1,127 @@
+#!/usr/bin/env python3
+"""Times a loop of 10,000,000 turns without sites, with each visit of its sites observed, and sampled.
+
+usage: sampling.py CBI SAMPLER      the built tools of the crates cbi and sampled_file (README.md says how they are built)
+       sampling.py --nodes SAMPLER  how many nodes a turn takes, by kind, without timing
+
+The loop has one site, its condition, or two, with a condition within it. Printed are processor seconds and the most memory of each run, plain, full,
+and sampled with made banks of mean 1, 10, 100 and 1000; and what the sampled run counted: fast and slow choices, and tests.
+"""
+import os
+import random
+import subprocess
+import sys
+import tempfile
+
+from programs import END, get, program, put, step
+from timing import timed
+
+TURNS = "100000000"
+ROUNDS = 10000000
+MEANS = (1, 10, 100, 1000)
+SITES = ["site branch 0 1 0 for", "site branch 0 1 1 if"]
+
+
+def loop(rounds, sites, marked):
+    """A loop, and within it a condition where there are two sites; with marks, or without."""
+    mark = [[f"mark {n}"] if marked else [] for n in range(2)]
+    body = get(0) + ["push i 1", "math and"] + mark[1] + ["fork @odd @on", "odd:"] + step(1) + ["on:"] if sites == 2 else step(1)
+    lines = put(0, 0) + put(1, 0) + ["loop:"] + get(0) + [f"push i {rounds}", "math lt"] + mark[0] + ["fork @in @out", "in:"] + body + step(0)
+    return program([("main", "value", 0, [1, 1], lines + ["again @loop", "out:"] + END)], 0, SITES[:sites] if marked else ())
+
+
+def sampled(sampler, text):
+    return subprocess.run([sampler], input=text.encode(), stdout=subprocess.PIPE, check=True).stdout.decode()
+
+
+def draws(mean):
+    """Numbers of a bank of this mean: the tosses of a coin up to the first that falls so."""
+    chance = random.Random(mean)
+    while True:
+        count = 1
+        while chance.random() * mean >= 1:
+            count += 1
+        yield count
+
+
+def walked(text, bank):
+    """How often a run of this one function comes to each kind of node."""
+    rows = text.split("\n")
+    first = rows.index("locals 1 1") + 1
+    nodes = [row.split() for row in rows[first:-2]]
+    cells, operands, copy, shared, place, seen = {}, [], None, next(bank), 0, {}
+    while True:
+        row = nodes[place]
+        kind, words = row[0], row[1:]
+        seen[kind] = seen.get(kind, 0) + 1
+        place = int(words[-1]) if words else 0
+        if kind == "push":
+            operands.append(int(words[1]))
+        elif kind == "local":
+            operands.append(int(words[0]))
+        elif kind == "load":
+            operands.append(cells[operands.pop()])
+        elif kind == "store":
+            value, cell = operands.pop(), operands.pop()
+            cells[cell] = value
+            operands.append(value)
+        elif kind == "drop":
+            operands.pop()
+        elif kind == "math":
+            b, a = operands.pop(), operands.pop()
+            operands.append({"lt": int(a < b), "and": a & b, "add": a + b}[words[0]])
+        elif kind == "fork":
+            place = int(words[0]) if operands.pop() else int(words[1])
+        elif kind == "import":
+            copy = shared
+        elif kind == "export":
+            shared, copy = copy, None
+        elif kind == "skip":
+            copy -= int(words[0])
+        elif kind == "test":
+            copy -= 1
+            if copy == 0:
+                seen["observed"] = seen.get("observed", 0) + 1
+                copy = next(bank)
+        elif kind == "choose":
+            place = int(words[1]) if copy > int(words[0]) else int(words[2])
+        elif kind == "return":
+            return seen
+
+
+def print_nodes(sampler, rounds=100000):
+    """Nodes a turn, and how many of them belong to sampling."""
+    for sites in (1, 2):
+        texts = [("plain", loop(rounds, sites, False), 1), ("full", loop(rounds, sites, True), 1)]
+        clone = sampled(sampler, texts[1][1])
+        for name, text, mean in texts + [("sampled", clone, mean) for mean in MEANS]:
+            seen = walked(text, draws(mean))
+            observed = seen.pop("observed", 0)
+            own = {kind: seen[kind] / rounds for kind in ("mark", "choose", "test", "skip") if kind in seen}
+            parts = " ".join(f"{kind} {count:.3f}" for kind, count in own.items())
+            print(f"sites {sites} {name:8} mean {mean:4} nodes {sum(seen.values()) / rounds:6.2f} a turn: {parts} observed {observed / rounds:.4f}")
+
+
+def print_times(tool, sampler):
+    with tempfile.TemporaryDirectory() as folder:
+        path = {name: os.path.join(folder, name) for name in ("program", "bank", "report", "out")}
+        for sites in (1, 2):
+            full = loop(ROUNDS, sites, True)
+            runs = [("plain", loop(ROUNDS, sites, False), 1), ("full", full, 1)]
+            clone = sampled(sampler, full)
+            for name, text, mean in runs + [("sampled", clone, mean) for mean in MEANS]:
+                with open(path["program"], "w", encoding="ascii") as file:
+                    file.write(text)
+                timed([tool, "bank", "--rate", str(mean), "--count", "65536", "--seed", "7"], path["bank"])
+                words = [tool, "run", "--turns", TURNS, "--bank", path["bank"], "--report", path["report"], "--run", "1", path["program"]]
+                status, seconds, _, memory, _, _ = min(timed(words, path["out"]) for _ in range(3))
+                with open(path["report"], encoding="ascii") as report:
+                    work = next(line.strip() for line in report if line.startswith("work "))
+                print(f"sites {sites} {name:8} mean {mean:4} {seconds:6.2f} s {memory:5} MB status {status} {work}", flush=True)
+                os.remove(path["report"])
+
+
+if sys.argv[1] == "--nodes":
+    print_nodes(sys.argv[2])
+else:
+    print_times(sys.argv[1], sys.argv[2])

@@ -1,0 +1,132 @@
+-- How control passes a node of a copy.
+use Rattle.std.proofs.Common.{◌≡◌, ◌⊎◌, inl, inr, ℕ, zero, suc, ◌+◌, Bool, true, false, ◌||◌, List, [], ◌∷◌, Some, refl, ap, subst, arith}
+use Rattle.std.specs.Bool.{MatchBool}
+use Rattle.std.specs.List.{Contains}
+use Rattle.flow.specs.declared.node.View.{View}
+use Rattle.flow.specs.declared.node.View.TheVariants.{Row, Halts, Forks, Turns, Calls, Gives, Quits, Marks, Skips, Tests, Picks, Imports, Exports, Nowhere}
+use Rattle.flow.specs.Nodes.{led_to}
+use Rattle.regions.specs.Blocks.{ends_block}
+use Rattle.weights.specs.Paths.{mark_count}
+use Rattle.clone_paths.specs.declared.label.Label.TheVariants.{Out}
+use Rattle.clone_paths.specs.declared.label.Side.{Side}
+use Rattle.clone_paths.specs.declared.label.Side.TheVariants.{Fast, Slow}
+use Rattle.clone_paths.specs.Form.{Cloning, IsFree, IsIn, IsOwing, IsSame, IsVisit, Labelled, MayOwe, is_last, is_outlet}
+
+-- control passes the node: it leaves the copy, or stays in it, where nothing is owed once the block ends
+pub data Passing (t : Cloning) (side : Side) (node owed : ℕ) (v q : View) : Type 0 where
+  Leaves : (place : ℕ) → owed ≡ 0 → is_outlet t.weighty v ≡ true → q ≡ Exports place → t.label place ≡ Some (Out side node) →
+      Passing t side node owed v q
+  Remains : is_outlet t.weighty v ≡ false → (ends_block v ≡ true → owed ≡ 0) → IsSame t side owed v q →
+      Passing t side node owed v q
+
+free_by : (t : Cloning) (side : Side) (node : ℕ) (v q : View) (b : Bool) → is_outlet t.weighty v ≡ b →
+    MatchBool b ((m : ℕ) × (q ≡ Exports m) × (t.label m ≡ Some (Out side node))) (IsSame t side 0 v q) →
+    Passing t side node 0 v q
+free_by t side node v q true e h = Leaves h.0 refl e h.1 h.2
+free_by t side node v q false e h = Remains e (λ ends. refl) h
+
+pub free_passes : (t : Cloning) (side : Side) (node : ℕ) (v q : View) → IsFree t side node v q → Passing t side node 0 v q
+free_passes t side node v q h = free_by t side node v q (is_outlet t.weighty v) refl h
+
+-- a list of block starts
+pub all_last : (starts : ℕ → Bool) (l : List ℕ) → ((x : ℕ) → Contains l x → starts x ≡ true) → is_last starts l ≡ true
+all_last starts [] h = refl
+all_last starts (x ∷ []) h = h x (0, omega arith, refl)
+all_last starts (x ∷ y ∷ l) h = ap (λ (b : Bool). b || is_last starts (y ∷ l)) (h x (0, omega arith, refl))
+
+outlet_last : (weighty starts : ℕ → Bool) (v : View) → is_outlet weighty v ≡ true → (ends_block v ≡ true → is_last starts (led_to v) ≡ true) →
+    is_last starts (led_to v) ≡ true
+outlet_last weighty starts Gives o h = refl
+outlet_last weighty starts Quits o h = refl
+outlet_last weighty starts (Calls function next) o h = h refl
+outlet_last weighty starts (Row op next) o h = cc
+outlet_last weighty starts (Halts op) o h = cc
+outlet_last weighty starts (Forks a b) o h = cc
+outlet_last weighty starts (Turns next) o h = cc
+outlet_last weighty starts (Marks site next) o h = cc
+outlet_last weighty starts (Skips by next) o h = cc
+outlet_last weighty starts (Tests site next) o h = cc
+outlet_last weighty starts (Picks weight fast slow) o h = cc
+outlet_last weighty starts (Imports next) o h = cc
+outlet_last weighty starts (Exports next) o h = cc
+outlet_last weighty starts Nowhere o h = cc
+
+pub not_true : (b : Bool) → (b ≡ true → ⊥) → b ≡ false
+not_true true never = absurd (never refl)
+not_true false never = refl
+
+pub both_ways : (b : Bool) → b ≡ true → b ≡ false → ⊥
+both_ways b e f = cc
+
+-- within a block control stays in the copy
+pub remains : (t : Cloning) (side : Side) (node owed : ℕ) (v q : View) → (ends_block v ≡ true → is_last t.starts (led_to v) ≡ true) →
+    is_last t.starts (led_to v) ≡ false → IsSame t side owed v q → Passing t side node owed v q
+remains t side node owed v q ends last same =
+    Remains
+    (not_true (is_outlet t.weighty v) (λ o. both_ways (is_last t.starts (led_to v)) (outlet_last t.weighty t.starts v o ends) last))
+    (λ e. absurd (both_ways (is_last t.starts (led_to v)) (ends e) last))
+    same
+
+pub in_owing : (t : Cloning) (side : Side) (node owed : ℕ) (v q : View) → mark_count v ≡ 0 → IsIn t side node owed v q → IsOwing t side node owed v q
+in_owing t side node owed (Marks site next) q m h = absurd (omega arith)
+in_owing t side node owed (Row op next) q m h = h
+in_owing t side node owed (Halts op) q m h = h
+in_owing t side node owed (Forks a b) q m h = h
+in_owing t side node owed (Turns next) q m h = h
+in_owing t side node owed (Calls function next) q m h = h
+in_owing t side node owed Gives q m h = h
+in_owing t side node owed Quits q m h = h
+in_owing t side node owed (Skips by next) q m h = h
+in_owing t side node owed (Tests site next) q m h = h
+in_owing t side node owed (Picks weight fast slow) q m h = h
+in_owing t side node owed (Imports next) q m h = h
+in_owing t side node owed (Exports next) q m h = h
+in_owing t side node owed Nowhere q m h = h
+
+abbrev pub VisitCases : View → Type 0
+VisitCases v = (mark_count v ≡ 0) ⊎ ((site next : ℕ) × (v ≡ Marks site next))
+
+pub visit_cases : (v : View) → VisitCases v
+visit_cases (Marks site next) = inr (site, next, refl)
+visit_cases (Row op next) = inl refl
+visit_cases (Halts op) = inl refl
+visit_cases (Forks a b) = inl refl
+visit_cases (Turns next) = inl refl
+visit_cases (Calls function next) = inl refl
+visit_cases Gives = inl refl
+visit_cases Quits = inl refl
+visit_cases (Skips by next) = inl refl
+visit_cases (Tests site next) = inl refl
+visit_cases (Picks weight fast slow) = inl refl
+visit_cases (Imports next) = inl refl
+visit_cases (Exports next) = inl refl
+visit_cases Nowhere = inl refl
+
+-- a node of a copy passes the node that it stands for, pays what is owed, or tests a visit
+pub data Inner (t : Cloning) (side : Side) (node : ℕ) (v q : View) : Type 0 where
+  Passes : (owed : ℕ) → Passing t side node owed v q → Inner t side node v q
+  Pays : (by place next : ℕ) → side ≡ Fast → q ≡ Skips by place → Labelled t side place next 0 → Inner t side node v q
+  Looks : (site place next : ℕ) → side ≡ Slow → q ≡ Tests site place → Labelled t side place next 0 → Inner t side node v q
+
+visit_inner : (t : Cloning) (side : Side) (node owed site next : ℕ) (v q : View) → IsVisit t side owed site next q → Inner t side node v q
+visit_inner t Fast node owed site next v q h = Pays (owed + 1) h.0 next refl h.2 h.3
+visit_inner t Slow node owed site next v q h = Looks site h.0 next refl h.1 h.2
+
+owing_by : (t : Cloning) (node owed : ℕ) (v q : View) (b : Bool) → is_last t.starts (led_to v) ≡ b → (ends_block v ≡ true → is_last t.starts (led_to v) ≡ true) →
+    MatchBool b ((m : ℕ) × (q ≡ Skips (suc owed) m) × Labelled t Fast m node 0) (IsSame t Fast (suc owed) v q) → Inner t Fast node v q
+owing_by t node owed v q true e ends h = Pays (suc owed) h.0 node refl h.1 h.2
+owing_by t node owed v q false e ends h = Passes (suc owed) (remains t Fast node (suc owed) v q ends e h)
+
+owing_inner : (t : Cloning) (side : Side) (node owed : ℕ) (v q : View) → (ends_block v ≡ true → is_last t.starts (led_to v) ≡ true) → MayOwe side owed →
+    IsOwing t side node owed v q → Inner t side node v q
+owing_inner t side node zero v q ends may h = Passes 0 (free_passes t side node v q h)
+owing_inner t Fast node (suc owed) v q ends may h = owing_by t node owed v q (is_last t.starts (led_to v)) refl ends h
+owing_inner t Slow node (suc owed) v q ends may h = absurd (omega arith)
+
+pub inner : (t : Cloning) (side : Side) (node owed : ℕ) (v q : View) → (ends_block v ≡ true → is_last t.starts (led_to v) ≡ true) → MayOwe side owed →
+    IsIn t side node owed v q → Inner t side node v q
+inner t side node owed v q ends may h =
+    elim (visit_cases v) as (λ _. Inner t side node v q) [
+      | inl none ↦ owing_inner t side node owed v q ends may (in_owing t side node owed v q none h)
+      | inr visit ↦ visit_inner t side node owed visit.0 visit.1 v q (subst (λ (w : View). IsIn t side node owed w q) visit.2 h)
+    ]
