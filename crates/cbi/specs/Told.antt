@@ -4,6 +4,7 @@ use Rattle.cbi_base.specs.Sink.{Takes, TakesPrefix}
 use Rattle.cbi_base.specs.Refusal.{refusal_line}
 use Rattle.cbi_base.specs.Store.{Held}
 use Rattle.cbi_base.specs.declared.refusal.Refusal.{Refusal}
+use Rattle.cbi_words.specs.UsageText.{IsUsageText}
 use Rattle.commands.specs.Commands.{done_text}
 use Rattle.commands.specs.Names.{IsOneOf, IsFirstMissing}
 use Rattle.commands.specs.declared.done.Done.{Done}
@@ -32,9 +33,10 @@ IsTold rose before now line = Takes before now line ⊎ (rose × TakesPrefix bef
 abbrev pub Tells : (status result : ℕ) → (told nothing : Type 0) → Type 0
 Tells status result told nothing = ((result ≡ status) × told) ⊎ ((result ≡ 7) × nothing)
 
--- told of how the tool is used: some text
-pub record UsageTold (told : List ℕ → Type 0) : Type 0 where
+-- told of words that read as no command: of the option whose value alone breaks the rule, or, where there is none, how the tool is used
+pub record UsageTold (bad : Option (List ℕ)) (told : List ℕ → Type 0) : Type 0 where
   pub text : List ℕ
+  pub is_usage : IsUsageText bad text
   pub is : told text
 
 -- done, and told of what is said of it

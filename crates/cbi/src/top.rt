@@ -4,7 +4,7 @@ ghost use Rattle.cbi_base.specs.Faults.{Rose};
 ghost use Rattle.commands.specs.Outside.{outside, AllStayBut, IsUnmovedOr};
 ghost use Rattle.commands.specs.Names.{AreHeld};
 ghost use Rattle.commands.specs.Commands.{names_of, written_by, Did, LeftOn, LeftWanting, IsRefused, IsRefusedBy, WriteFault};
-ghost use Rattle.cbi.specs.Asked.{asked};
+ghost use Rattle.cbi.specs.Asked.{asked, bad_asked};
 ghost use Rattle.cbi.specs.Statuses.{IsStatus, IsUntouched, IsPast, IsUnchangedOr};
 ghost use Rattle.cbi.specs.Told.{IsTold, DoneTold, ReadTold, RefusalTold, UsageTold, write_line, memory_line};
 
@@ -18,7 +18,7 @@ use std::alloc::Global;
 /// Does what the words ask for, over this store, and answers the status of the process.
 ///
 /// 0: done. 2: the words read as no command. 3: a file wasn't read. 4: out didn't take the text, or the store the report. 5: a file is refused. 7: memory
-/// is wanting. Where it is done err is told what the command says of it, at 2 how the tool is used, and else a line of what went wrong. A fault of err leaves a prefix of that and changes no status.
+/// is wanting. Where it is done err is told what the command says of it, at 2 how the tool is used or which option's value alone is wrong, and else a line of what went wrong. A fault of err leaves a prefix of that and changes no status.
 /// Where memory is wanting, to tell it too, the status is 7 and err may have taken nothing.
 pub fn cbi<S: Store, O: Sink, E: Sink>(
     alloc: Global,
@@ -51,7 +51,7 @@ pub fn cbi<S: Store, O: Sink, E: Sink>(
         → (IsRefused (asked words.now.items) (S.holds store.old) → ⊥) → (result ≡ 0) ⊎ (result ≡ 7) }
 
     // What err is told.
-    ensures told_usage { result ≡ 2 → UsageTold (IsTold (Rose (E.faults err.old) (E.faults err.new)) (E.taken err.old) (E.taken err.new)) }
+    ensures told_usage { result ≡ 2 → UsageTold (bad_asked words.now.items) (IsTold (Rose (E.faults err.old) (E.faults err.new)) (E.taken err.old) (E.taken err.new)) }
     ensures told_read { result ≡ 3 → ReadTold (names_of (asked words.now.items)) (S.holds store.old) (S.is_sound store.old)
         (IsTold (Rose (E.faults err.old) (E.faults err.new)) (E.taken err.old) (E.taken err.new)) }
     ensures told_write { result ≡ 4 → IsTold (Rose (E.faults err.old) (E.faults err.new)) (E.taken err.old) (E.taken err.new) write_line }

@@ -2,4 +2,6 @@ pub mod WordRule
 pub mod Options
 pub mod Within
 pub mod Reading
+pub mod BadValue
+pub mod UsageText
 pub mod Answers

@@ -1,6 +1,5 @@
 -- What words read as: the table of the commands with their options, positionals and defaults. The first word isn't looked at, and the second one is the command.
 use Rattle.std.specs.Prelude.{ℕ, if◌then◌else◌, List, [], ◌∷◌, Option, None, Some, codes}
-use Rattle.cbi_base.specs.declared.policy.Policy.{Policy}
 use Rattle.cbi_base.specs.declared.policy.Policy.TheVariants.{All}
 use Rattle.cbi_base.specs.Numbers.{is_word, ◌>>=◌}
 use Rattle.cbi_words.specs.declared.given.Given.{Given}
@@ -61,17 +60,18 @@ collect_of given = do
 abbrev pub rank_options : List (List ℕ)
 rank_options = codes "--policy" ∷ []
 
--- the two positionals
-abbrev pub rank_files : Policy → List (List ℕ) → Option Command
-rank_files policy [] = None
-rank_files policy (program ∷ []) = None
-rank_files policy (program ∷ collection ∷ []) = Some (Rank policy program collection)
-rank_files policy (program ∷ collection ∷ word ∷ more) = None
+-- the two positionals, where there are two alone
+abbrev pub two : List (List ℕ) → Option (List ℕ × List ℕ)
+two [] = None
+two (program ∷ []) = None
+two (program ∷ collection ∷ []) = Some (program, collection)
+two (program ∷ collection ∷ word ∷ more) = None
 
 abbrev pub rank_of : Given → Option Command
 rank_of given = do
   policy ← policy_or All (value_of (codes "--policy") given.options)
-  rank_files policy given.positionals
+  files ← two given.positionals
+  Some (Rank policy files.0 files.1)
 
 -- what is given after a command with these options
 abbrev pub asked : List (List ℕ) → List (List ℕ) → Option Given

@@ -1,7 +1,8 @@
-ghost use Rattle.std.specs.Prelude.{◌≡◌, ◌≤◌, ◌^◌, ◌<◌, IfOk, IfSome, OnOk};
+ghost use Rattle.std.specs.Prelude.{◌≡◌, ◌≤◌, Some, IfOk, IfSome, is_ok};
 ghost use Rattle.cbi_words.specs.Answers.{ReadAs};
 ghost use Rattle.cbi_base.specs.Numbers.{number_of};
-ghost use Rattle.cbi_words.specs.Options.{number_in, number_or, number_wanted, value_of};
+ghost use Rattle.cbi_words.specs.BadValue.{fits, is_number};
+ghost use Rattle.cbi_words.specs.Options.{number_in, number_or, value_of};
 
 use crate::error::Fault;
 use crate::given::Given;
@@ -22,9 +23,10 @@ fn number_of(value: &str, most: u64) -> Option<u64>
     read_decimal(value.as_bytes(), most)
 }
 
-// The number that an option's value spells.
-fn number_in(option: &'static str, value: &str, bounds: Bounds) -> Result<u64, Fault>
-    ensures reads { ReadAs result (number_in bounds.least bounds.most value.now) }
+/// The number that an option's value spells.
+pub fn number_in(option: &'static str, value: &str, bounds: Bounds) -> Result<u64, Fault>
+    ensures reads { ReadAs result (number_in bounds.least bounds.most value.now) (Some option.entry.now) }
+    ensures takes { is_ok result ≡ is_number bounds.least bounds.most value.now }
     ensures least { IfOk result (λ n. bounds.least ≤ n) }
     ensures most { IfOk result (λ n. n ≤ bounds.most) }
 {
@@ -43,24 +45,13 @@ pub fn number_or(
 ) -> Result<u64, Fault>
     requires least { bounds.least ≤ default }
     requires most { default ≤ bounds.most }
-    ensures reads { ReadAs result (number_or default bounds.least bounds.most (value_of option.entry.now given.now.options)) }
+    ensures reads { ReadAs result (number_or default bounds.least bounds.most (value_of option.entry.now given.now.options)) (Some option.entry.now) }
+    ensures fits { is_ok result ≡ fits (is_number bounds.least bounds.most) (value_of option.entry.now given.now.options) }
     ensures least { IfOk result (λ n. bounds.least ≤ n) }
     ensures most { IfOk result (λ n. n ≤ bounds.most) }
 {
     match given.value_of(option) {
         None => Ok(default),
-        Some(value) => number_in(option, value, bounds),
-    }
-}
-
-/// The number of an option that must be given.
-pub fn number_wanted(given: &Given, option: &'static str, bounds: Bounds) -> Result<u64, Fault>
-    ensures reads { ReadAs result (number_wanted bounds.least bounds.most (value_of option.entry.now given.now.options)) }
-    ensures least { IfOk result (λ n. bounds.least ≤ n) }
-    ensures most { IfOk result (λ n. n ≤ bounds.most) }
-{
-    match given.value_of(option) {
-        None => Err(Fault::Usage),
         Some(value) => number_in(option, value, bounds),
     }
 }

@@ -1,5 +1,6 @@
-ghost use Rattle.std.specs.Prelude.{◌≡◌};
+ghost use Rattle.std.specs.Prelude.{◌≡◌, Some, is_ok};
 ghost use Rattle.cbi_words.specs.Answers.{ReadAs};
+ghost use Rattle.cbi_words.specs.BadValue.{fits, is_policy};
 ghost use Rattle.cbi_words.specs.Options.{policy_of, policy_or, value_of};
 
 use crate::error::Fault;
@@ -24,7 +25,8 @@ fn policy_of(value: &str) -> Option<Policy>
 
 /// The policy that an option gives, or the default where it isn't given.
 pub fn policy_or(given: &Given, option: &'static str, default: Policy) -> Result<Policy, Fault>
-    ensures { ReadAs result (policy_or default (value_of option.entry.now given.now.options)) }
+    ensures reads { ReadAs result (policy_or default (value_of option.entry.now given.now.options)) (Some option.entry.now) }
+    ensures fits { is_ok result ≡ fits is_policy (value_of option.entry.now given.now.options) }
 {
     match given.value_of(option) {
         None => Ok(default),

@@ -1,15 +1,17 @@
 ghost use Rattle.std.specs.Prelude.{◌≡◌, None, Some, IfOk, map};
 ghost use Rattle.cbi_words.specs.Answers.{ReadAs, OnUsage};
+ghost use Rattle.cbi_words.specs.BadValue.{bad_bank, bad_in, bad_rank, bad_run, bad_value};
 ghost use Rattle.cbi_words.specs.Reading.{asked, bank_of, collect_of, command_in, rank_of, reads, run_of};
+ghost use Rattle.cbi_words.specs.UsageText.{IsUsageText};
 ghost use Rattle.cbi_words.specs.Within.{IsWithin};
 ghost use Rattle.cbi_words.specs.WordRule.{texts_of};
 
 use crate::command::Command;
 use crate::error::{Fault, WordsError};
 use crate::given::{Given, cut};
-use crate::numbers::{Bounds, number_or, number_wanted};
+use crate::numbers::{Bounds, number_in, number_or};
 use crate::policies::policy_or;
-use crate::usage::{bad_value, usage};
+use crate::usage::{bad_value_line, usage};
 use cbi_base::Policy;
 use std::alloc::Global;
 
@@ -42,7 +44,7 @@ const SEEDS: Bounds = Bounds {
 
 // What is given after `run`.
 fn run_of(alloc: Global, given: &Given) -> Result<Command, Fault>
-    ensures reads { ReadAs result (run_of given.now) }
+    ensures reads { ReadAs result (run_of given.now) (bad_run given.now) }
     ensures within { IfOk result IsWithin }
 {
     let [program] = given.positionals.as_slice() else {
@@ -63,15 +65,24 @@ fn run_of(alloc: Global, given: &Given) -> Result<Command, Fault>
 
 // What is given after `bank`.
 fn bank_of(given: &Given) -> Result<Command, Fault>
-    ensures reads { ReadAs result (bank_of given.now) }
+    ensures reads { ReadAs result (bank_of given.now) (bad_bank given.now) }
     ensures within { IfOk result IsWithin }
 {
     if !given.positionals.is_empty() {
         return Err(Fault::Usage);
     }
-    let rate = number_wanted(given, "--rate", RATES)?;
-    let count = number_wanted(given, "--count", RATES)?;
-    let seed = number_wanted(given, "--seed", SEEDS)?;
+    let Some(rate) = given.value_of("--rate") else {
+        return Err(Fault::Usage);
+    };
+    let Some(count) = given.value_of("--count") else {
+        return Err(Fault::Usage);
+    };
+    let Some(seed) = given.value_of("--seed") else {
+        return Err(Fault::Usage);
+    };
+    let rate = number_in("--rate", rate, RATES)?;
+    let count = number_in("--count", count, RATES)?;
+    let seed = number_in("--seed", seed, SEEDS)?;
     let stream = number_or(given, "--stream", 0, SEEDS)?;
     Ok(Command::Bank {
         rate: rate as u32,
@@ -83,7 +94,7 @@ fn bank_of(given: &Given) -> Result<Command, Fault>
 
 // What is given after `collect`.
 fn collect_of(alloc: Global, given: Given) -> Result<Command, Fault>
-    ensures reads { ReadAs result (collect_of given) }
+    ensures reads { ReadAs result (collect_of given) None }
     ensures within { IfOk result IsWithin }
 {
     let Some(program) = given.copy_of(alloc, "--program")? else {
@@ -101,7 +112,7 @@ fn collect_of(alloc: Global, given: Given) -> Result<Command, Fault>
 
 // What is given after `rank`.
 fn rank_of(given: &Given) -> Result<Command, Fault>
-    ensures reads { ReadAs result (rank_of given.now) }
+    ensures reads { ReadAs result (rank_of given.now) (bad_rank given.now) }
     ensures within { IfOk result IsWithin }
 {
     let [program, collection] = given.positionals.as_slice() else {
@@ -117,7 +128,7 @@ fn rank_of(given: &Given) -> Result<Command, Fault>
 
 // What the words give after a command with these options.
 fn asked(alloc: Global, options: &[&str], words: &[String]) -> Result<Given, Fault>
-    ensures { ReadAs result (asked (map (λ name. name.now) options.now) (texts_of words.now)) }
+    ensures { ReadAs result (asked (map (λ name. name.now) options.now) (texts_of words.now)) None }
 {
     let Some(given) = cut(alloc, words)? else {
         return Err(Fault::Usage);
@@ -130,9 +141,9 @@ fn asked(alloc: Global, options: &[&str], words: &[String]) -> Result<Given, Fau
 }
 
 // What is given after the name of a command.
-#[tactic(auto, unfolding(crate::specs::Reading::command_in))]
+#[tactic(auto, unfolding(crate::specs::Reading::command_in, crate::specs::BadValue::bad_in))]
 fn command_in(alloc: Global, name: &str, words: &[String]) -> Result<Command, Fault>
-    ensures reads { ReadAs result (command_in name.now (texts_of words.now)) }
+    ensures reads { ReadAs result (command_in name.now (texts_of words.now)) (bad_in name.now (texts_of words.now)) }
     ensures within { IfOk result IsWithin }
 {
     if name == "run" {
@@ -160,7 +171,7 @@ fn command_in(alloc: Global, name: &str, words: &[String]) -> Result<Command, Fa
 
 // The first word isn't looked at, and the second one is the name of the command.
 fn command_of(alloc: Global, words: &[String]) -> Result<Command, Fault>
-    ensures reads { ReadAs result (reads (texts_of words.now)) }
+    ensures reads { ReadAs result (reads (texts_of words.now)) (bad_value (texts_of words.now)) }
     ensures within { IfOk result IsWithin }
 {
     let [_, name, rest @ ..] = words else {
@@ -184,13 +195,15 @@ pub fn read_words(alloc: Global, words: &Vec<String>) -> Result<Command, WordsEr
     // Its numbers lie in their bounds.
     ensures within { IfOk result IsWithin }
     // Words are refused where they read as no command, and nowhere else.
-    ensures usage { OnUsage result (reads (texts_of words.now.items) ≡ None) }
+    ensures usage { OnUsage result (λ text. reads (texts_of words.now.items) ≡ None) }
+    // They are told of the option whose value alone breaks the rule, or else of how the tool is used.
+    ensures told { OnUsage result (λ text. IsUsageText (bad_value (texts_of words.now.items)) text) }
 {
     match command_of(alloc, words.as_slice()) {
         Ok(command) => Ok(command),
         Err(Fault::Memory) => Err(WordsError::Memory),
         Err(Fault::BadValue { option }) => Err(WordsError::Usage {
-            text: bad_value(alloc, option)?,
+            text: bad_value_line(alloc, option)?,
         }),
         Err(Fault::Usage) => Err(WordsError::Usage {
             text: usage(alloc, command_word(words.as_slice()))?,

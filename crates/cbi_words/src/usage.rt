@@ -1,3 +1,6 @@
+ghost use Rattle.std.specs.Prelude.{◌≡◌, true, IfOk, string_bytes};
+ghost use Rattle.cbi_words.specs.UsageText.{bad_value_line, is_usage};
+
 use cbi_base::Memory;
 use clap::{Arg, ArgAction};
 use std::alloc::{AllocError, Global};
@@ -130,8 +133,8 @@ fn tool_line(alloc: Global) -> Result<clap::Command<'static>, AllocError> {
         .subcommand(rank_line(alloc)?)
 }
 
-/// How the command is used, or the tool, where the word names no command.
-pub fn usage(alloc: Global, word: &str) -> Result<String, Memory> {
+// The text that clap writes of the command, or of the tool, where the word names no command.
+fn text_of(alloc: Global, word: &str) -> Result<String, Memory> {
     let mut line = match word {
         "run" => run_line(alloc)?.bin_name("cbi run")?,
         "bank" => bank_line(alloc)?.bin_name("cbi bank")?,
@@ -142,7 +145,28 @@ pub fn usage(alloc: Global, word: &str) -> Result<String, Memory> {
     Ok(line.render_help()?)
 }
 
-/// What err is told of a value that isn't spelled as it should be.
-pub fn bad_value(alloc: Global, option: &str) -> Result<String, Memory> {
+// Whether a text is whole lines, of which the first doesn't begin as the lines that tell what went wrong do.
+fn is_usage(text: &str) -> bool
+    ensures { result ≡ is_usage text.now }
+{
+    let bytes = text.as_bytes();
+    bytes.ends_with(b"\n".as_slice()) && !bytes.starts_with(b"cbi: ".as_slice())
+}
+
+/// How the command is used, or the tool, where the word names no command. No contract of clap's says what it writes, so that is looked at.
+pub fn usage(alloc: Global, word: &str) -> Result<String, Memory>
+    ensures { IfOk result (λ text. is_usage (string_bytes text) ≡ true) }
+{
+    let text = text_of(alloc, word)?;
+    if is_usage(text.as_str()) {
+        return Ok(text);
+    }
+    Ok(String::from_str(alloc, "Usage: cbi COMMAND\n")?)
+}
+
+/// The line that tells of a value that its option doesn't take.
+pub fn bad_value_line(alloc: Global, option: &str) -> Result<String, Memory>
+    ensures { IfOk result (λ text. string_bytes text ≡ bad_value_line option.now) }
+{
     Ok(format!(in alloc; "cbi: bad value of {option}\n")?)
 }

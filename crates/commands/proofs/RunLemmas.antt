@@ -9,9 +9,12 @@ use Rattle.cbi_base.specs.Sink.{Takes}
 use Rattle.countdown_bank.specs.Bank.{BankState, number_after}
 use Rattle.flow.specs.declared.program.ProgramParts.{ProgramParts}
 use Rattle.flow.specs.declared.result.RunResult.{RunResult}
-use Rattle.flow.specs.Machine.{MachineEnds}
+use Rattle.flow.specs.Code.{code_of}
+use Rattle.flow.specs.Machine.{MachineEnds, begin}
 use Rattle.flow.specs.Spelling.{SpellsProgram}
 use Rattle.machine.specs.Going.{HasRun, IsWanting}
+use Rattle.machine.specs.Reached.{went, seen_in}
+use Rattle.probes.specs.Told.{AllGrewByPrefix}
 use Rattle.report_file.specs.Spelling.{report_text}
 use Rattle.commands.specs.declared.fault.Fault.{Fault}
 use Rattle.commands.specs.declared.fault.Fault.TheVariants.{Read, Write, Refused, Memory}
@@ -96,7 +99,9 @@ broke told r before after files parts bank rest slice same l out held w = record
   loaded = l;
   out = out;
   held = held;
-  grew = λ ending ends. w.prefix ending (subst (λ i. MachineEnds parts i (number_after bank) r.turns ending) (sym same) ends);
+  steps = w.steps;
+  so_far = subst (λ i. AllGrewByPrefix told (seen_in (went (code_of parts (number_after bank)) w.steps (begin parts i (number_after bank) r.turns))) before.boxes after.boxes) same w.so_far;
+  prefix = λ ending ends. w.prefix ending (subst (λ i. MachineEnds parts i (number_after bank) r.turns ending) (sym same) ends);
 }
 
 -- the summary of a run fits a report

@@ -12,11 +12,13 @@ use Rattle.countdown_bank.specs.Bank.{BankState, AreNumbers, number_after}
 use Rattle.countdown_bank.specs.BankFile.{bank_text, IsBadBankLine}
 use Rattle.flow.specs.declared.program.ProgramParts.{ProgramParts}
 use Rattle.flow.specs.declared.result.RunResult.{RunResult}
+use Rattle.flow.specs.Code.{code_of}
 use Rattle.flow.specs.Counting.{result_of}
-use Rattle.flow.specs.Machine.{MachineEnds}
+use Rattle.flow.specs.Machine.{MachineEnds, begin}
 use Rattle.flow.specs.State.{Ending}
 use Rattle.flow.specs.Spelling.{SpellsProgram}
 use Rattle.probes.specs.Told.{AllGrew, AllGrewByPrefix}
+use Rattle.machine.specs.Reached.{went, seen_in}
 use Rattle.program_file.specs.WrongLine.{IsWrongAt}
 use Rattle.report_file.specs.declared.report.Report.{Report}
 use Rattle.report_file.specs.Label.{label_of}
@@ -107,7 +109,8 @@ pub record StoppedWithin {B : Type 0} (told : B → List Observation) (r : RunWo
   pub grew : AllGrew told ending.seen before.boxes after.boxes
   pub part : PublishesPart r files (result_of parts.sites ending) before.out after.out before.held after.held
 
--- The run didn't come to its end for want of memory: nothing was written, and each watcher was told a prefix of what the run would observe.
+-- The run didn't come to its end for want of memory: nothing was written, and each watcher was told a prefix of what the machine observes in so many
+-- steps; so also a prefix of what is observed in a run that ends.
 pub record BrokeOff {B : Type 0} (told : B → List Observation) (r : RunWords) (before after : Outside B) : Type 0 where
   pub files : RunFiles
   pub parts : ProgramParts
@@ -115,7 +118,9 @@ pub record BrokeOff {B : Type 0} (told : B → List Observation) (r : RunWords) 
   pub loaded : AreLoaded before.held r files parts bank
   pub out : after.out ≡ before.out
   pub held : after.held ≡ before.held
-  pub grew : (ending : Ending) → MachineEnds parts files.input (number_after bank) r.turns ending → AllGrewByPrefix told ending.seen before.boxes after.boxes
+  pub steps : ℕ
+  pub so_far : AllGrewByPrefix told (seen_in (went (code_of parts (number_after bank)) steps (begin parts files.input (number_after bank) r.turns))) before.boxes after.boxes
+  pub prefix : (ending : Ending) → MachineEnds parts files.input (number_after bank) r.turns ending → AllGrewByPrefix told ending.seen before.boxes after.boxes
 
 -- the bytes read are refused
 pub record RunRefused (r : RunWords) (held : Option Held) : Type 0 where

@@ -254,6 +254,34 @@ fn numbers_lie_in_their_bounds(rt: HostRuntime) -> Result<(), Fail> {
 }
 
 #[test]
+fn value_alone_is_told(rt: HostRuntime) -> Result<(), Fail> {
+    are_read(
+        &rt,
+        rt.alloc(),
+        &[
+            ("cbi|run|--run|0|--turns|x|p", "cbi: bad value of --turns\n"),
+            ("cbi|run|--run|0|--turns|x", "usage"),
+            ("cbi|run|--run|0|--bank|b|--bank|b|p", "usage"),
+            ("cbi|run|--run|0|--seed|1|p", "usage"),
+            ("cbi|bank|--rate|0", "usage"),
+            ("cbi|bank|--rate|0|--count|1", "usage"),
+            ("cbi|bank|--rate|0|--count|1|--seed|5|p", "usage"),
+            (
+                "cbi|bank|--stream|x|--seed|x|--count|0|--rate|1",
+                "cbi: bad value of --count\n",
+            ),
+            (
+                "cbi|bank|--stream|x|--seed|x|--count|1|--rate|1",
+                "cbi: bad value of --seed\n",
+            ),
+            ("cbi|rank|p|--policy|x", "usage"),
+            ("cbi|rank|p|--policy|x|c", "cbi: bad value of --policy\n"),
+            ("cbi|study|--run|0|p", "usage"),
+        ],
+    )
+}
+
+#[test]
 fn no_words_are_usage(rt: HostRuntime) -> Result<(), Fail> {
     let words = Vec::new(rt.alloc());
     let answer = told(rt.alloc(), &read_words(rt.alloc(), &words))?;

@@ -1,0 +1,65 @@
+-- Words that break the rule by a value alone: the command has all that it wants and nothing else, and an option is given a value that it doesn't take.
+use Rattle.std.specs.Prelude.{ℕ, Bool, true, if◌then◌else◌, List, [], ◌∷◌, Option, None, Some, is_some, codes}
+use Rattle.cbi_base.specs.Numbers.{is_word, ◌>>=◌}
+use Rattle.cbi_words.specs.declared.given.Given.{Given}
+use Rattle.cbi_words.specs.declared.given.Choice.{Choice}
+use Rattle.cbi_words.specs.Options.{number_in, policy_of, value_of}
+use Rattle.cbi_words.specs.Reading.{asked, bank_options, no_positional, only, rank_options, run_options, two}
+
+-- an option that doesn't take every value, and the values that it takes
+pub record Rule : Type 0 where
+  pub name : List ℕ
+  pub takes : List ℕ → Bool
+
+-- a number in these bounds
+abbrev pub is_number : ℕ → ℕ → List ℕ → Bool
+is_number least most value = is_some (number_in least most value)
+
+-- the name of a policy
+abbrev pub is_policy : List ℕ → Bool
+is_policy value = is_some (policy_of value)
+
+-- what is given is taken; so is an option that isn't given
+abbrev pub fits : (List ℕ → Bool) → Option (List ℕ) → Bool
+fits takes None = true
+fits takes (Some value) = takes value
+
+-- the first of these options that is given a value that it doesn't take
+abbrev pub first_bad : List Rule → List Choice → Option (List ℕ)
+first_bad [] options = None
+first_bad (rule ∷ rules) options = if fits rule.takes (value_of rule.name options) then first_bad rules options else Some rule.name
+
+-- of `run` with its program
+abbrev pub bad_run : Given → Option (List ℕ)
+bad_run given = do
+  program ← only given.positionals
+  first_bad (record { name = codes "--turns"; takes = is_number 0 100000000 } ∷ record { name = codes "--run"; takes = is_number 1 4294967295 } ∷ []) given.options
+
+-- of `bank` with the three options that must be given
+abbrev pub bad_bank : Given → Option (List ℕ)
+bad_bank given = do
+  none ← no_positional given.positionals given
+  rate ← value_of (codes "--rate") given.options
+  count ← value_of (codes "--count") given.options
+  seed ← value_of (codes "--seed") given.options
+  first_bad (record { name = codes "--rate"; takes = is_number 1 65536 } ∷ record { name = codes "--count"; takes = is_number 1 65536 }
+      ∷ record { name = codes "--seed"; takes = is_number 0 18446744073709551615 } ∷ record { name = codes "--stream"; takes = is_number 0 18446744073709551615 } ∷ []) given.options
+
+-- of `rank` with its program and its collection
+abbrev pub bad_rank : Given → Option (List ℕ)
+bad_rank given = do
+  files ← two given.positionals
+  first_bad (record { name = codes "--policy"; takes = is_policy } ∷ []) given.options
+
+-- `collect` takes every value of its option
+unfoldable pub bad_in : List ℕ → List (List ℕ) → Option (List ℕ)
+bad_in name words =
+    if is_word name (codes "run") then (asked run_options words >>= bad_run)
+    else (if is_word name (codes "bank") then (asked bank_options words >>= bad_bank)
+    else (if is_word name (codes "rank") then (asked rank_options words >>= bad_rank) else None))
+
+-- the option whose value alone breaks the rule, the first in the table of the command
+abbrev pub bad_value : List (List ℕ) → Option (List ℕ)
+bad_value [] = None
+bad_value (first ∷ []) = None
+bad_value (first ∷ name ∷ words) = bad_in name words
