@@ -304,7 +304,7 @@ void_pointer t.Unsigned h = h
 void_pointer (t.Array element size) h = h
 void_pointer (t.Struct tag) h = h
 
-joined_pointing : (x y : Operand) → pointers_join x y ≡ true → is_pointer (joined_pointer x y) ≡ true
+pub joined_pointing : (x y : Operand) → pointers_join x y ≡ true → is_pointer (joined_pointer x y) ≡ true
 joined_pointing x y h =
     joined_by x y (pointers_meet (rule.value_type x) (rule.value_type y)) (is_pointer (rule.value_type x)) (is_pointer (rule.value_type y)) x.null y.null
     (is_void_pointer (rule.value_type x)) refl refl (λ e. meets_both (rule.value_type x) (rule.value_type y) e) (λ e. void_pointer (rule.value_type x) e) h
