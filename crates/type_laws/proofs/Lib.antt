@@ -1,0 +1,10 @@
+pub mod Scenes
+pub mod Steps
+pub mod Used
+pub mod Declaring
+pub mod Leading
+pub mod Ruled
+pub mod Goods
+pub mod Exprs
+pub mod Statements
+pub mod Items
