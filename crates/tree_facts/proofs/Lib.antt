@@ -1,0 +1,9 @@
+pub mod Placed
+pub mod Bodied
+pub mod Signed
+pub mod Starred
+pub mod ConstantLaws
+pub mod Zeroed
+pub mod Counted
+pub mod Begun
+pub mod Gathered
