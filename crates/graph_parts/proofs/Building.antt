@@ -1,0 +1,107 @@
+-- Putting one part before another.
+use Rattle.std.proofs.Common.{◌≡◌, ℕ, zero, suc, ◌+◌, ◌≤◌, ◌<◌, ◌≢◌, refl, ap, sym, ◌∙◌, subst, arith, List, [], ◌∷◌, ◌++◌, length, length-append, Some, None, Bool, true, false, slice_get, slice_set, option_map, rules}
+use Rattle.std.specs.Prelude.{pos}
+use Rattle.cbi_base.specs.declared.scalar.Kind.TheVariants.{Char}
+use Rattle.flow.specs.declared.node.Node.{Node}
+use Rattle.flow.specs.declared.node.Node.TheVariants as node
+use Rattle.flow.specs.declared.node.View.{View}
+use Rattle.flow.specs.declared.node.View.TheVariants as view
+use Rattle.flow.specs.View.{view as view_of}
+use Rattle.graphs.specs.Paths as paths
+use Rattle.graphs.specs.Paths.{Graph, Path, Ways, ◌then◌, Either, Nothing}
+use Rattle.graph_parts.specs.Made.{Later, Made, Part, standing}
+
+pub later_trans : (lo lo' : ℕ) (a b fin : List Node) → lo ≤ lo' → Later 0 a b → Later lo b fin → Later lo' a fin
+later_trans lo lo' a b fin le f g = record {
+  longer = omega (arith, f.longer, g.longer);
+  same = λ j low high. g.same j (omega (arith, low, le)) (omega (arith, high, f.longer)) ∙ f.same j (omega arith) high;
+}
+
+pub later_self : (lo : ℕ) (a : List Node) → Later lo a a
+later_self lo a = record { longer = omega arith; same = λ j low high. refl }
+
+pub slice_append : (xs ys : List Node) (j : ℕ) → j < length xs → slice_get (xs ++ ys) j ≡ slice_get xs j
+slice_append [] ys j l = absurd (omega (arith, l))
+slice_append (x ∷ xs) ys zero l = refl
+slice_append (x ∷ xs) ys (suc j) l = slice_append xs ys j (omega (arith, l))
+
+pub slice_end : (xs : List Node) (x : Node) → slice_get (xs ++ x ∷ []) (length xs) ≡ Some x
+slice_end [] x = refl
+slice_end (y ∷ xs) x = slice_end xs x
+
+later_put : (old : List Node) (x : Node) → Later 0 old (old ++ x ∷ [])
+later_put old x = record { longer = omega (arith, length-append old (x ∷ [])); same = λ j low high. slice_append old (x ∷ []) j high }
+
+-- the node that was put stands in every later graph
+stands_put : (old : List Node) (x : Node) (fin : List Node) (v : View) → view_of x ≡ v → Later (length old) (old ++ x ∷ []) fin → standing fin (length old) v
+stands_put old x fin v e l =
+    ap (option_map view_of) (l.same (length old) (omega arith) (omega (arith, length-append old (x ∷ []))) ∙ slice_end old x) ∙ ap (λ y. Some y) e
+
+-- one node, whatever its view
+pub view_made : {K : Type 0} → (v : K → View) (x : Node) (old new : List Node) (i : ℕ) (k : K) → view_of x ≡ v k → i ≡ length old → new ≡ old ++ x ∷ [] →
+    Made (λ G i k. G i (v k)) old new i k
+view_made v x old new i k e at is = rw (at, is) (record {
+  does = λ fin l. stands_put old x fin (v k) e l;
+  keeps = later_put old x;
+})
+
+pub one_made : (op x : Node) (old new : List Node) (i k : ℕ) → view_of x ≡ view.Row op k → i ≡ length old → new ≡ old ++ x ∷ [] → Made (λ G. paths.Does G op) old new i k
+one_made op x old new i k e at is = view_made (λ k. view.Row op k) x old new i k e at is
+
+pub nothing_made : (old : List Node) (k : ℕ) → Made (λ G. Nothing) old old k k
+nothing_made old k = record { does = λ fin l. refl; keeps = later_self 0 old }
+
+pub then_made : {K : Type 0} → (R : Part ℕ) (S : Part K) (n0 n1 n2 : List Node) (i m : ℕ) (k : K) → Made S n0 n1 m k → Made R n1 n2 i m →
+    Made (λ G. R G then S G) n0 n2 i k
+then_made R S n0 n1 n2 i m k s r = record {
+  does = λ fin l. (
+    m,
+    r.does fin (later_trans (length n0) (length n1) n2 n2 fin s.keeps.longer (later_self 0 n2) l),
+    s.does fin (later_trans (length n0) (length n0) n1 n2 fin (omega arith) r.keeps l),
+  );
+  keeps = later_trans 0 0 n0 n1 n2 (omega arith) s.keeps r.keeps;
+}
+
+-- one part before another, and a row, where the rest is known from what was put
+infixr 8 ◌and_then◌
+pub ◌and_then◌ : {K : Type 0} → {R : Part ℕ} → {S : Part K} → {n0 n1 n2 : List Node} → {i m : ℕ} → {k : K} → Made R n1 n2 i m → Made S n0 n1 m k →
+    Made (λ G. R G then S G) n0 n2 i k
+◌and_then◌ {R = R} {S = S} {n0 = n0} {n1 = n1} {n2 = n2} {i = i} {m = m} {k = k} r s = then_made R S n0 n1 n2 i m k s r
+
+pub row : (op x : Node) → {old new : List Node} → {i k : ℕ} → i ≡ length old → new ≡ old ++ x ∷ [] → view_of x ≡ view.Row op k →
+    Made (λ G. paths.Does G op) old new i k
+row op x {old = old} {new = new} {i = i} {k = k} at is e = one_made op x old new i k e at is
+
+-- what is made for one part is made for another one that follows from it
+pub carried : {K L : Type 0} → (R : Part K) (S : Part L) (k : K) (l : L) → ((G : Graph) (i : ℕ) → R G i k → S G i l) → (old new : List Node) (i : ℕ) →
+    Made R old new i k → Made S old new i l
+carried R S k l into old new i made = record { does = λ fin later. into (standing fin) i (made.does fin later); keeps = made.keeps }
+
+-- two ways, and the condition before them
+pub either_made : {K : Type 0} → (D : Part Ways) (R S : Part K) (n0 n1 n2 n3 : List Node) (i yes_at no_at : ℕ) (k : K) →
+    Made S n0 n1 no_at k → Made R n1 n2 yes_at k → Made D n2 n3 i (record { yes_to = yes_at; no_to = no_at }) →
+    Made (λ G. Either (D G) (R G) (S G)) n0 n3 i k
+either_made D R S n0 n1 n2 n3 i yes_at no_at k s r d = record {
+  does = λ fin l.
+      let low : length n0 ≤ length n1 = s.keeps.longer in
+      let middle : length n1 ≤ length n2 = r.keeps.longer in
+      let last : Later (length n0) n2 fin = later_trans (length n0) (length n0) n2 n3 fin (omega arith) d.keeps l in (
+        yes_at,
+        no_at,
+        d.does fin (later_trans (length n0) (length n2) n3 n3 fin (omega (arith, low, middle)) (later_self 0 n3) l),
+        r.does fin (later_trans (length n0) (length n1) n2 n2 fin low (later_self 0 n2) last),
+        s.does fin (later_trans (length n0) (length n0) n1 n2 fin (omega arith) r.keeps last),
+      );
+  keeps = later_trans 0 0 n0 n2 n3 (omega arith) (later_trans 0 0 n0 n1 n2 (omega arith) s.keeps r.keeps) d.keeps;
+}
+
+pub stuck_made : {K : Type 0} → (old n1 n2 : List Node) (m i : ℕ) (k : K) → m ≡ length old → n1 ≡ old ++ node.Exit ∷ [] → i ≡ length n1 → n2 ≡ n1 ++ node.Push Char (pos 0) m ∷ [] →
+    Made (λ G. paths.Stuck G) old n2 i k
+stuck_made old n1 n2 m i k at is at' is' =
+    let exit : Made {K = ℕ} (λ G i k. G i (view.Halts node.Exit)) old n1 m 0 = view_made (λ k. view.Halts node.Exit) node.Exit old n1 m 0 refl at is in
+    let push : Made (λ G. paths.Does G (node.Push Char (pos 0) 0)) n1 n2 i m = one_made (node.Push Char (pos 0) 0) (node.Push Char (pos 0) m) n1 n2 i m (search rules) at' is' in
+    let both = then_made (λ G. paths.Does G (node.Push Char (pos 0) 0)) (λ G i (k : ℕ). G i (view.Halts node.Exit)) old n1 n2 i m 0 exit push in
+    record { does = λ fin l. both.does fin l; keeps = both.keeps }
+
+-- a part that is found from these
+pub ruleset parts_made = (one_made, then_made, nothing_made)

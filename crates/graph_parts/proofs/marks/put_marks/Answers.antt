@@ -1,0 +1,12 @@
+use Rattle.std.proofs.Common.{◌≡◌, ◌+◌, ◌-◌, ◌<◌, arith, length}
+use Rattle.graph_parts.proofs.Visiting.{marks_step}
+use Rattle.graph_parts.proofs.marks.put_marks.Goals as goal
+
+pub loop-place-preserved : goal.loop-place-preserved
+loop-place-preserved c =
+    let next : c.loop-place.place ≡ c.loop-place.place - 1 + 1 = omega (arith, c.loop-place-test.true) in
+    let low : c.loop-place.place - 1 < length c.args.sites.now = omega (arith, c.loop-place.invariant.0, c.loop-place-test.true) in (
+      omega (arith, low),
+      marks_step c.args.sites.now c.loop-place.place (c.loop-place.place - 1) _ _ _ _ _ _ next low c.loop-place.invariant.1
+          c.in_ok-first.ensures.number c.in_ok-first.ensures.added,
+    )

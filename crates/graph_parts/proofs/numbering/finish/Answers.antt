@@ -1,0 +1,23 @@
+use Rattle.std.proofs.Common.{rules, ◌≡◌, ◌-◌, ◌∙◌, ap, sym, subst, arith, length, ℕ, suc, Fits, w32}
+use Rattle.std.proofs.lemmas.Option.{slice_get-get_or}
+use Rattle.flow.specs.View.{view}
+use Rattle.graphs.specs.Stands.{renamed}
+use Rattle.graph_parts.specs.Finished.{Finished, turned}
+use Rattle.graph_parts.proofs.Numbers.{TurnedFrom, all_turned, none_turned, turned_before}
+use Rattle.graph_parts.proofs.numbering.finish.Goals as goal
+
+pub overflow_cast-last : goal.overflow_cast-last
+overflow_cast-last c = search (rules, c.nodes-nodes.ensures.few, c.saturating_sub-last.ensures)
+
+pub loop-i-init : goal.loop-i-init
+loop-i-init c = search (rules, none_turned)
+
+pub loop-i-preserved : goal.loop-i-preserved
+loop-i-preserved c =
+    turned_before c.nodes-nodes.result.now c.loop-i.finished.items c.push.new.self.items (c.loop-i.i - 1) c.loop-i.i c.saturating_sub-last.result _ c.renumbered.result
+    (omega (arith, c.loop-i-test.true)) c.loop-i.invariant c.saturating_sub-last.ensures c.renumbered.ensures c.in_ok-push.ensures.items
+
+pub returns : goal.returns
+returns c =
+    subst (λ l. Finished l c.loop-i.finished.items (turned (length l - 1))) c.nodes-nodes.ensures.value
+    (all_turned _ _ c.loop-i.i (omega (arith, c.loop-i-test.false)) c.loop-i.invariant)

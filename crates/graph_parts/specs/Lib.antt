@@ -1,0 +1,6 @@
+pub mod Made
+pub mod Finished
+pub mod Purposes
+pub mod Replacing
+pub mod Parts
+pub mod Prefixes
