@@ -19,7 +19,7 @@ pub record IsCut (text : List ℕ) (line : ℕ) (can : Bool) : Type 0 where
   pub short : length text ≤ most_bytes
   pub stops : StopsAt text line can
 
--- the tokens have no tree, and this is the line of the token with which none goes on
+-- the tokens have no tree, and this is the line of a token with which none goes on, or of the end
 pub record HasNoTree (text : List ℕ) (line : ℕ) : Type 0 where
   pub tokens : List Token
   pub has_tokens : HasTokens text tokens

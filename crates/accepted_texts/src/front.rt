@@ -1,7 +1,7 @@
 ghost use Rattle.std.specs.Prelude.{◌≡◌, IfErr, IfOk, IsErr};
 ghost use Rattle.c_syntax.specs.Tokens.{line_at, lines_of};
 ghost use Rattle.c_syntax.specs.Plain.{plain_tree};
-ghost use Rattle.c_types.specs.Answers.{IsChecked, known_of, tree_of};
+ghost use Rattle.c_types.specs.Answers.{known_of, tree_of};
 ghost use Rattle.accepted_texts.specs.Accepted.{HasTokens, HasTree, IsAccepted};
 ghost use Rattle.accepted_texts.specs.Refused.{IsRefusedText, RefusedBy};
 
@@ -53,10 +53,10 @@ fn tree_with(alloc: Global, text: &[u8], tokens: &Tokens) -> Result<Tree, TextEr
 }
 
 /// A text's tree, checked. A text is refused by the first cause in this order: its tokens, its tree, and then its types. A refusal has the line of
-/// the byte or of the token where it stands; one past the last token it has the last token's line, or 1 where there is none.
+/// the byte or of the token where it stands; one past the last token it has the last token's line, or 1 where there is none. Of a text without a
+/// tree it is the first token from which no tree goes on; that it is the first one, no clause says.
 pub fn accept(alloc: Global, text: &[u8]) -> Result<Checked, TextError>
     ensures accepted { IfOk result (λ c. IsAccepted text.now (tree_of c) (known_of c)) }
-    ensures known { IfOk result (λ c. IsChecked c) }
     ensures refused { IfErr result (RefusedBy text.now) }
     ensures refused_only { IsRefusedText text.now → IsErr result }
 {

@@ -9,7 +9,8 @@ use Rattle.flow.specs.declared.node.View.TheVariants as view
 use Rattle.flow.specs.View.{view as view_of}
 use Rattle.graphs.specs.Paths as paths
 use Rattle.graphs.specs.Paths.{Graph, Path, Ways, ◌then◌, Either, Nothing}
-use Rattle.graph_parts.specs.Made.{Later, Made, Part, standing}
+use Rattle.graphs.specs.Functions.{standing}
+use Rattle.graph_parts.specs.Made.{Later, Made, Part}
 
 pub later_trans : (lo lo' : ℕ) (a b fin : List Node) → lo ≤ lo' → Later 0 a b → Later lo b fin → Later lo' a fin
 later_trans lo lo' a b fin le f g = record {

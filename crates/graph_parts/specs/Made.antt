@@ -1,13 +1,8 @@
 -- What emitting a part of a text leaves: in every graph that goes on from there, the part stands between the node that came out and where it goes on.
-use Rattle.std.specs.Prelude.{◌≡◌, ℕ, ◌≤◌, ◌<◌, List, length, Some, slice_get, option_map}
+use Rattle.std.specs.Prelude.{◌≡◌, ℕ, ◌≤◌, ◌<◌, List, length, slice_get}
 use Rattle.flow.specs.declared.node.Node.{Node}
-use Rattle.flow.specs.declared.node.View.{View}
-use Rattle.flow.specs.View.{view}
+use Rattle.graphs.specs.Functions.{standing}
 use Rattle.graphs.specs.Paths.{Graph, Path}
-
--- what stands at each place of a list of nodes
-abbrev pub standing : List Node → Graph
-standing nodes i v = option_map view (slice_get nodes i) ≡ Some v
 
 -- a later list has what is now at the places from `low` on
 pub record Later (low : ℕ) (now fin : List Node) : Type 0 where

@@ -10,7 +10,6 @@ use cbi_base::{Binary, Kind, Memory, Want};
 use flow::{Node, Slot};
 
 /// What is done with two numbers: they are converted, the right one first put, since the nodes grow backwards, and then calculated with.
-
 fn put_numbers(
     graph: &mut Graph,
     op: Binary,
