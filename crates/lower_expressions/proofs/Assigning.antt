@@ -1,0 +1,113 @@
+-- Assignments, and the operators of commas.
+use Rattle.std.proofs.Common.{◌≡◌, inr, ℕ, zero, suc, ◌+◌, ◌-◌, ◌<◌, ◌≤◌, ◌∙◌, ap, subst, sym, refl, arith, List, [], ◌∷◌, length, drop, get_or}
+use Rattle.std.proofs.lemmas.List.{length-drop}
+use Rattle.cbi_base.specs.declared.operators.Binary.{Binary}
+use Rattle.c_syntax.specs.ExprTree as e
+use Rattle.c_syntax.specs.ExprTree.{ExprTree, ExprList}
+use Rattle.c_syntax.specs.declared.expr.Expr.{Expr}
+use Rattle.c_syntax.specs.declared.token.Sign.{Sign}
+use Rattle.c_syntax.specs.Plain.{plain_expr, plain_exprs}
+use Rattle.flow.specs.declared.node.Node.{Node}
+use Rattle.c_meaning.specs.Conversions.{is_null_as}
+use Rattle.c_meaning.specs.Facts.{Facts, Sites}
+use Rattle.c_meaning.specs.Operation.{operation}
+use Rattle.c_meaning.specs.Trees.{Assignment, By, Plain, assignment, count, type_of}
+use Rattle.graphs.specs.Expressions.{LastDoes, emitted}
+use Rattle.graphs.specs.Operators.{Assign, Assigned, Changed, Comma}
+use Rattle.graphs.specs.Paths.{Graph, ◌then◌, Emitted, Stuck}
+use Rattle.graphs.specs.Values.{Valued, WantedValue}
+use Rattle.graph_parts.specs.Made.{Made, Part}
+use Rattle.graph_parts.specs.Parts.{effect_part, place_part, serving, value_part}
+use Rattle.graph_parts.specs.Purposes.{Serves, Takes}
+use Rattle.lower_expressions.specs.Weights.{exprs_weight, weight}
+use Rattle.graph_parts.specs.declared.purpose.Purpose.{Purpose}
+use Rattle.graph_parts.specs.declared.purpose.Purpose.TheVariants as purpose
+use Rattle.graph_parts.proofs.Building.{◌and_then◌, carried}
+use Rattle.graph_parts.proofs.Lists.{list_step}
+use Rattle.graph_parts.proofs.Serving.{valued_made}
+
+alone : (xs : List Expr) (j : ℕ) (d : Expr) → length xs ≡ j + 1 → d ≡ get_or xs j d → drop j xs ≡ d ∷ []
+alone [] j d e at = absurd (omega (arith, e))
+alone (x ∷ []) zero d e at = ap (λ z. z ∷ []) (sym at)
+alone (x ∷ y ∷ xs) zero d e at = absurd (omega (arith, e))
+alone (x ∷ xs) (suc j) d e at = alone xs j d (omega (arith, e)) at
+
+module _ (facts : Facts) (sites : Sites) where
+  module _ (token : ℕ) (sign : Sign) (target value : ExprTree) (p : Purpose) where
+    abbrev assigns : Assignment → Part ℕ
+    assigns a G =
+        Assign G facts sites token a (is_null_as (type_of facts target) value) (type_of facts target) (type_of facts value)
+        (emitted G facts sites target) (emitted G facts sites value)
+
+    assign_made : (n0 n1 n2 : List Node) (after i : ℕ) → Made (λ G. Takes G) n0 n1 after p → Made (assigns (assignment sign)) n1 n2 i after →
+        Made (serving facts sites (e.Assign token sign target value)) n0 n2 i p
+    assign_made n0 n1 n2 after i taken made =
+        carried (λ G. Serves (Valued G (assigns (assignment sign) G))) (serving facts sites (e.Assign token sign target value)) p p (λ G i h. h) n0 n2 i
+        (valued_made (assigns (assignment sign)) p n0 n1 n2 i after taken made)
+
+    pub assign_plain : (n0 n1 n2 n3 n4 : List Node) (after stored found i : ℕ) → Plain ≡ assignment sign → Made (λ G. Takes G) n0 n1 after p →
+        Made (λ G. Assigned G facts sites token) n1 n2 stored after →
+        Made (λ G. WantedValue G (is_null_as (type_of facts target) value) (type_of facts value) (type_of facts target) (emitted G facts sites value)) n2 n3 found stored →
+        Made (place_part facts sites target) n3 n4 i found → Made (serving facts sites (e.Assign token sign target value)) n0 n4 i p
+    assign_plain n0 n1 n2 n3 n4 after stored found i is taken assigned wanted placed =
+        assign_made n0 n1 n4 after i taken (subst (λ a. Made (assigns a) n1 n4 i after) is (placed and_then wanted and_then assigned))
+
+    pub assign_by : (o : Binary) (n0 n1 n2 n3 n4 : List Node) (after changed found i : ℕ) → By o ≡ assignment sign → Made (λ G. Takes G) n0 n1 after p →
+        Made (λ G. Changed G facts sites token (type_of facts target) (operation o (type_of facts target) (type_of facts value))) n1 n2 changed after →
+        Made (value_part facts sites value) n2 n3 found changed → Made (place_part facts sites target) n3 n4 i found →
+        Made (serving facts sites (e.Assign token sign target value)) n0 n4 i p
+    assign_by o n0 n1 n2 n3 n4 after changed found i is taken change made placed =
+        assign_made n0 n1 n4 after i taken (subst (λ a. Made (assigns a) n1 n4 i after) is (placed and_then made and_then change))
+
+  -- one operand after another
+  comma_serves : (G : Graph) (n : ℕ) (m rest : Emitted) (p : Purpose) (i : ℕ) → (m.effect then Serves rest) i p → Serves (Comma G (suc n) m rest) i p
+  comma_serves G n m rest (purpose.Value next) i h = h
+  comma_serves G n m rest (purpose.Effect next) i h = h
+  comma_serves G n m rest (purpose.Truth yes_at no_at) i h = inr h
+
+  count_plain : (xs : List Expr) → count (plain_exprs xs) ≡ length xs
+  count_plain [] = refl
+  count_plain (x ∷ xs) = ap suc (count_plain xs)
+
+  abbrev lasts : Purpose → List Expr → Part Purpose
+  lasts p xs G = Serves (LastDoes G facts sites (plain_exprs xs))
+
+  comma_into : (G : Graph) (x : Expr) (xs : List Expr) (n : ℕ) (p : Purpose) (i : ℕ) → length xs ≡ suc n →
+      (effect_part facts sites (plain_expr x) G then lasts p xs G) i p → lasts p (x ∷ xs) G i p
+  comma_into G x xs n p i e h =
+      subst (λ c. Serves (Comma G c (emitted G facts sites (plain_expr x)) (LastDoes G facts sites (plain_exprs xs))) i p) (sym (count_plain xs ∙ e))
+      (comma_serves G n (emitted G facts sites (plain_expr x)) (LastDoes G facts sites (plain_exprs xs)) p i h)
+
+  -- one more operand before the last ones
+  pub comma_step : (p : Purpose) (operands : List Expr) (m j : ℕ) (d : Expr) (n0 n1 n2 : List Node) (entry i : ℕ) → m ≡ j + 1 → m < length operands →
+      d ≡ get_or operands j d → Made (λ G. Serves (LastDoes G facts sites (plain_exprs (drop m operands)))) n0 n1 entry p →
+      Made (serving facts sites (plain_expr d)) n1 n2 i (purpose.Effect entry) →
+      Made (λ G. Serves (LastDoes G facts sites (plain_exprs (drop j operands)))) n0 n2 i p
+  comma_step p operands m j d n0 n1 n2 entry i e low at rest made =
+      let more : length (drop (j + 1) operands) ≡ suc (length operands - (j + 1) - 1) = omega (arith, e, low, length-drop (j + 1) operands) in
+      list_step (lasts p) (effect_part facts sites (plain_expr (get_or operands j d))) operands m j d n0 n1 n2 entry i p e (omega (arith, e, low))
+      (λ G i h. comma_into G (get_or operands j d) (drop (j + 1) operands) (length operands - (j + 1) - 1) p i more h) rest
+      (subst (λ q. Made (effect_part facts sites (plain_expr q)) n1 n2 i entry) at
+      (carried (serving facts sites (plain_expr d)) (effect_part facts sites (plain_expr d)) (purpose.Effect entry) entry (λ G i h. h) n1 n2 i made))
+
+  -- the last operand alone
+  pub last_made : (p : Purpose) (operands : List Expr) (j : ℕ) (d : Expr) (n0 n1 : List Node) (i : ℕ) → length operands ≡ j + 1 → d ≡ get_or operands j d →
+      Made (serving facts sites (plain_expr d)) n0 n1 i p → Made (λ G. Serves (LastDoes G facts sites (plain_exprs (drop j operands)))) n0 n1 i p
+  last_made p operands j d n0 n1 i e at made =
+      subst (λ l. Made (λ G. Serves (LastDoes G facts sites (plain_exprs l))) n0 n1 i p) (sym (alone operands j d e at)) made
+
+  pub none_made : (p : Purpose) (operands : List Expr) (n0 n1 n2 : List Node) (after i : ℕ) → length operands ≡ 0 → Made (λ G. Takes G) n0 n1 after p →
+      Made (λ G. Stuck G) n1 n2 i after → Made (λ G. Serves (LastDoes G facts sites (plain_exprs operands))) n0 n2 i p
+  none_made p [] n0 n1 n2 after i e taken made = valued_made (λ G. Stuck G) p n0 n1 n2 i after taken made
+  none_made p (x ∷ xs) n0 n1 n2 after i e taken made = absurd (omega (arith, e))
+
+  -- all operands are put
+  pub lasts_whole : (p : Purpose) (operands : List Expr) (m : ℕ) (n0 n1 : List Node) (i : ℕ) → m ≡ 0 →
+      Made (λ G. Serves (LastDoes G facts sites (plain_exprs (drop m operands)))) n0 n1 i p → Made (λ G. Serves (LastDoes G facts sites (plain_exprs operands))) n0 n1 i p
+  lasts_whole p operands m n0 n1 i e made = subst (λ q. Made (λ G. Serves (LastDoes G facts sites (plain_exprs (drop q operands)))) n0 n1 i p) e made
+
+-- what is left to emit of each
+pub operand_weighs : (xs : List Expr) (j : ℕ) (d : Expr) → j < length xs → d ≡ get_or xs j d → 8 + weight (plain_expr d) ≤ exprs_weight (plain_exprs xs)
+operand_weighs [] j d low at = absurd (omega (arith, low))
+operand_weighs (x ∷ xs) zero d low at = rw at (omega arith)
+operand_weighs (x ∷ xs) (suc j) d low at = omega (arith, operand_weighs xs j d (omega (arith, low)) at)

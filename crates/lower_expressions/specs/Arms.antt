@@ -1,0 +1,17 @@
+-- The arms of `? :`.
+use Rattle.std.specs.Prelude.{ℕ, Option}
+use Rattle.c_syntax.specs.ExprTree.{ExprTree}
+use Rattle.c_meaning.specs.declared.value_type.ValueType.{ValueType}
+use Rattle.c_meaning.specs.Conversions.{is_null_as}
+use Rattle.c_meaning.specs.Facts.{Facts, Sites}
+use Rattle.c_meaning.specs.Trees.{type_of}
+use Rattle.graphs.specs.Expressions.{emitted}
+use Rattle.graphs.specs.Values.{ArmEffect, ArmValue}
+use Rattle.graph_parts.specs.Made.{Part}
+
+-- an arm as a value of the type of the whole, and where nothing takes that
+abbrev pub arm_value_part : Facts → Sites → Option ValueType → ExprTree → Part ℕ
+arm_value_part facts sites want x G = ArmValue G (is_null_as want x) (type_of facts x) want (emitted G facts sites x)
+
+abbrev pub arm_effect_part : Facts → Sites → Option ValueType → ExprTree → Part ℕ
+arm_effect_part facts sites want x G = ArmEffect G (is_null_as want x) (type_of facts x) want (emitted G facts sites x)

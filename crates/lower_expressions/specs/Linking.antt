@@ -1,0 +1,37 @@
+-- The operators of a chain, one after another.
+use Rattle.std.specs.Prelude.{◌≡◌, ℕ, zero, suc, pos, Bool, true, false, List, [], ◌∷◌, Option}
+use Rattle.cbi_base.specs.declared.scalar.Kind.TheVariants.{Int}
+use Rattle.c_syntax.specs.ExprTree.{ExprTree}
+use Rattle.c_syntax.specs.declared.expr.Link.{Link}
+use Rattle.c_syntax.specs.declared.token.Sign.{Sign}
+use Rattle.flow.specs.declared.node.Node.TheVariants as node
+use Rattle.c_types.specs.ExprWalk.{binary_of}
+use Rattle.c_meaning.specs.declared.value_type.ValueType.{ValueType}
+use Rattle.c_meaning.specs.Facts.{Facts, Sites}
+use Rattle.c_meaning.specs.Trees.{is_null_beside, joint, operand_type, type_of}
+use Rattle.graphs.specs.Expressions.{emitted}
+use Rattle.graphs.specs.Operators.{Decided, Linked}
+use Rattle.graphs.specs.Paths.{Graph, Path, Does, Either}
+use Rattle.graphs.specs.Values.{NullOr}
+use Rattle.graph_parts.specs.Made.{Part}
+
+-- an operator with its right operand, where what stands before them has the type `left`
+abbrev pub link_part : Facts → Sites → Option ValueType → ℕ → Sign → ExprTree → Part ℕ
+link_part facts sites left token sign operand G =
+    Linked G facts sites (joint sign) token left (operand_type (is_null_beside (binary_of sign) left operand) (type_of facts operand))
+    (NullOr G (is_null_beside (binary_of sign) left operand) (emitted G facts sites operand))
+
+-- the type of what stands before the operator with this index, where the first operand has this one
+abbrev pub type_before : Facts → Option ValueType → List Link → ℕ → Option ValueType
+type_before facts left links zero = left
+type_before facts left [] (suc j) = left
+type_before facts left (x ∷ links) (suc j) = type_before facts (facts.type_at x.token) links j
+
+-- control is at this node
+abbrev pub To : ℕ → Path ℕ
+To j i k = i ≡ j
+
+-- what `&&`, or else `||`, does with its left value: a false one, or a true one, is the value of the whole, and with another one its right side follows
+abbrev pub Shortcut : Graph → Facts → Sites → Bool → ℕ → ℕ → Path ℕ
+Shortcut G facts sites true token right = Either (Decided G facts sites token) (To right) (Does G (node.Push Int (pos 0) 0))
+Shortcut G facts sites false token right = Either (Decided G facts sites token) (Does G (node.Push Int (pos 1) 0)) (To right)

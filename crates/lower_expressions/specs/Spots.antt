@@ -1,0 +1,70 @@
+-- Operators behind an operand, one after another.
+use Rattle.std.specs.Prelude.{ℕ, zero, suc, Bool, true, false, Option}
+use Rattle.cbi_base.specs.declared.operators.Binary.TheVariants as op
+use Rattle.c_syntax.specs.ExprTree as e
+use Rattle.c_syntax.specs.ExprTree.{ExprTree, PostfixList}
+use Rattle.c_meaning.specs.declared.value_type.ValueType.{ValueType}
+use Rattle.c_meaning.specs.Facts.{Facts, Sites}
+use Rattle.c_meaning.specs.Operation.{operation}
+use Rattle.c_meaning.specs.Trees.{is_place, type_of}
+use Rattle.graphs.specs.Expressions.{Behind, emitted}
+use Rattle.graphs.specs.Operators.{Member, Operates, Settled, Spot, SteppedAs}
+use Rattle.graphs.specs.Paths.{◌then◌, Nothing, Only}
+use Rattle.graph_parts.specs.Made.{Part}
+
+-- The first of the operators: `known` says whether what stands before it is a place, and `taken` whether something takes its value.
+abbrev pub first_part : Facts → Sites → Bool → Bool → Option ValueType → PostfixList → Part ℕ
+first_part facts sites taken known of e.no_postfix G = Nothing
+first_part facts sites taken known of (e.index token i rest) G =
+    Settled G known of then (emitted G facts sites i).value then Operates G (operation op.Add of (type_of facts i))
+first_part facts sites taken known of (e.member token name rest) G = Member G (facts.offset_at token)
+first_part facts sites taken known of (e.arrow token name rest) G = Settled G known of then Member G (facts.offset_at token)
+first_part facts sites taken known of (e.increment token rest) G = Only G known (SteppedAs G facts sites taken true token of)
+first_part facts sites taken known of (e.decrement token rest) G = Only G known (SteppedAs G facts sites taken false token of)
+
+-- whether it leads to a place
+abbrev pub place_after : PostfixList → Bool
+place_after (e.increment token rest) = false
+place_after (e.decrement token rest) = false
+place_after l = true
+
+-- its token
+abbrev pub token_after : PostfixList → ℕ
+token_after e.no_postfix = 0
+token_after (e.index token i rest) = token
+token_after (e.member token name rest) = token
+token_after (e.arrow token name rest) = token
+token_after (e.increment token rest) = token
+token_after (e.decrement token rest) = token
+
+-- those after it
+abbrev pub others : PostfixList → PostfixList
+others e.no_postfix = e.no_postfix
+others (e.index token i rest) = rest
+others (e.member token name rest) = rest
+others (e.arrow token name rest) = rest
+others (e.increment token rest) = rest
+others (e.decrement token rest) = rest
+
+-- whether what stands before the operator with this index is a place, and its type, where what stands before them all is one or not, and has this type
+abbrev pub place_before : Bool → PostfixList → ℕ → Bool
+place_before known l zero = known
+place_before known l (suc j) = place_before (place_after l) (others l) j
+
+abbrev pub type_behind : Facts → Option ValueType → PostfixList → ℕ → Option ValueType
+type_behind facts of l zero = of
+type_behind facts of l (suc j) = type_behind facts (facts.type_at (token_after l)) (others l) j
+
+-- an operand, and the operators behind it
+abbrev pub spots_part : Facts → Sites → Bool → ExprTree → PostfixList → Part ℕ
+spots_part facts sites taken primary operators G =
+    Spot G (is_place primary) (emitted G facts sites primary) then Behind G facts sites taken (is_place primary) (type_of facts primary) operators
+
+-- whether an expression is a value by its form: no operand of it is its place
+abbrev pub is_nowhere : ExprTree → Bool
+is_nowhere (e.Comma token operands) = false
+is_nowhere (e.Prefix token operator operand) = false
+is_nowhere (e.Postfix primary operators) = false
+is_nowhere (e.Name token name) = false
+is_nowhere (e.Paren token inner) = false
+is_nowhere x = true

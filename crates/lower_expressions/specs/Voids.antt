@@ -1,0 +1,16 @@
+-- Whether there is a value, and whether it is taken.
+use Rattle.std.specs.Prelude.{Bool, true, false, Option, Some}
+use Rattle.c_meaning.specs.declared.value_type.ValueType.{ValueType}
+use Rattle.c_meaning.specs.declared.value_type.ValueType.TheVariants as type
+use Rattle.graph_parts.specs.declared.purpose.Purpose.{Purpose}
+use Rattle.graph_parts.specs.declared.purpose.Purpose.TheVariants as purpose
+
+-- whether the type is `void`
+abbrev pub is_void : Option ValueType → Bool
+is_void (Some type.Void) = true
+is_void of = false
+
+-- whether something takes the value, or its truth
+abbrev pub is_taken : Purpose → Bool
+is_taken (purpose.Effect next) = false
+is_taken p = true

@@ -1,0 +1,164 @@
+ghost use Rattle.std.specs.Prelude.{IfOk};
+ghost use Rattle.c_syntax.specs.ExprTree as e;
+ghost use Rattle.c_syntax.specs.Plain.{plain_expr, plain_links};
+ghost use Rattle.graphs.specs.Expressions.{LinksDo, emitted};
+ghost use Rattle.graphs.specs.Values.{NullOr};
+ghost use Rattle.graph_parts.specs.Made.{Made};
+ghost use Rattle.graph_parts.specs.Parts.{serving};
+ghost use Rattle.graph_parts.specs.declared.purpose.Purpose.TheVariants as purpose;
+ghost use Rattle.lower_expressions.specs.Linking.{link_part};
+ghost use Rattle.tree_facts.specs.Facts.{facts_in, sites_in};
+
+use crate::expressions::emit_value;
+use crate::links::{begins_null, put_shortcut, type_before};
+use crate::truths::{all_fork, emit_forked};
+use c_meaning::{ValueType, operation_of};
+use c_syntax::{Expr, Link};
+use c_types::binary_of;
+use cbi_base::Memory;
+use flow::Node;
+use graph_parts::{Graph, Purpose, put_flagged, put_operation, put_stuck, put_taken};
+use tree_facts::{Joint, TreeFacts, is_null_beside, joint_by, operand_type};
+
+/// The value, or a null pointer in its place.
+#[cycle(emission)]
+#[tactic(auto, using(graph_parts::proofs::Building::parts_made))]
+pub fn emit_null_or(
+    graph: &mut Graph,
+    facts: &TreeFacts,
+    is_null: bool,
+    x: &Expr,
+    next: u32,
+) -> Result<u32, Memory>
+    ensures { IfOk result (λ i. Made (λ G. NullOr G is_null (emitted G (facts_in facts.now) (sites_in facts.now) (plain_expr x.now))) graph.old graph.new i next) }
+{
+    if is_null {
+        let i = graph.put(Node::Null { next })?;
+        return Ok(i);
+    }
+    let i = emit_value(graph, facts, x, next)?;
+    Ok(i)
+}
+
+/// An operator of a chain, with its right side, where the left side has the type.
+#[cycle(emission)]
+pub fn emit_link(
+    graph: &mut Graph,
+    facts: &TreeFacts,
+    left: Option<ValueType>,
+    link: &Link,
+    next: u32,
+) -> Result<u32, Memory>
+    ensures { IfOk result (λ i. Made (link_part (facts_in facts.now) (sites_in facts.now) left link.now.token link.now.sign (plain_expr link.now.operand)) graph.old graph.new i next) }
+{
+    let binary = binary_of(link.sign);
+    let is_null = is_null_beside(binary, left, &link.operand);
+    match joint_by(link.sign) {
+        Joint::Both => {
+            let flagged = put_flagged(graph, next)?;
+            let right = emit_null_or(graph, facts, is_null, &link.operand, flagged)?;
+            let i = put_shortcut(graph, facts, true, link.token, right, next)?;
+            Ok(i)
+        }
+        Joint::Either => {
+            let flagged = put_flagged(graph, next)?;
+            let right = emit_null_or(graph, facts, is_null, &link.operand, flagged)?;
+            let i = put_shortcut(graph, facts, false, link.token, right, next)?;
+            Ok(i)
+        }
+        Joint::Computes { op } => {
+            let own = facts.type_of(&link.operand);
+            let right = operand_type(is_null, own);
+            let operation = operation_of(op, left, right);
+            let done = put_operation(graph, operation, next)?;
+            let i = emit_null_or(graph, facts, is_null, &link.operand, done)?;
+            Ok(i)
+        }
+        Joint::Unjoined => {
+            let i = put_stuck(graph, next)?;
+            Ok(i)
+        }
+    }
+}
+
+/// The operators of a chain behind its first operand, which has the type.
+#[cycle(emission)]
+pub fn emit_links(
+    graph: &mut Graph,
+    facts: &TreeFacts,
+    left: Option<ValueType>,
+    links: &[Link],
+    next: u32,
+) -> Result<u32, Memory>
+    ensures { IfOk result (λ i. Made (λ G. LinksDo G (facts_in facts.now) (sites_in facts.now) left (plain_links links.now)) graph.old graph.new i next) }
+{
+    let mut entry = next;
+    for place in (0..links.len()).rev() {
+        let before = type_before(facts, left, links, place);
+        entry = emit_link(graph, facts, before, &links[place], entry)?;
+    }
+    Ok(entry)
+}
+
+/// The operators of one level, by their value.
+#[cycle(emission)]
+pub fn emit_chain_value(
+    graph: &mut Graph,
+    facts: &TreeFacts,
+    first: &Expr,
+    links: &[Link],
+    purpose: Purpose,
+) -> Result<u32, Memory>
+    ensures { IfOk result (λ i. Made (serving (facts_in facts.now) (sites_in facts.now) (e.Chain 0 (plain_expr first.now) (plain_links links.now))) graph.old graph.new i purpose) }
+{
+    let is_null = begins_null(facts, first, links);
+    let after = put_taken(graph, purpose)?;
+    let own = facts.type_of(first);
+    let left = operand_type(is_null, own);
+    let done = emit_links(graph, facts, left, links, after)?;
+    let i = emit_null_or(graph, facts, is_null, first, done)?;
+    Ok(i)
+}
+
+/// The truth of the operators of one level. `&&` and `||` need no value of their own for it, if no site is visited.
+#[cycle(emission)]
+pub fn emit_chain_truth(
+    graph: &mut Graph,
+    facts: &TreeFacts,
+    first: &Expr,
+    links: &[Link],
+    yes: u32,
+    no: u32,
+) -> Result<u32, Memory>
+    ensures { IfOk result (λ i. Made (serving (facts_in facts.now) (sites_in facts.now) (e.Chain 0 (plain_expr first.now) (plain_links links.now))) graph.old graph.new i (purpose.Truth yes no)) }
+{
+    if all_fork(facts, links) {
+        let i = emit_forked(graph, facts, first, links, yes, no)?;
+        return Ok(i);
+    }
+    let i = emit_chain_value(graph, facts, first, links, Purpose::Truth { yes, no })?;
+    Ok(i)
+}
+
+/// The operators of one level.
+#[cycle(emission)]
+pub fn emit_chain(
+    graph: &mut Graph,
+    facts: &TreeFacts,
+    first: &Expr,
+    links: &[Link],
+    purpose: Purpose,
+) -> Result<u32, Memory>
+    ensures { IfOk result (λ i. Made (serving (facts_in facts.now) (sites_in facts.now) (e.Chain 0 (plain_expr first.now) (plain_links links.now))) graph.old graph.new i purpose) }
+{
+    match purpose {
+        Purpose::Truth { yes, no } => {
+            let i = emit_chain_truth(graph, facts, first, links, yes, no)?;
+            Ok(i)
+        }
+        _ => {
+            let i = emit_chain_value(graph, facts, first, links, purpose)?;
+            Ok(i)
+        }
+    }
+}

@@ -1,0 +1,40 @@
+ghost use Rattle.std.specs.Prelude.{IfOk};
+ghost use Rattle.c_syntax.specs.Plain.{plain_expr};
+ghost use Rattle.graphs.specs.Expressions.{Condition};
+ghost use Rattle.graph_parts.specs.Made.{Made};
+ghost use Rattle.graph_parts.specs.Purposes.{ways};
+ghost use Rattle.tree_facts.specs.Facts.{facts_in, sites_in};
+
+use crate::expressions::{emit, emit_value};
+use c_syntax::Expr;
+use cbi_base::Memory;
+use flow::Node;
+use graph_parts::{Graph, Purpose};
+use tree_facts::TreeFacts;
+
+/// A condition, with the visit of the site at the token. With a site its value is on top at the mark, and a fork follows at once.
+#[cycle(emission)]
+#[tactic(auto, using(crate::proofs::Deciding::conditions_made))]
+pub fn emit_condition(
+    graph: &mut Graph,
+    facts: &TreeFacts,
+    token: u32,
+    x: &Expr,
+    yes: u32,
+    no: u32,
+) -> Result<u32, Memory>
+    ensures { IfOk result (λ i. Made (λ G. Condition G (facts_in facts.now) (sites_in facts.now) token (plain_expr x.now)) graph.old graph.new i (ways yes no)) }
+{
+    match facts.branch_at(token) {
+        None => {
+            let i = emit(graph, facts, x, Purpose::Truth { yes, no })?;
+            Ok(i)
+        }
+        Some(site) => {
+            let fork = graph.put(Node::Fork { yes, no })?;
+            let mark = graph.put(Node::Mark { site, next: fork })?;
+            let i = emit_value(graph, facts, x, mark)?;
+            Ok(i)
+        }
+    }
+}

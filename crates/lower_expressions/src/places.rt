@@ -1,0 +1,99 @@
+ghost use Rattle.std.specs.Prelude.{◌≡◌, IfOk, true, ℕ};
+ghost use Rattle.c_syntax.specs.ExprTree as e;
+ghost use Rattle.c_syntax.specs.Plain.{plain_expr, plain_exprs};
+ghost use Rattle.graph_parts.specs.Made.{Made};
+ghost use Rattle.graph_parts.specs.Parts.{place_part};
+ghost use Rattle.lower_expressions.specs.Spots.{is_nowhere};
+ghost use Rattle.tree_facts.specs.Facts.{facts_in, sites_in};
+
+use crate::expressions::emit_value;
+use crate::postfix::emit_postfix_place;
+use c_syntax::{Expr, PrefixOperator};
+use cbi_base::Memory;
+use graph_parts::{Graph, put_pointed, put_stuck, put_variable};
+use tree_facts::TreeFacts;
+
+/// No run of a checked text comes to the place of an expression that is a value by its form.
+fn put_nowhere(graph: &mut Graph, facts: &TreeFacts, x: &Expr, next: u32) -> Result<u32, Memory>
+    requires { is_nowhere (plain_expr x.now) ≡ true }
+    ensures { IfOk result (λ i. Made (place_part (facts_in facts.now) (sites_in facts.now) (plain_expr x.now)) graph.old graph.new i next) }
+{
+    let i = put_stuck(graph, next)?;
+    Ok(i)
+}
+
+/// The place that an expression finds.
+#[cycle(emission)]
+pub fn emit_place(graph: &mut Graph, facts: &TreeFacts, x: &Expr, next: u32) -> Result<u32, Memory>
+    ensures { IfOk result (λ i. Made (place_part (facts_in facts.now) (sites_in facts.now) (plain_expr x.now)) graph.old graph.new i next) }
+{
+    match x {
+        Expr::Name { token, .. } => put_variable(graph, facts.slot_at(*token), next),
+        Expr::Paren { inner, .. } => emit_place(graph, facts, inner, next),
+        Expr::Postfix { primary, operators } => {
+            emit_postfix_place(graph, facts, primary, operators.as_slice(), next)
+        }
+        Expr::Prefix {
+            operator,
+            operand,
+            ..
+        } => {
+            let i = emit_prefix_place(graph, facts, *operator, operand, next)?;
+            Ok(i)
+        }
+        Expr::Comma { operands, .. } => {
+            let i = emit_lone_place(graph, facts, operands.as_slice(), next)?;
+            Ok(i)
+        }
+        Expr::Assign { .. } | Expr::Conditional { .. } | Expr::Chain { .. } => {
+            put_nowhere(graph, facts, x, next)
+        }
+        Expr::Cast { .. } | Expr::SizeOfType { .. } | Expr::Call { .. } => {
+            put_nowhere(graph, facts, x, next)
+        }
+        Expr::Constant { .. } | Expr::Strings { .. } => put_nowhere(graph, facts, x, next),
+        Expr::Null { .. } | Expr::EndOfFile { .. } => put_nowhere(graph, facts, x, next),
+    }
+}
+
+/// The place that a pointer's value is.
+#[cycle(emission)]
+pub fn emit_prefix_place(
+    graph: &mut Graph,
+    facts: &TreeFacts,
+    operator: PrefixOperator,
+    operand: &Expr,
+    next: u32,
+) -> Result<u32, Memory>
+    ensures { IfOk result (λ i. (token : ℕ) → Made (place_part (facts_in facts.now) (sites_in facts.now) (e.Prefix token operator (plain_expr operand.now))) graph.old graph.new i next) }
+{
+    match operator {
+        PrefixOperator::Indirection => {
+            let pointed = put_pointed(graph, next)?;
+            let i = emit_value(graph, facts, operand, pointed)?;
+            Ok(i)
+        }
+        _ => {
+            let i = put_stuck(graph, next)?;
+            Ok(i)
+        }
+    }
+}
+
+/// The place of one operand alone. Of several, the value isn't a place.
+#[cycle(emission)]
+pub fn emit_lone_place(
+    graph: &mut Graph,
+    facts: &TreeFacts,
+    operands: &[Expr],
+    next: u32,
+) -> Result<u32, Memory>
+    ensures { IfOk result (λ i. (token : ℕ) → Made (place_part (facts_in facts.now) (sites_in facts.now) (e.Comma token (plain_exprs operands.now))) graph.old graph.new i next) }
+{
+    if operands.len() == 1 {
+        let i = emit_place(graph, facts, &operands[0], next)?;
+        return Ok(i);
+    }
+    let i = put_stuck(graph, next)?;
+    Ok(i)
+}
