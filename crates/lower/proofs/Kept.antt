@@ -1,0 +1,213 @@
+-- The nodes of a function that may stand do what all of them do.
+use Rattle.graphs.specs.Functions.{standing}
+use Rattle.std.proofs.Common.{◌≡◌, ℕ, zero, suc, refl, ap, sym, ◌∙◌, subst, List, [], ◌∷◌, Option, Some, None, Bool, true, false, slice_get, option_map}
+use Rattle.std.specs.Prelude.{not, ◌||◌, if◌then◌else◌}
+use Rattle.std.proofs.lemmas.Bool.{false≢true}
+use Rattle.std.proofs.lemmas.Option.{slice_get-map}
+use Rattle.c_syntax.specs.StatementTree.{EntryList}
+use Rattle.flow.specs.declared.node.Node.{Node}
+use Rattle.flow.specs.declared.node.Node.TheVariants as node
+use Rattle.flow.specs.declared.node.View.{View}
+use Rattle.flow.specs.declared.node.View.TheVariants as view
+use Rattle.flow.specs.declared.site.Site.{Site}
+use Rattle.flow.specs.Code.{view_at}
+use Rattle.flow.specs.View.{view as view_of}
+use Rattle.c_meaning.specs.declared.value_type.ValueType.{ValueType}
+use Rattle.c_meaning.specs.Facts.{Facts, Sites}
+use Rattle.c_meaning.specs.Trees.{has_value}
+use Rattle.graphs.specs.Stands.{renamed}
+use Rattle.graph_parts.specs.Finished.{Finished}
+use Rattle.lower.specs.Bodies.{BodyNodes}
+use Rattle.lower.specs.Keeps.{Apart, IsKept, Keeps}
+use Rattle.lower.specs.Ready.{AllMayStand, IsFree, forks, is_condition, kept_node, kept_nodes, may_stand}
+use Rattle.lower.proofs.Keeping.{body_into, comes_into, leaves_into}
+
+-- each node changed, by its number
+abbrev changed_by : (ℕ → Node → Node) → List Node → List Node
+changed_by f [] = []
+changed_by f (x ∷ xs) = f 0 x ∷ changed_by (λ n y. f (suc n) y) xs
+
+changed_at : (f : ℕ → Node → Node) (xs : List Node) (i : ℕ) → slice_get (changed_by f xs) i ≡ option_map (f i) (slice_get xs i)
+changed_at f [] i = refl
+changed_at f (x ∷ xs) zero = refl
+changed_at f (x ∷ xs) (suc i) = changed_at (λ n y. f (suc n) y) xs i
+
+or_true : (a b : Bool) → b ≡ true → (a || b) ≡ true
+or_true true b e = refl
+or_true false b e = e
+
+fork_stands : (site_of : ℕ → Option Site) (nodes : List Node) (v : View) → forks v ≡ true → may_stand site_of nodes v ≡ true
+fork_stands site_of nodes (view.Row op next) e = refl
+fork_stands site_of nodes (view.Halts op) e = refl
+fork_stands site_of nodes (view.Forks when_true when_false) e = refl
+fork_stands site_of nodes (view.Turns next) e = refl
+fork_stands site_of nodes (view.Calls function next) e = refl
+fork_stands site_of nodes view.Gives e = refl
+fork_stands site_of nodes view.Quits e = refl
+fork_stands site_of nodes (view.Marks site next) e = absurd (false≢true e)
+fork_stands site_of nodes (view.Skips by next) e = absurd (false≢true e)
+fork_stands site_of nodes (view.Tests site next) e = absurd (false≢true e)
+fork_stands site_of nodes (view.Picks weight fast slow) e = absurd (false≢true e)
+fork_stands site_of nodes (view.Imports next) e = absurd (false≢true e)
+fork_stands site_of nodes (view.Exports next) e = absurd (false≢true e)
+fork_stands site_of nodes view.Nowhere e = refl
+
+module _ (site_of : ℕ → Option Site) (nodes : List Node) where
+  -- a fork stays one
+  fork_kept : (x : Option Node) → forks (view_at x) ≡ true → forks (view_at (option_map (kept_node site_of nodes) x)) ≡ true
+  fork_kept None e = e
+  fork_kept (Some one) e = rw (fork_stands site_of nodes (view_of one) e) e
+
+  still_forks : (next : ℕ) → forks (view_at (slice_get nodes next)) ≡ true → forks (view_at (slice_get (kept_nodes site_of nodes) next)) ≡ true
+  still_forks next e =
+      ap (λ x. forks (view_at x)) (slice_get-map (kept_node site_of nodes) nodes next) ∙ fork_kept (slice_get nodes next) e
+
+  still_before : (condition : Bool) (next : ℕ) → (not condition || forks (view_at (slice_get nodes next))) ≡ true →
+      (not condition || forks (view_at (slice_get (kept_nodes site_of nodes) next))) ≡ true
+  still_before true next e = still_forks next e
+  still_before false next e = refl
+
+  -- a view that may stand among the nodes may stand among those that are kept
+  still : (v : View) → may_stand site_of nodes v ≡ true → may_stand site_of (kept_nodes site_of nodes) v ≡ true
+  still (view.Row op next) e = refl
+  still (view.Halts op) e = refl
+  still (view.Forks when_true when_false) e = refl
+  still (view.Turns next) e = refl
+  still (view.Calls function next) e = refl
+  still view.Gives e = refl
+  still view.Quits e = refl
+  still (view.Marks site next) e = still_before (is_condition (site_of site)) next e
+  still (view.Skips by next) e = e
+  still (view.Tests site next) e = e
+  still (view.Picks weight fast slow) e = e
+  still (view.Imports next) e = e
+  still (view.Exports next) e = e
+  still view.Nowhere e = refl
+
+  kept_stands : (one : Node) (stands : Bool) → may_stand site_of nodes (view_of one) ≡ stands →
+      may_stand site_of (kept_nodes site_of nodes) (view_of (if stands then one else node.Exit)) ≡ true
+  kept_stands one true e = still (view_of one) e
+  kept_stands one false e = refl
+
+  kept_from : (x : Option Node) (one : Node) → option_map (kept_node site_of nodes) x ≡ Some one → may_stand site_of (kept_nodes site_of nodes) (view_of one) ≡ true
+  kept_from None one e = absurd (cc)
+  kept_from (Some was) one e =
+      let is : kept_node site_of nodes was ≡ one = cc in
+      subst (λ y. may_stand site_of (kept_nodes site_of nodes) (view_of y) ≡ true) is (kept_stands was (may_stand site_of nodes (view_of was)) refl)
+
+  -- each of those that are kept may stand among them
+  pub all_may_stand : AllMayStand site_of (kept_nodes site_of nodes)
+  all_may_stand = record {
+    each = λ place one at. kept_from (slice_get nodes place) one (sym (slice_get-map (kept_node site_of nodes) nodes place) ∙ at);
+  }
+
+module _ (site_of : ℕ → Option Site) (old nodes : List Node) (ren : ℕ → ℕ) (finished : Finished old nodes ren) where
+  -- whether what a node became is kept
+  abbrev stays : ℕ → Bool
+  stays i = may_stand site_of nodes (view_at (slice_get nodes (ren i)))
+
+  abbrev kept_old : ℕ → Node → Node
+  kept_old i x = if stays i then x else node.Exit
+
+  abbrev graph : List Node
+  graph = changed_by kept_old old
+
+  view_found : (x : Option Node) (v : View) → option_map view_of x ≡ Some v → view_at x ≡ v
+  view_found None v e = absurd (cc)
+  view_found (Some x) v e = cc
+
+  stays_is : (i : ℕ) (x : Node) → slice_get old i ≡ Some x → stays i ≡ may_stand site_of nodes (renamed ren (view_of x))
+  stays_is i x at = ap (may_stand site_of nodes) (view_found (slice_get nodes (ren i)) (renamed ren (view_of x)) (finished.each i x at))
+
+  kept_view : (n x : Node) (stands : Bool) → view_of n ≡ renamed ren (view_of x) →
+      view_of (if stands then n else node.Exit) ≡ renamed ren (view_of (if stands then x else node.Exit))
+  kept_view n x true e = e
+  kept_view n x false e = refl
+
+  became : (i : ℕ) (x : Node) (n : Option Node) → slice_get nodes (ren i) ≡ n → option_map view_of n ≡ Some (renamed ren (view_of x)) →
+      option_map view_of (option_map (kept_node site_of nodes) n) ≡ Some (renamed ren (view_of (kept_old i x)))
+  became i x None here e = absurd (cc)
+  became i x (Some n) here e =
+      let same : view_of n ≡ renamed ren (view_of x) = cc in
+      ap Some (rw here (kept_view n x (may_stand site_of nodes (view_of n)) same))
+
+  kept_each : (i : ℕ) (x : Node) (was : Option Node) → slice_get old i ≡ was → option_map (kept_old i) was ≡ Some x →
+      option_map view_of (option_map (kept_node site_of nodes) (slice_get nodes (ren i))) ≡ Some (renamed ren (view_of x))
+  kept_each i x None at e = absurd (cc)
+  kept_each i x (Some y) at e =
+      let is : kept_old i y ≡ x = cc in
+      subst (λ z. option_map view_of (option_map (kept_node site_of nodes) (slice_get nodes (ren i))) ≡ Some (renamed ren (view_of z))) is
+      (became i y (slice_get nodes (ren i)) refl (finished.each i y at))
+
+  kept_finished : Finished graph (kept_nodes site_of nodes) ren
+  kept_finished = record {
+    each = λ i x at.
+        ap (option_map view_of) (slice_get-map (kept_node site_of nodes) nodes (ren i))
+        ∙ kept_each i x (slice_get old i) refl (sym (changed_at kept_old old i) ∙ at);
+  }
+
+  stands_still : (i : ℕ) (v : View) (was : Option Node) → slice_get old i ≡ was → option_map view_of was ≡ Some v → may_stand site_of nodes (renamed ren v) ≡ true →
+      option_map view_of (option_map (kept_old i) was) ≡ Some v
+  stands_still i v None at e stands = absurd (cc)
+  stands_still i v (Some x) at e stands =
+      let same : view_of x ≡ v = cc in
+      let holds : stays i ≡ true = stays_is i x at ∙ ap (λ u. may_stand site_of nodes (renamed ren u)) same ∙ stands in
+      rw holds e
+
+  still_stands : (i : ℕ) (v : View) → standing old i v → may_stand site_of nodes (renamed ren v) ≡ true → standing graph i v
+  still_stands i v e stands = ap (option_map view_of) (changed_at kept_old old i) ∙ stands_still i v (slice_get old i) refl e stands
+
+  other_stands : (v : View) → IsKept v → may_stand site_of nodes (renamed ren v) ≡ true
+  other_stands (view.Row op next) is = refl
+  other_stands (view.Halts op) is = refl
+  other_stands (view.Forks when_true when_false) is = refl
+  other_stands (view.Turns next) is = refl
+  other_stands (view.Calls function next) is = refl
+  other_stands view.Gives is = refl
+  other_stands view.Quits is = refl
+  other_stands (view.Marks site next) is = absurd is
+  other_stands (view.Skips by next) is = absurd is
+  other_stands (view.Tests site next) is = absurd is
+  other_stands (view.Picks weight fast slow) is = absurd is
+  other_stands (view.Imports next) is = absurd is
+  other_stands (view.Exports next) is = absurd is
+  other_stands view.Nowhere is = refl
+
+  fork_behind : (next when_true when_false : ℕ) (x : Option Node) → slice_get old next ≡ x → option_map view_of x ≡ Some (view.Forks when_true when_false) →
+      forks (view_at (slice_get nodes (ren next))) ≡ true
+  fork_behind next when_true when_false None at e = absurd (cc)
+  fork_behind next when_true when_false (Some x) at e =
+      let same : view_of x ≡ view.Forks when_true when_false = cc in
+      ap forks (view_found (slice_get nodes (ren next)) (renamed ren (view_of x)) (finished.each next x at) ∙ ap (renamed ren) same)
+
+  free_stands : (condition before : Bool) → condition ≡ false → (not condition || before) ≡ true
+  free_stands true before e = absurd (cc)
+  free_stands false before e = refl
+
+  keeps : Keeps (standing old) (standing graph) (IsFree site_of)
+  keeps = record {
+    kept = λ at v is e. still_stands at v e (other_stands v is);
+    visit = λ at site next free e.
+        still_stands at (view.Marks site next) e (free_stands (is_condition (site_of site)) (forks (view_at (slice_get nodes (ren next)))) free);
+    decided = λ at site next when_true when_false e f.
+        still_stands at (view.Marks site next) e
+        (or_true (not (is_condition (site_of site))) (forks (view_at (slice_get nodes (ren next)))) (fork_behind next when_true when_false (slice_get old next) refl f));
+  }
+
+-- what is kept of the nodes does the body
+pub body_kept : (facts : Facts) (sites : Sites) (is_main : Bool) (gives : ValueType) (body : Option EntryList) (nodes kept : List Node) → Apart (IsFree sites.site) sites →
+    BodyNodes facts sites is_main gives body nodes → kept ≡ kept_nodes sites.site nodes → BodyNodes facts sites is_main gives body kept
+body_kept facts sites is_main gives body nodes kept apart b is =
+    let into : Keeps (standing b.graph) (standing (graph sites.site b.graph nodes b.ren b.finished)) (IsFree sites.site) = keeps sites.site b.graph nodes b.ren b.finished in
+    rw is (record {
+      graph = graph sites.site b.graph nodes b.ren b.finished;
+      ren = b.ren;
+      finished = kept_finished sites.site b.graph nodes b.ren b.finished;
+      start = b.start;
+      first_node = b.first_node;
+      entry = b.entry;
+      begins = comes_into (standing b.graph) (standing (graph sites.site b.graph nodes b.ren b.finished)) (IsFree sites.site) into b.start b.entry b.begins;
+      exits = b.exits;
+      runs = (body_into (standing b.graph) (standing (graph sites.site b.graph nodes b.ren b.finished)) (IsFree sites.site) into facts sites apart gives body).leads b.entry b.exits b.runs;
+      leaves = leaves_into (standing b.graph) (standing (graph sites.site b.graph nodes b.ren b.finished)) (IsFree sites.site) into is_main (has_value gives) b.exits b.leaves;
+    })

@@ -1,0 +1,10 @@
+pub mod Bodying
+pub mod Graphing
+pub mod Initialising
+pub mod Keeping
+pub mod Kept
+pub mod Looping
+pub mod Readying
+pub mod Siting
+pub mod Spelling
+pub mod Zeroing

@@ -1,0 +1,12 @@
+use Rattle.std.proofs.Common.{◌≤◌, length, drop}
+use Rattle.c_syntax.specs.Plain.{plain_exprs}
+use Rattle.tree_facts.specs.Facts.{facts_in, sites_in}
+use Rattle.graphs.specs.Initialisers.{ElementsSet}
+use Rattle.graph_parts.specs.Made.{Made}
+use Rattle.lower.proofs.initialisers.emit_elements.Given as goal
+
+-- the elements from this place on are put
+abbrev pub invariant-loop-place : goal.invariant-loop-place
+invariant-loop-place l =
+    (l.place ≤ length l.items)
+    × Made (λ G. ElementsSet G (facts_in l.facts) (sites_in l.facts) l.token l.place (plain_exprs (drop l.place l.items))) l.initial.graph l.graph l.first l.next

@@ -1,0 +1,21 @@
+use Rattle.std.proofs.Common.{arith, subst}
+use Rattle.tree_facts.specs.Facts.{source_in}
+use Rattle.lower.specs.Programs.{IsFunctionOf}
+use Rattle.lower.proofs.Graphing.{function_pushed, no_more_functions, seen_all, seen_pushed}
+use Rattle.lower.proofs.programs.functions_of.Goals as goal
+
+pub loop-name-preserved : goal.loop-name-preserved
+loop-name-preserved c = record {
+  are = rw c.in_ok-push.ensures.items
+      (function_pushed (source_in c.args.facts.now) c.loop-name.functions.items c.in-Some.function c.loop-name.invariant.are
+      (subst (λ n. IsFunctionOf (source_in c.args.facts.now) n c.in-Some.function) (omega (arith, c.in_ok-number.ensures, c.len.ensures))
+      (rw c.in-Some.is at c.in_ok-function.ensures.does)));
+  names = rw c.in_ok-push.ensures.items
+      (seen_pushed (λ f. f.name) c.loop-name.functions.items c.in-Some.function c.args.names.now c.loop-name.name-index c.name-item.result (omega (arith, c.loop-name-test.true))
+      c.loop-name.invariant.names (rw c.in-Some.is at c.in_ok-function.ensures.name) c.name-item.is);
+}
+
+pub returns-clause-all : goal.returns-clause-all
+returns-clause-all c =
+    no_more_functions c.args.facts.now _ (seen_all (λ f. f.name) c.loop-name.functions.items c.args.names.now c.loop-name.name-index _ c.loop-name.invariant.names
+    (omega (arith, c.loop-name-test.false)) (omega (arith, c.if-names-function_count.false, c.function_count.ensures)))

@@ -1,0 +1,40 @@
+-- The nodes of a function.
+use Rattle.std.specs.Prelude.{◌≡◌, ℕ, Bool, List, Option}
+use Rattle.c_syntax.specs.StatementTree.{EntryList}
+use Rattle.flow.specs.declared.node.Node.{Node}
+use Rattle.c_meaning.specs.declared.value_type.ValueType.{ValueType}
+use Rattle.c_meaning.specs.Facts.{Facts, Sites}
+use Rattle.c_meaning.specs.Trees.{has_value}
+use Rattle.graphs.specs.Functions.{BodyDoes, ComesTo, EndsAt, GivesAt, Leaves, standing}
+use Rattle.graphs.specs.Paths.{Exits}
+use Rattle.graph_parts.specs.Finished.{Finished}
+use Rattle.graph_parts.specs.Made.{Part}
+
+-- where a function gives its value
+abbrev pub GivesPart : Bool → Part ℕ
+GivesPart value G i k = GivesAt G value i
+
+-- where control goes after the last statement
+abbrev pub EndPart : Bool → Bool → Part Exits
+EndPart is_main value G i x = EndsAt G is_main value (record x { next = i })
+
+-- how a function is left
+abbrev pub LeavesPart : Bool → Bool → Part Exits
+LeavesPart is_main value G i x = Leaves G is_main value x
+
+-- control comes from one node to another
+abbrev pub ComesPart : Part ℕ
+ComesPart G i k = ComesTo G i k
+
+-- the nodes do the body of a function with this result from the first of them on
+pub record BodyNodes (facts : Facts) (sites : Sites) (is_main : Bool) (gives : ValueType) (body : Option EntryList) (nodes : List Node) : Type 0 where
+  pub graph : List Node
+  pub ren : ℕ → ℕ
+  pub finished : Finished graph nodes ren
+  pub start : ℕ
+  pub first_node : ren start ≡ 0
+  pub entry : ℕ
+  pub begins : ComesTo (standing graph) start entry
+  pub exits : Exits
+  pub runs : BodyDoes (standing graph) facts sites gives body entry exits
+  pub leaves : Leaves (standing graph) is_main (has_value gives) exits

@@ -1,0 +1,7 @@
+pub mod Exits
+pub mod Strings
+pub mod Bodies
+pub mod Ready
+pub mod Keeps
+pub mod Programs
+pub mod Means

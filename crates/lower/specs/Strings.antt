@@ -1,0 +1,26 @@
+-- Arrays that begin as strings.
+use Rattle.std.specs.Prelude.{ℕ, Bool, true, false, Option, Some, slice_get}
+use Rattle.std.specs.Option.{option_and_then}
+use Rattle.c_syntax.specs.ExprTree.{ExprTree}
+use Rattle.flow.specs.declared.program.Text.{Text}
+use Rattle.c_meaning.specs.declared.value_type.ValueType.{ValueType}
+use Rattle.c_meaning.specs.declared.value_type.ValueType.TheVariants as type
+use Rattle.c_meaning.specs.Facts.{Facts, Sites}
+use Rattle.c_meaning.specs.Meaning.{text_of}
+use Rattle.graphs.specs.Expressions.{number_of_text}
+use Rattle.graphs.specs.Initialisers.{ArrayZeroed, OnLocal, Spells}
+use Rattle.graphs.specs.Paths.{Graph, Path, ◌then◌}
+
+-- whether the type is an array's
+abbrev pub is_array : Option ValueType → Bool
+is_array (Some (type.Array size)) = true
+is_array of = false
+
+-- the text with this number
+abbrev pub text_with : Facts → Option ℕ → Option Text
+text_with facts number = option_and_then (slice_get facts.statics.texts) number
+
+-- all cells of the array are zero, and then it holds the bytes of the string
+abbrev pub StringSet : Graph → Facts → Sites → ℕ → ExprTree → Path ℕ
+StringSet G facts sites token value =
+    ArrayZeroed G facts sites token then OnLocal G (facts.slot_at token) (Spells G (number_of_text facts value) (text_of facts value))

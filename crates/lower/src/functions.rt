@@ -1,0 +1,138 @@
+ghost use Rattle.std.specs.Prelude.{◌≡◌, ◌+◌, IfOk, length, option_map};
+ghost use Rattle.std.specs.Option.{option_copied};
+ghost use Rattle.c_syntax.specs.Plain.{plain_entries};
+ghost use Rattle.graphs.specs.Functions.{BodyDoes};
+ghost use Rattle.lower.specs.Bodies.{BodyNodes, ComesPart, EndPart, GivesPart, LeavesPart};
+ghost use Rattle.lower.specs.Exits.{exits_of};
+ghost use Rattle.lower.specs.Ready.{AllMayStand};
+ghost use Rattle.graph_parts.specs.Made.{Made};
+ghost use Rattle.tree_facts.specs.Facts.{facts_in, sites_in};
+
+use crate::exits::{Exits, next_at};
+use crate::keep::keep;
+use crate::statements::emit_entries;
+use c_meaning::ValueType;
+use c_syntax::Entry;
+use cbi_base::{Kind, Memory};
+use flow::Node;
+use graph_parts::{Graph, finish, put_stuck};
+use std::alloc::Global;
+use tree_facts::{TreeFacts, has_value};
+
+/// Where a function with a result gives it; no other one comes to a value.
+#[tactic(auto, using(crate::proofs::Bodying::gives_parts))]
+fn put_gives(graph: &mut Graph, value: bool) -> Result<u32, Memory>
+    ensures { IfOk result (λ i. Made (GivesPart value) graph.old graph.new i 0) }
+{
+    if value {
+        let gives = graph.put(Node::Return)?;
+        return Ok(gives);
+    }
+    let stuck = put_stuck(graph, 0)?;
+    Ok(stuck)
+}
+
+/// Where control goes after the last statement: `main` gives 0 (C99 5.1.2.2.3), and any other function is left.
+#[tactic(auto, using(crate::proofs::Bodying::end_parts))]
+fn put_end(graph: &mut Graph, is_main: bool, value: bool, exits: Exits) -> Result<u32, Memory>
+    requires { (exits_of exits).next ≡ (exits_of exits).leaves }
+    ensures { IfOk result (λ i. Made (EndPart is_main value) graph.old graph.new i (exits_of exits)) }
+{
+    if is_main && value {
+        let zero = graph.put(Node::Push {
+            kind: Kind::Int,
+            value: 0,
+            next: exits.gives,
+        })?;
+        return Ok(zero);
+    }
+    Ok(exits.leaves)
+}
+
+/// How a function is left. No `break` and no `continue` stands outside a loop.
+fn put_exits(graph: &mut Graph, is_main: bool, value: bool) -> Result<Exits, Memory>
+    ensures { IfOk result (λ exits. Made (LeavesPart is_main value) graph.old graph.new 0 (exits_of exits)) }
+{
+    let stuck = put_stuck(graph, 0)?;
+    let leaves = graph.put(Node::Leave)?;
+    let gives = put_gives(graph, value)?;
+    let exits = Exits {
+        next: leaves,
+        breaks: stuck,
+        continues: stuck,
+        gives,
+        leaves,
+    };
+    let next = put_end(graph, is_main, value, exits)?;
+    Ok(next_at(exits, next))
+}
+
+/// The body of a function with this result, where it has one.
+#[tactic(auto, using(crate::proofs::Bodying::body_parts))]
+fn put_body(
+    graph: &mut Graph,
+    facts: &TreeFacts,
+    gives: ValueType,
+    body: Option<&[Entry]>,
+    exits: Exits,
+) -> Result<u32, Memory>
+    ensures { IfOk result (λ i. Made (λ G. BodyDoes G (facts_in facts.now) (sites_in facts.now) gives (option_map plain_entries (option_copied body.entry))) graph.old graph.new i (exits_of exits)) }
+{
+    match body {
+        None => {
+            let stuck = put_stuck(graph, exits.next)?;
+            Ok(stuck)
+        }
+        Some(entries) => {
+            let i = emit_entries(graph, facts, gives, entries, exits)?;
+            Ok(i)
+        }
+    }
+}
+
+/// The node where a function begins, which is the last one that is put: the body's entry, or one that passes control on to it.
+#[tactic(auto, using(crate::proofs::Bodying::start_parts))]
+fn put_start(graph: &mut Graph, entry: u32) -> Result<u32, Memory>
+    ensures begins { IfOk result (λ i. Made ComesPart graph.old graph.new i entry) }
+    ensures last { IfOk result (λ i. length graph.new ≡ i + 1) }
+{
+    if graph.nodes().len() == entry as usize + 1 {
+        return Ok(entry);
+    }
+    let i = graph.put(Node::Pass { next: entry })?;
+    Ok(i)
+}
+
+/// Nodes that do the body of a function with this result, in the order of a program.
+fn body_nodes(
+    alloc: Global,
+    facts: &TreeFacts,
+    is_main: bool,
+    gives: ValueType,
+    body: Option<&[Entry]>,
+) -> Result<Vec<Node>, Memory>
+    ensures { IfOk result (λ nodes. BodyNodes (facts_in facts.now) (sites_in facts.now) is_main gives (option_map plain_entries (option_copied body.entry)) nodes.items) }
+{
+    let mut graph = Graph::new(alloc);
+    let exits = put_exits(&mut graph, is_main, has_value(gives))?;
+    let entry = put_body(&mut graph, facts, gives, body, exits)?;
+    let _start = put_start(&mut graph, entry)?;
+    let nodes = finish(alloc, &graph)?;
+    Ok(nodes)
+}
+
+/// The nodes of a function with this result and body, in the order of a program. Each of them may stand in a program that is to be sampled.
+pub fn emit_function(
+    alloc: Global,
+    facts: &TreeFacts<'_>,
+    is_main: bool,
+    gives: ValueType,
+    body: Option<&[Entry]>,
+) -> Result<Vec<Node>, Memory>
+    ensures body { IfOk result (λ nodes. BodyNodes (facts_in facts.now) (sites_in facts.now) is_main gives (option_map plain_entries (option_copied body.entry)) nodes.items) }
+    ensures stand { IfOk result (λ nodes. AllMayStand (sites_in facts.now).site nodes.items) }
+{
+    let nodes = body_nodes(alloc, facts, is_main, gives, body)?;
+    let kept = keep(alloc, facts, nodes.as_slice())?;
+    Ok(kept)
+}

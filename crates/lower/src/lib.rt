@@ -1,0 +1,12 @@
+//! From the tree of a text to a program that does what the text means.
+#![tactic(auto)]
+
+mod copies;
+mod exits;
+mod functions;
+mod initialisers;
+mod keep;
+mod programs;
+mod statements;
+
+pub use programs::lower;
