@@ -1,0 +1,4 @@
+pub mod Agreeing
+pub mod Doing
+pub mod Planning
+pub mod Refusing

@@ -1,0 +1,17 @@
+use Rattle.c_types.specs.Answers.{known_of, tree_of}
+use Rattle.study.proofs.Doing.{looks}
+use Rattle.study.proofs.pipeline.compile_checked.Goals as goal
+
+pub returns-clause-compiled : goal.returns-clause-compiled
+returns-clause-compiled c = λ text accepted.
+    let tree = tree_of c.args.checked.now in
+    let known = known_of c.args.checked.now in
+    record {
+      tree = tree;
+      known = known;
+      accepted = accepted;
+      fits = c.in_ok-table.ensures.fits;
+      does = c.in_ok-planned.ensures tree known
+          (looks c.accepted_texts_never_fault.ensures.never c.accepted_texts_never_fault.ensures.never_plain text tree known accepted
+          c.args.plan _ _ c.in_ok-table.ensures.sites c.in_ok-program.ensures.means c.in_ok-program.ensures.table);
+    }

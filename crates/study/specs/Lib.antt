@@ -1,0 +1,4 @@
+pub mod Planned
+pub mod Does
+pub mod Compiled
+pub mod Refused

@@ -1,0 +1,114 @@
+ghost use Rattle.std.specs.Prelude.{◌≡◌, ℕ, List, IfErr, IfOk, IsErr, OnOk};
+ghost use Rattle.c_syntax.specs.ItemTree.{SourceTree};
+ghost use Rattle.c_types.specs.declared.walk.Walk.{Walk};
+ghost use Rattle.c_types.specs.Answers.{known_of, tree_of};
+ghost use Rattle.c_meaning.specs.Texts.{source_of};
+ghost use Rattle.flow.specs.Program.{table_of};
+ghost use Rattle.sites.specs.Table.{functions_of};
+ghost use Rattle.clone_paths.specs.Cloned.{Cloned};
+ghost use Rattle.sampling.specs.Runs.{IsReady, Samples};
+ghost use Rattle.lower.specs.Means.{MeansText};
+ghost use Rattle.accepted_texts.specs.Accepted.{IsAccepted};
+ghost use Rattle.study.specs.Compiled.{DoesPlan, IsCompiled};
+ghost use Rattle.study.specs.Does.{DoesText};
+ghost use Rattle.study.specs.Planned.{FitsPlan, planned_sites};
+ghost use Rattle.study.specs.Refused.{CrowdedBy, IsRefusedText, RefusedBy};
+
+use crate::error::CompileError;
+use crate::plan::{Plan, schemes_of};
+use accepted_texts::{accept, accepted_texts_never_fault, one_accepted_text};
+use c_types::Checked;
+use cbi_base::{Memory, Refusal};
+use flow::{Program, SiteTable};
+use lower::lower;
+use sampling::{may_clone, sample};
+use sites::{SiteError, schemes_choose_sites, site_table};
+use std::alloc::Global;
+
+/// The sites of a checked text by a plan, and the names of its functions.
+fn sites_for(alloc: Global, checked: &Checked, plan: Plan) -> Result<SiteTable, CompileError>
+    ensures sites { IfOk result (λ t. t.sites ≡ planned_sites plan (tree_of checked.now) (known_of checked.now)) }
+    ensures functions { IfOk result (λ t. t.functions ≡ functions_of (tree_of checked.now)) }
+    ensures fits { OnOk result (FitsPlan plan (tree_of checked.now) (known_of checked.now)) }
+    ensures refused { IfErr result (CrowdedBy plan (tree_of checked.now) (known_of checked.now)) }
+{
+    schemes_choose_sites();
+    match site_table(alloc, checked, schemes_of(plan)) {
+        Ok(table) => Ok(table),
+        Err(SiteError::Memory) => Err(CompileError::Memory),
+        Err(SiteError::TooManySites) => Err(CompileError::Refused {
+            refusal: Refusal::TooManySites,
+        }),
+    }
+}
+
+/// The program of a checked text with the sites of a table, which looks at each visit of them. Parts that aren't those of a program are answered
+/// as want of memory: that no checked text has such parts isn't proved.
+fn lower_all(alloc: Global, checked: &Checked, table: &SiteTable) -> Result<Program, Memory>
+    ensures means { IfOk result (λ p. MeansText (source_of (tree_of checked.now) (known_of checked.now) table.now.sites) p) }
+    ensures table { IfOk result (λ p. table_of p ≡ table.now) }
+    ensures ready { IfOk result IsReady }
+{
+    match lower(alloc, checked, table)? {
+        Some(program) => Ok(program),
+        None => Err(Memory),
+    }
+}
+
+/// The sampled program of one that a text was compiled to. One of more than 2,000,000 nodes isn't sampled, which is answered as want of memory:
+/// that no text has so many isn't proved.
+fn sample_all(alloc: Global, program: &Program) -> Result<Program, Memory>
+    requires { IsReady program.now }
+    ensures cloned { IfOk result (Cloned program.now) }
+    ensures samples { IfOk result (Samples program.now) }
+{
+    if !may_clone(program) {
+        return Err(Memory);
+    }
+    sample(alloc, program)
+}
+
+/// The program of a text by a plan, from the one that looks at each visit of the plan's sites.
+fn by_plan(alloc: Global, program: Program, plan: Plan) -> Result<Program, Memory>
+    requires { IsReady program }
+    ensures { (tree : SourceTree) (known : Walk) → DoesText tree known (planned_sites plan tree known) program → IfOk result (DoesPlan plan tree known) }
+{
+    match plan {
+        Plan::Plain | Plan::Full { .. } => Ok(program),
+        Plan::Sampled { .. } => sample_all(alloc, &program),
+    }
+}
+
+/// The program of a checked text, by a plan. Refused with TooManySites exactly where the sites of the plan are more than 65,536, which those of a
+/// plain program never are. Memory is told where memory is wanting, and besides of a text whose parts aren't those of a program, and of one whose
+/// program has more than 2,000,000 nodes and is to be sampled.
+pub fn compile_checked(
+    alloc: Global,
+    checked: &Checked,
+    plan: Plan,
+) -> Result<Program, CompileError>
+    ensures compiled { (text : List ℕ) → IsAccepted text (tree_of checked.now) (known_of checked.now) → IfOk result (IsCompiled text plan) }
+    ensures fits { OnOk result (FitsPlan plan (tree_of checked.now) (known_of checked.now)) }
+    ensures refused { IfErr result (CrowdedBy plan (tree_of checked.now) (known_of checked.now)) }
+{
+    accepted_texts_never_fault();
+    let table = sites_for(alloc, checked, plan)?;
+    let program = lower_all(alloc, checked, &table)?;
+    let planned = by_plan(alloc, program, plan)?;
+    Ok(planned)
+}
+
+/// Compiles a text, of at most 1,048,576 bytes. It is refused by the first cause in this order: its tokens, its tree, its types (each with the line
+/// where it stands), and then its sites, which are more than 65,536. A plain program has no sites and isn't refused for them. Memory is told where
+/// memory is wanting, and besides of a text whose parts aren't those of a program, and of one whose program has more than 2,000,000 nodes and is to
+/// be sampled: that no accepted text is so isn't proved.
+pub fn compile(alloc: Global, text: &[u8], plan: Plan) -> Result<Program, CompileError>
+    ensures compiled { IfOk result (IsCompiled text.now plan) }
+    ensures fits { OnOk result ((tree : SourceTree) (known : Walk) → IsAccepted text.now tree known → FitsPlan plan tree known) }
+    ensures refused { IfErr result (RefusedBy plan text.now) }
+    ensures refused_only { IsRefusedText plan text.now → IsErr result }
+{
+    one_accepted_text();
+    let checked = accept(alloc, text)?;
+    compile_checked(alloc, &checked, plan)
+}
