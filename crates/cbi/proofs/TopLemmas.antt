@@ -7,11 +7,10 @@ use Rattle.cbi_words.specs.declared.command.Command.{Command}
 use Rattle.commands.specs.declared.done.Done.{Done}
 use Rattle.commands.specs.declared.fault.Fault.{Fault}
 use Rattle.commands.specs.declared.fault.Fault.TheVariants.{Read, Write, Refused, Memory}
-use Rattle.commands.specs.Commands.{Did, IsRefused, IsRefusedBy, LeftOn, LeftWanting, LeftWithin, WriteFault, names_of}
-use Rattle.commands.specs.Faults.{Caused, LeftBy, OfRead, status_of}
+use Rattle.commands.specs.Commands.{Did, IsRefused, LeftOn, LeftWanting, LeftWithin, WriteFault, names_of}
+use Rattle.commands.specs.Faults.{Caused, LeftBy, OfRead, OfRefusal, status_of}
 use Rattle.commands.specs.Names.{IsFirstMissing, IsOneOf}
 use Rattle.commands.specs.Outside.{Outside}
-use Rattle.commands.proofs.RefusedBy.{refused-by}
 use Rattle.cbi.specs.Told.{Tells, ReadTold, RefusalTold, fault_line}
 
 -- what is told at 5 is the refusal that is the fault
@@ -27,23 +26,27 @@ told-refusal Memory status read write P told nothing cause (inl h) is = absurd (
 told-refusal Memory status read write P told nothing cause (inr h) is = absurd (omega (arith, h.0, is))
 
 -- at 5 the bytes read are refused
-pub refused-at-5 : (e : Fault) (status : ℕ) (command asked : Option Command) (held : Option Held) (read : List ℕ → Type 0) (write told nothing : Type 0) → command ≡ asked →
-    Caused e read write (IsRefusedBy command held) → Tells (status_of e) status told nothing → status ≡ 5 → IsRefused asked held
-refused-at-5 e status command asked held read write told nothing same cause tells is =
-    let t = told-refusal e status read write (IsRefusedBy command held) (λ line. told) nothing cause tells is in
-    subst (λ a. IsRefused a held) same (refused-by command held t.refusal t.refused)
+pub refused-at-5 : (e : Fault) (status : ℕ) (command asked : Option Command) (held : Option Held) (told nothing : Type 0) → command ≡ asked →
+    OfRefusal e (IsRefused command held) → Tells (status_of e) status told nothing → status ≡ 5 → IsRefused asked held
+refused-at-5 (Refused refusal) status command asked held told nothing same refused tells is = subst (λ a. IsRefused a held) same refused
+refused-at-5 (Read name) status command asked held told nothing same refused (inl h) is = absurd (omega (arith, h.0, is))
+refused-at-5 (Read name) status command asked held told nothing same refused (inr h) is = absurd (omega (arith, h.0, is))
+refused-at-5 Write status command asked held told nothing same refused (inl h) is = absurd (omega (arith, h.0, is))
+refused-at-5 Write status command asked held told nothing same refused (inr h) is = absurd (omega (arith, h.0, is))
+refused-at-5 Memory status command asked held told nothing same refused (inl h) is = absurd (omega (arith, h.0, is))
+refused-at-5 Memory status command asked held told nothing same refused (inr h) is = absurd (omega (arith, h.0, is))
 
 -- a fault without its cause is want of memory
-pub only-memory : (e : Fault) (status : ℕ) (command asked : Option Command) (held : Option Held) (read : List ℕ → Type 0) (rose out store told nothing : Type 0) → command ≡ asked →
-    Caused e read (WriteFault command out store) (IsRefusedBy command held) → Tells (status_of e) status told nothing → ((name : List ℕ) → read name → rose) →
+pub only-memory : (e : Fault) (status : ℕ) (command asked : Option Command) (held : Option Held) (read : List ℕ → Type 0) (rose out store told nothing : Type 0) (P : Refusal → Type 0) → command ≡ asked →
+    Caused e read (WriteFault command out store) P → OfRefusal e (IsRefused command held) → Tells (status_of e) status told nothing → ((name : List ℕ) → read name → rose) →
     (rose → ⊥) → (WriteFault asked out store → ⊥) → (IsRefused asked held → ⊥) → (status ≡ 0) ⊎ (status ≡ 7)
-only-memory (Read name) status command asked held read rose out store told nothing same cause tells by no-read no-write none = absurd (no-read (by name cause))
-only-memory Write status command asked held read rose out store told nothing same cause tells by no-read no-write none =
+only-memory (Read name) status command asked held read rose out store told nothing P same cause refused tells by no-read no-write none = absurd (no-read (by name cause))
+only-memory Write status command asked held read rose out store told nothing P same cause refused tells by no-read no-write none =
     absurd (no-write (subst (λ a. WriteFault a out store) same cause))
-only-memory (Refused refusal) status command asked held read rose out store told nothing same cause tells by no-read no-write none =
-    absurd (none (subst (λ a. IsRefused a held) same (refused-by command held refusal cause)))
-only-memory Memory status command asked held read rose out store told nothing same cause (inl h) by no-read no-write none = inr h.0
-only-memory Memory status command asked held read rose out store told nothing same cause (inr h) by no-read no-write none = inr h.0
+only-memory (Refused refusal) status command asked held read rose out store told nothing P same cause refused tells by no-read no-write none =
+    absurd (none (subst (λ a. IsRefused a held) same refused))
+only-memory Memory status command asked held read rose out store told nothing P same cause refused (inl h) by no-read no-write none = inr h.0
+only-memory Memory status command asked held read rose out store told nothing P same cause refused (inr h) by no-read no-write none = inr h.0
 
 -- a fault leaves what is left where memory is wanting, also to tell of it
 pub fault-wanting : {B : Type 0} (e : Fault) (told : B → List Observation) (command asked : Option Command) (before after : Outside B) (unmoved : Type 0) → command ≡ asked →

@@ -240,6 +240,7 @@ fn a_failing_device_has_its_status(rt: HostRuntime) -> Result<(), Fail> {
     let bank: &[&str] = &["cbi", "bank", "--rate", "1", "--count", "2", "--seed", "5"];
     let collect: &[&str] = &["cbi", "collect", "--program", "prog", "in"];
     let rank: &[&str] = &["cbi", "rank", "prog", "in"];
+    let transform: &[&str] = &["cbi", "transform", "--mode", "plain", "in"];
     let unwritten = "cbi: write fault\n";
     // The call of the store and the put that fail, or 0.
     let cases = [
@@ -255,12 +256,15 @@ fn a_failing_device_has_its_status(rt: HostRuntime) -> Result<(), Fail> {
         (collect, 2, 0, 3, "", "cbi: read fault in\n"),
         (rank, 1, 0, 3, "", "cbi: read fault prog\n"),
         (rank, 2, 0, 3, "", "cbi: read fault in\n"),
+        (transform, 1, 0, 3, "", "cbi: read fault in\n"),
+        (transform, 0, 1, 4, "", unwritten),
         (bank, 1, 0, 0, "1\n1\n", ""),
         (bank, 0, 1, 4, "", unwritten),
     ];
     for (words, call, put, status, out, err) in cases {
         let case = Case {
             words,
+            input: "int main(void){}",
             store_fails: &[call],
             out_fails: &[put],
             ..of_file(PROGRAM)

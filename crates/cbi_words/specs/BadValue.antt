@@ -4,7 +4,8 @@ use Rattle.cbi_base.specs.Numbers.{is_word, ◌>>=◌}
 use Rattle.cbi_words.specs.declared.given.Given.{Given}
 use Rattle.cbi_words.specs.declared.given.Choice.{Choice}
 use Rattle.cbi_words.specs.Options.{number_in, policy_of, value_of}
-use Rattle.cbi_words.specs.Reading.{asked, bank_options, no_positional, only, rank_options, run_options, two}
+use Rattle.cbi_words.specs.Schemes.{mode_of, schemes_of}
+use Rattle.cbi_words.specs.Reading.{asked, bank_options, no_positional, only, rank_options, run_options, transform_options, two}
 
 -- an option that doesn't take every value, and the values that it takes
 pub record Rule : Type 0 where
@@ -18,6 +19,13 @@ is_number least most value = is_some (number_in least most value)
 -- the name of a policy
 abbrev pub is_policy : List ℕ → Bool
 is_policy value = is_some (policy_of value)
+
+-- the name of a mode, and a list of schemes
+abbrev pub is_mode : List ℕ → Bool
+is_mode value = is_some (mode_of value)
+
+abbrev pub is_schemes : List ℕ → Bool
+is_schemes value = is_some (schemes_of value)
 
 -- what is given is taken; so is an option that isn't given
 abbrev pub fits : (List ℕ → Bool) → Option (List ℕ) → Bool
@@ -51,12 +59,20 @@ bad_rank given = do
   files ← two given.positionals
   first_bad (record { name = codes "--policy"; takes = is_policy } ∷ []) given.options
 
+-- of `transform` with its text and its mode
+abbrev pub bad_transform : Given → Option (List ℕ)
+bad_transform given = do
+  text ← only given.positionals
+  mode ← value_of (codes "--mode") given.options
+  first_bad (record { name = codes "--mode"; takes = is_mode } ∷ record { name = codes "--schemes"; takes = is_schemes } ∷ []) given.options
+
 -- `collect` takes every value of its option
 unfoldable pub bad_in : List ℕ → List (List ℕ) → Option (List ℕ)
 bad_in name words =
     if is_word name (codes "run") then (asked run_options words >>= bad_run)
     else (if is_word name (codes "bank") then (asked bank_options words >>= bad_bank)
-    else (if is_word name (codes "rank") then (asked rank_options words >>= bad_rank) else None))
+    else (if is_word name (codes "rank") then (asked rank_options words >>= bad_rank)
+    else (if is_word name (codes "transform") then (asked transform_options words >>= bad_transform) else None)))
 
 -- the option whose value alone breaks the rule, the first in the table of the command
 abbrev pub bad_value : List (List ℕ) → Option (List ℕ)

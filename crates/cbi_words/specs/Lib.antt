@@ -1,5 +1,6 @@
 pub mod WordRule
 pub mod Options
+pub mod Schemes
 pub mod Within
 pub mod Reading
 pub mod BadValue

@@ -4,15 +4,27 @@ use Rattle.cbi_base.specs.declared.policy.Policy.TheVariants.{All}
 use Rattle.cbi_base.specs.Numbers.{is_word, ◌>>=◌}
 use Rattle.cbi_words.specs.declared.given.Given.{Given}
 use Rattle.cbi_words.specs.declared.command.Command.{Command}
-use Rattle.cbi_words.specs.declared.command.Command.TheVariants.{Run, Bank, Collect, Rank}
+use Rattle.cbi_words.specs.declared.command.Command.TheVariants.{Transform, Run, Bank, Collect, Rank}
 use Rattle.cbi_words.specs.WordRule.{cut}
 use Rattle.cbi_words.specs.Options.{are_asked, value_of, number_or, number_wanted, policy_or}
+use Rattle.cbi_words.specs.Schemes.{all_schemes, mode_wanted, schemes_or}
 
 -- the one positional, where there is one alone
 abbrev pub only : List (List ℕ) → Option (List ℕ)
 only [] = None
 only (word ∷ []) = Some word
 only (word ∷ next ∷ more) = None
+
+-- `transform --mode plain|full|sampled [--schemes LIST] C`
+abbrev pub transform_options : List (List ℕ)
+transform_options = codes "--mode" ∷ codes "--schemes" ∷ []
+
+abbrev pub transform_of : Given → Option Command
+transform_of given = do
+  mode ← mode_wanted (value_of (codes "--mode") given.options)
+  schemes ← schemes_or all_schemes (value_of (codes "--schemes") given.options)
+  text ← only given.positionals
+  Some (Transform mode schemes text)
 
 -- `run [--bank B] [--input I] [--expect FILE] [--turns N] [--run R] [--report F] PROG`
 abbrev pub run_options : List (List ℕ)
@@ -83,7 +95,8 @@ command_in name words =
     if is_word name (codes "run") then (asked run_options words >>= run_of)
     else (if is_word name (codes "bank") then (asked bank_options words >>= bank_of)
     else (if is_word name (codes "collect") then (asked collect_options words >>= collect_of)
-    else (if is_word name (codes "rank") then (asked rank_options words >>= rank_of) else None)))
+    else (if is_word name (codes "rank") then (asked rank_options words >>= rank_of)
+    else (if is_word name (codes "transform") then (asked transform_options words >>= transform_of) else None))))
 
 -- the command that the words read as
 abbrev pub reads : List (List ℕ) → Option Command

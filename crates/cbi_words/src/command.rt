@@ -1,9 +1,19 @@
+use crate::schemes::{Mode, Schemes};
 use crate::word::Word;
 use cbi_base::{Policy, Seq};
 
 /// What the words ask for. A command that isn't built has no variant.
 #[derive(Debug, Drop)]
 pub enum Command {
+    /// `transform`: compiles a text.
+    Transform {
+        /// To which program.
+        mode: Mode,
+        /// Of which schemes its sites are; a plain program has none.
+        schemes: Schemes,
+        /// The name of the text's file.
+        text: Word,
+    },
     /// `run`: runs a program file.
     Run {
         /// The name of the bank's file; without it the bank is the one number 1.

@@ -7,10 +7,12 @@ mod given;
 mod numbers;
 mod policies;
 mod read;
+mod schemes;
 mod usage;
 mod word;
 
 pub use command::Command;
 pub use error::WordsError;
 pub use read::read_words;
+pub use schemes::{Mode, Schemes};
 pub use word::Word;

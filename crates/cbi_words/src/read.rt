@@ -1,7 +1,7 @@
 ghost use Rattle.std.specs.Prelude.{◌≡◌, None, Some, IfOk, map};
 ghost use Rattle.cbi_words.specs.Answers.{ReadAs, OnUsage};
-ghost use Rattle.cbi_words.specs.BadValue.{bad_bank, bad_in, bad_rank, bad_run, bad_value};
-ghost use Rattle.cbi_words.specs.Reading.{asked, bank_of, collect_of, command_in, rank_of, reads, run_of};
+ghost use Rattle.cbi_words.specs.BadValue.{bad_bank, bad_in, bad_rank, bad_run, bad_transform, bad_value};
+ghost use Rattle.cbi_words.specs.Reading.{asked, bank_of, collect_of, command_in, rank_of, reads, run_of, transform_of};
 ghost use Rattle.cbi_words.specs.UsageText.{IsUsageText};
 ghost use Rattle.cbi_words.specs.Within.{IsWithin};
 ghost use Rattle.cbi_words.specs.WordRule.{texts_of};
@@ -11,6 +11,7 @@ use crate::error::{Fault, WordsError};
 use crate::given::{Given, cut};
 use crate::numbers::{Bounds, number_in, number_or};
 use crate::policies::policy_or;
+use crate::schemes::{mode_in, schemes_or};
 use crate::usage::{bad_value_line, usage};
 use cbi_base::Policy;
 use std::alloc::Global;
@@ -41,6 +42,26 @@ const SEEDS: Bounds = Bounds {
     least: 0,
     most: 18446744073709551615,
 };
+
+// What is given after `transform`.
+fn transform_of(given: &Given) -> Result<Command, Fault>
+    ensures reads { ReadAs result (transform_of given.now) (bad_transform given.now) }
+    ensures within { IfOk result IsWithin }
+{
+    let [text] = given.positionals.as_slice() else {
+        return Err(Fault::Usage);
+    };
+    let Some(mode) = given.value_of("--mode") else {
+        return Err(Fault::Usage);
+    };
+    let mode = mode_in("--mode", mode)?;
+    let schemes = schemes_or(given, "--schemes")?;
+    Ok(Command::Transform {
+        mode,
+        schemes,
+        text: text.try_clone()?,
+    })
+}
 
 // What is given after `run`.
 fn run_of(alloc: Global, given: &Given) -> Result<Command, Fault>
@@ -165,6 +186,10 @@ fn command_in(alloc: Global, name: &str, words: &[String]) -> Result<Command, Fa
     if name == "rank" {
         let given = asked(alloc, &["--policy"], words)?;
         return rank_of(&given);
+    }
+    if name == "transform" {
+        let given = asked(alloc, &["--mode", "--schemes"], words)?;
+        return transform_of(&given);
     }
     Err(Fault::Usage)
 }

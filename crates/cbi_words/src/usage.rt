@@ -32,6 +32,24 @@ fn positional(alloc: Global, name: &'static str, help: &'static str) -> Arg<'sta
     Arg::new(alloc, name).required(true).help(help)
 }
 
+fn transform_line(alloc: Global) -> Result<clap::Command<'static>, AllocError> {
+    command(alloc, "transform", "Compile a C text to a program file")
+        .arg(option(
+            alloc,
+            "mode",
+            "MODE",
+            "The program's sites: plain has none, full looks at each visit, sampled at those that a bank samples",
+        )
+        .required(true))?
+        .arg(option(
+            alloc,
+            "schemes",
+            "LIST",
+            "Which sites: some of branches,returns,pairs [default: all]",
+        ))?
+        .arg(positional(alloc, "C", "The text's file"))
+}
+
 fn run_line(alloc: Global) -> Result<clap::Command<'static>, AllocError> {
     command(
         alloc,
@@ -127,6 +145,7 @@ fn rank_line(alloc: Global) -> Result<clap::Command<'static>, AllocError> {
 
 fn tool_line(alloc: Global) -> Result<clap::Command<'static>, AllocError> {
     command(alloc, "cbi", "Cooperative bug isolation")
+        .subcommand(transform_line(alloc)?)?
         .subcommand(run_line(alloc)?)?
         .subcommand(bank_line(alloc)?)?
         .subcommand(collect_line(alloc)?)?
@@ -136,6 +155,7 @@ fn tool_line(alloc: Global) -> Result<clap::Command<'static>, AllocError> {
 // The text that clap writes of the command, or of the tool, where the word names no command.
 fn text_of(alloc: Global, word: &str) -> Result<String, Memory> {
     let mut line = match word {
+        "transform" => transform_line(alloc)?.bin_name("cbi transform")?,
         "run" => run_line(alloc)?.bin_name("cbi run")?,
         "bank" => bank_line(alloc)?.bin_name("cbi bank")?,
         "collect" => collect_line(alloc)?.bin_name("cbi collect")?,

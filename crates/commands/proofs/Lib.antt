@@ -10,3 +10,4 @@ pub mod FileLemmas
 pub mod GatherLemmas
 pub mod MergeLemmas
 pub mod RankLemmas
+pub mod TransformLemmas

@@ -1,12 +1,17 @@
 -- A refusal that is told is one of the bytes read.
-use Rattle.std.proofs.Common.{inl, inr, Option, Some, None}
+use Rattle.std.proofs.Common.{◌≡◌, inl, inr, ℕ, List, Option, Some, None, Result, Ok, Err, IfErr, sym, subst}
 use Rattle.cbi_base.specs.Store.{Held}
 use Rattle.cbi_base.specs.declared.refusal.Refusal.{Refusal}
 use Rattle.cbi_base.specs.declared.refusal.Refusal.TheVariants.{BadByte, BadToken, Syntax, BadType, TooLarge, TooManySites, BadProgram, BadBank, BadReport, Foreign, Conflict, TooManyReports, TooManyMarks, BadCollection, InputTooLarge, NoSite, BadEdits, Absent, NotPart}
 use Rattle.cbi_words.specs.declared.command.Command.{Command}
-use Rattle.cbi_words.specs.declared.command.Command.TheVariants.{Run, Bank, Collect, Rank}
+use Rattle.cbi_words.specs.declared.command.Command.TheVariants.{Transform, Run, Bank, Collect, Rank}
+use Rattle.study.specs.declared.plan.Plan.{Plan}
+use Rattle.study.specs.Refused.{IsRefusedText, RefusesText}
+use Rattle.commands.specs.declared.fault.Fault.{Fault}
+use Rattle.commands.specs.declared.fault.Fault.TheVariants.{Read, Write, Refused, Memory}
 use Rattle.commands.specs.declared.files.RunFiles.{RunFiles}
 use Rattle.commands.specs.Commands.{IsRefused, IsRefusedBy}
+use Rattle.commands.specs.Faults.{Caused, OfRefusal}
 use Rattle.commands.specs.Run.{AreRefused, RefusesBytes}
 use Rattle.commands.proofs.CollectLemmas.{refuses-texts}
 use Rattle.commands.proofs.RankLemmas.{refuses-rank}
@@ -33,12 +38,31 @@ refuses-bytes (BadEdits line) files h = absurd h
 refuses-bytes (Absent place) files h = absurd h
 refuses-bytes NotPart files h = absurd h
 
-pub refused-by : (command : Option Command) (held : Option Held) (refusal : Refusal) → IsRefusedBy command held refusal → IsRefused command held
-refused-by None held refusal h = absurd h
-refused-by (Some (Run bank input expect turns run report program)) held refusal h =
+-- texts that a refusal speaks of are refused ones
+abbrev pub TextsAreRefused : Type 0
+TextsAreRefused = (plan : Plan) (refusal : Refusal) (text : List ℕ) → RefusesText plan refusal text → IsRefusedText plan text
+
+refused-by : TextsAreRefused → (command : Option Command) (held : Option Held) (refusal : Refusal) → IsRefusedBy command held refusal → IsRefused command held
+refused-by law None held refusal h = absurd h
+refused-by law (Some (Transform mode schemes text)) held refusal h = record { bytes = h.bytes; read = h.read; refused = law _ refusal h.bytes h.refused }
+refused-by law (Some (Run bank input expect turns run report program)) held refusal h =
     record { files = h.files; are_files = h.are_files; refused = refuses-bytes refusal h.files h.refused }
-refused-by (Some (Bank rate count seed stream)) held refusal h = absurd h
-refused-by (Some (Collect program files)) held refusal h =
+refused-by law (Some (Bank rate count seed stream)) held refusal h = absurd h
+refused-by law (Some (Collect program files)) held refusal h =
     record { texts = h.texts; are_texts = h.are_texts; refused = refuses-texts refusal h.texts h.refused }
-refused-by (Some (Rank policy program collection)) held refusal h =
+refused-by law (Some (Rank policy program collection)) held refusal h =
     record { texts = h.texts; are_texts = h.are_texts; refused = refuses-rank refusal h.texts h.refused }
+
+refused-for-cause : TextsAreRefused → {A : Type 0} (answer : Result A Fault) (command : Option Command) (held : Option Held) (read : List ℕ → Type 0) (write : Type 0)
+    → IfErr answer (λ e. Caused e read write (IsRefusedBy command held)) → IfErr answer (λ e. OfRefusal e (IsRefused command held))
+refused-for-cause law (Ok done) command held read write cause = tt
+refused-for-cause law (Err (Read name)) command held read write cause = tt
+refused-for-cause law (Err Write) command held read write cause = tt
+refused-for-cause law (Err (Refused refusal)) command held read write cause = refused-by law command held refusal cause
+refused-for-cause law (Err Memory) command held read write cause = tt
+
+-- where a command tells of a refusal, the bytes read are refused
+pub was-refused : TextsAreRefused → {A : Type 0} (answer : Result A Fault) (command given : Command) (held : Option Held) (read : List ℕ → Type 0) (write : Type 0)
+    → command ≡ given → IfErr answer (λ e. Caused e read write (IsRefusedBy (Some given) held)) → IfErr answer (λ e. OfRefusal e (IsRefused (Some command) held))
+was-refused law answer command given held read write same cause =
+    subst (λ (c : Command). IfErr answer (λ e. OfRefusal e (IsRefused (Some c) held))) (sym same) (refused-for-cause law answer (Some given) held read write cause)

@@ -6,9 +6,12 @@ use Rattle.cbi_base.specs.Store.{Held}
 use Rattle.cbi_base.specs.declared.policy.Policy.{Policy}
 use Rattle.cbi_base.specs.declared.refusal.Refusal.{Refusal}
 use Rattle.cbi_words.specs.declared.command.Command.{Command}
-use Rattle.cbi_words.specs.declared.command.Command.TheVariants.{Run, Bank, Collect, Rank}
+use Rattle.cbi_words.specs.declared.command.Command.TheVariants.{Transform, Run, Bank, Collect, Rank}
 use Rattle.commands.specs.declared.done.Done.{Done}
 use Rattle.commands.specs.declared.done.Done.TheVariants.{Lines, Nothing, Added}
+use Rattle.cbi_words.specs.declared.schemes.Mode.{Mode}
+use Rattle.cbi_words.specs.declared.schemes.Schemes.{Schemes}
+use Rattle.commands.specs.declared.words.TransformWords.{TransformWords}
 use Rattle.commands.specs.declared.words.RunWords.{RunWords}
 use Rattle.commands.specs.declared.words.BankWords.{BankWords}
 use Rattle.commands.specs.declared.words.CollectWords.{CollectWords}
@@ -18,9 +21,13 @@ use Rattle.commands.specs.Files.{run_names}
 use Rattle.commands.specs.Run.{Ran, StoppedWithin, BrokeOff, RunRefused, RunRefusedBy}
 use Rattle.commands.specs.MadeBank.{IsMadeText}
 use Rattle.commands.specs.Collect.{CollectRefused, CollectRefusedBy, IsCollected, IsCollectedText, collect_names}
+use Rattle.commands.specs.Transform.{IsTransformed, TransformRefused, TransformRefusedBy, transform_names}
 use Rattle.commands.specs.Rank.{IsRanked, RankRefused, RankRefusedBy, rank_names}
 
 -- the words of each command, by their names
+abbrev pub transform_words : Mode → Schemes → (text : List ℕ) → TransformWords
+transform_words mode schemes text = record { mode = mode; schemes = schemes; text = text }
+
 abbrev pub run_words : (bank input expect : Option (List ℕ)) → (turns run : ℕ) → (report : Option (List ℕ)) → (program : List ℕ) → RunWords
 run_words bank input expect turns run report program =
     record { bank = bank; input = input; expect = expect; turns = turns; run = run; report = report; program = program }
@@ -37,6 +44,7 @@ rank_words policy program collection = record { policy = policy; program = progr
 -- the names that it reads, in the order of its reads
 abbrev pub names_of : Option Command → List (List ℕ)
 names_of None = []
+names_of (Some (Transform mode schemes text)) = transform_names (transform_words mode schemes text)
 names_of (Some (Run bank input expect turns run report program)) = run_names (run_words bank input expect turns run report program)
 names_of (Some (Bank rate count seed stream)) = []
 names_of (Some (Collect program files)) = collect_names (collect_words program files)
@@ -45,6 +53,7 @@ names_of (Some (Rank policy program collection)) = rank_names (rank_words policy
 -- the name that it writes, where there is one
 abbrev pub written_by : Option Command → Option (List ℕ)
 written_by None = None
+written_by (Some (Transform mode schemes text)) = None
 written_by (Some (Run bank input expect turns run report program)) = report
 written_by (Some (Bank rate count seed stream)) = None
 written_by (Some (Collect program files)) = None
@@ -53,6 +62,8 @@ written_by (Some (Rank policy program collection)) = None
 -- what it does where nothing goes wrong, and what it says of it
 abbrev pub Did : {B : Type 0} → (told : B → List Observation) → Option Command → (before after : Outside B) → (said : Done) → Type 0
 Did told None before after said = ⊥
+Did told (Some (Transform mode schemes text)) before after said =
+    Wrote (IsTransformed before.held (transform_words mode schemes text)) before after × (said ≡ Nothing)
 Did told (Some (Run bank input expect turns run report program)) before after said =
     Ran told (run_words bank input expect turns run report program) before after × (said ≡ Lines)
 Did told (Some (Bank rate count seed stream)) before after said = Wrote (IsMadeText (bank_words rate count seed stream)) before after × (said ≡ Nothing)
@@ -69,6 +80,7 @@ done_text (Added added repeated) lines = codes "added " ++ decimal added ++ code
 -- what it leaves where out or the store doesn't take all that is written
 abbrev pub LeftOn : {B : Type 0} → (told : B → List Observation) → Option Command → (before after : Outside B) → Type 0
 LeftOn told None before after = ⊥
+LeftOn told (Some (Transform mode schemes text)) before after = WroteWithin (IsTransformed before.held (transform_words mode schemes text)) before after
 LeftOn told (Some (Run bank input expect turns run report program)) before after =
     StoppedWithin told (run_words bank input expect turns run report program) before after
 LeftOn told (Some (Bank rate count seed stream)) before after = WroteWithin (IsMadeText (bank_words rate count seed stream)) before after
@@ -78,6 +90,7 @@ LeftOn told (Some (Rank policy program collection)) before after = WroteWithin (
 -- what it leaves where memory is wanting before it is done
 abbrev pub LeftWithin : {B : Type 0} → (told : B → List Observation) → Option Command → (before after : Outside B) → Type 0
 LeftWithin told None before after = ⊥
+LeftWithin told (Some (Transform mode schemes text)) before after = ⊥
 LeftWithin told (Some (Run bank input expect turns run report program)) before after =
     BrokeOff told (run_words bank input expect turns run report program) before after
     ⊎ StoppedWithin told (run_words bank input expect turns run report program) before after
@@ -93,6 +106,7 @@ LeftWanting told command before after =
 -- the bytes read are refused
 abbrev pub IsRefused : Option Command → Option Held → Type 0
 IsRefused None held = ⊥
+IsRefused (Some (Transform mode schemes text)) held = TransformRefused (transform_words mode schemes text) held
 IsRefused (Some (Run bank input expect turns run report program)) held = RunRefused (run_words bank input expect turns run report program) held
 IsRefused (Some (Bank rate count seed stream)) held = ⊥
 IsRefused (Some (Collect program files)) held = CollectRefused (collect_words program files) held
@@ -101,6 +115,7 @@ IsRefused (Some (Rank policy program collection)) held = RankRefused (rank_words
 -- the refusal that is told of them
 abbrev pub IsRefusedBy : Option Command → Option Held → Refusal → Type 0
 IsRefusedBy None held refusal = ⊥
+IsRefusedBy (Some (Transform mode schemes text)) held refusal = TransformRefusedBy (transform_words mode schemes text) held refusal
 IsRefusedBy (Some (Run bank input expect turns run report program)) held refusal =
     RunRefusedBy (run_words bank input expect turns run report program) held refusal
 IsRefusedBy (Some (Bank rate count seed stream)) held refusal = ⊥

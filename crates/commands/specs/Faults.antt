@@ -16,6 +16,11 @@ abbrev pub OfRead : Fault → (List ℕ → Type 0) → Type 0
 OfRead (Read name) P = P name
 OfRead fault P = Unit {0}
 
+-- a fact where the bytes read are refused
+abbrev pub OfRefusal : Fault → Type 0 → Type 0
+OfRefusal (Refused refusal) P = P
+OfRefusal fault P = Unit {0}
+
 -- a fact where memory was wanting
 abbrev pub OfMemory : Fault → Type 0 → Type 0
 OfMemory Memory P = P

@@ -6,5 +6,6 @@ pub mod MadeBank
 pub mod Collect
 pub mod Gathered
 pub mod Rank
+pub mod Transform
 pub mod Commands
 pub mod Faults

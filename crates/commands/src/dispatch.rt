@@ -4,7 +4,7 @@ ghost use Rattle.cbi_words.specs.Within.{IsWithin};
 ghost use Rattle.commands.specs.Outside.{outside, AllStayBut, IsUnmoved};
 ghost use Rattle.commands.specs.Names.{IsOneOf, IsFirstMissing, AreHeld};
 ghost use Rattle.commands.specs.Commands.{names_of, written_by, Did, LeftOn, LeftWithin, IsRefused, IsRefusedBy, WriteFault};
-ghost use Rattle.commands.specs.Faults.{Caused, LeftBy, OfRead, Precedes, Passed};
+ghost use Rattle.commands.specs.Faults.{Caused, LeftBy, OfRead, OfRefusal, Precedes, Passed};
 
 use crate::collect_files::collect_files;
 use crate::done::Done;
@@ -12,11 +12,13 @@ use crate::fault::Fault;
 use crate::make_bank::make_bank;
 use crate::rank_runs::rank_runs;
 use crate::run_file::run_file;
-use crate::words::{BankWords, CollectWords, RankWords, RunWords};
+use crate::transform_text::transform_text;
+use crate::words::{BankWords, CollectWords, RankWords, RunWords, TransformWords};
 use cbi_base::{Sink, Store};
 use cbi_words::Command;
 use probes::Probe;
 use std::alloc::Global;
+use study::refused_texts_are_not_compiled;
 
 /// Does the command.
 pub fn obey<S: Store, O: Sink>(
@@ -33,6 +35,7 @@ pub fn obey<S: Store, O: Sink>(
         (λ name. IsOneOf (names_of (Some command)) name × Rose (S.read_faults store.old) (S.read_faults store.new))
         (WriteFault (Some command) (Rose (O.faults out.old) (O.faults out.new)) (Rose (S.write_faults store.old) (S.write_faults store.new)))
         (IsRefusedBy (Some command) (S.holds store.old))) }
+    ensures was_refused { IfErr result (λ e. OfRefusal e (IsRefused (Some command) (S.holds store.old))) }
     ensures refused { IsRefused (Some command) (S.holds store.old) → IsSome (S.holds store.old) → IsErrAnd result Precedes }
 
     // What is left after a fault, and which names were held.
@@ -58,7 +61,20 @@ pub fn obey<S: Store, O: Sink>(
     ensures writes_stay { S.is_sound store.old → S.write_faults store.new ≡ S.write_faults store.old }
     ensures out_stays { O.is_sound out.old → O.faults out.new ≡ O.faults out.old }
 {
+    refused_texts_are_not_compiled();
     match command {
+        Command::Transform {
+            mode,
+            schemes,
+            text,
+        } => {
+            let words = TransformWords {
+                mode,
+                schemes,
+                text,
+            };
+            transform_text(alloc, &words, store, out)
+        }
         Command::Run {
             bank,
             input,

@@ -14,6 +14,7 @@ mod rank_runs;
 mod rank_texts;
 mod reports;
 mod run_file;
+mod transform_text;
 mod words;
 
 pub use dispatch::obey;

@@ -1,5 +1,16 @@
 use cbi_base::{Policy, Seq};
-use cbi_words::Word;
+use cbi_words::{Mode, Schemes, Word};
+
+/// What `transform` is asked for.
+#[derive(Debug, Drop)]
+pub struct TransformWords {
+    /// To which program the text is compiled.
+    pub mode: Mode,
+    /// Of which schemes its sites are.
+    pub schemes: Schemes,
+    /// The name of the text's file.
+    pub text: Word,
+}
 
 /// What `run` is asked for.
 #[derive(Debug, Drop)]

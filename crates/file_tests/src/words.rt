@@ -55,6 +55,17 @@ fn told(alloc: Global, answer: &Result<Command, WordsError>) -> Result<String, A
             let (program, collection) = (program.as_str(), collection.as_str());
             format!(in alloc; "rank {policy:?} {program} {collection}")
         }
+        Ok(
+            Command::Transform {
+                mode,
+                schemes,
+                text,
+            },
+        ) => {
+            let (branches, returns, pairs) = (schemes.branches, schemes.returns, schemes.pairs);
+            let text = text.as_str();
+            format!(in alloc; "transform {mode:?} {branches} {returns} {pairs} {text}")
+        }
         Err(WordsError::Usage { text }) => {
             if text.as_str().starts_with("cbi: bad value of ") {
                 text.clone()
@@ -131,6 +142,22 @@ fn options_stand_in_any_order(rt: HostRuntime) -> Result<(), Fail> {
                 "cbi|bank|--stream=54|--seed=42|--count=1|--rate=2",
                 "bank 2 1 42 54",
             ),
+            (
+                "cbi|transform|--mode|plain|t",
+                "transform Plain true true true t",
+            ),
+            (
+                "cbi|transform|t|--schemes=branches|--mode=full",
+                "transform Full true false false t",
+            ),
+            (
+                "cbi|transform|--schemes|pairs,returns|--mode|sampled|t",
+                "transform Sampled false true true t",
+            ),
+            (
+                "cbi|transform|--mode|plain|--schemes|returns,branches,pairs|-",
+                "transform Plain true true true -",
+            ),
         ],
     )
 }
@@ -189,6 +216,9 @@ fn other_words_are_usage(rt: HostRuntime) -> Result<(), Fail> {
             ("cbi|bank|--seed|3|--rate|9", "usage"),
             ("cbi|bank|--seed|3|--count|2", "usage"),
             ("cbi|bank|--seed|3|--count|2|--rate|9|p", "usage"),
+            ("cbi|transform|t", "usage"),
+            ("cbi|transform|--mode|plain", "usage"),
+            ("cbi|transform|--mode|plain|t|u", "usage"),
         ],
     )
 }
@@ -277,8 +307,41 @@ fn value_alone_is_told(rt: HostRuntime) -> Result<(), Fail> {
             ("cbi|rank|p|--policy|x", "usage"),
             ("cbi|rank|p|--policy|x|c", "cbi: bad value of --policy\n"),
             ("cbi|study|--run|0|p", "usage"),
+            ("cbi|transform|--schemes|x|t", "usage"),
+            (
+                "cbi|transform|--schemes|x|--mode|x|t",
+                "cbi: bad value of --mode\n",
+            ),
         ],
     )
+}
+
+#[test]
+fn schemes_are_listed_once_each(rt: HostRuntime) -> Result<(), Fail> {
+    let lists = [
+        "",
+        ",",
+        "branch",
+        "Pairs",
+        "pairs,",
+        ",pairs",
+        "pairs,,returns",
+        "pairs,pairs",
+        "pairs, returns",
+        "branches,returns,pairs,branches",
+        "branches returns",
+    ];
+    for mode in ["plain", "full", "sampled"] {
+        for list in lists {
+            let line = format!(in rt.alloc(); "cbi|transform|--mode|{mode}|--schemes={list}|t")?;
+            are_read(
+                &rt,
+                rt.alloc(),
+                &[(line.as_str(), "cbi: bad value of --schemes\n")],
+            )?;
+        }
+    }
+    Ok(())
 }
 
 #[test]
@@ -294,6 +357,7 @@ fn usage_shows_the_command_line(rt: HostRuntime) -> Result<(), Fail> {
     for (line, want) in [
         ("cbi|run", "Usage: cbi run"),
         ("cbi|bank", "--rate <D> --count <N> --seed <S>"),
+        ("cbi|transform", "--mode <MODE>"),
         ("cbi|", "Usage: cbi"),
     ] {
         let shown = shows(rt.alloc(), line, want)?;

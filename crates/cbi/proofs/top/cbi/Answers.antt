@@ -28,9 +28,9 @@ returns-in-Ok-obey-clause-wanting g c = λ is. inr (done-wanting _ _ _ _ _ _ (sy
 
 pub returns-in-Err-clause-refused : goal.returns-in-Err-clause-refused
 returns-in-Err-clause-refused g c = λ is.
-    refused-at-5 c.in-Err.fault c.tell_fault-in-Err.result _ _ _ _ _ _ _ (sym c.in-Ok.ensures.reads) c.in-Err.ensures.fault c.tell_fault-in-Err.ensures.told is
+    refused-at-5 c.in-Err.fault c.tell_fault-in-Err.result _ _ _ _ _ (sym c.in-Ok.ensures.reads) c.in-Err.ensures.was_refused c.tell_fault-in-Err.ensures.told is
 
 pub returns-in-Err-clause-complete : goal.returns-in-Err-clause-complete
 returns-in-Err-clause-complete g c = λ some no-read no-write none.
-    only-memory c.in-Err.fault c.tell_fault-in-Err.result _ _ _ _ _ _ _ _ _ (sym c.in-Ok.ensures.reads)
-    c.in-Err.ensures.fault c.tell_fault-in-Err.ensures.told (λ name h. h.1) no-read no-write none
+    only-memory c.in-Err.fault c.tell_fault-in-Err.result _ _ _ _ _ _ _ _ _ _ (sym c.in-Ok.ensures.reads)
+    c.in-Err.ensures.fault c.in-Err.ensures.was_refused c.tell_fault-in-Err.ensures.told (λ name h. h.1) no-read no-write none
