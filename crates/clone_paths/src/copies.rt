@@ -6,14 +6,15 @@ use flow::{Global, Partner, Site, SiteKind, Text};
 use std::alloc::Global as Heap;
 
 /// A copy of numbers.
-pub(crate) fn copy_of<T: Copy>(alloc: Heap, items: &[T]) -> Result<Seq<T>, Memory>
+pub fn copy_of<T: Copy>(alloc: Heap, items: &[T]) -> Result<Seq<T>, Memory>
     ensures { IfOk result (λ s. s ≡ items.now) }
 {
     let copy = Vec::from_slice(alloc, items)?;
     Ok(Seq::from_vec(copy))
 }
 
-pub(crate) fn copy_texts(alloc: Heap, texts: &[Text]) -> Result<Seq<Text>, Memory>
+/// Copies of texts.
+pub fn copy_texts(alloc: Heap, texts: &[Text]) -> Result<Seq<Text>, Memory>
     ensures { IfOk result (λ s. s ≡ texts.now) }
 {
     let mut copies = Vec::with_capacity(alloc, texts.len())?;
@@ -72,7 +73,8 @@ fn copy_kind(kind: &SiteKind) -> Result<SiteKind, Memory>
     }
 }
 
-pub(crate) fn copy_sites(alloc: Heap, sites: &[Site]) -> Result<Seq<Site>, Memory>
+/// Copies of sites.
+pub fn copy_sites(alloc: Heap, sites: &[Site]) -> Result<Seq<Site>, Memory>
     ensures { IfOk result (λ s. s ≡ sites.now) }
 {
     let mut copies = Vec::with_capacity(alloc, sites.len())?;

@@ -11,4 +11,5 @@ mod nodes;
 mod parts;
 
 pub use clones::clone_program;
+pub use copies::{copy_of, copy_sites, copy_texts};
 pub use label::{Label, Side};

@@ -1,7 +1,6 @@
 //! From the tree of a text to a program that does what the text means.
 #![tactic(auto)]
 
-mod copies;
 mod exits;
 mod functions;
 mod initialisers;

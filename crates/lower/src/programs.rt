@@ -10,10 +10,10 @@ ghost use Rattle.lower.specs.Means.{MeansText};
 ghost use Rattle.lower.specs.Programs.{AreFunctionsOf, HasNoMore, IsFunctionOf};
 ghost use Rattle.tree_facts.specs.Facts.{source_in, table_in};
 
-use crate::copies::{copy_of, copy_sites, copy_texts};
 use crate::functions::emit_function;
 use c_types::Checked;
 use cbi_base::{Memory, Name, Seq};
+use clone_paths::{copy_of, copy_sites, copy_texts};
 use flow::{Function, Program, SiteTable};
 use std::alloc::Global;
 use tree_facts::{TreeFacts, has_value};
@@ -97,6 +97,8 @@ fn program_of(
     };
     let texts = copy_texts(alloc, facts.texts())?;
     let sites = copy_sites(alloc, table.sites())?;
+    let texts = texts.into_vec();
+    let sites = sites.into_vec();
     let program = Program::new(alloc, texts, globals, functions, facts.main(), sites)?;
     Ok(program)
 }

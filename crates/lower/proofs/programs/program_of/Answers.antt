@@ -8,12 +8,12 @@ pub returns-clause-graph : goal.returns-clause-graph
 returns-clause-graph c =
     graph_some (source_in c.args.facts.now) c.in_ok-program.program _ _ _ _ _ c.in_ok-program.ensures.value (rw c.in-Some-2.is at c.in_ok-functions.ensures.are)
     (rw c.in-Some-2.is at c.in_ok-functions.ensures.all) (rw c.in-Some.is at c.in_ok-globals.ensures.objects) (rw c.in-Some.is at c.in_ok-globals.ensures.count)
-    (c.in_ok-texts.ensures ∙ c.texts.ensures) c.main.ensures (λ number. ap (λ l. slice_get l number) (c.in_ok-sites.ensures ∙ c.sites.ensures.value ∙ sym c.requires))
+    (c.into_vec-texts.ensures ∙ c.in_ok-texts.ensures ∙ c.texts.ensures) c.main.ensures (λ number. ap (λ l. slice_get l number) (c.into_vec-sites.ensures ∙ c.in_ok-sites.ensures ∙ c.sites.ensures.value ∙ sym c.requires))
 
 pub returns-clause-ready : goal.returns-clause-ready
 returns-clause-ready c =
     ready_some (source_in c.args.facts.now) c.in_ok-program.program _ _ _ _ _ c.in_ok-program.ensures.value (rw c.in-Some-2.is at c.in_ok-functions.ensures.are)
-    (λ number. ap (λ l. slice_get l number) (c.in_ok-sites.ensures ∙ c.sites.ensures.value ∙ sym c.requires))
+    (λ number. ap (λ l. slice_get l number) (c.into_vec-sites.ensures ∙ c.in_ok-sites.ensures ∙ c.sites.ensures.value ∙ sym c.requires))
 
 pub returns-clause-plain : goal.returns-clause-plain
 returns-clause-plain c =
