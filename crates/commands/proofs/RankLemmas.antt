@@ -1,12 +1,10 @@
 -- What is refused of the texts of a ranking, and what is loaded of them.
-use Rattle.std.proofs.Common.{◌≡◌, ◌≤◌, inl, inr, ⊎_elim, ℕ, Bool, List, [], ◌∷◌, length, Option, Some, IsSome, Ok, Err, ap, sym, subst, ◌∙◌, arith}
-use Rattle.std.proofs.lemmas.List.{length-map}
+use Rattle.std.proofs.Common.{◌≡◌, inl, inr, ⊎_elim, ℕ, Bool, List, [], ◌∷◌, Option, Some, IsSome, Ok, Err, ap, sym, subst, ◌∙◌}
 use Rattle.sha2.specs.Sha256.{sha256}
 use Rattle.cbi_base.proofs.NumberLemmas.{none-some, some-is}
 use Rattle.cbi_base.specs.Sink.{TakesPrefix}
 use Rattle.cbi_base.specs.Store.{Held}
 use Rattle.cbi_base.specs.declared.identity.ProgramId.{ProgramId}
-use Rattle.cbi_base.specs.declared.policy.Policy.{Policy}
 use Rattle.cbi_base.specs.declared.refusal.Refusal.{Refusal}
 use Rattle.cbi_base.specs.declared.refusal.Refusal.TheVariants.{BadByte, BadToken, Syntax, BadType, TooLarge, TooManySites, BadProgram, BadBank, BadReport, Foreign, Conflict, TooManyReports, TooManyMarks, BadCollection, InputTooLarge, NoSite, BadEdits, Absent, NotPart}
 use Rattle.flow.specs.declared.program.ProgramParts.{ProgramParts}
@@ -21,16 +19,14 @@ use Rattle.collector.specs.declared.collection.Held.{Held as Collected}
 use Rattle.collector.specs.Merging.{Merges}
 use Rattle.collector.specs.Sites.{branches_of}
 use Rattle.collector.specs.Spelling.{IsText, SpellsBundle}
-use Rattle.elimination.specs.declared.listed.Listed.{Listed}
-use Rattle.elimination.specs.Elimination.{IsElimination}
-use Rattle.elimination.specs.Recount.{labelled, runs_of}
-use Rattle.ranking.specs.Laws.{AreRanked, EliminationsAreRows}
+use Rattle.elimination.specs.Recount.{runs_of}
+use Rattle.ranking.specs.Ranked.{IsRankingOf}
 use Rattle.commands.specs.declared.rank_texts.RankTexts.{RankTexts}
 use Rattle.commands.specs.declared.words.RankWords.{RankWords}
 use Rattle.commands.specs.Collect.{fault_of, file_limit}
 use Rattle.commands.specs.Files.{program_limit}
 use Rattle.commands.specs.Outside.{TookWithin}
-use Rattle.commands.specs.Rank.{AreRankTexts, AreRefusedForRank, HaveSites, HoldsRuns, IsFirstBad, IsOfText, IsRanked, IsRankingOf, RankRefused, RefusesRank, SpellBoth, SpellRuns}
+use Rattle.commands.specs.Rank.{AreRankTexts, AreRefusedForRank, HaveSites, HoldsRuns, IsFirstBad, IsOfText, IsRanked, RankRefused, RefusesRank, SpellBoth, SpellRuns}
 use Rattle.commands.proofs.MergeLemmas.{TellsOfBundle, holding, merge-stops, merge-takes}
 use Rattle.commands.proofs.RunLemmas.{read-once}
 
@@ -145,12 +141,6 @@ stopped-texts texts parts bundle id begun after f refusal b merges is =
     told-of-texts texts parts bundle id f refusal b.spell b.id_is
     (merge-stops id (branches_of parts.sites) bundle f after b.is_text (subst (λ c. Merges c bundle (Err f) after) b.begun_is merges)) is
 
--- the leaders of at most 100,000 runs are rows of a text
-pub rows-fit : EliminationsAreRows → (parts : ProgramParts) (policy : Policy) (branches : List Bool) (reports : List Report) (rows : List Listed) → length reports ≤ 100000 → branches ≡ branches_of parts.sites
-    → IsElimination branches policy (runs_of reports) rows → AreRanked (table_of parts) (runs_of reports) rows
-rows-fit law parts policy branches reports rows few same ranked =
-    law (table_of parts) policy (runs_of reports) rows (omega (arith, few, length-map reports labelled)) (subst (λ bs. IsElimination bs policy (runs_of reports) rows) same ranked)
-
 -- texts that spell runs aren't refused, where each is read as one value
 pub runs-never-refused : (texts : RankTexts) (parts : ProgramParts) (bundle : Bundle) → SpellRuns texts parts bundle → ((p : ProgramParts) (b : Bundle) → SpellBoth texts p b → (p ≡ parts) × (b ≡ bundle)) → AreRefusedForRank texts → ⊥
 runs-never-refused texts parts bundle runs one (inl none) = none parts runs.spell.program
@@ -163,14 +153,14 @@ runs-never-refused texts parts bundle runs one (inr (inr not)) =
 
 -- a ranking of the runs that are held is the one that is due
 pub is-due : (held : Option Held) (words : RankWords) (texts : RankTexts) (parts : ProgramParts) (c : Collected) (text piece : List ℕ) → AreRankTexts held words texts → HoldsRuns texts parts c
-    → IsRankingOf parts words.policy c.reports text → piece ≡ text → IsRanked held words piece
+    → IsRankingOf (table_of parts) words.policy (runs_of c.reports) text → piece ≡ text → IsRanked held words piece
 is-due held words texts parts c text piece are holds ranking same = record {
   texts = texts;
   parts = parts;
   bundle = holds.bundle;
   are_texts = are;
   spell = holds.spell;
-  ranking = subst (λ t. IsRankingOf parts words.policy holds.bundle.reports t) (sym same) (subst (λ rs. IsRankingOf parts words.policy rs text) holds.reports ranking);
+  ranking = subst (λ t. IsRankingOf (table_of parts) words.policy (runs_of holds.bundle.reports) t) (sym same) (subst (λ rs. IsRankingOf (table_of parts) words.policy (runs_of rs) text) holds.reports ranking);
 }
 
 pub due-part : (held : Option Held) (words : RankWords) (piece : List ℕ) (before after : Option (List ℕ)) → IsRanked held words piece → TakesPrefix before after piece → TookWithin (IsRanked held words) before after

@@ -3,7 +3,6 @@ use Rattle.std.specs.Prelude.{◌≡◌, ◌≢◌, ◌⊎◌, ℕ, Bool, List, 
 use Rattle.sha2.specs.Sha256.{sha256}
 use Rattle.cbi_base.specs.Store.{Held, IsReadOf}
 use Rattle.cbi_base.specs.declared.identity.ProgramId.{ProgramId}
-use Rattle.cbi_base.specs.declared.policy.Policy.{Policy}
 use Rattle.cbi_base.specs.declared.refusal.Refusal.{Refusal}
 use Rattle.cbi_base.specs.declared.refusal.Refusal.TheVariants.{BadProgram, BadCollection, Foreign, NoSite}
 use Rattle.flow.specs.declared.program.ProgramParts.{ProgramParts}
@@ -15,10 +14,8 @@ use Rattle.collector.specs.declared.collection.Bundle.{Bundle}
 use Rattle.collector.specs.declared.collection.Held.{Held as Collected}
 use Rattle.collector.specs.Sites.{branches_of, first_bad}
 use Rattle.collector.specs.Spelling.{SpellsBundle}
-use Rattle.elimination.specs.declared.listed.Listed.{Listed}
-use Rattle.elimination.specs.Elimination.{IsElimination}
 use Rattle.elimination.specs.Recount.{runs_of}
-use Rattle.ranking.specs.Ranking.{ranking_text}
+use Rattle.ranking.specs.Ranked.{IsRankingOf}
 use Rattle.commands.specs.declared.words.RankWords.{RankWords}
 use Rattle.commands.specs.declared.rank_texts.RankTexts.{RankTexts}
 use Rattle.commands.specs.Collect.{IsBadCollectionLine, file_limit}
@@ -59,12 +56,6 @@ pub record SpellRuns (texts : RankTexts) (parts : ProgramParts) (bundle : Bundle
   pub of_program : IsOfText texts.program bundle
   pub sites : HaveSites (branches_of parts.sites) bundle.reports
 
--- the text of the leaders of these runs, under the policy
-pub record IsRankingOf (parts : ProgramParts) (policy : Policy) (reports : List Report) (text : List ℕ) : Type 0 where
-  pub rows : List Listed
-  pub ranked : IsElimination (branches_of parts.sites) policy (runs_of reports) rows
-  pub text_is : text ≡ ranking_text (table_of parts) rows
-
 -- the ranking that is due
 pub record IsRanked (held : Option Held) (r : RankWords) (text : List ℕ) : Type 0 where
   pub texts : RankTexts
@@ -72,7 +63,7 @@ pub record IsRanked (held : Option Held) (r : RankWords) (text : List ℕ) : Typ
   pub bundle : Bundle
   pub are_texts : AreRankTexts held r texts
   pub spell : SpellRuns texts parts bundle
-  pub ranking : IsRankingOf parts r.policy bundle.reports text
+  pub ranking : IsRankingOf (table_of parts) r.policy (runs_of bundle.reports) text
 
 -- the collection holds the runs that the texts spell
 pub record HoldsRuns (texts : RankTexts) (parts : ProgramParts) (c : Collected) : Type 0 where

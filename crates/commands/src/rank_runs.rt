@@ -1,10 +1,9 @@
 ghost use Rattle.std.specs.Prelude.{◌≡◌, ◌≤◌, IfOk, OnOk, IfErr, IsErrAnd, IsSome};
 ghost use Rattle.cbi_base.specs.Faults.{Rose};
-ghost use Rattle.collector.specs.Sites.{branches_of};
 ghost use Rattle.commands.specs.Faults.{Caused, LeftBy, OfRead, Precedes, Passed};
 ghost use Rattle.commands.specs.Names.{IsOneOf, IsFirstMissing, AreHeld};
 ghost use Rattle.commands.specs.Outside.{TookDue, TookWithin};
-ghost use Rattle.commands.specs.Rank.{IsRanked, IsRankingOf, RankRefused, RankRefusedBy, rank_names};
+ghost use Rattle.commands.specs.Rank.{IsRanked, RankRefused, RankRefusedBy, rank_names};
 ghost use Rattle.commands.specs.declared.done.Done.TheVariants.{Nothing};
 
 use crate::devices::put;
@@ -12,28 +11,9 @@ use crate::done::Done;
 use crate::fault::Fault;
 use crate::rank_texts::{load, read_rank_texts};
 use crate::words::RankWords;
-use cbi_base::{Memory, Policy, Sink, Store};
-use collector::Collection;
-use elimination::elimination;
-use flow::Program;
-use ranking::{eliminations_are_rows, ranking_text};
+use cbi_base::{Memory, Sink, Store};
+use ranking::ranking_of;
 use std::alloc::Global;
-
-/// The text of the leaders of the collection's runs, under the policy.
-fn ranking_of(
-    alloc: Global,
-    program: &Program,
-    collection: &Collection,
-    policy: Policy,
-) -> Result<Vec<u8>, Memory>
-    requires { collection.now.branches ≡ branches_of program.now.sites }
-    ensures { IfOk result (λ text. IsRankingOf program.now policy collection.now.reports text.items) }
-{
-    let _runs = collection.reports_held();
-    let rows = elimination(alloc, collection, program.table(), policy)?;
-    eliminations_are_rows();
-    ranking_text(alloc, rows.as_slice(), program.table())
-}
 
 /// Ranks the predicates of the program by the runs of the collection, and writes the ranking's text to out.
 pub fn rank_runs<S: Store, O: Sink>(
@@ -51,7 +31,7 @@ pub fn rank_runs<S: Store, O: Sink>(
 
     // What is left after a fault, and which names were held.
     ensures left { IfErr result (λ e. LeftBy e (O.taken out.new ≡ O.taken out.old)
-        (TookWithin (IsRanked (S.holds store.old) words.now) (O.taken out.old) (O.taken out.new)) ⊥) }
+        (TookWithin (IsRanked (S.holds store.old) words.now) (O.taken out.old) (O.taken out.new)) (λ r. O.taken out.new ≡ O.taken out.old) ⊥) }
     ensures was_held { Passed result (AreHeld (S.holds store.old) (rank_names words.now)) }
     ensures missing { S.is_sound store.old → IfErr result (λ e. OfRead e (IsFirstMissing (S.holds store.old) (rank_names words.now))) }
     ensures held { S.holds store.new ≡ S.holds store.old }
@@ -73,7 +53,7 @@ pub fn rank_runs<S: Store, O: Sink>(
         Ok(loaded) => loaded,
         Err(fault) => return Err(fault),
     };
-    let text = match ranking_of(alloc, &program, &collection, words.policy) {
+    let text = match ranking_of(alloc, &collection, program.table(), words.policy) {
         Ok(text) => text,
         Err(Memory) => return Err(Fault::Memory),
     };

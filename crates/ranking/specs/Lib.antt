@@ -2,3 +2,4 @@ pub mod Shares
 pub mod Ranking
 pub mod Plain
 pub mod Laws
+pub mod Ranked

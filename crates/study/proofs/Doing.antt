@@ -1,11 +1,12 @@
 -- From programs that mean a text to ones that do what it means, by a plan.
-use Rattle.std.proofs.Common.{◌≡◌, ◌≢◌, ℕ, refl, sym, ◌∙◌, ap, subst, List, [], Result, Ok, Err}
+use Rattle.std.proofs.Common.{◌≡◌, ◌≢◌, ℕ, suc, arith, refl, sym, ◌∙◌, ap, ap₂, subst, List, [], ◌∷◌, length, map, slice_get, Some, Result, Ok, Err}
 use Rattle.std.specs.Prelude.{IfOk}
 use Rattle.cbi_base.specs.declared.outcome.Outcome.TheVariants.{Trapped}
 use Rattle.cbi_base.specs.declared.trap.Trap.TheVariants.{Internal}
 use Rattle.c_syntax.specs.ItemTree.{SourceTree}
 use Rattle.c_types.specs.declared.walk.Walk.{Walk}
 use Rattle.c_meaning.specs.Texts.{source_of, text_meaning}
+use Rattle.flow.specs.declared.program.Function.{Function}
 use Rattle.flow.specs.declared.program.ProgramParts.{ProgramParts}
 use Rattle.flow.specs.declared.site.Site.{Site}
 use Rattle.flow.specs.declared.site.TableParts.{TableParts}
@@ -79,6 +80,22 @@ sampled_result by schemes tree known p (Ok q) is does cloned run =
     subst (λ (k : Plan). DoesPlan k tree known q) (sym is)
     (sampled_does tree known (sites_of tree known schemes) p q (subst (λ (k : Plan). DoesText tree known (planned_sites k tree known) p) is does) cloned run)
 sampled_result by schemes tree known p (Err e) is does cloned run = tt
+
+abbrev names_of : List Function → List (List ℕ)
+names_of fs = map (λ (f : Function). f.name) fs
+
+names_same : (fs gs : List Function) → length gs ≡ length fs
+    → ((number : ℕ) (f g : Function) → slice_get fs number ≡ Some f → slice_get gs number ≡ Some g → g.name ≡ f.name) → names_of gs ≡ names_of fs
+names_same [] [] same each = refl
+names_same [] (g ∷ gs) same each = absurd (omega arith)
+names_same (f ∷ fs) [] same each = absurd (omega arith)
+names_same (f ∷ fs) (g ∷ gs) same each =
+    ap₂ (λ n ns. n ∷ ns) (each 0 f g refl refl) (names_same fs gs (omega arith) (λ number x y p q. each (suc number) x y p q))
+
+-- the functions of a sampled program have the names of the full one's
+pub kept_names : {E : Type 0} (p : ProgramParts) (r : Result ProgramParts E) → IfOk r (Cloned p) → IfOk r (λ q. (table_of q).functions ≡ (table_of p).functions)
+kept_names p (Ok q) cloned = names_same p.functions q.functions cloned.functions.few (λ number f g x y. (cloned.functions.each number f g x y).name)
+kept_names p (Err e) cloned = tt
 
 -- what is known of accepted texts
 abbrev pub Never : Type 0

@@ -1,8 +1,10 @@
 -- What a text is compiled to.
-use Rattle.std.specs.Prelude.{ℕ, List}
+use Rattle.std.specs.Prelude.{◌≡◌, ℕ, List}
 use Rattle.c_syntax.specs.ItemTree.{SourceTree}
 use Rattle.c_types.specs.declared.walk.Walk.{Walk}
 use Rattle.flow.specs.declared.program.ProgramParts.{ProgramParts}
+use Rattle.flow.specs.Program.{table_of}
+use Rattle.sites.specs.Table.{functions_of}
 use Rattle.accepted_texts.specs.Accepted.{IsAccepted}
 use Rattle.study.specs.declared.plan.Plan.{Plan}
 use Rattle.study.specs.declared.plan.Plan.TheVariants as plan
@@ -15,10 +17,11 @@ DoesPlan plan.Plain tree known p = DoesText tree known (planned_sites plan.Plain
 DoesPlan (plan.Full schemes) tree known p = DoesText tree known (planned_sites (plan.Full schemes) tree known) p
 DoesPlan (plan.Sampled schemes) tree known p = SamplesText tree known (planned_sites (plan.Sampled schemes) tree known) p
 
--- the text is accepted, there is room for its sites, and the program does what it means, by the plan
+-- The text is accepted, there is room for its sites, the program's functions have its names, and the program does what it means, by the plan.
 pub record IsCompiled (text : List ℕ) (plan : Plan) (p : ProgramParts) : Type 0 where
   pub tree : SourceTree
   pub known : Walk
   pub accepted : IsAccepted text tree known
   pub fits : FitsPlan plan tree known
+  pub names : (table_of p).functions ≡ functions_of tree
   pub does : DoesPlan plan tree known p

@@ -8,11 +8,16 @@ ghost use Rattle.flow.specs.State.{Ending};
 ghost use Rattle.study.specs.declared.plan.Plan.{Plan};
 ghost use Rattle.study.specs.Compiled.{IsCompiled};
 ghost use Rattle.study.specs.Refused.{IsRefusedText, RefusesText};
+ghost use Rattle.study.specs.Studied.{IsStudy};
+ghost use Rattle.study.specs.declared.ranked.StudyResult.{StudyResult};
+ghost use Rattle.study_runs.specs.declared.plan.StudyPlan.{StudyPlan};
 
 use accepted_texts::{
     accepted_texts_never_fault, one_accepted_text, refused_texts_are_not_accepted,
 };
+use elimination::one_elimination;
 use flow::one_ending;
+use made_runs::one_made_run;
 
 /// A text has one meaning in all plans: its plain, full and sampled programs end and write the same, on each input, within each bound of turns and
 /// whatever the banks.
@@ -38,4 +43,13 @@ pub fn refused_texts_are_not_compiled()
 {
     one_accepted_text();
     refused_texts_are_not_accepted();
+}
+
+/// Studies of one text with one plan have one ranking.
+pub fn studies_agree()
+    ensures { (text : List ℕ) (plan : StudyPlan) (r s : StudyResult) → IsStudy text plan r → IsStudy text plan s → r.ranking.items ≡ s.ranking.items }
+{
+    one_accepted_text();
+    one_elimination();
+    one_made_run();
 }

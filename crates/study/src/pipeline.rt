@@ -71,7 +71,8 @@ fn sample_all(alloc: Global, program: &Program) -> Result<Program, Memory>
 /// The program of a text by a plan, from the one that looks at each visit of the plan's sites.
 fn by_plan(alloc: Global, program: Program, plan: Plan) -> Result<Program, Memory>
     requires { IsReady program }
-    ensures { (tree : SourceTree) (known : Walk) → DoesText tree known (planned_sites plan tree known) program → IfOk result (DoesPlan plan tree known) }
+    ensures does { (tree : SourceTree) (known : Walk) → DoesText tree known (planned_sites plan tree known) program → IfOk result (DoesPlan plan tree known) }
+    ensures names { IfOk result (λ q. (table_of q).functions ≡ (table_of program).functions) }
 {
     match plan {
         Plan::Plain | Plan::Full { .. } => Ok(program),

@@ -1,3 +1,6 @@
+use Rattle.std.proofs.Common.{subst}
+use Rattle.elimination.specs.Recount.{runs_of}
+use Rattle.ranking.specs.Ranked.{IsRankingOf}
 use Rattle.commands.proofs.GatherLemmas.{put-left}
 use Rattle.commands.proofs.RankLemmas.{due-part, is-due, same-refused-for-rank}
 use Rattle.commands.proofs.RunLemmas.{caused-as}
@@ -23,6 +26,7 @@ pub returns-clause-left : goal.returns-clause-left
 returns-clause-left g c =
     put-left c.in-Err-put.fault _ _ _ c.in-Err-put.ensures.fault
     (due-part (g.S.Store.holds c.args.store.now) c.args.words.now c.as_slice.result.now _ _
-    (is-due (g.S.Store.holds c.args.store.now) c.args.words.now c.in-Ok.texts _ _ c.in-Ok-ranking_of.text.items c.as_slice.result.now c.in-Ok.ensures.texts c.in-Ok-load.ensures.runs c.in-Ok-ranking_of.ensures c.as_slice.ensures.value)
+    (is-due (g.S.Store.holds c.args.store.now) c.args.words.now c.in-Ok.texts _ _ c.in-Ok-ranking_of.text.items c.as_slice.result.now c.in-Ok.ensures.texts c.in-Ok-load.ensures.runs
+    (subst (λ table. IsRankingOf table c.args.words.now.policy (runs_of c.in-Ok-load.loaded.1.reports) c.in-Ok-ranking_of.text.items) c.table.ensures.value c.in-Ok-ranking_of.ensures) c.as_slice.ensures.value)
     c.in-Err-put.ensures.part)
     c.in-Err-put.ensures.wanting

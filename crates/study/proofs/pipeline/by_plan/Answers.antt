@@ -1,6 +1,9 @@
-use Rattle.study.proofs.Doing.{sampled_result}
+use Rattle.study.proofs.Doing.{kept_names, sampled_result}
 use Rattle.study.proofs.pipeline.by_plan.Goals as goal
 
-pub returns-in-Sampled : goal.returns-in-Sampled
-returns-in-Sampled c = λ tree known does.
+pub returns-in-Sampled-clause-does : goal.returns-in-Sampled-clause-does
+returns-in-Sampled-clause-does c = λ tree known does.
     sampled_result c.args.plan c.in-Sampled.schemes tree known c.args.program c.sample_all.result c.in-Sampled.is does c.sample_all.ensures.cloned c.sample_all.ensures.samples
+
+pub returns-in-Sampled-clause-names : goal.returns-in-Sampled-clause-names
+returns-in-Sampled-clause-names c = kept_names c.args.program c.sample_all.result c.sample_all.ensures.cloned

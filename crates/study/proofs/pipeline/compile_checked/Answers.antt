@@ -1,3 +1,5 @@
+use Rattle.std.proofs.Common.{◌∙◌, ap}
+use Rattle.flow.specs.declared.site.TableParts.{TableParts}
 use Rattle.c_types.specs.Answers.{known_of, tree_of}
 use Rattle.study.proofs.Doing.{looks}
 use Rattle.study.proofs.pipeline.compile_checked.Goals as goal
@@ -11,7 +13,8 @@ returns-clause-compiled c = λ text accepted.
       known = known;
       accepted = accepted;
       fits = c.in_ok-table.ensures.fits;
-      does = c.in_ok-planned.ensures tree known
+      names = c.in_ok-planned.ensures.names ∙ ap (λ (t : TableParts). t.functions) c.in_ok-program.ensures.table ∙ c.in_ok-table.ensures.functions;
+      does = c.in_ok-planned.ensures.does tree known
           (looks c.accepted_texts_never_fault.ensures.never c.accepted_texts_never_fault.ensures.never_plain text tree known accepted
           c.args.plan _ _ c.in_ok-table.ensures.sites c.in_ok-program.ensures.means c.in_ok-program.ensures.table);
     }

@@ -1,0 +1,4 @@
+pub mod Lists
+pub mod Adding
+pub mod Going
+pub mod Once

@@ -1,0 +1,14 @@
+use Rattle.study_runs.proofs.Adding.{held, short, summed}
+use Rattle.study_runs.proofs.run.add_run.Goals as goal
+
+pub run-requires-clause-input : goal.run-requires-clause-input
+run-requires-clause-input g c =
+    short c.made_lines_are_printable.ensures c.args.plan.seed c.args.plan.rate c.args.number c.in_ok-bank.field-0.bank c.in_ok-bank.field-0.input.items _ c.in_ok-bank.ensures c.as_slice.ensures.value
+
+pub make_report-requires-clause-summary : goal.make_report-requires-clause-summary
+make_report-requires-clause-summary g c = summed _ c.args.plan c.args.number _ _ _ _ _ _ _ c.in_ok-ran.ensures.ran c.in_ok-ran.ensures.bounded c.main-main.ensures.is_program
+
+pub returns-clause-held : goal.returns-clause-held
+returns-clause-held g c =
+    held _ _ c.args.number _ _ _ _ _ _ _ c.in_ok-ran.ensures.ran c.in_ok-ran.ensures.bounded c.in_ok-bank.field-0.input.items c.label_of-label.result c.in_ok-report.report _ _
+    c.in_ok-bank.ensures c.as_slice.ensures.value c.label_of-label.ensures c.in_ok-report.ensures.report c.in_ok-hold.ensures.ok

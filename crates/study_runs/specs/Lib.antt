@@ -1,0 +1,4 @@
+pub mod Runs
+pub mod Sums
+pub mod Left
+pub mod Steps
