@@ -5,6 +5,8 @@ mod message;
 #[cfg(test)]
 mod rank_tests;
 #[cfg(test)]
+mod study_tests;
+#[cfg(test)]
 mod tests;
 mod top;
 

@@ -83,7 +83,7 @@ struct Came {
     report: Vec<u8>,
 }
 
-fn words_of(alloc: Global, words: &[&str]) -> Result<Vec<String>, Fail> {
+pub fn words_of(alloc: Global, words: &[&str]) -> Result<Vec<String>, Fail> {
     let mut list = Vec::new(alloc);
     for word in words {
         list.push(String::from_str(alloc, word)?)?;
@@ -241,6 +241,9 @@ fn a_failing_device_has_its_status(rt: HostRuntime) -> Result<(), Fail> {
     let collect: &[&str] = &["cbi", "collect", "--program", "prog", "in"];
     let rank: &[&str] = &["cbi", "rank", "prog", "in"];
     let transform: &[&str] = &["cbi", "transform", "--mode", "plain", "in"];
+    let study: &[&str] = &[
+        "cbi", "study", "--runs", "1", "--seed", "5", "--rate", "1", "--turns", "1", "in",
+    ];
     let unwritten = "cbi: write fault\n";
     // The call of the store and the put that fail, or 0.
     let cases = [
@@ -258,6 +261,8 @@ fn a_failing_device_has_its_status(rt: HostRuntime) -> Result<(), Fail> {
         (rank, 2, 0, 3, "", "cbi: read fault in\n"),
         (transform, 1, 0, 3, "", "cbi: read fault in\n"),
         (transform, 0, 1, 4, "", unwritten),
+        (study, 1, 0, 3, "", "cbi: read fault in\n"),
+        (study, 0, 1, 4, "", unwritten),
         (bank, 1, 0, 0, "1\n1\n", ""),
         (bank, 0, 1, 4, "", unwritten),
     ];

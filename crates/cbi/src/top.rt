@@ -3,9 +3,9 @@ ghost use Rattle.std.specs.List.{flat_map};
 ghost use Rattle.cbi_base.specs.Faults.{Rose};
 ghost use Rattle.commands.specs.Outside.{outside, AllStayBut, IsUnmovedOr};
 ghost use Rattle.commands.specs.Names.{AreHeld};
-ghost use Rattle.commands.specs.Commands.{names_of, written_by, Did, LeftOn, LeftWanting, IsRefused, IsRefusedBy, WriteFault};
+ghost use Rattle.commands.specs.Commands.{names_of, written_by, Did, LeftOn, LeftRefused, LeftWanting, IsRefused, IsRefusedBy, WriteFault};
 ghost use Rattle.cbi.specs.Asked.{asked, bad_asked};
-ghost use Rattle.cbi.specs.Statuses.{IsStatus, IsUntouched, IsPast, IsUnchangedOr};
+ghost use Rattle.cbi.specs.Statuses.{IsStatus, IsUntouched, IsUntold, IsPast, IsUnchangedOr};
 ghost use Rattle.cbi.specs.Told.{IsTold, DoneTold, ReadTold, RefusalTold, UsageTold, write_line, memory_line};
 
 use crate::message::{tell_done, tell_fault, tell_usage};
@@ -50,19 +50,21 @@ pub fn cbi<S: Store, O: Sink, E: Sink>(
         → (WriteFault (asked words.now.items) (Rose (O.faults out.old) (O.faults out.new)) (Rose (S.write_faults store.old) (S.write_faults store.new)) → ⊥)
         → (IsRefused (asked words.now.items) (S.holds store.old) → ⊥) → (result ≡ 0) ⊎ (result ≡ 7) }
 
-    // What err is told.
+    // What err is told, and what is left by the refusal that it is told of.
     ensures told_usage { result ≡ 2 → UsageTold (bad_asked words.now.items) (IsTold (Rose (E.faults err.old) (E.faults err.new)) (E.taken err.old) (E.taken err.new)) }
     ensures told_read { result ≡ 3 → ReadTold (names_of (asked words.now.items)) (S.holds store.old) (S.is_sound store.old)
         (IsTold (Rose (E.faults err.old) (E.faults err.new)) (E.taken err.old) (E.taken err.new)) }
     ensures told_write { result ≡ 4 → IsTold (Rose (E.faults err.old) (E.faults err.new)) (E.taken err.old) (E.taken err.new) write_line }
     ensures told_refusal { result ≡ 5 → RefusalTold (IsRefusedBy (asked words.now.items) (S.holds store.old))
+        (λ r. LeftRefused (λ b. seen b) (asked words.now.items) r
+        (outside (S.holds store.old) (O.taken out.old) probes.old.items) (outside (S.holds store.new) (O.taken out.new) probes.new.items))
         (IsTold (Rose (E.faults err.old) (E.faults err.new)) (E.taken err.old) (E.taken err.new)) }
     ensures told_memory { result ≡ 7 → IsUnchangedOr (E.taken err.old) (E.taken err.new)
         (IsTold (Rose (E.faults err.old) (E.faults err.new)) (E.taken err.old) (E.taken err.new) memory_line) }
 
     // What is left on out, with the watchers and in the store, and which names were held.
     ensures untouched { IsUntouched result → O.taken out.new ≡ O.taken out.old }
-    ensures untold { IsUntouched result → probes.new.items ≡ probes.old.items }
+    ensures untold { IsUntold (asked words.now.items) result → probes.new.items ≡ probes.old.items }
     ensures unwritten { IsUntouched result → S.holds store.new ≡ S.holds store.old }
     ensures part { result ≡ 4 → LeftOn (λ b. seen b) (asked words.now.items)
         (outside (S.holds store.old) (O.taken out.old) probes.old.items) (outside (S.holds store.new) (O.taken out.new) probes.new.items) }

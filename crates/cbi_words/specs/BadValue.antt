@@ -5,7 +5,7 @@ use Rattle.cbi_words.specs.declared.given.Given.{Given}
 use Rattle.cbi_words.specs.declared.given.Choice.{Choice}
 use Rattle.cbi_words.specs.Options.{number_in, policy_of, value_of}
 use Rattle.cbi_words.specs.Schemes.{mode_of, schemes_of}
-use Rattle.cbi_words.specs.Reading.{asked, bank_options, no_positional, only, rank_options, run_options, transform_options, two}
+use Rattle.cbi_words.specs.Reading.{asked, bank_options, no_positional, only, rank_options, run_options, study_options, transform_options, two}
 
 -- an option that doesn't take every value, and the values that it takes
 pub record Rule : Type 0 where
@@ -59,6 +59,17 @@ bad_rank given = do
   files ← two given.positionals
   first_bad (record { name = codes "--policy"; takes = is_policy } ∷ []) given.options
 
+-- of `study` with its text and the four options that must be given
+abbrev pub bad_study : Given → Option (List ℕ)
+bad_study given = do
+  text ← only given.positionals
+  runs ← value_of (codes "--runs") given.options
+  seed ← value_of (codes "--seed") given.options
+  rate ← value_of (codes "--rate") given.options
+  turns ← value_of (codes "--turns") given.options
+  first_bad (record { name = codes "--runs"; takes = is_number 1 100000 } ∷ record { name = codes "--seed"; takes = is_number 0 18446744073709551615 }
+      ∷ record { name = codes "--rate"; takes = is_number 1 65536 } ∷ record { name = codes "--turns"; takes = is_number 0 100000000 } ∷ record { name = codes "--policy"; takes = is_policy } ∷ []) given.options
+
 -- of `transform` with its text and its mode
 abbrev pub bad_transform : Given → Option (List ℕ)
 bad_transform given = do
@@ -72,7 +83,8 @@ bad_in name words =
     if is_word name (codes "run") then (asked run_options words >>= bad_run)
     else (if is_word name (codes "bank") then (asked bank_options words >>= bad_bank)
     else (if is_word name (codes "rank") then (asked rank_options words >>= bad_rank)
-    else (if is_word name (codes "transform") then (asked transform_options words >>= bad_transform) else None)))
+    else (if is_word name (codes "study") then (asked study_options words >>= bad_study)
+    else (if is_word name (codes "transform") then (asked transform_options words >>= bad_transform) else None))))
 
 -- the option whose value alone breaks the rule, the first in the table of the command
 abbrev pub bad_value : List (List ℕ) → Option (List ℕ)

@@ -4,7 +4,7 @@ use Rattle.cbi_base.specs.declared.policy.Policy.TheVariants.{All}
 use Rattle.cbi_base.specs.Numbers.{is_word, ◌>>=◌}
 use Rattle.cbi_words.specs.declared.given.Given.{Given}
 use Rattle.cbi_words.specs.declared.command.Command.{Command}
-use Rattle.cbi_words.specs.declared.command.Command.TheVariants.{Transform, Run, Bank, Collect, Rank}
+use Rattle.cbi_words.specs.declared.command.Command.TheVariants.{Transform, Run, Bank, Collect, Rank, Study}
 use Rattle.cbi_words.specs.WordRule.{cut}
 use Rattle.cbi_words.specs.Options.{are_asked, value_of, number_or, number_wanted, policy_or}
 use Rattle.cbi_words.specs.Schemes.{all_schemes, mode_wanted, schemes_or}
@@ -85,6 +85,20 @@ rank_of given = do
   files ← two given.positionals
   Some (Rank policy files.0 files.1)
 
+-- `study --runs N --seed S --rate D --turns T [--policy all|failing|relabel] C`
+abbrev pub study_options : List (List ℕ)
+study_options = codes "--runs" ∷ codes "--seed" ∷ codes "--rate" ∷ codes "--turns" ∷ codes "--policy" ∷ []
+
+abbrev pub study_of : Given → Option Command
+study_of given = do
+  runs ← number_wanted 1 100000 (value_of (codes "--runs") given.options)
+  seed ← number_wanted 0 18446744073709551615 (value_of (codes "--seed") given.options)
+  rate ← number_wanted 1 65536 (value_of (codes "--rate") given.options)
+  turns ← number_wanted 0 100000000 (value_of (codes "--turns") given.options)
+  policy ← policy_or All (value_of (codes "--policy") given.options)
+  text ← only given.positionals
+  Some (Study runs seed rate turns policy text)
+
 -- what is given after a command with these options
 abbrev pub asked : List (List ℕ) → List (List ℕ) → Option Given
 asked options words = cut None words >>= λ given. if are_asked options given then Some given else None
@@ -96,7 +110,8 @@ command_in name words =
     else (if is_word name (codes "bank") then (asked bank_options words >>= bank_of)
     else (if is_word name (codes "collect") then (asked collect_options words >>= collect_of)
     else (if is_word name (codes "rank") then (asked rank_options words >>= rank_of)
-    else (if is_word name (codes "transform") then (asked transform_options words >>= transform_of) else None))))
+    else (if is_word name (codes "study") then (asked study_options words >>= study_of)
+    else (if is_word name (codes "transform") then (asked transform_options words >>= transform_of) else None)))))
 
 -- the command that the words read as
 abbrev pub reads : List (List ℕ) → Option Command

@@ -1,7 +1,7 @@
 -- The numbers of a command lie in their bounds.
 use Rattle.std.specs.Prelude.{◌≤◌}
 use Rattle.cbi_words.specs.declared.command.Command.{Command}
-use Rattle.cbi_words.specs.declared.command.Command.TheVariants.{Transform, Run, Bank, Collect, Rank}
+use Rattle.cbi_words.specs.declared.command.Command.TheVariants.{Transform, Run, Bank, Collect, Rank, Study}
 
 abbrev pub IsWithin : Command → Type 0
 IsWithin (Transform mode schemes text) = Unit {0}
@@ -9,3 +9,4 @@ IsWithin (Run bank input expect turns run report program) = (turns ≤ 100000000
 IsWithin (Bank rate count seed stream) = ((1 ≤ rate) × (rate ≤ 65536)) × ((1 ≤ count) × (count ≤ 65536))
 IsWithin (Collect program files) = Unit {0}
 IsWithin (Rank policy program collection) = Unit {0}
+IsWithin (Study runs seed rate turns policy text) = ((1 ≤ runs) × (runs ≤ 100000)) × ((1 ≤ rate) × (rate ≤ 65536)) × (turns ≤ 100000000)

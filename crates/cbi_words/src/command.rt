@@ -58,4 +58,19 @@ pub enum Command {
         /// The name of the collection's file.
         collection: Word,
     },
+    /// `study`: makes runs of a text, and ranks its predicates by them.
+    Study {
+        /// From 1 to 100,000: so many runs are made.
+        runs: u32,
+        /// The seed of the generator.
+        seed: u64,
+        /// From 1 to 65,536: the mean distance of sampled visits.
+        rate: u32,
+        /// The bound of turns of each run, at most 100,000,000.
+        turns: u32,
+        /// What is done after each leader.
+        policy: Policy,
+        /// The name of the text's file.
+        text: Word,
+    },
 }

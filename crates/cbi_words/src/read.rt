@@ -1,7 +1,7 @@
 ghost use Rattle.std.specs.Prelude.{◌≡◌, None, Some, IfOk, map};
 ghost use Rattle.cbi_words.specs.Answers.{ReadAs, OnUsage};
-ghost use Rattle.cbi_words.specs.BadValue.{bad_bank, bad_in, bad_rank, bad_run, bad_transform, bad_value};
-ghost use Rattle.cbi_words.specs.Reading.{asked, bank_of, collect_of, command_in, rank_of, reads, run_of, transform_of};
+ghost use Rattle.cbi_words.specs.BadValue.{bad_bank, bad_in, bad_rank, bad_run, bad_study, bad_transform, bad_value};
+ghost use Rattle.cbi_words.specs.Reading.{asked, bank_of, collect_of, command_in, rank_of, reads, run_of, study_of, transform_of};
 ghost use Rattle.cbi_words.specs.UsageText.{IsUsageText};
 ghost use Rattle.cbi_words.specs.Within.{IsWithin};
 ghost use Rattle.cbi_words.specs.WordRule.{texts_of};
@@ -26,12 +26,18 @@ const TURNS: Bounds = Bounds {
 };
 
 /// The bounds of a run's number.
-const RUNS: Bounds = Bounds {
+const RUN_NUMBERS: Bounds = Bounds {
     least: 1,
     most: 4294967295,
 };
 
-/// The bounds of a bank's rate and of its length.
+/// The bounds of how many runs are made.
+const RUN_COUNTS: Bounds = Bounds {
+    least: 1,
+    most: 100000,
+};
+
+/// The bounds of a rate and of a bank's length.
 const RATES: Bounds = Bounds {
     least: 1,
     most: 65536,
@@ -72,7 +78,7 @@ fn run_of(alloc: Global, given: &Given) -> Result<Command, Fault>
         return Err(Fault::Usage);
     };
     let turns = number_or(given, "--turns", DEFAULT_TURNS, TURNS)?;
-    let run = number_or(given, "--run", 1, RUNS)?;
+    let run = number_or(given, "--run", 1, RUN_NUMBERS)?;
     Ok(Command::Run {
         bank: given.copy_of(alloc, "--bank")?,
         input: given.copy_of(alloc, "--input")?,
@@ -147,6 +153,41 @@ fn rank_of(given: &Given) -> Result<Command, Fault>
     })
 }
 
+// What is given after `study`.
+fn study_of(given: &Given) -> Result<Command, Fault>
+    ensures reads { ReadAs result (study_of given.now) (bad_study given.now) }
+    ensures within { IfOk result IsWithin }
+{
+    let [text] = given.positionals.as_slice() else {
+        return Err(Fault::Usage);
+    };
+    let Some(runs) = given.value_of("--runs") else {
+        return Err(Fault::Usage);
+    };
+    let Some(seed) = given.value_of("--seed") else {
+        return Err(Fault::Usage);
+    };
+    let Some(rate) = given.value_of("--rate") else {
+        return Err(Fault::Usage);
+    };
+    let Some(turns) = given.value_of("--turns") else {
+        return Err(Fault::Usage);
+    };
+    let runs = number_in("--runs", runs, RUN_COUNTS)?;
+    let seed = number_in("--seed", seed, SEEDS)?;
+    let rate = number_in("--rate", rate, RATES)?;
+    let turns = number_in("--turns", turns, TURNS)?;
+    let policy = policy_or(given, "--policy", Policy::All)?;
+    Ok(Command::Study {
+        runs: runs as u32,
+        seed,
+        rate: rate as u32,
+        turns: turns as u32,
+        policy,
+        text: text.try_clone()?,
+    })
+}
+
 // What the words give after a command with these options.
 fn asked(alloc: Global, options: &[&str], words: &[String]) -> Result<Given, Fault>
     ensures { ReadAs result (asked (map (λ name. name.now) options.now) (texts_of words.now)) None }
@@ -186,6 +227,11 @@ fn command_in(alloc: Global, name: &str, words: &[String]) -> Result<Command, Fa
     if name == "rank" {
         let given = asked(alloc, &["--policy"], words)?;
         return rank_of(&given);
+    }
+    if name == "study" {
+        let options = ["--runs", "--seed", "--rate", "--turns", "--policy"];
+        let given = asked(alloc, &options, words)?;
+        return study_of(&given);
     }
     if name == "transform" {
         let given = asked(alloc, &["--mode", "--schemes"], words)?;

@@ -32,6 +32,16 @@ fn positional(alloc: Global, name: &'static str, help: &'static str) -> Arg<'sta
     Arg::new(alloc, name).required(true).help(help)
 }
 
+// The policy of a ranking.
+fn policy(alloc: Global) -> Arg<'static> {
+    option(
+        alloc,
+        "policy",
+        "POLICY",
+        "What is done after each leader: all, failing or relabel [default: all]",
+    )
+}
+
 fn transform_line(alloc: Global) -> Result<clap::Command<'static>, AllocError> {
     command(alloc, "transform", "Compile a C text to a program file")
         .arg(option(
@@ -133,14 +143,41 @@ fn rank_line(alloc: Global) -> Result<clap::Command<'static>, AllocError> {
         "rank",
         "Rank the predicates of a program by the runs of a collection",
     )
-    .arg(option(
-        alloc,
-        "policy",
-        "POLICY",
-        "What is done after each leader: all, failing or relabel [default: all]",
-    ))?
+    .arg(policy(alloc))?
     .arg(positional(alloc, "PROG", "The program file"))?
     .arg(positional(alloc, "COLL", "The collection's file"))
+}
+
+fn study_line(alloc: Global) -> Result<clap::Command<'static>, AllocError> {
+    command(
+        alloc,
+        "study",
+        "Make runs of a C text, and rank its predicates by them",
+    )
+    .arg(option(
+        alloc,
+        "runs",
+        "N",
+        "So many runs are made, from 1 to 100000",
+    )
+    .required(true))?
+    .arg(option(alloc, "seed", "S", "The generator's seed").required(true))?
+    .arg(option(
+        alloc,
+        "rate",
+        "D",
+        "One visit in so many is sampled, from 1 to 65536",
+    )
+    .required(true))?
+    .arg(option(
+        alloc,
+        "turns",
+        "T",
+        "The bound of turns of each run, at most 100000000",
+    )
+    .required(true))?
+    .arg(policy(alloc))?
+    .arg(positional(alloc, "C", "The text's file"))
 }
 
 fn tool_line(alloc: Global) -> Result<clap::Command<'static>, AllocError> {
@@ -149,7 +186,8 @@ fn tool_line(alloc: Global) -> Result<clap::Command<'static>, AllocError> {
         .subcommand(run_line(alloc)?)?
         .subcommand(bank_line(alloc)?)?
         .subcommand(collect_line(alloc)?)?
-        .subcommand(rank_line(alloc)?)
+        .subcommand(rank_line(alloc)?)?
+        .subcommand(study_line(alloc)?)
 }
 
 // The text that clap writes of the command, or of the tool, where the word names no command.
@@ -160,6 +198,7 @@ fn text_of(alloc: Global, word: &str) -> Result<String, Memory> {
         "bank" => bank_line(alloc)?.bin_name("cbi bank")?,
         "collect" => collect_line(alloc)?.bin_name("cbi collect")?,
         "rank" => rank_line(alloc)?.bin_name("cbi rank")?,
+        "study" => study_line(alloc)?.bin_name("cbi study")?,
         _ => tool_line(alloc)?,
     };
     Ok(line.render_help()?)

@@ -83,7 +83,7 @@ said-fits texts g h =
     (subst (λ (c : Collected). length c.reports ≤ length h.reports) (sym h.gathered.holds) (length-map h.reports))
 
 -- what a fault of a put leaves
-pub put-left : (e : Fault) (write part same : Type 0) → Caused e (λ n. ⊥) write (λ r. ⊥) → part → OfMemory e same → LeftBy e same part ⊥
+pub put-left : (e : Fault) (write part same : Type 0) → Caused e (λ n. ⊥) write (λ r. ⊥) → part → OfMemory e same → LeftBy e same part (λ r. same) ⊥
 put-left (Read name) write part same cause p s = absurd cause
 put-left Write write part same cause p s = p
 put-left (Refused refusal) write part same cause p s = absurd cause

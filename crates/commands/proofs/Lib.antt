@@ -1,5 +1,4 @@
 pub mod DeviceLemmas
-pub mod ReportLemmas
 pub mod RunLemmas
 pub mod RefusedBy
 pub mod NameLemmas
@@ -11,3 +10,5 @@ pub mod GatherLemmas
 pub mod MergeLemmas
 pub mod RankLemmas
 pub mod TransformLemmas
+pub mod StudyLemmas
+pub mod LeftByRefusal

@@ -4,9 +4,11 @@ use Rattle.cbi_base.specs.Store.{Held}
 use Rattle.cbi_base.specs.declared.refusal.Refusal.{Refusal}
 use Rattle.cbi_base.specs.declared.refusal.Refusal.TheVariants.{BadByte, BadToken, Syntax, BadType, TooLarge, TooManySites, BadProgram, BadBank, BadReport, Foreign, Conflict, TooManyReports, TooManyMarks, BadCollection, InputTooLarge, NoSite, BadEdits, Absent, NotPart}
 use Rattle.cbi_words.specs.declared.command.Command.{Command}
-use Rattle.cbi_words.specs.declared.command.Command.TheVariants.{Transform, Run, Bank, Collect, Rank}
+use Rattle.cbi_words.specs.declared.command.Command.TheVariants.{Transform, Run, Bank, Collect, Rank, Study}
 use Rattle.study.specs.declared.plan.Plan.{Plan}
 use Rattle.study.specs.Refused.{IsRefusedText, RefusesText}
+use Rattle.study.specs.Studied.{IsRefusedStudy, RefusesStudy, study_form}
+use Rattle.study_runs.specs.declared.plan.StudyPlan.{StudyPlan}
 use Rattle.commands.specs.declared.fault.Fault.{Fault}
 use Rattle.commands.specs.declared.fault.Fault.TheVariants.{Read, Write, Refused, Memory}
 use Rattle.commands.specs.declared.files.RunFiles.{RunFiles}
@@ -42,6 +44,28 @@ refuses-bytes NotPart files h = absurd h
 abbrev pub TextsAreRefused : Type 0
 TextsAreRefused = (plan : Plan) (refusal : Refusal) (text : List ℕ) → RefusesText plan refusal text → IsRefusedText plan text
 
+-- a text or a plan that a refusal speaks of is refused
+refuses-study : TextsAreRefused → (refusal : Refusal) (text : List ℕ) (plan : StudyPlan) → RefusesStudy text plan refusal → IsRefusedStudy text plan
+refuses-study law (TooManyMarks run) text plan h = inr (run, h)
+refuses-study law (BadByte line) text plan h = inl (law study_form (BadByte line) text h)
+refuses-study law (BadToken line) text plan h = inl (law study_form (BadToken line) text h)
+refuses-study law (Syntax line) text plan h = inl (law study_form (Syntax line) text h)
+refuses-study law (BadType kind line) text plan h = inl (law study_form (BadType kind line) text h)
+refuses-study law TooLarge text plan h = inl (law study_form TooLarge text h)
+refuses-study law TooManySites text plan h = inl (law study_form TooManySites text h)
+refuses-study law (BadProgram line) text plan h = inl (law study_form (BadProgram line) text h)
+refuses-study law (BadBank line) text plan h = inl (law study_form (BadBank line) text h)
+refuses-study law (BadReport file line) text plan h = inl (law study_form (BadReport file line) text h)
+refuses-study law (Foreign ours theirs) text plan h = inl (law study_form (Foreign ours theirs) text h)
+refuses-study law (Conflict run) text plan h = inl (law study_form (Conflict run) text h)
+refuses-study law (TooManyReports run) text plan h = inl (law study_form (TooManyReports run) text h)
+refuses-study law (BadCollection file line) text plan h = inl (law study_form (BadCollection file line) text h)
+refuses-study law InputTooLarge text plan h = inl (law study_form InputTooLarge text h)
+refuses-study law (NoSite run site) text plan h = inl (law study_form (NoSite run site) text h)
+refuses-study law (BadEdits line) text plan h = inl (law study_form (BadEdits line) text h)
+refuses-study law (Absent place) text plan h = inl (law study_form (Absent place) text h)
+refuses-study law NotPart text plan h = inl (law study_form NotPart text h)
+
 refused-by : TextsAreRefused → (command : Option Command) (held : Option Held) (refusal : Refusal) → IsRefusedBy command held refusal → IsRefused command held
 refused-by law None held refusal h = absurd h
 refused-by law (Some (Transform mode schemes text)) held refusal h = record { bytes = h.bytes; read = h.read; refused = law _ refusal h.bytes h.refused }
@@ -52,6 +76,8 @@ refused-by law (Some (Collect program files)) held refusal h =
     record { texts = h.texts; are_texts = h.are_texts; refused = refuses-texts refusal h.texts h.refused }
 refused-by law (Some (Rank policy program collection)) held refusal h =
     record { texts = h.texts; are_texts = h.are_texts; refused = refuses-rank refusal h.texts h.refused }
+refused-by law (Some (Study runs seed rate turns policy text)) held refusal h =
+    record { bytes = h.bytes; read = h.read; refused = refuses-study law refusal h.bytes _ h.refused }
 
 refused-for-cause : TextsAreRefused → {A : Type 0} (answer : Result A Fault) (command : Option Command) (held : Option Held) (read : List ℕ → Type 0) (write : Type 0)
     → IfErr answer (λ e. Caused e read write (IsRefusedBy command held)) → IfErr answer (λ e. OfRefusal e (IsRefused command held))

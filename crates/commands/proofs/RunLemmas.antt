@@ -23,7 +23,7 @@ use Rattle.commands.specs.declared.files.RunFiles.{RunFiles}
 use Rattle.commands.specs.Faults.{Caused, LeftBy}
 use Rattle.commands.specs.Files.{AreFiles, IsReadOr, bank_limit, input_limit, program_limit, text_of_one}
 use Rattle.commands.specs.Outside.{Outside}
-use Rattle.commands.proofs.ReportLemmas.{length-counts_from}
+use Rattle.study_runs.proofs.Adding.{length_counts}
 use Rattle.commands.specs.Run.{AreLoaded, AreRefused, BrokeOff, IsBankOf, IsNoBank, IsNoProgram, PublishesPart, Ran, Reports, RunRefused, StoppedWithin, report_of}
 
 some-once : {A : Type 0} (o : Option A) (x y : A) → o ≡ Some x → o ≡ Some y → x ≡ y
@@ -109,14 +109,14 @@ pub few-counts : (bytes : List ℕ) (parts : ProgramParts) (input : List ℕ) (t
     SpellsProgram bytes parts → HasRun parts input turns ran bank rest told before now → length ran.counts ≤ 65536
 few-counts bytes parts input turns ran bank rest told before now spells h =
     subst (λ (x : RunResult). length x.counts ≤ 65536) (sym h.result_is)
-    (subst (λ n. n ≤ 65536) (sym (length-counts_from 0 parts.sites h.ending.seen)) spells.is_program.parts.sites.few)
+    (subst (λ n. n ≤ 65536) (sym (length_counts 0 parts.sites h.ending.seen)) spells.is_program.parts.sites.few)
 
 -- a fault of publishing is of a write or of memory
-pub published-part : (e : Fault) (write unmoved stopped broke : Type 0) → Caused e (λ n. ⊥) write (λ r. ⊥) → stopped → LeftBy e unmoved stopped (broke ⊎ stopped)
-published-part (Read name) write unmoved stopped broke cause s = absurd cause
-published-part Write write unmoved stopped broke cause s = s
-published-part (Refused refusal) write unmoved stopped broke cause s = absurd cause
-published-part Memory write unmoved stopped broke cause s = inr (inr s)
+pub published-part : (e : Fault) (write unmoved stopped broke : Type 0) (refused : Refusal → Type 0) → Caused e (λ n. ⊥) write (λ r. ⊥) → stopped → LeftBy e unmoved stopped refused (broke ⊎ stopped)
+published-part (Read name) write unmoved stopped broke refused cause s = absurd cause
+published-part Write write unmoved stopped broke refused cause s = s
+published-part (Refused refusal) write unmoved stopped broke refused cause s = absurd cause
+published-part Memory write unmoved stopped broke refused cause s = inr (inr s)
 
 -- what was read is loaded
 pub loaded : (held : Option Held) (r : RunWords) (files : RunFiles) (parts : ProgramParts) (bank : BankState) → AreFiles held r files → SpellsProgram files.program parts → IsBankOf files.bank bank → length files.input ≤ input_limit → AreLoaded held r files parts bank

@@ -6,7 +6,7 @@ use Rattle.cbi_base.specs.Store.{Held}
 use Rattle.cbi_base.specs.declared.policy.Policy.{Policy}
 use Rattle.cbi_base.specs.declared.refusal.Refusal.{Refusal}
 use Rattle.cbi_words.specs.declared.command.Command.{Command}
-use Rattle.cbi_words.specs.declared.command.Command.TheVariants.{Transform, Run, Bank, Collect, Rank}
+use Rattle.cbi_words.specs.declared.command.Command.TheVariants.{Transform, Run, Bank, Collect, Rank, Study}
 use Rattle.commands.specs.declared.done.Done.{Done}
 use Rattle.commands.specs.declared.done.Done.TheVariants.{Lines, Nothing, Added}
 use Rattle.cbi_words.specs.declared.schemes.Mode.{Mode}
@@ -16,13 +16,16 @@ use Rattle.commands.specs.declared.words.RunWords.{RunWords}
 use Rattle.commands.specs.declared.words.BankWords.{BankWords}
 use Rattle.commands.specs.declared.words.CollectWords.{CollectWords}
 use Rattle.commands.specs.declared.words.RankWords.{RankWords}
-use Rattle.commands.specs.Outside.{Outside, Wrote, WroteWithin}
+use Rattle.commands.specs.declared.words.StudyWords.{StudyWords}
+use Rattle.commands.specs.Outside.{IsUnmoved, Outside, Wrote, WroteWithin}
 use Rattle.commands.specs.Files.{run_names}
 use Rattle.commands.specs.Run.{Ran, StoppedWithin, BrokeOff, RunRefused, RunRefusedBy}
 use Rattle.commands.specs.MadeBank.{IsMadeText}
 use Rattle.commands.specs.Collect.{CollectRefused, CollectRefusedBy, IsCollected, IsCollectedText, collect_names}
 use Rattle.commands.specs.Transform.{IsTransformed, TransformRefused, TransformRefusedBy, transform_names}
 use Rattle.commands.specs.Rank.{IsRanked, RankRefused, RankRefusedBy, rank_names}
+use Rattle.commands.specs.Study.{StudyDone, StudyLeft, StudyRefused, StudyRefusedBy, StudyTaken, study_names}
+use Rattle.study.specs.declared.ranked.StudyFault.TheVariants as faults
 
 -- the words of each command, by their names
 abbrev pub transform_words : Mode → Schemes → (text : List ℕ) → TransformWords
@@ -41,6 +44,9 @@ collect_words program files = record { program = program; files = files }
 abbrev pub rank_words : Policy → (program collection : List ℕ) → RankWords
 rank_words policy program collection = record { policy = policy; program = program; collection = collection }
 
+abbrev pub study_words : (runs seed rate turns : ℕ) → Policy → (text : List ℕ) → StudyWords
+study_words runs seed rate turns policy text = record { plan = record { runs = runs; seed = seed; rate = rate; turns = turns; policy = policy }; text = text }
+
 -- the names that it reads, in the order of its reads
 abbrev pub names_of : Option Command → List (List ℕ)
 names_of None = []
@@ -49,6 +55,7 @@ names_of (Some (Run bank input expect turns run report program)) = run_names (ru
 names_of (Some (Bank rate count seed stream)) = []
 names_of (Some (Collect program files)) = collect_names (collect_words program files)
 names_of (Some (Rank policy program collection)) = rank_names (rank_words policy program collection)
+names_of (Some (Study runs seed rate turns policy text)) = study_names (study_words runs seed rate turns policy text)
 
 -- the name that it writes, where there is one
 abbrev pub written_by : Option Command → Option (List ℕ)
@@ -58,6 +65,7 @@ written_by (Some (Run bank input expect turns run report program)) = report
 written_by (Some (Bank rate count seed stream)) = None
 written_by (Some (Collect program files)) = None
 written_by (Some (Rank policy program collection)) = None
+written_by (Some (Study runs seed rate turns policy text)) = None
 
 -- what it does where nothing goes wrong, and what it says of it
 abbrev pub Did : {B : Type 0} → (told : B → List Observation) → Option Command → (before after : Outside B) → (said : Done) → Type 0
@@ -70,6 +78,8 @@ Did told (Some (Bank rate count seed stream)) before after said = Wrote (IsMadeT
 Did told (Some (Collect program files)) before after said = Wrote (IsCollected before.held (collect_words program files) said) before after
 Did told (Some (Rank policy program collection)) before after said =
     Wrote (IsRanked before.held (rank_words policy program collection)) before after × (said ≡ Nothing)
+Did told (Some (Study runs seed rate turns policy text)) before after said =
+    StudyDone told (study_words runs seed rate turns policy text) before after × (said ≡ Lines)
 
 -- what err is told of it, of the lines of the watchers
 abbrev pub done_text : (said : Done) → (lines : List ℕ) → List ℕ
@@ -86,6 +96,7 @@ LeftOn told (Some (Run bank input expect turns run report program)) before after
 LeftOn told (Some (Bank rate count seed stream)) before after = WroteWithin (IsMadeText (bank_words rate count seed stream)) before after
 LeftOn told (Some (Collect program files)) before after = WroteWithin (IsCollectedText before.held (collect_words program files)) before after
 LeftOn told (Some (Rank policy program collection)) before after = WroteWithin (IsRanked before.held (rank_words policy program collection)) before after
+LeftOn told (Some (Study runs seed rate turns policy text)) before after = StudyTaken told (study_words runs seed rate turns policy text) before after
 
 -- what it leaves where memory is wanting before it is done
 abbrev pub LeftWithin : {B : Type 0} → (told : B → List Observation) → Option Command → (before after : Outside B) → Type 0
@@ -97,11 +108,21 @@ LeftWithin told (Some (Run bank input expect turns run report program)) before a
 LeftWithin told (Some (Bank rate count seed stream)) before after = ⊥
 LeftWithin told (Some (Collect program files)) before after = ⊥
 LeftWithin told (Some (Rank policy program collection)) before after = ⊥
+LeftWithin told (Some (Study runs seed rate turns policy text)) before after =
+    StudyLeft told (study_words runs seed rate turns policy text) faults.Memory before after
+    ⊎ StudyTaken told (study_words runs seed rate turns policy text) before after
 
 -- what it leaves where memory is wanting before it is done, or when what came of it is to be told
 abbrev pub LeftWanting : {B : Type 0} → (told : B → List Observation) → Option Command → (before after : Outside B) → Type 0
 LeftWanting told command before after =
     LeftWithin told command before after ⊎ (LeftOn told command before after ⊎ ((said : Done) × Did told command before after said))
+
+-- What it leaves by a refusal: a study may have run before it is refused, and any other command leaves what was there.
+abbrev pub LeftRefused : {B : Type 0} → (told : B → List Observation) → Option Command → Refusal → (before after : Outside B) → Type 0
+LeftRefused told None refusal before after = ⊥
+LeftRefused told (Some (Study runs seed rate turns policy text)) refusal before after =
+    StudyLeft told (study_words runs seed rate turns policy text) (faults.Refused refusal) before after
+LeftRefused told (Some command) refusal before after = IsUnmoved before after
 
 -- the bytes read are refused
 abbrev pub IsRefused : Option Command → Option Held → Type 0
@@ -111,6 +132,7 @@ IsRefused (Some (Run bank input expect turns run report program)) held = RunRefu
 IsRefused (Some (Bank rate count seed stream)) held = ⊥
 IsRefused (Some (Collect program files)) held = CollectRefused (collect_words program files) held
 IsRefused (Some (Rank policy program collection)) held = RankRefused (rank_words policy program collection) held
+IsRefused (Some (Study runs seed rate turns policy text)) held = StudyRefused (study_words runs seed rate turns policy text) held
 
 -- the refusal that is told of them
 abbrev pub IsRefusedBy : Option Command → Option Held → Refusal → Type 0
@@ -121,6 +143,7 @@ IsRefusedBy (Some (Run bank input expect turns run report program)) held refusal
 IsRefusedBy (Some (Bank rate count seed stream)) held refusal = ⊥
 IsRefusedBy (Some (Collect program files)) held refusal = CollectRefusedBy (collect_words program files) held refusal
 IsRefusedBy (Some (Rank policy program collection)) held refusal = RankRefusedBy (rank_words policy program collection) held refusal
+IsRefusedBy (Some (Study runs seed rate turns policy text)) held refusal = StudyRefusedBy (study_words runs seed rate turns policy text) held refusal
 
 -- a write met a fault: one to out, or one to the store of a command that writes there
 abbrev pub WriteFaultOf : (report : Option (List ℕ)) → (out store : Type 0) → Type 0

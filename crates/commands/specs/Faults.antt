@@ -33,13 +33,13 @@ status_of Write = 4
 status_of (Refused refusal) = 5
 status_of Memory = 7
 
--- What a fault leaves: what was there, or what is left where a write met a fault; want of memory leaves what was there, or what it leaves within the
--- command.
-abbrev pub LeftBy : Fault → (unmoved part wanting : Type 0) → Type 0
-LeftBy (Read name) unmoved part wanting = unmoved
-LeftBy Write unmoved part wanting = part
-LeftBy (Refused refusal) unmoved part wanting = unmoved
-LeftBy Memory unmoved part wanting = unmoved ⊎ wanting
+-- What a fault leaves: what was there, or what is left where a write met a fault, or by a refusal; want of memory leaves what was there, or what it
+-- leaves within the command.
+abbrev pub LeftBy : Fault → (unmoved part : Type 0) → (refused : Refusal → Type 0) → (wanting : Type 0) → Type 0
+LeftBy (Read name) unmoved part refused wanting = unmoved
+LeftBy Write unmoved part refused wanting = part
+LeftBy (Refused refusal) unmoved part refused wanting = refused refusal
+LeftBy Memory unmoved part refused wanting = unmoved ⊎ wanting
 
 -- a fault that is a refusal or may come before one
 abbrev pub Precedes : Fault → Type 0

@@ -7,5 +7,6 @@ pub mod Collect
 pub mod Gathered
 pub mod Rank
 pub mod Transform
+pub mod Study
 pub mod Commands
 pub mod Faults

@@ -30,7 +30,7 @@ pub fn collect_files<S: Store, O: Sink>(
 
     // What is left after a fault, and which names were held.
     ensures left { IfErr result (λ e. LeftBy e (O.taken out.new ≡ O.taken out.old)
-        (TookWithin (IsCollectedText (S.holds store.old) words.now) (O.taken out.old) (O.taken out.new)) ⊥) }
+        (TookWithin (IsCollectedText (S.holds store.old) words.now) (O.taken out.old) (O.taken out.new)) (λ r. O.taken out.new ≡ O.taken out.old) ⊥) }
     ensures was_held { Passed result (AreHeld (S.holds store.old) (collect_names words.now)) }
     ensures missing { S.is_sound store.old → IfErr result (λ e. OfRead e (IsFirstMissing (S.holds store.old) (collect_names words.now))) }
     ensures held { S.holds store.new ≡ S.holds store.old }

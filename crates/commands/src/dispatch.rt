@@ -3,7 +3,7 @@ ghost use Rattle.cbi_base.specs.Faults.{Rose};
 ghost use Rattle.cbi_words.specs.Within.{IsWithin};
 ghost use Rattle.commands.specs.Outside.{outside, AllStayBut, IsUnmoved};
 ghost use Rattle.commands.specs.Names.{IsOneOf, IsFirstMissing, AreHeld};
-ghost use Rattle.commands.specs.Commands.{names_of, written_by, Did, LeftOn, LeftWithin, IsRefused, IsRefusedBy, WriteFault};
+ghost use Rattle.commands.specs.Commands.{names_of, written_by, Did, LeftOn, LeftRefused, LeftWithin, IsRefused, IsRefusedBy, WriteFault};
 ghost use Rattle.commands.specs.Faults.{Caused, LeftBy, OfRead, OfRefusal, Precedes, Passed};
 
 use crate::collect_files::collect_files;
@@ -12,13 +12,15 @@ use crate::fault::Fault;
 use crate::make_bank::make_bank;
 use crate::rank_runs::rank_runs;
 use crate::run_file::run_file;
+use crate::study_text::study_text;
 use crate::transform_text::transform_text;
-use crate::words::{BankWords, CollectWords, RankWords, RunWords, TransformWords};
+use crate::words::{BankWords, CollectWords, RankWords, RunWords, StudyWords, TransformWords};
 use cbi_base::{Sink, Store};
 use cbi_words::Command;
 use probes::Probe;
 use std::alloc::Global;
 use study::refused_texts_are_not_compiled;
+use study_runs::StudyPlan;
 
 /// Does the command.
 pub fn obey<S: Store, O: Sink>(
@@ -42,6 +44,8 @@ pub fn obey<S: Store, O: Sink>(
     ensures left { IfErr result (λ e. LeftBy e
         (IsUnmoved (outside (S.holds store.old) (O.taken out.old) probes.old.items) (outside (S.holds store.new) (O.taken out.new) probes.new.items))
         (LeftOn (λ b. seen b) (Some command)
+        (outside (S.holds store.old) (O.taken out.old) probes.old.items) (outside (S.holds store.new) (O.taken out.new) probes.new.items))
+        (λ r. LeftRefused (λ b. seen b) (Some command) r
         (outside (S.holds store.old) (O.taken out.old) probes.old.items) (outside (S.holds store.new) (O.taken out.new) probes.new.items))
         (LeftWithin (λ b. seen b) (Some command)
         (outside (S.holds store.old) (O.taken out.old) probes.old.items) (outside (S.holds store.new) (O.taken out.new) probes.new.items))) }
@@ -124,6 +128,24 @@ pub fn obey<S: Store, O: Sink>(
                 collection,
             };
             rank_runs(alloc, &words, store, out)
+        }
+        Command::Study {
+            runs,
+            seed,
+            rate,
+            turns,
+            policy,
+            text,
+        } => {
+            let plan = StudyPlan {
+                runs,
+                seed,
+                rate,
+                turns,
+                policy,
+            };
+            let words = StudyWords { plan, text };
+            study_text(alloc, &words, store, out, probes)
         }
     }
 }

@@ -14,6 +14,7 @@ mod rank_runs;
 mod rank_texts;
 mod reports;
 mod run_file;
+mod study_text;
 mod transform_text;
 mod words;
 

@@ -33,7 +33,7 @@ pub fn make_bank<O: Sink>(alloc: Global, words: BankWords, out: &mut O) -> Resul
     ensures took { OnOk result (TookDue (IsMadeText words) (O.taken out.old) (O.taken out.new)) }
     ensures said { IfOk result (λ said. said ≡ Nothing) }
     ensures fault { IfErr result (λ e. Caused e (λ n. ⊥) (Rose (O.faults out.old) (O.faults out.new)) (λ r. ⊥)) }
-    ensures left { IfErr result (λ e. LeftBy e ⊥ (TookWithin (IsMadeText words) (O.taken out.old) (O.taken out.new)) (O.taken out.new ≡ O.taken out.old)) }
+    ensures left { IfErr result (λ e. LeftBy e ⊥ (TookWithin (IsMadeText words) (O.taken out.old) (O.taken out.new)) (λ r. ⊥) (O.taken out.new ≡ O.taken out.old)) }
     ensures out_rises { O.faults out.old ≤ O.faults out.new }
     ensures out_sound { O.is_sound out.old → O.is_sound out.new }
     ensures out_stays { O.is_sound out.old → O.faults out.new ≡ O.faults out.old }

@@ -43,6 +43,7 @@ pub fn run_file<S: Store, O: Sink>(
         (IsUnmoved (outside (S.holds store.old) (O.taken out.old) probes.old.items) (outside (S.holds store.new) (O.taken out.new) probes.new.items))
         (StoppedWithin (λ b. seen b) words.now
         (outside (S.holds store.old) (O.taken out.old) probes.old.items) (outside (S.holds store.new) (O.taken out.new) probes.new.items))
+        (λ r. IsUnmoved (outside (S.holds store.old) (O.taken out.old) probes.old.items) (outside (S.holds store.new) (O.taken out.new) probes.new.items))
         (BrokeOff (λ b. seen b) words.now
         (outside (S.holds store.old) (O.taken out.old) probes.old.items) (outside (S.holds store.new) (O.taken out.new) probes.new.items)
         ⊎ StoppedWithin (λ b. seen b) words.now

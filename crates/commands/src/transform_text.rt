@@ -19,7 +19,7 @@ use std::alloc::Global;
 use study::{CompileError, Plan, compile};
 
 /// The most bytes that are read of a text.
-const TEXT_LIMIT: u64 = 1048576;
+pub const TEXT_LIMIT: u64 = 1048576;
 
 /// What the text is compiled to.
 fn plan_of(words: &TransformWords) -> Plan
@@ -70,7 +70,7 @@ pub fn transform_text<S: Store, O: Sink>(
 
     // What is left after a fault, and which names were held.
     ensures left { IfErr result (λ e. LeftBy e (O.taken out.new ≡ O.taken out.old)
-        (TookWithin (IsTransformed (S.holds store.old) words.now) (O.taken out.old) (O.taken out.new)) ⊥) }
+        (TookWithin (IsTransformed (S.holds store.old) words.now) (O.taken out.old) (O.taken out.new)) (λ r. O.taken out.new ≡ O.taken out.old) ⊥) }
     ensures was_held { Passed result (AreHeld (S.holds store.old) (transform_names words.now)) }
     ensures missing { S.is_sound store.old → IfErr result (λ e. OfRead e (IsFirstMissing (S.holds store.old) (transform_names words.now))) }
     ensures held { S.holds store.new ≡ S.holds store.old }

@@ -1,5 +1,6 @@
 use cbi_base::{Policy, Seq};
 use cbi_words::{Mode, Schemes, Word};
+use study_runs::StudyPlan;
 
 /// What `transform` is asked for.
 #[derive(Debug, Drop)]
@@ -62,4 +63,13 @@ pub struct RankWords {
     pub program: Word,
     /// The name of the collection's file.
     pub collection: Word,
+}
+
+/// What `study` is asked for.
+#[derive(Debug, Drop)]
+pub struct StudyWords {
+    /// Which runs are made, and how they are ranked.
+    pub plan: StudyPlan,
+    /// The name of the text's file.
+    pub text: Word,
 }

@@ -66,6 +66,19 @@ fn told(alloc: Global, answer: &Result<Command, WordsError>) -> Result<String, A
             let text = text.as_str();
             format!(in alloc; "transform {mode:?} {branches} {returns} {pairs} {text}")
         }
+        Ok(
+            Command::Study {
+                runs,
+                seed,
+                rate,
+                turns,
+                policy,
+                text,
+            },
+        ) => {
+            let text = text.as_str();
+            format!(in alloc; "study {runs} {seed} {rate} {turns} {policy:?} {text}")
+        }
         Err(WordsError::Usage { text }) => {
             if text.as_str().starts_with("cbi: bad value of ") {
                 text.clone()
@@ -158,6 +171,14 @@ fn options_stand_in_any_order(rt: HostRuntime) -> Result<(), Fail> {
                 "cbi|transform|--mode|plain|--schemes|returns,branches,pairs|-",
                 "transform Plain true true true -",
             ),
+            (
+                "cbi|study|--runs|3|--seed|7|--rate|1|--turns|10|c",
+                "study 3 7 1 10 All c",
+            ),
+            (
+                "cbi|study|c|--policy=failing|--turns=0|--rate=65536|--seed=0|--runs=100000",
+                "study 100000 0 65536 0 Failing c",
+            ),
         ],
     )
 }
@@ -212,6 +233,11 @@ fn other_words_are_usage(rt: HostRuntime) -> Result<(), Fail> {
             ("cbi|rank|p", "usage"),
             ("cbi|rank|p|c|d", "usage"),
             ("cbi|study|p", "usage"),
+            ("cbi|study|--runs|3|--seed|7|--rate|1|c", "usage"),
+            ("cbi|study|--runs|3|--seed|7|--turns|1|c", "usage"),
+            ("cbi|study|--runs|3|--rate|7|--turns|1|c", "usage"),
+            ("cbi|study|--seed|3|--rate|7|--turns|1|c", "usage"),
+            ("cbi|study|--runs|3|--seed|7|--rate|1|--turns|1", "usage"),
             ("cbi|bank|--count|2|--rate|9", "usage"),
             ("cbi|bank|--seed|3|--rate|9", "usage"),
             ("cbi|bank|--seed|3|--count|2", "usage"),
@@ -242,6 +268,18 @@ fn numbers_lie_in_their_bounds(rt: HostRuntime) -> Result<(), Fail> {
             ("cbi|run|--turns|-|p", "cbi: bad value of --turns\n"),
             ("cbi|run|--run|0|p", "cbi: bad value of --run\n"),
             ("cbi|rank|--policy|All|p|c", "cbi: bad value of --policy\n"),
+            (
+                "cbi|study|--runs|0|--seed|7|--rate|1|--turns|1|c",
+                "cbi: bad value of --runs\n",
+            ),
+            (
+                "cbi|study|--runs|100001|--seed|7|--rate|1|--turns|1|c",
+                "cbi: bad value of --runs\n",
+            ),
+            (
+                "cbi|study|--runs|1|--seed|7|--rate|1|--turns|100000001|c",
+                "cbi: bad value of --turns\n",
+            ),
             (
                 "cbi|run|--run|4294967295|p",
                 "run none none none 1000000 4294967295 none p",
@@ -307,6 +345,10 @@ fn value_alone_is_told(rt: HostRuntime) -> Result<(), Fail> {
             ("cbi|rank|p|--policy|x", "usage"),
             ("cbi|rank|p|--policy|x|c", "cbi: bad value of --policy\n"),
             ("cbi|study|--run|0|p", "usage"),
+            (
+                "cbi|study|--turns|x|--rate|0|--seed|x|--runs|1|c",
+                "cbi: bad value of --seed\n",
+            ),
             ("cbi|transform|--schemes|x|t", "usage"),
             (
                 "cbi|transform|--schemes|x|--mode|x|t",

@@ -1,4 +1,4 @@
-use Rattle.cbi_words.specs.declared.command.Command.TheVariants.{Transform, Run, Collect, Rank}
+use Rattle.cbi_words.specs.declared.command.Command.TheVariants.{Transform, Run, Collect, Rank, Study}
 use Rattle.commands.proofs.RefusedBy.{was-refused}
 use Rattle.commands.proofs.dispatch.obey.Goals as goal
 
@@ -25,3 +25,9 @@ returns-in-Rank-clause-was_refused g c =
     let w = c.in-Rank in
     was-refused c.refused_texts_are_not_compiled.ensures.refused c.rank_runs.result c.args.command (Rank w.policy w.program w.collection)
     (g.S.Store.holds c.args.store.now) _ _ w.is c.rank_runs.ensures.fault
+
+pub returns-in-Study-clause-was_refused : goal.returns-in-Study-clause-was_refused
+returns-in-Study-clause-was_refused g c =
+    let w = c.in-Study in
+    was-refused c.refused_texts_are_not_compiled.ensures.refused c.study_text.result c.args.command (Study w.runs w.seed w.rate w.turns w.policy w.text)
+    (g.S.Store.holds c.args.store.now) _ _ w.is c.study_text.ensures.fault

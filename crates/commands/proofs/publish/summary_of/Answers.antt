@@ -1,6 +1,6 @@
 use Rattle.std.proofs.Common.{sym, subst, ◌∙◌}
 use Rattle.report_file.specs.Report.{IsSummary}
-use Rattle.commands.proofs.ReportLemmas.{bounded-counts}
+use Rattle.study_runs.proofs.Adding.{bounded_counts}
 use Rattle.commands.proofs.publish.summary_of.Goals as goal
 
 pub returns-clause-is_summary : goal.returns-clause-is_summary
@@ -9,5 +9,5 @@ returns-clause-is_summary c =
     subst (λ counts. IsSummary (record { outcome = c.args.ran.now.outcome; work = c.args.ran.now.work; counts = counts })) (sym same) (record {
       few = c.requires.few;
       work = record { fast = c.requires.bounded.fast; slow = c.requires.bounded.slow; tests = c.requires.bounded.tests };
-      counts = bounded-counts c.args.ran.now.counts c.requires.bounded.counts;
+      counts = bounded_counts c.args.ran.now.counts c.requires.bounded.counts;
     })

@@ -43,5 +43,5 @@ returns-clause-refused g c = λ refused tells.
 pub returns-clause-left : goal.returns-clause-left
 returns-clause-left g c =
     let l = loaded _ _ c.in-Ok.files _ _ c.in-Ok.ensures.files c.in-Ok-look.ensures.found c.in-Ok-look.ensures.bank c.in-Ok-look.ensures.fits in
-    published-part c.in-Err-publish.fault _ _ _ _ c.in-Err-publish.ensures.fault
+    published-part c.in-Err-publish.fault _ _ _ _ _ c.in-Err-publish.ensures.fault
     (stopped _ _ _ _ _ _ _ _ _ _ _ c.as_slice-input.ensures c.read_files.ensures.held l c.in-Ok-run.ensures.ran c.in-Err-publish.ensures.part)
