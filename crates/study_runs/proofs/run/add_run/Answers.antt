@@ -3,7 +3,7 @@ use Rattle.study_runs.proofs.run.add_run.Goals as goal
 
 pub run-requires-clause-input : goal.run-requires-clause-input
 run-requires-clause-input g c =
-    short c.made_lines_are_printable.ensures c.args.plan.seed c.args.plan.rate c.args.number c.in_ok-bank.field-0.bank c.in_ok-bank.field-0.input.items _ c.in_ok-bank.ensures c.as_slice.ensures.value
+    short c.made_lines_are_printable.ensures _ _ _ c.in_ok-bank.field-0.bank c.in_ok-bank.field-0.input.items _ c.in_ok-bank.ensures c.as_slice.ensures.value
 
 pub make_report-requires-clause-summary : goal.make_report-requires-clause-summary
 make_report-requires-clause-summary g c = summed _ c.args.plan c.args.number _ _ _ _ _ _ _ c.in_ok-ran.ensures.ran c.in_ok-ran.ensures.bounded c.main-main.ensures.is_program
