@@ -1,16 +1,29 @@
 -- A `-` may stand before each constant of a text.
 use Rattle.std.proofs.Common.{ℕ, subst, sym, List}
 use Rattle.std.specs.List.{AllByRecursion}
+use Rattle.std.proofs.lemmas.List.Elements.{All-weaker, recursion_from_All}
 use Rattle.c_syntax.specs.declared.token.Token.{Token}
+use Rattle.c_syntax.specs.declared.token.TokenKind.{TokenKind}
+use Rattle.c_syntax.specs.declared.token.TokenKind.TheVariants as token
 use Rattle.c_syntax.specs.ItemTree.{SourceTree}
 use Rattle.c_syntax.specs.Spelling.{tree_kinds}
 use Rattle.c_syntax.specs.Tokens.{KindFits, kinds_of}
 use Rattle.typed_texts.specs.Accepted.{IsNegatable}
-use Rattle.typed_texts.proofs.Negating.{tokens_negate}
+use Rattle.typed_texts.proofs.Negating.{IsUnsigned, tokens_negate}
 use Rattle.accepted_texts.specs.Accepted.{HasTree}
-use Rattle.accepted_texts.proofs.Unsigned.{lexes_unsigned}
+use Rattle.accepted_texts.proofs.Spelled.{IsSpelled, lexes_spelled}
 
-pub tree_constants : (text : List ℕ) (tokens : List Token) (tree : SourceTree) → HasTree text tokens tree → AllByRecursion KindFits (kinds_of tokens)
-    → AllByRecursion IsNegatable (tree_kinds tree)
-tree_constants text tokens tree h fits = subst (AllByRecursion IsNegatable) (sym h.is_tree.kinds)
-    (tokens_negate (kinds_of tokens) fits (lexes_unsigned text tokens h.has_tokens.lexes))
+-- a constant as a text spells it
+spelled_unsigned : (k : TokenKind) → IsSpelled k → IsUnsigned k
+spelled_unsigned (token.Constant kind value) low = low
+spelled_unsigned (token.Name name) is = tt
+spelled_unsigned (token.Word word) is = tt
+spelled_unsigned (token.Text bytes) is = tt
+spelled_unsigned (token.Punctuator sign) is = tt
+
+-- those of the text's tree
+pub tree_constants : (text : List ℕ) (tokens : List Token) (tree : SourceTree) → HasTree text tokens tree → AllByRecursion IsNegatable (tree_kinds tree)
+tree_constants text tokens tree h = subst (AllByRecursion IsNegatable) (sym h.is_tree.kinds) (tokens_negate (kinds_of tokens)
+    (recursion_from_All KindFits (kinds_of tokens) h.has_tokens.keeps.constants)
+    (recursion_from_All IsUnsigned (kinds_of tokens)
+    (All-weaker IsSpelled IsUnsigned spelled_unsigned (kinds_of tokens) (lexes_spelled text tokens h.has_tokens.lexes))))

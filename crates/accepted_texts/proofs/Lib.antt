@@ -2,5 +2,6 @@ pub mod Constants
 pub mod Fitting
 pub mod Lining
 pub mod Refusing
+pub mod Siting
+pub mod Spelled
 pub mod Strings
-pub mod Unsigned

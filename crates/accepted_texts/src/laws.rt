@@ -1,16 +1,19 @@
 ghost use Rattle.std.specs.Prelude.{◌≡◌, ◌≢◌, ℕ, List, []};
+ghost use Rattle.std.specs.List.{All};
 ghost use Rattle.cbi_base.specs.declared.outcome.Outcome.TheVariants.{Trapped};
 ghost use Rattle.cbi_base.specs.declared.refusal.Refusal.{Refusal};
 ghost use Rattle.cbi_base.specs.declared.trap.Trap.TheVariants.{Internal};
 ghost use Rattle.c_syntax.specs.ItemTree.{SourceTree};
 ghost use Rattle.c_types.specs.declared.walk.Walk.{Walk};
 ghost use Rattle.c_meaning.specs.Texts.{text_meaning};
+ghost use Rattle.flow.specs.Sites.{IsSite};
 ghost use Rattle.sites.specs.declared.schemes.Schemes.{Schemes};
 ghost use Rattle.sites.specs.Table.{sites_of};
+ghost use Rattle.typed_texts.specs.Sited.{IsSited, local_counts};
 ghost use Rattle.accepted_texts.specs.Accepted.{IsAccepted};
 ghost use Rattle.accepted_texts.specs.Refused.{IsRefusedText, RefusesText};
 
-use typed_texts::an_accepted_text_never_faults;
+use typed_texts::{an_accepted_text_never_faults, sites_of_an_accepted_text_stand};
 
 /// An accepted text has one tree, of which one thing is known.
 pub fn one_accepted_text()
@@ -36,4 +39,14 @@ pub fn accepted_texts_never_fault()
         → (text_meaning tree known (sites_of tree known schemes) input turns).output ≡ (text_meaning tree known [] input turns).output }
 {
     an_accepted_text_never_faults();
+}
+
+/// Names, constants and lines of an accepted text are ones that sites can have. So each of its sites, for any schemes, is one that a program takes:
+/// it stands in one of the defined functions, and looks at globals and at that function's own variables alone.
+pub fn sites_of_accepted_texts_stand()
+    ensures sited { (text : List ℕ) (tree : SourceTree) (known : Walk) → IsAccepted text tree known → IsSited tree }
+    ensures stand { (text : List ℕ) (tree : SourceTree) (known : Walk) (schemes : Schemes) → IsAccepted text tree known
+        → All (IsSite (local_counts known) known.globals) (sites_of tree known schemes) }
+{
+    sites_of_an_accepted_text_stand();
 }
