@@ -1,5 +1,5 @@
 -- Putting one part before another.
-use Rattle.std.proofs.Common.{◌≡◌, ℕ, zero, suc, ◌+◌, ◌≤◌, ◌<◌, ◌≢◌, refl, ap, sym, ◌∙◌, subst, arith, List, [], ◌∷◌, ◌++◌, length, length-append, Some, None, Bool, true, false, slice_get, slice_set, option_map, rules}
+use Rattle.std.proofs.Common.{◌≡◌, ℕ, zero, suc, ◌≤◌, ◌<◌, refl, ap, ◌∙◌, arith, List, [], ◌∷◌, ◌++◌, length, length-append, Some, slice_get, option_map, rules}
 use Rattle.std.specs.Prelude.{pos}
 use Rattle.cbi_base.specs.declared.scalar.Kind.TheVariants.{Char}
 use Rattle.flow.specs.declared.node.Node.{Node}

@@ -1,5 +1,5 @@
 -- What changes a place.
-use Rattle.std.proofs.Common.{◌≡◌, ℕ, refl, rules, subst, sym, List, [], ◌∷◌, ◌++◌, length, Option, Some, Bool}
+use Rattle.std.proofs.Common.{◌≡◌, ℕ, refl, rules, subst, List, [], ◌∷◌, ◌++◌, length, Option, Bool}
 use Rattle.std.specs.Prelude.{pos}
 use Rattle.cbi_base.specs.declared.scalar.Kind.{Kind}
 use Rattle.flow.specs.declared.node.Node.{Node}

@@ -1,5 +1,5 @@
 -- Lists, whose items are put from the last one to the first.
-use Rattle.std.proofs.Common.{◌≡◌, ℕ, ◌+◌, ◌<◌, sym, subst, List, [], ◌∷◌, length, drop, get_or}
+use Rattle.std.proofs.Common.{◌≡◌, ℕ, ◌+◌, ◌<◌, sym, subst, List, ◌∷◌, length, drop, get_or}
 use Rattle.std.proofs.lemmas.List.{drop_more}
 use Rattle.flow.specs.declared.node.Node.{Node}
 use Rattle.graphs.specs.Paths.{Graph, ◌then◌}

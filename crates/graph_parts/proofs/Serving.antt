@@ -7,7 +7,7 @@ use Rattle.flow.specs.declared.node.Node.{Node}
 use Rattle.flow.specs.declared.node.Node.TheVariants as node
 use Rattle.c_meaning.specs.Facts.{Facts, Sites}
 use Rattle.c_meaning.specs.declared.value_type.ValueType.{ValueType}
-use Rattle.graphs.specs.Operators.{LoadThrough, Negated, Pointed, Prefixed, Through}
+use Rattle.graphs.specs.Operators.{Negated, Prefixed, Through}
 use Rattle.graphs.specs.Paths.{Graph, Path, ◌then◌, Does, Emitted}
 use Rattle.graphs.specs.Values.{Placed, Valued}
 use Rattle.graph_parts.specs.Made.{Made, Part}

@@ -1,5 +1,5 @@
 -- What becomes of values and places.
-use Rattle.std.proofs.Common.{◌≡◌, ℕ, refl, List, [], ◌∷◌, ◌++◌, length, Bool, true, false, Option, Some, None}
+use Rattle.std.proofs.Common.{◌≡◌, ℕ, refl, List, [], ◌∷◌, ◌++◌, length, true, false, Option, Some, None}
 use Rattle.cbi_base.specs.declared.scalar.Want.TheVariants as want
 use Rattle.flow.specs.declared.node.Node.{Node}
 use Rattle.flow.specs.declared.node.Node.TheVariants as node
@@ -12,7 +12,6 @@ use Rattle.graphs.specs.Operators.{LoadThrough, Pointed}
 use Rattle.graphs.specs.Values.{Discarded, LoadAt}
 use Rattle.graph_parts.specs.Made.{Made, Part}
 use Rattle.graph_parts.specs.Purposes.{Takes, TakesPlace, TakesThrough, is_single, ways}
-use Rattle.graph_parts.specs.declared.purpose.Purpose.{Purpose}
 use Rattle.graph_parts.specs.declared.purpose.Purpose.TheVariants as purpose
 use Rattle.graph_parts.proofs.Building.{carried, either_made, later_self, nothing_made, one_made, then_made, view_made}
 

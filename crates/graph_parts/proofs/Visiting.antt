@@ -6,7 +6,7 @@ use Rattle.flow.specs.declared.node.View.TheVariants as view
 use Rattle.c_meaning.specs.Facts.{Facts, Sites}
 use Rattle.c_meaning.specs.Visits.{listed}
 use Rattle.graphs.specs.Operators.{Assigned, Decided}
-use Rattle.graphs.specs.Paths.{◌then◌, Does, ForkTo, MarksAll, Nothing, Ways}
+use Rattle.graphs.specs.Paths.{Does, ForkTo, MarksAll, Nothing, Ways}
 use Rattle.graph_parts.specs.Made.{Made}
 use Rattle.graph_parts.specs.Purposes.{ways}
 use Rattle.graph_parts.proofs.Building.{nothing_made, one_made, then_made, view_made}

@@ -1,4 +1,4 @@
-ghost use Rattle.std.specs.Prelude.{◌≡◌, IfOk};
+ghost use Rattle.std.specs.Prelude.{◌≡◌, IfOk, length, ◌≤◌, ◌+◌};
 ghost use Rattle.c_meaning.specs.Conversions.{decayed};
 ghost use Rattle.c_meaning.specs.Expressions.{is_other_pointer};
 ghost use Rattle.graphs.specs.Operators.{Flagged};
@@ -32,7 +32,8 @@ pub fn put_arm(
     want: Option<ValueType>,
     next: u32,
 ) -> Result<u32, Memory>
-    ensures { IfOk result (λ i. Made (λ G. ArmAs G (is_other_pointer (decayed have) want) have want) graph.old graph.new i next) }
+    ensures made { IfOk result (λ i. Made (λ G. ArmAs G (is_other_pointer (decayed have) want) have want) graph.old graph.new i next) }
+    ensures few { IfOk result (λ i. length graph.new ≤ length graph.old + 3) }
 {
     if is_other_pointer(decayed(have), want) {
         let i = put_handed(graph, want, next)?;
@@ -45,7 +46,8 @@ pub fn put_arm(
 /// 1 where a value is true, else 0.
 #[tactic(auto, using(crate::proofs::Building::parts_made))]
 pub fn put_flagged(graph: &mut Graph, next: u32) -> Result<u32, Memory>
-    ensures { IfOk result (λ i. Made (λ G. Flagged G) graph.old graph.new i next) }
+    ensures made { IfOk result (λ i. Made (λ G. Flagged G) graph.old graph.new i next) }
+    ensures few { IfOk result (λ i. length graph.new ≤ length graph.old + 2) }
 {
     let second = graph.put(Node::Sole {
         op: Unary::Not,

@@ -1,9 +1,10 @@
-ghost use Rattle.std.specs.Prelude.{◌≡◌, IfOk};
+ghost use Rattle.std.specs.Prelude.{◌≡◌, IfOk, length, ◌≤◌, ◌+◌};
 ghost use Rattle.cbi_base.specs.Arithmetic.{kind_given};
 ghost use Rattle.c_meaning.specs.Conversions.{conversion};
 ghost use Rattle.c_meaning.specs.Operation.{type_given};
 ghost use Rattle.graphs.specs.Operators.{Changed, Operates, Stepped, SteppedAs, SteppedBehind, Updates, step};
 ghost use Rattle.graphs.specs.Values.{Converts};
+ghost use Rattle.graphs.specs.Room.{pairs};
 ghost use Rattle.graph_parts.specs.Made.{Made};
 ghost use Rattle.graph_parts.specs.Replacing.{Replaces};
 ghost use Rattle.tree_facts.specs.Facts.{facts_in, sites_in};
@@ -50,7 +51,8 @@ pub fn put_converted(
     want: Option<ValueType>,
     next: u32,
 ) -> Result<u32, Memory>
-    ensures { IfOk result (λ i. Made (λ G. Converts G (conversion have want)) graph.old graph.new i next) }
+    ensures made { IfOk result (λ i. Made (λ G. Converts G (conversion have want)) graph.old graph.new i next) }
+    ensures few { IfOk result (λ i. length graph.new ≤ length graph.old + 2) }
 {
     let i = put_conversion(graph, conversion_of(have, want), next)?;
     Ok(i)
@@ -73,7 +75,8 @@ fn put_updates(
     operation: Operation,
     next: u32,
 ) -> Result<u32, Memory>
-    ensures { IfOk result (λ i. Made (λ G. Updates G (facts_in facts.now) (sites_in facts.now) token of operation) graph.old graph.new i next) }
+    ensures made { IfOk result (λ i. Made (λ G. Updates G (facts_in facts.now) (sites_in facts.now) token of operation) graph.old graph.new i next) }
+    ensures few { IfOk result (λ i. length graph.new ≤ length graph.old + (9 + pairs (sites_in facts.now) token)) }
 {
     let stored = put_assigned(graph, facts, token, next)?;
     let converted = put_converted(graph, type_given(operation, of), of, stored)?;
@@ -90,7 +93,8 @@ pub fn put_changed(
     operation: Operation,
     next: u32,
 ) -> Result<u32, Memory>
-    ensures { IfOk result (λ i. Made (λ G. Changed G (facts_in facts.now) (sites_in facts.now) token of operation) graph.old graph.new i next) }
+    ensures made { IfOk result (λ i. Made (λ G. Changed G (facts_in facts.now) (sites_in facts.now) token of operation) graph.old graph.new i next) }
+    ensures few { IfOk result (λ i. length graph.new ≤ length graph.old + (13 + pairs (sites_in facts.now) token)) }
 {
     let updates = put_updates(graph, facts, token, of, operation, next)?;
     let swap = graph.put(Node::Swap { next: updates })?;
@@ -108,7 +112,8 @@ pub fn put_stepped(
     of: Option<ValueType>,
     next: u32,
 ) -> Result<u32, Memory>
-    ensures { IfOk result (λ i. Made (λ G. Stepped G (facts_in facts.now) (sites_in facts.now) up token of) graph.old graph.new i next) }
+    ensures made { IfOk result (λ i. Made (λ G. Stepped G (facts_in facts.now) (sites_in facts.now) up token of) graph.old graph.new i next) }
+    ensures few { IfOk result (λ i. length graph.new ≤ length graph.old + (13 + pairs (sites_in facts.now) token)) }
 {
     let updates = put_updates(graph, facts, token, of, step(up, of), next)?;
     let one = graph.put(Node::Push {
@@ -130,7 +135,8 @@ fn put_replaced(
     operation: Operation,
     next: u32,
 ) -> Result<u32, Memory>
-    ensures { IfOk result (λ i. Made (λ G. Replaces G (facts_in facts.now) (sites_in facts.now) token of operation) graph.old graph.new i next) }
+    ensures made { IfOk result (λ i. Made (λ G. Replaces G (facts_in facts.now) (sites_in facts.now) token of operation) graph.old graph.new i next) }
+    ensures few { IfOk result (λ i. length graph.new ≤ length graph.old + (10 + pairs (sites_in facts.now) token)) }
 {
     let drop = graph.put(Node::Drop { next })?;
     let stored = put_assigned(graph, facts, token, drop)?;
@@ -148,7 +154,8 @@ fn put_stepped_behind(
     of: Option<ValueType>,
     next: u32,
 ) -> Result<u32, Memory>
-    ensures { IfOk result (λ i. Made (λ G. SteppedBehind G (facts_in facts.now) (sites_in facts.now) up token of) graph.old graph.new i next) }
+    ensures made { IfOk result (λ i. Made (λ G. SteppedBehind G (facts_in facts.now) (sites_in facts.now) up token of) graph.old graph.new i next) }
+    ensures few { IfOk result (λ i. length graph.new ≤ length graph.old + (16 + pairs (sites_in facts.now) token)) }
 {
     let replaced = put_replaced(graph, facts, token, of, step(up, of), next)?;
     let one = graph.put(Node::Push {
@@ -173,7 +180,8 @@ pub fn put_stepped_as(
     of: Option<ValueType>,
     next: u32,
 ) -> Result<u32, Memory>
-    ensures { IfOk result (λ i. Made (λ G. SteppedAs G (facts_in facts.now) (sites_in facts.now) taken up token of) graph.old graph.new i next) }
+    ensures made { IfOk result (λ i. Made (λ G. SteppedAs G (facts_in facts.now) (sites_in facts.now) taken up token of) graph.old graph.new i next) }
+    ensures few { IfOk result (λ i. length graph.new ≤ length graph.old + (16 + pairs (sites_in facts.now) token)) }
 {
     if taken {
         let i = put_stepped_behind(graph, facts, up, token, of, next)?;

@@ -1,4 +1,4 @@
-ghost use Rattle.std.specs.Prelude.{◌≡◌, ◌<◌, ◌≤◌, ◌++◌, List, [], ◌∷◌, length, IfOk, slice_set};
+ghost use Rattle.std.specs.Prelude.{◌≡◌, ◌+◌, ◌<◌, ◌≤◌, ◌++◌, List, [], ◌∷◌, length, IfOk, slice_set};
 ghost use Rattle.flow.specs.declared.node.Node.{Node};
 ghost use Rattle.flow.specs.declared.node.Node.TheVariants.{Again};
 
@@ -39,6 +39,7 @@ impl Graph {
     pub fn put(&mut self, node: Node) -> Result<u32, Memory>
         ensures number { IfOk result (λ i. i ≡ length self.old) }
         ensures added { IfOk result (λ i. self.new ≡ self.old ++ node ∷ []) }
+        ensures one { IfOk result (λ i. length self.new ≡ length self.old + 1) }
     {
         if self.nodes.len() >= NODE_LIMIT as usize {
             return Err(Memory);
@@ -53,7 +54,8 @@ impl Graph {
     /// Lets the `again` with this number go on at a node.
     pub fn aim(&mut self, again: u32, head: u32)
         requires { again < length self.old }
-        ensures { self.new ≡ slice_set self.old again (Again head) }
+        ensures aimed { self.new ≡ slice_set self.old again (Again head) }
+        ensures same { length self.new ≡ length self.old }
     {
         self.nodes[again as usize] = Node::Again { next: head };
     }

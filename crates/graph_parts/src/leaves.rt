@@ -1,4 +1,4 @@
-ghost use Rattle.std.specs.Prelude.{◌≡◌, IfOk};
+ghost use Rattle.std.specs.Prelude.{◌≡◌, IfOk, length, ◌≤◌, ◌+◌};
 ghost use Rattle.flow.specs.declared.node.Node.TheVariants as node;
 ghost use Rattle.graphs.specs.Expressions.{TextPlace};
 ghost use Rattle.graphs.specs.Operators.{SizeValue, Variable};
@@ -23,7 +23,8 @@ pub fn put_constant(
     value: i64,
     purpose: Purpose,
 ) -> Result<u32, Memory>
-    ensures { IfOk result (λ i. Made (λ G. Serves (Valued G (Does G (node.Push kind value 0)))) graph.old graph.new i purpose) }
+    ensures made { IfOk result (λ i. Made (λ G. Serves (Valued G (Does G (node.Push kind value 0)))) graph.old graph.new i purpose) }
+    ensures few { IfOk result (λ i. length graph.new ≤ length graph.old + 2) }
 {
     let next = put_taken(graph, purpose)?;
     let i = graph.put(Node::Push { kind, value, next })?;
@@ -33,7 +34,8 @@ pub fn put_constant(
 /// A null pointer.
 #[tactic(auto, using(crate::proofs::Serving::leaves_made))]
 pub fn put_null(graph: &mut Graph, purpose: Purpose) -> Result<u32, Memory>
-    ensures { IfOk result (λ i. Made (λ G. Serves (Valued G (Does G (node.Null 0)))) graph.old graph.new i purpose) }
+    ensures made { IfOk result (λ i. Made (λ G. Serves (Valued G (Does G (node.Null 0)))) graph.old graph.new i purpose) }
+    ensures few { IfOk result (λ i. length graph.new ≤ length graph.old + 2) }
 {
     let next = put_taken(graph, purpose)?;
     let i = graph.put(Node::Null { next })?;
@@ -42,7 +44,8 @@ pub fn put_null(graph: &mut Graph, purpose: Purpose) -> Result<u32, Memory>
 
 /// The object of the string with this number.
 pub fn put_text(graph: &mut Graph, number: Option<u32>, purpose: Purpose) -> Result<u32, Memory>
-    ensures { IfOk result (λ i. Made (λ G. Serves (Valued G (TextPlace G number))) graph.old graph.new i purpose) }
+    ensures made { IfOk result (λ i. Made (λ G. Serves (Valued G (TextPlace G number))) graph.old graph.new i purpose) }
+    ensures few { IfOk result (λ i. length graph.new ≤ length graph.old + 3) }
 {
     let next = put_taken(graph, purpose)?;
     match number {
@@ -62,7 +65,8 @@ pub fn put_text(graph: &mut Graph, number: Option<u32>, purpose: Purpose) -> Res
 
 /// How many cells an object has.
 pub fn put_size(graph: &mut Graph, cells: Option<u32>, purpose: Purpose) -> Result<u32, Memory>
-    ensures { IfOk result (λ i. Made (λ G. Serves (SizeValue G cells)) graph.old graph.new i purpose) }
+    ensures made { IfOk result (λ i. Made (λ G. Serves (SizeValue G cells)) graph.old graph.new i purpose) }
+    ensures few { IfOk result (λ i. length graph.new ≤ length graph.old + 3) }
 {
     let next = put_taken(graph, purpose)?;
     match cells {
@@ -89,7 +93,8 @@ pub fn put_name(
     slot: Option<Slot>,
     purpose: Purpose,
 ) -> Result<u32, Memory>
-    ensures { IfOk result (λ i. Made (λ G. Serves (Placed G of (Variable G slot))) graph.old graph.new i purpose) }
+    ensures made { IfOk result (λ i. Made (λ G. Serves (Placed G of (Variable G slot))) graph.old graph.new i purpose) }
+    ensures few { IfOk result (λ i. length graph.new ≤ length graph.old + 5) }
 {
     let next = put_taken_place(graph, of, purpose)?;
     let i = put_variable(graph, slot, next)?;

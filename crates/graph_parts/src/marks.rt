@@ -1,7 +1,8 @@
-ghost use Rattle.std.specs.Prelude.{IfOk};
+ghost use Rattle.std.specs.Prelude.{IfOk, length, ◌≤◌, ◌+◌};
 ghost use Rattle.c_meaning.specs.Visits.{listed};
 ghost use Rattle.graphs.specs.Operators.{Assigned, Decided};
 ghost use Rattle.graphs.specs.Paths.{MarksAll};
+ghost use Rattle.graphs.specs.Room.{branches, pairs};
 ghost use Rattle.graph_parts.specs.Made.{Made};
 ghost use Rattle.graph_parts.specs.Purposes.{ways};
 ghost use Rattle.tree_facts.specs.Facts.{facts_in, sites_in};
@@ -13,7 +14,8 @@ use tree_facts::TreeFacts;
 
 /// The visits of these sites, one after another.
 pub fn put_marks(graph: &mut Graph, sites: &[u32], next: u32) -> Result<u32, Memory>
-    ensures { IfOk result (λ i. Made (λ G. MarksAll G sites.now) graph.old graph.new i next) }
+    ensures made { IfOk result (λ i. Made (λ G. MarksAll G sites.now) graph.old graph.new i next) }
+    ensures few { IfOk result (λ i. length graph.new ≤ length graph.old + length sites.now) }
 {
     let mut first = next;
     for place in (0..sites.len()).rev() {
@@ -28,7 +30,8 @@ pub fn put_marks(graph: &mut Graph, sites: &[u32], next: u32) -> Result<u32, Mem
 /// The visit of the site, where there is one.
 #[tactic(auto, using(crate::proofs::Visiting::marks_made))]
 pub fn put_mark(graph: &mut Graph, site: Option<u32>, next: u32) -> Result<u32, Memory>
-    ensures { IfOk result (λ i. Made (λ G. MarksAll G (listed site)) graph.old graph.new i next) }
+    ensures made { IfOk result (λ i. Made (λ G. MarksAll G (listed site)) graph.old graph.new i next) }
+    ensures few { IfOk result (λ i. length graph.new ≤ length graph.old + length (listed site)) }
 {
     match site {
         None => Ok(next),
@@ -47,7 +50,8 @@ pub fn put_decided(
     yes: u32,
     no: u32,
 ) -> Result<u32, Memory>
-    ensures { IfOk result (λ i. Made (λ G. Decided G (facts_in facts.now) (sites_in facts.now) token) graph.old graph.new i (ways yes no)) }
+    ensures made { IfOk result (λ i. Made (λ G. Decided G (facts_in facts.now) (sites_in facts.now) token) graph.old graph.new i (ways yes no)) }
+    ensures few { IfOk result (λ i. length graph.new ≤ length graph.old + (1 + branches (sites_in facts.now) token)) }
 {
     let fork = graph.put(Node::Fork { yes, no })?;
     let i = put_mark(graph, facts.branch_at(token), fork)?;
@@ -61,7 +65,8 @@ pub fn put_assigned(
     token: u32,
     next: u32,
 ) -> Result<u32, Memory>
-    ensures { IfOk result (λ i. Made (λ G. Assigned G (facts_in facts.now) (sites_in facts.now) token) graph.old graph.new i next) }
+    ensures made { IfOk result (λ i. Made (λ G. Assigned G (facts_in facts.now) (sites_in facts.now) token) graph.old graph.new i next) }
+    ensures few { IfOk result (λ i. length graph.new ≤ length graph.old + (1 + pairs (sites_in facts.now) token)) }
 {
     let marks = put_marks(graph, facts.pairs_at(token), next)?;
     let i = graph.put(Node::Store { next: marks })?;

@@ -31,7 +31,8 @@ fn renumbered(node: Node, last: u32) -> Node
 
 /// The nodes of a graph in the order of the program: the last one that was put is the first.
 pub fn finish(alloc: Global, graph: &Graph) -> Result<Vec<Node>, Memory>
-    ensures { IfOk result (λ nodes. Finished graph.now nodes.items (turned (length graph.now - 1))) }
+    ensures finished { IfOk result (λ nodes. Finished graph.now nodes.items (turned (length graph.now - 1))) }
+    ensures as_many { IfOk result (λ nodes. length nodes.items ≡ length graph.now) }
 {
     let nodes = graph.nodes();
     let mut finished = Vec::with_capacity(alloc, nodes.len())?;

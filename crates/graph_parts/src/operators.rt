@@ -1,4 +1,4 @@
-ghost use Rattle.std.specs.Prelude.{IfOk};
+ghost use Rattle.std.specs.Prelude.{IfOk, length, ◌≤◌, ◌+◌};
 ghost use Rattle.graphs.specs.Operators.{Member, Operates, Pointed, Variable};
 ghost use Rattle.c_meaning.specs.declared.operation.Operation.TheVariants.{Numbers};
 ghost use Rattle.graph_parts.specs.Made.{Made};
@@ -17,7 +17,8 @@ fn put_numbers(
     right: Kind,
     next: u32,
 ) -> Result<u32, Memory>
-    ensures { IfOk result (λ i. Made (λ G. Operates G (Numbers op left right)) graph.old graph.new i next) }
+    ensures made { IfOk result (λ i. Made (λ G. Operates G (Numbers op left right)) graph.old graph.new i next) }
+    ensures few { IfOk result (λ i. length graph.new ≤ length graph.old + 6) }
 {
     let math = graph.put(Node::Math { op, next })?;
     let converted = put_conversion(graph, between(right, right_kind(op, left, right)), math)?;
@@ -28,7 +29,8 @@ fn put_numbers(
 /// What is done with two values, the right one on top.
 #[tactic(auto, using(crate::proofs::Building::parts_made))]
 pub fn put_operation(graph: &mut Graph, operation: Operation, next: u32) -> Result<u32, Memory>
-    ensures { IfOk result (λ i. Made (λ G. Operates G operation) graph.old graph.new i next) }
+    ensures made { IfOk result (λ i. Made (λ G. Operates G operation) graph.old graph.new i next) }
+    ensures few { IfOk result (λ i. length graph.new ≤ length graph.old + 6) }
 {
     match operation {
         Operation::Numbers { op, left, right } => {
@@ -62,7 +64,8 @@ pub fn put_operation(graph: &mut Graph, operation: Operation, next: u32) -> Resu
 /// The object of a variable.
 #[tactic(auto, using(crate::proofs::Building::parts_made))]
 pub fn put_variable(graph: &mut Graph, slot: Option<Slot>, next: u32) -> Result<u32, Memory>
-    ensures { IfOk result (λ i. Made (λ G. Variable G slot) graph.old graph.new i next) }
+    ensures made { IfOk result (λ i. Made (λ G. Variable G slot) graph.old graph.new i next) }
+    ensures few { IfOk result (λ i. length graph.new ≤ length graph.old + 2) }
 {
     match slot {
         Some(Slot::Local { index }) => {
@@ -83,7 +86,8 @@ pub fn put_variable(graph: &mut Graph, slot: Option<Slot>, next: u32) -> Result<
 /// A member, or an element, of the object at a place.
 #[tactic(auto, using(crate::proofs::Building::parts_made))]
 pub fn put_member(graph: &mut Graph, offset: Option<u32>, next: u32) -> Result<u32, Memory>
-    ensures { IfOk result (λ i. Made (λ G. Member G offset) graph.old graph.new i next) }
+    ensures made { IfOk result (λ i. Made (λ G. Member G offset) graph.old graph.new i next) }
+    ensures few { IfOk result (λ i. length graph.new ≤ length graph.old + 2) }
 {
     match offset {
         Some(offset) => {

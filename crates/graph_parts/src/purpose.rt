@@ -1,4 +1,4 @@
-ghost use Rattle.std.specs.Prelude.{◌≡◌, IfOk};
+ghost use Rattle.std.specs.Prelude.{◌≡◌, IfOk, length, ◌≤◌, ◌+◌};
 ghost use Rattle.graph_parts.specs.Purposes.{Takes, TakesPlace, TakesThrough, is_single};
 ghost use Rattle.graphs.specs.Operators.{LoadThrough, Pointed};
 ghost use Rattle.graphs.specs.Values.{Discarded};
@@ -25,7 +25,8 @@ pub enum Purpose {
 /// What becomes of a value on top.
 #[tactic(auto, using(crate::proofs::Taking::takes_made))]
 pub fn put_taken(graph: &mut Graph, purpose: Purpose) -> Result<u32, Memory>
-    ensures { IfOk result (λ i. Made (λ G. Takes G) graph.old graph.new i purpose) }
+    ensures made { IfOk result (λ i. Made (λ G. Takes G) graph.old graph.new i purpose) }
+    ensures few { IfOk result (λ i. length graph.new ≤ length graph.old + 1) }
 {
     match purpose {
         Purpose::Value { next } => Ok(next),
@@ -50,7 +51,8 @@ fn is_struct(of: Option<ValueType>) -> bool
 /// A place whose value isn't taken.
 #[tactic(auto, using(crate::proofs::Building::parts_made))]
 fn put_discarded(graph: &mut Graph, of: Option<ValueType>, next: u32) -> Result<u32, Memory>
-    ensures { IfOk result (λ i. Made (λ G. Discarded G (is_struct of) of) graph.old graph.new i next) }
+    ensures made { IfOk result (λ i. Made (λ G. Discarded G (is_struct of) of) graph.old graph.new i next) }
+    ensures few { IfOk result (λ i. length graph.new ≤ length graph.old + 3) }
 {
     let drop = graph.put(Node::Drop { next })?;
     if is_struct(of) {
@@ -67,7 +69,8 @@ pub fn put_taken_place(
     of: Option<ValueType>,
     purpose: Purpose,
 ) -> Result<u32, Memory>
-    ensures { IfOk result (λ i. Made (λ G. TakesPlace G of) graph.old graph.new i purpose) }
+    ensures made { IfOk result (λ i. Made (λ G. TakesPlace G of) graph.old graph.new i purpose) }
+    ensures few { IfOk result (λ i. length graph.new ≤ length graph.old + 3) }
 {
     match purpose {
         Purpose::Value { next } => {
@@ -89,7 +92,8 @@ pub fn put_taken_place(
 /// A pointer becomes a place where it isn't null.
 #[tactic(auto, using(crate::proofs::Taking::pointers_made))]
 pub fn put_pointed(graph: &mut Graph, next: u32) -> Result<u32, Memory>
-    ensures { IfOk result (λ i. Made (λ G. Pointed G) graph.old graph.new i next) }
+    ensures made { IfOk result (λ i. Made (λ G. Pointed G) graph.old graph.new i next) }
+    ensures few { IfOk result (λ i. length graph.new ≤ length graph.old + 3) }
 {
     let trap = graph.put(Node::Load {
         want: Want::Pointer,
@@ -116,7 +120,8 @@ fn is_single(of: Option<ValueType>) -> bool
 /// The value at a pointer.
 #[tactic(auto, using(crate::proofs::Taking::loads_made))]
 fn put_load_through(graph: &mut Graph, of: Option<ValueType>, next: u32) -> Result<u32, Memory>
-    ensures { IfOk result (λ i. Made (λ G. LoadThrough G of) graph.old graph.new i next) }
+    ensures made { IfOk result (λ i. Made (λ G. LoadThrough G of) graph.old graph.new i next) }
+    ensures few { IfOk result (λ i. length graph.new ≤ length graph.old + 5) }
 {
     let load = put_load(graph, of, next)?;
     if is_single(of) {
@@ -133,7 +138,8 @@ pub fn put_taken_through(
     of: Option<ValueType>,
     purpose: Purpose,
 ) -> Result<u32, Memory>
-    ensures { IfOk result (λ i. Made (λ G. TakesThrough G of) graph.old graph.new i purpose) }
+    ensures made { IfOk result (λ i. Made (λ G. TakesThrough G of) graph.old graph.new i purpose) }
+    ensures few { IfOk result (λ i. length graph.new ≤ length graph.old + 6) }
 {
     match purpose {
         Purpose::Value { next } => {

@@ -1,4 +1,4 @@
-ghost use Rattle.std.specs.Prelude.{IfOk};
+ghost use Rattle.std.specs.Prelude.{IfOk, length, ◌≤◌, ◌+◌};
 ghost use Rattle.graphs.specs.Paths.{Stuck};
 ghost use Rattle.graphs.specs.Values.{Converts, ConvertsBelow, Handed, LoadAt};
 ghost use Rattle.graph_parts.specs.Made.{Made};
@@ -11,7 +11,8 @@ use flow::Node;
 /// Nodes that no run of a checked text comes to; `next` is where they would go on.
 #[tactic(auto, using(crate::proofs::Building::stuck_made))]
 pub fn put_stuck(graph: &mut Graph, next: u32) -> Result<u32, Memory>
-    ensures { IfOk result (λ i. Made (λ G. Stuck G) graph.old graph.new i next) }
+    ensures made { IfOk result (λ i. Made (λ G. Stuck G) graph.old graph.new i next) }
+    ensures few { IfOk result (λ i. length graph.new ≤ length graph.old + 2) }
 {
     let exit = graph.put(Node::Exit)?;
     let push = graph.put(Node::Push {
@@ -25,7 +26,8 @@ pub fn put_stuck(graph: &mut Graph, next: u32) -> Result<u32, Memory>
 /// The value on top is converted.
 #[tactic(auto, using(crate::proofs::Building::parts_made))]
 pub fn put_conversion(graph: &mut Graph, conversion: Conversion, next: u32) -> Result<u32, Memory>
-    ensures { IfOk result (λ i. Made (λ G. Converts G conversion) graph.old graph.new i next) }
+    ensures made { IfOk result (λ i. Made (λ G. Converts G conversion) graph.old graph.new i next) }
+    ensures few { IfOk result (λ i. length graph.new ≤ length graph.old + 2) }
 {
     match conversion {
         Conversion::Keep => Ok(next),
@@ -47,7 +49,8 @@ pub fn put_conversion_below(
     conversion: Conversion,
     next: u32,
 ) -> Result<u32, Memory>
-    ensures { IfOk result (λ i. Made (λ G. ConvertsBelow G conversion) graph.old graph.new i next) }
+    ensures made { IfOk result (λ i. Made (λ G. ConvertsBelow G conversion) graph.old graph.new i next) }
+    ensures few { IfOk result (λ i. length graph.new ≤ length graph.old + 3) }
 {
     match conversion {
         Conversion::Keep => Ok(next),
@@ -67,7 +70,8 @@ pub fn put_conversion_below(
 /// A value is handed over as one of the type.
 #[tactic(auto, using(crate::proofs::Building::parts_made))]
 pub fn put_handed(graph: &mut Graph, want: Option<ValueType>, next: u32) -> Result<u32, Memory>
-    ensures { IfOk result (λ i. Made (λ G. Handed G want) graph.old graph.new i next) }
+    ensures made { IfOk result (λ i. Made (λ G. Handed G want) graph.old graph.new i next) }
+    ensures few { IfOk result (λ i. length graph.new ≤ length graph.old + 3) }
 {
     match want {
         Some(ValueType::Number { kind }) => {
@@ -93,7 +97,8 @@ pub fn put_handed(graph: &mut Graph, want: Option<ValueType>, next: u32) -> Resu
 /// The value of a place of the type.
 #[tactic(auto, using(crate::proofs::Building::parts_made))]
 pub fn put_load(graph: &mut Graph, of: Option<ValueType>, next: u32) -> Result<u32, Memory>
-    ensures { IfOk result (λ i. Made (λ G. LoadAt G of) graph.old graph.new i next) }
+    ensures made { IfOk result (λ i. Made (λ G. LoadAt G of) graph.old graph.new i next) }
+    ensures few { IfOk result (λ i. length graph.new ≤ length graph.old + 2) }
 {
     match of {
         Some(ValueType::Number { kind }) => {

@@ -7,3 +7,4 @@ pub mod Expressions
 pub mod Initialisers
 pub mod Statements
 pub mod Functions
+pub mod Room

@@ -8,5 +8,6 @@ pub mod Handing
 pub mod Passed
 pub mod Placing
 pub mod Postfixing
+pub mod Rooms
 pub mod Spotting
 pub mod Turning

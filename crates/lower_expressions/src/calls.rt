@@ -1,8 +1,9 @@
-ghost use Rattle.std.specs.Prelude.{◌≡◌, IfOk};
+ghost use Rattle.std.specs.Prelude.{◌≡◌, IfOk, length, ◌≤◌, ◌+◌};
 ghost use Rattle.c_meaning.specs.Conversions.{is_null_as};
 ghost use Rattle.c_syntax.specs.ExprTree as e;
 ghost use Rattle.c_syntax.specs.Plain.{plain_expr, plain_exprs};
 ghost use Rattle.graphs.specs.Expressions.{ArgumentsDo};
+ghost use Rattle.graphs.specs.Room.{expr_room, exprs_room, returns};
 ghost use Rattle.graph_parts.specs.Made.{Made};
 ghost use Rattle.graph_parts.specs.Parts.{serving};
 ghost use Rattle.lower_expressions.specs.Giving.{GivenTakes, giving_of, is_refused, library_gives};
@@ -81,7 +82,8 @@ fn put_given(
     giving: Giving,
     purpose: Purpose,
 ) -> Result<u32, Memory>
-    ensures { IfOk result (λ i. Made (λ G. GivenTakes G (facts_in facts.now) (sites_in facts.now) token giving) graph.old graph.new i purpose) }
+    ensures made { IfOk result (λ i. Made (λ G. GivenTakes G (facts_in facts.now) (sites_in facts.now) token giving) graph.old graph.new i purpose) }
+    ensures few { IfOk result (λ i. length graph.new ≤ length graph.old + (2 + returns (sites_in facts.now) token)) }
 {
     match giving {
         Giving::Value => {
@@ -112,7 +114,8 @@ pub fn emit_arguments(
     arguments: &[Expr],
     next: u32,
 ) -> Result<u32, Memory>
-    ensures { IfOk result (λ i. Made (λ G. ArgumentsDo G (facts_in facts.now) (sites_in facts.now) (wanted_types wanted.entry) (plain_exprs arguments.now)) graph.old graph.new i next) }
+    ensures made { IfOk result (λ i. Made (λ G. ArgumentsDo G (facts_in facts.now) (sites_in facts.now) (wanted_types wanted.entry) (plain_exprs arguments.now)) graph.old graph.new i next) }
+    ensures few { IfOk result (λ i. length graph.new ≤ length graph.old + exprs_room (sites_in facts.now) 3 (plain_exprs arguments.now)) }
 {
     let mut entry = next;
     for place in (0..arguments.len()).rev() {
@@ -132,7 +135,8 @@ pub fn emit_call(
     arguments: &[Expr],
     purpose: Purpose,
 ) -> Result<u32, Memory>
-    ensures { IfOk result (λ i. Made (serving (facts_in facts.now) (sites_in facts.now) (e.Call token name.now (plain_exprs arguments.now))) graph.old graph.new i purpose) }
+    ensures made { IfOk result (λ i. Made (serving (facts_in facts.now) (sites_in facts.now) (e.Call token name.now (plain_exprs arguments.now))) graph.old graph.new i purpose) }
+    ensures few { IfOk result (λ i. length graph.new ≤ length graph.old + expr_room (sites_in facts.now) (e.Call token name.now (plain_exprs arguments.now))) }
 {
     let called = facts.called_as(token, name);
     let giving = giving_of(facts, called);

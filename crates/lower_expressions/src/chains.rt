@@ -1,8 +1,9 @@
-ghost use Rattle.std.specs.Prelude.{IfOk};
+ghost use Rattle.std.specs.Prelude.{IfOk, length, ◌≤◌, ◌+◌};
 ghost use Rattle.c_syntax.specs.ExprTree as e;
 ghost use Rattle.c_syntax.specs.Plain.{plain_expr, plain_links};
 ghost use Rattle.graphs.specs.Expressions.{LinksDo, emitted};
 ghost use Rattle.graphs.specs.Values.{NullOr};
+ghost use Rattle.graphs.specs.Room.{branches, expr_room, links_room};
 ghost use Rattle.graph_parts.specs.Made.{Made};
 ghost use Rattle.graph_parts.specs.Parts.{serving};
 ghost use Rattle.graph_parts.specs.declared.purpose.Purpose.TheVariants as purpose;
@@ -30,7 +31,8 @@ pub fn emit_null_or(
     x: &Expr,
     next: u32,
 ) -> Result<u32, Memory>
-    ensures { IfOk result (λ i. Made (λ G. NullOr G is_null (emitted G (facts_in facts.now) (sites_in facts.now) (plain_expr x.now))) graph.old graph.new i next) }
+    ensures made { IfOk result (λ i. Made (λ G. NullOr G is_null (emitted G (facts_in facts.now) (sites_in facts.now) (plain_expr x.now))) graph.old graph.new i next) }
+    ensures few { IfOk result (λ i. length graph.new ≤ length graph.old + (1 + expr_room (sites_in facts.now) (plain_expr x.now))) }
 {
     if is_null {
         let i = graph.put(Node::Null { next })?;
@@ -49,7 +51,8 @@ pub fn emit_link(
     link: &Link,
     next: u32,
 ) -> Result<u32, Memory>
-    ensures { IfOk result (λ i. Made (link_part (facts_in facts.now) (sites_in facts.now) left link.now.token link.now.sign (plain_expr link.now.operand)) graph.old graph.new i next) }
+    ensures made { IfOk result (λ i. Made (link_part (facts_in facts.now) (sites_in facts.now) left link.now.token link.now.sign (plain_expr link.now.operand)) graph.old graph.new i next) }
+    ensures few { IfOk result (λ i. length graph.new ≤ length graph.old + (7 + branches (sites_in facts.now) link.now.token + expr_room (sites_in facts.now) (plain_expr link.now.operand))) }
 {
     let binary = binary_of(link.sign);
     let is_null = is_null_beside(binary, left, &link.operand);
@@ -90,7 +93,8 @@ pub fn emit_links(
     links: &[Link],
     next: u32,
 ) -> Result<u32, Memory>
-    ensures { IfOk result (λ i. Made (λ G. LinksDo G (facts_in facts.now) (sites_in facts.now) left (plain_links links.now)) graph.old graph.new i next) }
+    ensures made { IfOk result (λ i. Made (λ G. LinksDo G (facts_in facts.now) (sites_in facts.now) left (plain_links links.now)) graph.old graph.new i next) }
+    ensures few { IfOk result (λ i. length graph.new ≤ length graph.old + links_room (sites_in facts.now) (plain_links links.now)) }
 {
     let mut entry = next;
     for place in (0..links.len()).rev() {
@@ -109,7 +113,8 @@ pub fn emit_chain_value(
     links: &[Link],
     purpose: Purpose,
 ) -> Result<u32, Memory>
-    ensures { IfOk result (λ i. Made (serving (facts_in facts.now) (sites_in facts.now) (e.Chain 0 (plain_expr first.now) (plain_links links.now))) graph.old graph.new i purpose) }
+    ensures made { IfOk result (λ i. Made (serving (facts_in facts.now) (sites_in facts.now) (e.Chain 0 (plain_expr first.now) (plain_links links.now))) graph.old graph.new i purpose) }
+    ensures few { IfOk result (λ i. length graph.new ≤ length graph.old + expr_room (sites_in facts.now) (e.Chain 0 (plain_expr first.now) (plain_links links.now))) }
 {
     let is_null = begins_null(facts, first, links);
     let after = put_taken(graph, purpose)?;
@@ -130,7 +135,8 @@ pub fn emit_chain_truth(
     yes: u32,
     no: u32,
 ) -> Result<u32, Memory>
-    ensures { IfOk result (λ i. Made (serving (facts_in facts.now) (sites_in facts.now) (e.Chain 0 (plain_expr first.now) (plain_links links.now))) graph.old graph.new i (purpose.Truth yes no)) }
+    ensures made { IfOk result (λ i. Made (serving (facts_in facts.now) (sites_in facts.now) (e.Chain 0 (plain_expr first.now) (plain_links links.now))) graph.old graph.new i (purpose.Truth yes no)) }
+    ensures few { IfOk result (λ i. length graph.new ≤ length graph.old + expr_room (sites_in facts.now) (e.Chain 0 (plain_expr first.now) (plain_links links.now))) }
 {
     if all_fork(facts, links) {
         let i = emit_forked(graph, facts, first, links, yes, no)?;
@@ -149,7 +155,8 @@ pub fn emit_chain(
     links: &[Link],
     purpose: Purpose,
 ) -> Result<u32, Memory>
-    ensures { IfOk result (λ i. Made (serving (facts_in facts.now) (sites_in facts.now) (e.Chain 0 (plain_expr first.now) (plain_links links.now))) graph.old graph.new i purpose) }
+    ensures made { IfOk result (λ i. Made (serving (facts_in facts.now) (sites_in facts.now) (e.Chain 0 (plain_expr first.now) (plain_links links.now))) graph.old graph.new i purpose) }
+    ensures few { IfOk result (λ i. length graph.new ≤ length graph.old + expr_room (sites_in facts.now) (e.Chain 0 (plain_expr first.now) (plain_links links.now))) }
 {
     match purpose {
         Purpose::Truth { yes, no } => {

@@ -1,10 +1,11 @@
-ghost use Rattle.std.specs.Prelude.{IfOk};
+ghost use Rattle.std.specs.Prelude.{IfOk, length, ◌≤◌, ◌+◌};
 ghost use Rattle.c_syntax.specs.ExprTree as e;
 ghost use Rattle.c_syntax.specs.Plain.{plain_expr, plain_exprs};
 ghost use Rattle.c_meaning.specs.Conversions.{is_null_as};
 ghost use Rattle.graphs.specs.Expressions.{LastDoes, emitted};
 ghost use Rattle.graphs.specs.Operators.{Cast};
 ghost use Rattle.graphs.specs.Values.{HandedValue};
+ghost use Rattle.graphs.specs.Room.{branches, expr_room, exprs_room};
 ghost use Rattle.graph_parts.specs.Made.{Made};
 ghost use Rattle.graph_parts.specs.Parts.{serving, value_part};
 ghost use Rattle.graph_parts.specs.Purposes.{Serves};
@@ -31,7 +32,8 @@ pub fn emit_handed(
     x: &Expr,
     next: u32,
 ) -> Result<u32, Memory>
-    ensures { IfOk result (λ i. Made (λ G. HandedValue G (is_null_as want (plain_expr x.now)) want (emitted G (facts_in facts.now) (sites_in facts.now) (plain_expr x.now))) graph.old graph.new i next) }
+    ensures made { IfOk result (λ i. Made (λ G. HandedValue G (is_null_as want (plain_expr x.now)) want (emitted G (facts_in facts.now) (sites_in facts.now) (plain_expr x.now))) graph.old graph.new i next) }
+    ensures few { IfOk result (λ i. length graph.new ≤ length graph.old + (3 + expr_room (sites_in facts.now) (plain_expr x.now))) }
 {
     if is_null_as(want, x) {
         let i = graph.put(Node::Null { next })?;
@@ -51,7 +53,8 @@ pub fn emit_cast(
     operand: &Expr,
     purpose: Purpose,
 ) -> Result<u32, Memory>
-    ensures { IfOk result (λ i. Made (λ G. Serves (Cast G (is_null_as want (plain_expr operand.now)) want (emitted G (facts_in facts.now) (sites_in facts.now) (plain_expr operand.now)))) graph.old graph.new i purpose) }
+    ensures made { IfOk result (λ i. Made (λ G. Serves (Cast G (is_null_as want (plain_expr operand.now)) want (emitted G (facts_in facts.now) (sites_in facts.now) (plain_expr operand.now)))) graph.old graph.new i purpose) }
+    ensures few { IfOk result (λ i. length graph.new ≤ length graph.old + (4 + expr_room (sites_in facts.now) (plain_expr operand.now))) }
 {
     if !is_void(want) {
         let after = put_taken(graph, purpose)?;
@@ -80,7 +83,8 @@ pub fn emit_arm_value(
     x: &Expr,
     next: u32,
 ) -> Result<u32, Memory>
-    ensures { IfOk result (λ i. Made (arm_value_part (facts_in facts.now) (sites_in facts.now) want (plain_expr x.now)) graph.old graph.new i next) }
+    ensures made { IfOk result (λ i. Made (arm_value_part (facts_in facts.now) (sites_in facts.now) want (plain_expr x.now)) graph.old graph.new i next) }
+    ensures few { IfOk result (λ i. length graph.new ≤ length graph.old + (3 + expr_room (sites_in facts.now) (plain_expr x.now))) }
 {
     if is_null_as(want, x) {
         let i = graph.put(Node::Null { next })?;
@@ -101,7 +105,8 @@ pub fn emit_arm_effect(
     x: &Expr,
     next: u32,
 ) -> Result<u32, Memory>
-    ensures { IfOk result (λ i. Made (arm_effect_part (facts_in facts.now) (sites_in facts.now) want (plain_expr x.now)) graph.old graph.new i next) }
+    ensures made { IfOk result (λ i. Made (arm_effect_part (facts_in facts.now) (sites_in facts.now) want (plain_expr x.now)) graph.old graph.new i next) }
+    ensures few { IfOk result (λ i. length graph.new ≤ length graph.old + (4 + expr_room (sites_in facts.now) (plain_expr x.now))) }
 {
     if is_void(want) {
         let i = emit(graph, facts, x, Purpose::Effect { next })?;
@@ -123,7 +128,8 @@ pub fn emit_chosen(
     second: &Expr,
     next: u32,
 ) -> Result<u32, Memory>
-    ensures { IfOk result (λ i. Made (value_part (facts_in facts.now) (sites_in facts.now) (e.Conditional token (plain_expr condition.now) (plain_expr first.now) (plain_expr second.now))) graph.old graph.new i next) }
+    ensures made { IfOk result (λ i. Made (value_part (facts_in facts.now) (sites_in facts.now) (e.Conditional token (plain_expr condition.now) (plain_expr first.now) (plain_expr second.now))) graph.old graph.new i next) }
+    ensures few { IfOk result (λ i. length graph.new ≤ length graph.old + (7 + branches (sites_in facts.now) token + expr_room (sites_in facts.now) (plain_expr condition.now) + expr_room (sites_in facts.now) (plain_expr first.now) + expr_room (sites_in facts.now) (plain_expr second.now))) }
 {
     let want = facts.type_at(token);
     let no = emit_arm_value(graph, facts, want, second, next)?;
@@ -143,7 +149,8 @@ pub fn emit_conditional(
     second: &Expr,
     purpose: Purpose,
 ) -> Result<u32, Memory>
-    ensures { IfOk result (λ i. Made (serving (facts_in facts.now) (sites_in facts.now) (e.Conditional token (plain_expr condition.now) (plain_expr first.now) (plain_expr second.now))) graph.old graph.new i purpose) }
+    ensures made { IfOk result (λ i. Made (serving (facts_in facts.now) (sites_in facts.now) (e.Conditional token (plain_expr condition.now) (plain_expr first.now) (plain_expr second.now))) graph.old graph.new i purpose) }
+    ensures few { IfOk result (λ i. length graph.new ≤ length graph.old + expr_room (sites_in facts.now) (e.Conditional token (plain_expr condition.now) (plain_expr first.now) (plain_expr second.now))) }
 {
     match purpose {
         Purpose::Effect { next } => {
@@ -169,7 +176,8 @@ pub fn emit_last(
     operands: &[Expr],
     purpose: Purpose,
 ) -> Result<u32, Memory>
-    ensures { IfOk result (λ i. Made (λ G. Serves (LastDoes G (facts_in facts.now) (sites_in facts.now) (plain_exprs operands.now))) graph.old graph.new i purpose) }
+    ensures made { IfOk result (λ i. Made (λ G. Serves (LastDoes G (facts_in facts.now) (sites_in facts.now) (plain_exprs operands.now))) graph.old graph.new i purpose) }
+    ensures few { IfOk result (λ i. length graph.new ≤ length graph.old + (3 + exprs_room (sites_in facts.now) 0 (plain_exprs operands.now))) }
 {
     if operands.len() == 0 {
         let after = put_taken(graph, purpose)?;

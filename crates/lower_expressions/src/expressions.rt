@@ -1,9 +1,10 @@
-ghost use Rattle.std.specs.Prelude.{IfOk};
+ghost use Rattle.std.specs.Prelude.{IfOk, length, ◌≤◌, ◌+◌};
 ghost use Rattle.c_syntax.specs.Plain.{plain_expr};
 ghost use Rattle.c_meaning.specs.Conversions.{is_null_as};
 ghost use Rattle.c_meaning.specs.Trees.{type_of};
 ghost use Rattle.graphs.specs.Expressions.{emitted};
 ghost use Rattle.graphs.specs.Values.{WantedValue};
+ghost use Rattle.graphs.specs.Room.{expr_room};
 ghost use Rattle.graph_parts.specs.Made.{Made};
 ghost use Rattle.graph_parts.specs.Parts.{effect_part, serving, value_part};
 ghost use Rattle.tree_facts.specs.Facts.{facts_in, sites_in};
@@ -25,7 +26,8 @@ use tree_facts::{TreeFacts, is_null_as};
 /// An expression, for what its value is wanted for.
 #[cycle(emission)]
 pub fn emit(graph: &mut Graph, facts: &TreeFacts, x: &Expr, purpose: Purpose) -> Result<u32, Memory>
-    ensures { IfOk result (λ i. Made (serving (facts_in facts.now) (sites_in facts.now) (plain_expr x.now)) graph.old graph.new i purpose) }
+    ensures made { IfOk result (λ i. Made (serving (facts_in facts.now) (sites_in facts.now) (plain_expr x.now)) graph.old graph.new i purpose) }
+    ensures few { IfOk result (λ i. length graph.new ≤ length graph.old + expr_room (sites_in facts.now) (plain_expr x.now)) }
 {
     match x {
         Expr::Comma { operands, .. } => emit_last(graph, facts, operands.as_slice(), purpose),
@@ -78,7 +80,8 @@ pub fn emit(graph: &mut Graph, facts: &TreeFacts, x: &Expr, purpose: Purpose) ->
 #[cycle(emission)]
 #[tactic(auto, using(graph_parts::proofs::Serving::parts_served))]
 pub fn emit_value(graph: &mut Graph, facts: &TreeFacts, x: &Expr, next: u32) -> Result<u32, Memory>
-    ensures { IfOk result (λ i. Made (value_part (facts_in facts.now) (sites_in facts.now) (plain_expr x.now)) graph.old graph.new i next) }
+    ensures made { IfOk result (λ i. Made (value_part (facts_in facts.now) (sites_in facts.now) (plain_expr x.now)) graph.old graph.new i next) }
+    ensures few { IfOk result (λ i. length graph.new ≤ length graph.old + expr_room (sites_in facts.now) (plain_expr x.now)) }
 {
     let i = emit(graph, facts, x, Purpose::Value { next })?;
     Ok(i)
@@ -87,7 +90,8 @@ pub fn emit_value(graph: &mut Graph, facts: &TreeFacts, x: &Expr, next: u32) -> 
 /// An expression whose value isn't taken.
 #[tactic(auto, using(graph_parts::proofs::Serving::parts_served))]
 pub fn emit_effect(graph: &mut Graph, facts: &TreeFacts, x: &Expr, next: u32) -> Result<u32, Memory>
-    ensures { IfOk result (λ i. Made (effect_part (facts_in facts.now) (sites_in facts.now) (plain_expr x.now)) graph.old graph.new i next) }
+    ensures made { IfOk result (λ i. Made (effect_part (facts_in facts.now) (sites_in facts.now) (plain_expr x.now)) graph.old graph.new i next) }
+    ensures few { IfOk result (λ i. length graph.new ≤ length graph.old + expr_room (sites_in facts.now) (plain_expr x.now)) }
 {
     let i = emit(graph, facts, x, Purpose::Effect { next })?;
     Ok(i)
@@ -103,7 +107,8 @@ pub fn emit_wanted(
     x: &Expr,
     next: u32,
 ) -> Result<u32, Memory>
-    ensures { IfOk result (λ i. Made (λ G. WantedValue G (is_null_as want (plain_expr x.now)) (type_of (facts_in facts.now) (plain_expr x.now)) want (emitted G (facts_in facts.now) (sites_in facts.now) (plain_expr x.now))) graph.old graph.new i next) }
+    ensures made { IfOk result (λ i. Made (λ G. WantedValue G (is_null_as want (plain_expr x.now)) (type_of (facts_in facts.now) (plain_expr x.now)) want (emitted G (facts_in facts.now) (sites_in facts.now) (plain_expr x.now))) graph.old graph.new i next) }
+    ensures few { IfOk result (λ i. length graph.new ≤ length graph.old + (2 + expr_room (sites_in facts.now) (plain_expr x.now))) }
 {
     if is_null_as(want, x) {
         let i = graph.put(Node::Null { next })?;

@@ -1,4 +1,4 @@
-ghost use Rattle.std.specs.Prelude.{◌≡◌, IfOk, option_map};
+ghost use Rattle.std.specs.Prelude.{◌≡◌, IfOk, option_map, length, ◌≤◌, ◌+◌};
 ghost use Rattle.std.specs.Option.{option_copied};
 ghost use Rattle.c_meaning.specs.Trees.{count};
 ghost use Rattle.c_syntax.specs.Plain.{plain_expr, plain_exprs};
@@ -172,7 +172,8 @@ fn put_format(
     count: usize,
     next: u32,
 ) -> Result<u32, Memory>
-    ensures { IfOk result (λ i. Made (λ G. Formats G number count) graph.old graph.new i next) }
+    ensures made { IfOk result (λ i. Made (λ G. Formats G number count) graph.old graph.new i next) }
+    ensures few { IfOk result (λ i. length graph.new ≤ length graph.old + 1) }
 {
     let Some(text) = number else {
         return Ok(next);
@@ -214,7 +215,8 @@ fn put_library(
     count: usize,
     next: u32,
 ) -> Result<u32, Memory>
-    ensures { IfOk result (λ i. Made (λ G. LibraryActs G function number count) graph.old graph.new i next) }
+    ensures made { IfOk result (λ i. Made (λ G. LibraryActs G function number count) graph.old graph.new i next) }
+    ensures few { IfOk result (λ i. length graph.new ≤ length graph.old + 1) }
 {
     match library_node(function, next) {
         None => {
@@ -237,7 +239,8 @@ pub fn put_acts(
     arguments: &[Expr],
     next: u32,
 ) -> Result<u32, Memory>
-    ensures { IfOk result (λ i. Made (λ G. Acts G (facts_in facts.now) called (plain_exprs arguments.now)) graph.old graph.new i next) }
+    ensures made { IfOk result (λ i. Made (λ G. Acts G (facts_in facts.now) called (plain_exprs arguments.now)) graph.old graph.new i next) }
+    ensures few { IfOk result (λ i. length graph.new ≤ length graph.old + 1) }
 {
     match called {
         Called::Function { number } => {

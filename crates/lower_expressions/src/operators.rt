@@ -1,4 +1,4 @@
-ghost use Rattle.std.specs.Prelude.{IfOk};
+ghost use Rattle.std.specs.Prelude.{IfOk, length, ◌≤◌, ◌+◌};
 ghost use Rattle.cbi_base.specs.declared.operators.Unary.TheVariants as unary;
 ghost use Rattle.c_syntax.specs.ExprTree as e;
 ghost use Rattle.c_syntax.specs.Plain.{plain_expr};
@@ -7,6 +7,7 @@ ghost use Rattle.graphs.specs.Expressions.{emitted};
 ghost use Rattle.graphs.specs.Operators.{Negated, OneOperand};
 ghost use Rattle.graphs.specs.Paths.{◌then◌, Does};
 ghost use Rattle.flow.specs.declared.node.Node.TheVariants as node;
+ghost use Rattle.graphs.specs.Room.{expr_room, pairs};
 ghost use Rattle.graph_parts.specs.Made.{Made};
 ghost use Rattle.graph_parts.specs.Parts.{serving};
 ghost use Rattle.graph_parts.specs.Prefixes.{PrefixValue};
@@ -36,7 +37,8 @@ pub fn emit_assign(
     value: &Expr,
     purpose: Purpose,
 ) -> Result<u32, Memory>
-    ensures { IfOk result (λ i. Made (serving (facts_in facts.now) (sites_in facts.now) (e.Assign token sign (plain_expr target.now) (plain_expr value.now))) graph.old graph.new i purpose) }
+    ensures made { IfOk result (λ i. Made (serving (facts_in facts.now) (sites_in facts.now) (e.Assign token sign (plain_expr target.now) (plain_expr value.now))) graph.old graph.new i purpose) }
+    ensures few { IfOk result (λ i. length graph.new ≤ length graph.old + expr_room (sites_in facts.now) (e.Assign token sign (plain_expr target.now) (plain_expr value.now))) }
 {
     let left = facts.type_of(target);
     let right = facts.type_of(value);
@@ -68,7 +70,8 @@ fn put_sole(
     op: Unary,
     next: u32,
 ) -> Result<u32, Memory>
-    ensures { IfOk result (λ i. Made (λ G. OneOperand G of ((facts_in facts.now).type_at token) op) graph.old graph.new i next) }
+    ensures made { IfOk result (λ i. Made (λ G. OneOperand G of ((facts_in facts.now).type_at token) op) graph.old graph.new i next) }
+    ensures few { IfOk result (λ i. length graph.new ≤ length graph.old + 3) }
 {
     let sole = graph.put(Node::Sole { op, next })?;
     let want = facts.type_at(token);
@@ -87,7 +90,8 @@ pub fn emit_prefix_value(
     operand: &Expr,
     next: u32,
 ) -> Result<u32, Memory>
-    ensures { IfOk result (λ i. Made (λ G. PrefixValue G (facts_in facts.now) (sites_in facts.now) token operator (type_of (facts_in facts.now) (plain_expr operand.now)) (emitted G (facts_in facts.now) (sites_in facts.now) (plain_expr operand.now))) graph.old graph.new i next) }
+    ensures made { IfOk result (λ i. Made (λ G. PrefixValue G (facts_in facts.now) (sites_in facts.now) token operator (type_of (facts_in facts.now) (plain_expr operand.now)) (emitted G (facts_in facts.now) (sites_in facts.now) (plain_expr operand.now))) graph.old graph.new i next) }
+    ensures few { IfOk result (λ i. length graph.new ≤ length graph.old + (13 + pairs (sites_in facts.now) token + expr_room (sites_in facts.now) (plain_expr operand.now))) }
 {
     let of = facts.type_of(operand);
     match operator {
@@ -137,7 +141,8 @@ fn emit_negation(
     operand: &Expr,
     next: u32,
 ) -> Result<u32, Memory>
-    ensures { IfOk result (λ i. Made (λ G. (emitted G (facts_in facts.now) (sites_in facts.now) (plain_expr operand.now)).value then Does G (node.Sole unary.Not 0)) graph.old graph.new i next) }
+    ensures made { IfOk result (λ i. Made (λ G. (emitted G (facts_in facts.now) (sites_in facts.now) (plain_expr operand.now)).value then Does G (node.Sole unary.Not 0)) graph.old graph.new i next) }
+    ensures few { IfOk result (λ i. length graph.new ≤ length graph.old + (1 + expr_room (sites_in facts.now) (plain_expr operand.now))) }
 {
     let sole = graph.put(Node::Sole {
         op: Unary::Not,
@@ -155,7 +160,8 @@ pub fn emit_not(
     operand: &Expr,
     purpose: Purpose,
 ) -> Result<u32, Memory>
-    ensures { IfOk result (λ i. Made (λ G. Serves (Negated G (facts_in facts.now) (sites_in facts.now) (emitted G (facts_in facts.now) (sites_in facts.now) (plain_expr operand.now)))) graph.old graph.new i purpose) }
+    ensures made { IfOk result (λ i. Made (λ G. Serves (Negated G (facts_in facts.now) (sites_in facts.now) (emitted G (facts_in facts.now) (sites_in facts.now) (plain_expr operand.now)))) graph.old graph.new i purpose) }
+    ensures few { IfOk result (λ i. length graph.new ≤ length graph.old + (2 + expr_room (sites_in facts.now) (plain_expr operand.now))) }
 {
     match purpose {
         Purpose::Truth { yes, no } => {
@@ -180,7 +186,8 @@ pub fn emit_prefix(
     operand: &Expr,
     purpose: Purpose,
 ) -> Result<u32, Memory>
-    ensures { IfOk result (λ i. Made (serving (facts_in facts.now) (sites_in facts.now) (e.Prefix token operator (plain_expr operand.now))) graph.old graph.new i purpose) }
+    ensures made { IfOk result (λ i. Made (serving (facts_in facts.now) (sites_in facts.now) (e.Prefix token operator (plain_expr operand.now))) graph.old graph.new i purpose) }
+    ensures few { IfOk result (λ i. length graph.new ≤ length graph.old + expr_room (sites_in facts.now) (e.Prefix token operator (plain_expr operand.now))) }
 {
     match operator {
         PrefixOperator::SizeOf => {

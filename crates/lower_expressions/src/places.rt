@@ -1,6 +1,7 @@
-ghost use Rattle.std.specs.Prelude.{◌≡◌, IfOk, true, ℕ};
+ghost use Rattle.std.specs.Prelude.{◌≡◌, IfOk, true, ℕ, length, ◌≤◌, ◌+◌};
 ghost use Rattle.c_syntax.specs.ExprTree as e;
 ghost use Rattle.c_syntax.specs.Plain.{plain_expr, plain_exprs};
+ghost use Rattle.graphs.specs.Room.{expr_room, exprs_room};
 ghost use Rattle.graph_parts.specs.Made.{Made};
 ghost use Rattle.graph_parts.specs.Parts.{place_part};
 ghost use Rattle.lower_expressions.specs.Spots.{is_nowhere};
@@ -16,7 +17,8 @@ use tree_facts::TreeFacts;
 /// No run of a checked text comes to the place of an expression that is a value by its form.
 fn put_nowhere(graph: &mut Graph, facts: &TreeFacts, x: &Expr, next: u32) -> Result<u32, Memory>
     requires { is_nowhere (plain_expr x.now) ≡ true }
-    ensures { IfOk result (λ i. Made (place_part (facts_in facts.now) (sites_in facts.now) (plain_expr x.now)) graph.old graph.new i next) }
+    ensures made { IfOk result (λ i. Made (place_part (facts_in facts.now) (sites_in facts.now) (plain_expr x.now)) graph.old graph.new i next) }
+    ensures few { IfOk result (λ i. length graph.new ≤ length graph.old + expr_room (sites_in facts.now) (plain_expr x.now)) }
 {
     let i = put_stuck(graph, next)?;
     Ok(i)
@@ -25,7 +27,8 @@ fn put_nowhere(graph: &mut Graph, facts: &TreeFacts, x: &Expr, next: u32) -> Res
 /// The place that an expression finds.
 #[cycle(emission)]
 pub fn emit_place(graph: &mut Graph, facts: &TreeFacts, x: &Expr, next: u32) -> Result<u32, Memory>
-    ensures { IfOk result (λ i. Made (place_part (facts_in facts.now) (sites_in facts.now) (plain_expr x.now)) graph.old graph.new i next) }
+    ensures made { IfOk result (λ i. Made (place_part (facts_in facts.now) (sites_in facts.now) (plain_expr x.now)) graph.old graph.new i next) }
+    ensures few { IfOk result (λ i. length graph.new ≤ length graph.old + expr_room (sites_in facts.now) (plain_expr x.now)) }
 {
     match x {
         Expr::Name { token, .. } => put_variable(graph, facts.slot_at(*token), next),
@@ -65,7 +68,8 @@ pub fn emit_prefix_place(
     operand: &Expr,
     next: u32,
 ) -> Result<u32, Memory>
-    ensures { IfOk result (λ i. (token : ℕ) → Made (place_part (facts_in facts.now) (sites_in facts.now) (e.Prefix token operator (plain_expr operand.now))) graph.old graph.new i next) }
+    ensures made { IfOk result (λ i. (token : ℕ) → Made (place_part (facts_in facts.now) (sites_in facts.now) (e.Prefix token operator (plain_expr operand.now))) graph.old graph.new i next) }
+    ensures few { IfOk result (λ i. length graph.new ≤ length graph.old + (3 + expr_room (sites_in facts.now) (plain_expr operand.now))) }
 {
     match operator {
         PrefixOperator::Indirection => {
@@ -88,7 +92,8 @@ pub fn emit_lone_place(
     operands: &[Expr],
     next: u32,
 ) -> Result<u32, Memory>
-    ensures { IfOk result (λ i. (token : ℕ) → Made (place_part (facts_in facts.now) (sites_in facts.now) (e.Comma token (plain_exprs operands.now))) graph.old graph.new i next) }
+    ensures made { IfOk result (λ i. (token : ℕ) → Made (place_part (facts_in facts.now) (sites_in facts.now) (e.Comma token (plain_exprs operands.now))) graph.old graph.new i next) }
+    ensures few { IfOk result (λ i. length graph.new ≤ length graph.old + (3 + exprs_room (sites_in facts.now) 0 (plain_exprs operands.now))) }
 {
     if operands.len() == 1 {
         let i = emit_place(graph, facts, &operands[0], next)?;

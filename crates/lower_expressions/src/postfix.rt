@@ -1,9 +1,10 @@
-ghost use Rattle.std.specs.Prelude.{IfOk};
+ghost use Rattle.std.specs.Prelude.{IfOk, length, ◌≤◌, ◌+◌};
 ghost use Rattle.c_syntax.specs.ExprTree as e;
 ghost use Rattle.c_syntax.specs.ExprTree.{PostfixList};
 ghost use Rattle.c_syntax.specs.Plain.{plain_expr, plain_operators, plain_postfix};
 ghost use Rattle.graphs.specs.Expressions.{Behind, emitted};
 ghost use Rattle.graphs.specs.Operators.{Spot};
+ghost use Rattle.graphs.specs.Room.{expr_room, postfix_room};
 ghost use Rattle.graph_parts.specs.Made.{Made};
 ghost use Rattle.graph_parts.specs.Parts.{place_part, serving};
 ghost use Rattle.lower_expressions.specs.Spots.{first_part, spots_part};
@@ -32,7 +33,8 @@ pub fn emit_operator(
     operator: &PostfixOperator,
     next: u32,
 ) -> Result<u32, Memory>
-    ensures { IfOk result (λ i. (rest : PostfixList) → Made (first_part (facts_in facts.now) (sites_in facts.now) taken known of (plain_postfix operator.now rest)) graph.old graph.new i next) }
+    ensures made { IfOk result (λ i. (rest : PostfixList) → Made (first_part (facts_in facts.now) (sites_in facts.now) taken known of (plain_postfix operator.now rest)) graph.old graph.new i next) }
+    ensures few { IfOk result (λ i. length graph.new ≤ length graph.old + postfix_room (sites_in facts.now) (plain_postfix operator.now e.no_postfix)) }
 {
     match operator {
         PostfixOperator::Index { index, .. } => {
@@ -76,7 +78,8 @@ pub fn emit_behind(
     operators: &[PostfixOperator],
     next: u32,
 ) -> Result<u32, Memory>
-    ensures { IfOk result (λ i. Made (λ G. Behind G (facts_in facts.now) (sites_in facts.now) taken known of (plain_operators operators.now)) graph.old graph.new i next) }
+    ensures made { IfOk result (λ i. Made (λ G. Behind G (facts_in facts.now) (sites_in facts.now) taken known of (plain_operators operators.now)) graph.old graph.new i next) }
+    ensures few { IfOk result (λ i. length graph.new ≤ length graph.old + postfix_room (sites_in facts.now) (plain_operators operators.now)) }
 {
     let mut entry = next;
     for place in (0..operators.len()).rev() {
@@ -98,7 +101,8 @@ pub fn emit_spot(
     x: &Expr,
     next: u32,
 ) -> Result<u32, Memory>
-    ensures { IfOk result (λ i. Made (λ G. Spot G known (emitted G (facts_in facts.now) (sites_in facts.now) (plain_expr x.now))) graph.old graph.new i next) }
+    ensures made { IfOk result (λ i. Made (λ G. Spot G known (emitted G (facts_in facts.now) (sites_in facts.now) (plain_expr x.now))) graph.old graph.new i next) }
+    ensures few { IfOk result (λ i. length graph.new ≤ length graph.old + expr_room (sites_in facts.now) (plain_expr x.now)) }
 {
     if known {
         let i = emit_place(graph, facts, x, next)?;
@@ -118,7 +122,8 @@ pub fn emit_spots(
     operators: &[PostfixOperator],
     next: u32,
 ) -> Result<u32, Memory>
-    ensures { IfOk result (λ i. Made (spots_part (facts_in facts.now) (sites_in facts.now) taken (plain_expr primary.now) (plain_operators operators.now)) graph.old graph.new i next) }
+    ensures made { IfOk result (λ i. Made (spots_part (facts_in facts.now) (sites_in facts.now) taken (plain_expr primary.now) (plain_operators operators.now)) graph.old graph.new i next) }
+    ensures few { IfOk result (λ i. length graph.new ≤ length graph.old + (expr_room (sites_in facts.now) (plain_expr primary.now) + postfix_room (sites_in facts.now) (plain_operators operators.now))) }
 {
     let known = is_place(primary);
     let of = facts.type_of(primary);
@@ -136,7 +141,8 @@ pub fn emit_postfix(
     operators: &[PostfixOperator],
     purpose: Purpose,
 ) -> Result<u32, Memory>
-    ensures { IfOk result (λ i. Made (serving (facts_in facts.now) (sites_in facts.now) (e.Postfix (plain_expr primary.now) (plain_operators operators.now))) graph.old graph.new i purpose) }
+    ensures made { IfOk result (λ i. Made (serving (facts_in facts.now) (sites_in facts.now) (e.Postfix (plain_expr primary.now) (plain_operators operators.now))) graph.old graph.new i purpose) }
+    ensures few { IfOk result (λ i. length graph.new ≤ length graph.old + expr_room (sites_in facts.now) (e.Postfix (plain_expr primary.now) (plain_operators operators.now))) }
 {
     let known = is_place(primary);
     if ends_as_place(known, operators) {
@@ -162,7 +168,8 @@ pub fn emit_postfix_place(
     operators: &[PostfixOperator],
     next: u32,
 ) -> Result<u32, Memory>
-    ensures { IfOk result (λ i. Made (place_part (facts_in facts.now) (sites_in facts.now) (e.Postfix (plain_expr primary.now) (plain_operators operators.now))) graph.old graph.new i next) }
+    ensures made { IfOk result (λ i. Made (place_part (facts_in facts.now) (sites_in facts.now) (e.Postfix (plain_expr primary.now) (plain_operators operators.now))) graph.old graph.new i next) }
+    ensures few { IfOk result (λ i. length graph.new ≤ length graph.old + expr_room (sites_in facts.now) (e.Postfix (plain_expr primary.now) (plain_operators operators.now))) }
 {
     let known = is_place(primary);
     if ends_as_place(known, operators) {

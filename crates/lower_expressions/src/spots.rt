@@ -1,9 +1,10 @@
-ghost use Rattle.std.specs.Prelude.{◌≡◌, ◌<◌, ◌+◌, ◌||◌, IfOk, drop, length};
+ghost use Rattle.std.specs.Prelude.{◌≡◌, ◌<◌, ◌+◌, ◌||◌, IfOk, drop, length, ◌≤◌};
 ghost use Rattle.c_syntax.specs.ExprTree as e;
 ghost use Rattle.c_syntax.specs.Plain.{plain_operators, plain_postfix};
 ghost use Rattle.graphs.specs.Expressions.{has_more};
 ghost use Rattle.graphs.specs.Operators.{Settled, SteppedAs};
 ghost use Rattle.graphs.specs.Paths.{Only};
+ghost use Rattle.graphs.specs.Room.{pairs};
 ghost use Rattle.graph_parts.specs.Made.{Made};
 ghost use Rattle.lower_expressions.specs.Spots.{place_after, place_before, token_after, type_behind};
 ghost use Rattle.tree_facts.specs.Facts.{facts_in, sites_in};
@@ -22,7 +23,8 @@ pub fn put_settled(
     of: Option<ValueType>,
     next: u32,
 ) -> Result<u32, Memory>
-    ensures { IfOk result (λ i. Made (λ G. Settled G known of) graph.old graph.new i next) }
+    ensures made { IfOk result (λ i. Made (λ G. Settled G known of) graph.old graph.new i next) }
+    ensures few { IfOk result (λ i. length graph.new ≤ length graph.old + 2) }
 {
     if known {
         let i = put_load(graph, of, next)?;
@@ -43,7 +45,8 @@ pub fn put_stepped_place(
     of: Option<ValueType>,
     next: u32,
 ) -> Result<u32, Memory>
-    ensures { IfOk result (λ i. Made (λ G. Only G known (SteppedAs G (facts_in facts.now) (sites_in facts.now) taken up token of)) graph.old graph.new i next) }
+    ensures made { IfOk result (λ i. Made (λ G. Only G known (SteppedAs G (facts_in facts.now) (sites_in facts.now) taken up token of)) graph.old graph.new i next) }
+    ensures few { IfOk result (λ i. length graph.new ≤ length graph.old + (16 + pairs (sites_in facts.now) token)) }
 {
     if known {
         let i = put_stepped_as(graph, facts, taken, up, token, of, next)?;

@@ -1,9 +1,10 @@
-ghost use Rattle.std.specs.Prelude.{◌≡◌, IfOk, true};
+ghost use Rattle.std.specs.Prelude.{◌≡◌, IfOk, true, length, ◌≤◌, ◌+◌};
 ghost use Rattle.c_syntax.specs.ExprTree as e;
 ghost use Rattle.c_syntax.specs.Plain.{plain_expr, plain_links};
 ghost use Rattle.c_meaning.specs.Trees.{joint};
 ghost use Rattle.graphs.specs.Expressions.{emitted};
 ghost use Rattle.graphs.specs.Values.{NullTruth};
+ghost use Rattle.graphs.specs.Room.{expr_room};
 ghost use Rattle.graph_parts.specs.Made.{Made};
 ghost use Rattle.graph_parts.specs.Parts.{truth_part};
 ghost use Rattle.graph_parts.specs.Purposes.{ways};
@@ -75,7 +76,8 @@ pub fn emit_null_truth(
     yes: u32,
     no: u32,
 ) -> Result<u32, Memory>
-    ensures { IfOk result (λ i. Made (λ G. NullTruth G is_null (emitted G (facts_in facts.now) (sites_in facts.now) (plain_expr x.now))) graph.old graph.new i (ways yes no)) }
+    ensures made { IfOk result (λ i. Made (λ G. NullTruth G is_null (emitted G (facts_in facts.now) (sites_in facts.now) (plain_expr x.now))) graph.old graph.new i (ways yes no)) }
+    ensures few { IfOk result (λ i. length graph.new ≤ length graph.old + (2 + expr_room (sites_in facts.now) (plain_expr x.now))) }
 {
     if is_null {
         let fork = graph.put(Node::Fork { yes, no })?;
@@ -97,7 +99,8 @@ pub fn emit_forked(
     no: u32,
 ) -> Result<u32, Memory>
     requires { all_fork (sites_in facts.now) links.now ≡ true }
-    ensures { IfOk result (λ i. Made (truth_part (facts_in facts.now) (sites_in facts.now) (e.Chain 0 (plain_expr first.now) (plain_links links.now))) graph.old graph.new i (ways yes no)) }
+    ensures made { IfOk result (λ i. Made (truth_part (facts_in facts.now) (sites_in facts.now) (e.Chain 0 (plain_expr first.now) (plain_links links.now))) graph.old graph.new i (ways yes no)) }
+    ensures few { IfOk result (λ i. length graph.new ≤ length graph.old + expr_room (sites_in facts.now) (e.Chain 0 (plain_expr first.now) (plain_links links.now))) }
 {
     let begins = begins_null(facts, first, links);
     let own = facts.type_of(first);

@@ -3,6 +3,7 @@ use Rattle.c_syntax.specs.Plain.{plain_expr, plain_exprs, plain_links, plain_ope
 use Rattle.graph_parts.specs.Made.{Made}
 use Rattle.graph_parts.specs.Purposes.{Serves, ways}
 use Rattle.graphs.specs.Expressions.{ArgumentsDo, Behind, LastDoes, LinksDo}
+use Rattle.graphs.specs.Room.{exprs_room, links_room, postfix_room}
 use Rattle.lower_expressions.proofs.Forked.{Leads}
 use Rattle.lower_expressions.specs.Linking.{type_before}
 use Rattle.lower_expressions.specs.Spots.{place_before, type_behind}
@@ -17,6 +18,7 @@ abbrev pub invariant-choices::emit_last-loop-place : goal.invariant-choices::emi
 invariant-choices::emit_last-loop-place l =
     (l.place < length l.operands)
     × Made (λ G. Serves (LastDoes G (facts_in l.facts) (sites_in l.facts) (plain_exprs (drop l.place l.operands)))) l.fn.graph l.graph l.entry l.fn.purpose
+    × (length l.graph ≤ length l.fn.graph + (3 + exprs_room (sites_in l.facts) 0 (plain_exprs (drop l.place l.operands))))
 
 -- the operators of a chain from this place on are done
 abbrev pub invariant-chains::emit_links-loop-place : goal.invariant-chains::emit_links-loop-place
@@ -24,12 +26,14 @@ invariant-chains::emit_links-loop-place l =
     (l.place ≤ length l.links)
     × Made (λ G. LinksDo G (facts_in l.facts) (sites_in l.facts) (type_before (facts_in l.facts) l.left l.links l.place) (plain_links (drop l.place l.links)))
     l.initial.graph l.graph l.entry l.next
+    × (length l.graph ≤ length l.initial.graph + links_room (sites_in l.facts) (plain_links (drop l.place l.links)))
 
 -- the truth of what stands before the operator at this place leads to that of the chain
 abbrev pub invariant-truths::emit_forked-loop-place : goal.invariant-truths::emit_forked-loop-place
 invariant-truths::emit_forked-loop-place l =
     (l.place ≤ length l.links)
     × Leads (facts_in l.facts) (sites_in l.facts) (plain_expr l.first) l.links l.place l.initial.graph l.graph (ways l.yes_at l.no_at) (ways l.fn.yes l.fn.no)
+    × (length l.graph ≤ length l.initial.graph + links_room (sites_in l.facts) (plain_links (drop l.place l.links)))
 
 -- the operators behind an operand from this place on are done
 abbrev pub invariant-postfix::emit_behind-loop-place : goal.invariant-postfix::emit_behind-loop-place
@@ -38,6 +42,7 @@ invariant-postfix::emit_behind-loop-place l =
     × Made (λ G. Behind G (facts_in l.facts) (sites_in l.facts) l.taken (place_before l.known (plain_operators l.operators) l.place)
     (type_behind (facts_in l.facts) l.of (plain_operators l.operators) l.place) (plain_operators (drop l.place l.operators)))
     l.initial.graph l.graph l.entry l.next
+    × (length l.graph ≤ length l.initial.graph + postfix_room (sites_in l.facts) (plain_operators (drop l.place l.operators)))
 
 -- what is left to emit
 abbrev pub decreases-expressions::emit : goal.decreases-expressions::emit
@@ -145,6 +150,7 @@ invariant-calls::emit_arguments-loop-place l =
     (l.place ≤ length l.arguments)
     × Made (λ G. ArgumentsDo G (facts_in l.facts) (sites_in l.facts) (drop l.place (wanted_types l.wanted)) (plain_exprs (drop l.place l.arguments)))
     l.initial.graph l.graph l.entry l.next
+    × (length l.graph ≤ length l.initial.graph + exprs_room (sites_in l.facts) 3 (plain_exprs (drop l.place l.arguments)))
 
 abbrev pub decreases-calls::emit_arguments : goal.decreases-calls::emit_arguments
 decreases-calls::emit_arguments l = 1 + exprs_weight (plain_exprs l.arguments.now)

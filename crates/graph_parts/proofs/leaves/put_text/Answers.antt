@@ -5,10 +5,10 @@ use Rattle.graph_parts.proofs.Building.{one_made}
 use Rattle.graph_parts.proofs.Serving.{valued_made}
 use Rattle.graph_parts.proofs.leaves.put_text.Goals as goal
 
-pub returns-in_ok-i-in-None : goal.returns-in_ok-i-in-None
-returns-in_ok-i-in-None c = rw (c.in-None.is) (valued_made (λ G. Stuck G) c.args.purpose _ _ _ _ _ c.in_ok-next.ensures c.in_ok-i-in-None.ensures)
+pub returns-in_ok-i-in-None-clause-made : goal.returns-in_ok-i-in-None-clause-made
+returns-in_ok-i-in-None-clause-made c = rw (c.in-None.is) (valued_made (λ G. Stuck G) c.args.purpose _ _ _ _ _ c.in_ok-next.ensures.made c.in_ok-i-in-None.ensures.made)
 
-pub returns-in_ok-i-in-Some : goal.returns-in_ok-i-in-Some
-returns-in_ok-i-in-Some c =
-    rw (c.in-Some.is) (valued_made (λ G. Does G (node.Text c.in-Some.number 0)) c.args.purpose _ _ _ _ _ c.in_ok-next.ensures
+pub returns-in_ok-i-in-Some-clause-made : goal.returns-in_ok-i-in-Some-clause-made
+returns-in_ok-i-in-Some-clause-made c =
+    rw (c.in-Some.is) (valued_made (λ G. Does G (node.Text c.in-Some.number 0)) c.args.purpose _ _ _ _ _ c.in_ok-next.ensures.made
     (one_made (node.Text c.in-Some.number 0) _ _ _ _ _ refl c.in_ok-i-in-Some.ensures.number c.in_ok-i-in-Some.ensures.added))

@@ -9,4 +9,5 @@ loop-place-preserved c =
       omega (arith, low),
       marks_step c.args.sites.now c.loop-place.place (c.loop-place.place - 1) _ _ _ _ _ _ next low c.loop-place.invariant.1
           c.in_ok-first.ensures.number c.in_ok-first.ensures.added,
+      omega (arith, c.loop-place.invariant.2, c.in_ok-first.ensures.one, c.loop-place-test.true),
     )

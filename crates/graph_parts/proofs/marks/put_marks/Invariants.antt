@@ -1,8 +1,11 @@
-use Rattle.std.proofs.Common.{◌≡◌, ◌≤◌, length, drop}
+use Rattle.std.proofs.Common.{◌≤◌, ◌+◌, length, drop}
 use Rattle.graphs.specs.Paths.{MarksAll}
 use Rattle.graph_parts.specs.Made.{Made}
 use Rattle.graph_parts.proofs.marks.put_marks.Given as goal
 
 -- the marks from this place on are put
 abbrev pub invariant-loop-place : goal.invariant-loop-place
-invariant-loop-place l = (l.place ≤ length l.sites) × Made (λ G. MarksAll G (drop l.place l.sites)) l.initial.graph l.graph l.first l.next
+invariant-loop-place l =
+    (l.place ≤ length l.sites)
+    × Made (λ G. MarksAll G (drop l.place l.sites)) l.initial.graph l.graph l.first l.next
+    × (length l.graph + l.place ≤ length l.initial.graph + length l.sites)

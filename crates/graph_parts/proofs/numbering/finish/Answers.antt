@@ -1,9 +1,6 @@
-use Rattle.std.proofs.Common.{rules, ◌≡◌, ◌-◌, ◌∙◌, ap, sym, subst, arith, length, ℕ, suc, Fits, w32}
-use Rattle.std.proofs.lemmas.Option.{slice_get-get_or}
-use Rattle.flow.specs.View.{view}
-use Rattle.graphs.specs.Stands.{renamed}
+use Rattle.std.proofs.Common.{rules, ◌-◌, ap, subst, arith, length}
 use Rattle.graph_parts.specs.Finished.{Finished, turned}
-use Rattle.graph_parts.proofs.Numbers.{TurnedFrom, all_turned, none_turned, turned_before}
+use Rattle.graph_parts.proofs.Numbers.{all_turned, none_turned, turned_before}
 use Rattle.graph_parts.proofs.numbering.finish.Goals as goal
 
 pub overflow_cast-last : goal.overflow_cast-last
@@ -17,7 +14,10 @@ loop-i-preserved c =
     turned_before c.nodes-nodes.result.now c.loop-i.finished.items c.push.new.self.items (c.loop-i.i - 1) c.loop-i.i c.saturating_sub-last.result _ c.renumbered.result
     (omega (arith, c.loop-i-test.true)) c.loop-i.invariant c.saturating_sub-last.ensures c.renumbered.ensures c.in_ok-push.ensures.items
 
-pub returns : goal.returns
-returns c =
+pub returns-clause-finished : goal.returns-clause-finished
+returns-clause-finished c =
     subst (λ l. Finished l c.loop-i.finished.items (turned (length l - 1))) c.nodes-nodes.ensures.value
     (all_turned _ _ c.loop-i.i (omega (arith, c.loop-i-test.false)) c.loop-i.invariant)
+
+pub returns-clause-as_many : goal.returns-clause-as_many
+returns-clause-as_many c = omega (arith, ap length c.nodes-nodes.ensures.value, c.loop-i.invariant.count, c.loop-i-test.false)

@@ -1,4 +1,4 @@
-use Rattle.std.proofs.Common.{rules, ◌≡◌, ap, sym, ◌∙◌}
+use Rattle.std.proofs.Common.{ap, sym, ◌∙◌}
 use Rattle.flow.specs.View.{view, moved_to}
 use Rattle.flow.specs.Nodes.{listed}
 use Rattle.graph_parts.specs.Finished.{turned}
