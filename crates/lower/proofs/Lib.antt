@@ -5,6 +5,7 @@ pub mod Keeping
 pub mod Kept
 pub mod Looping
 pub mod Readying
+pub mod Rooms
 pub mod Siting
 pub mod Spelling
 pub mod Zeroing

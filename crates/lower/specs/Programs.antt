@@ -1,5 +1,6 @@
 -- The functions of a program that does what a text means.
-use Rattle.std.specs.Prelude.{◌≡◌, ℕ, ◌≤◌, ◌==◌, List, Some, None, slice_get}
+use Rattle.std.specs.Prelude.{◌≡◌, ℕ, ◌≤◌, ◌==◌, List, length, Some, None, slice_get}
+use Rattle.std.specs.List.{sum_by}
 use Rattle.flow.specs.declared.program.Function.{Function}
 use Rattle.flow.specs.Code.{callee_of}
 use Rattle.c_meaning.specs.Facts.{Signature}
@@ -23,3 +24,7 @@ AreFunctionsOf src functions = (number : ℕ) (f : Function) → slice_get funct
 -- there are no more than so many
 abbrev pub HasNoMore : Source → ℕ → Type 0
 HasNoMore src count = (number : ℕ) → count ≤ number → src.facts.signature number ≡ None
+
+-- how many nodes all functions have together
+abbrev pub node_count : List Function → ℕ
+node_count functions = sum_by (λ f. length f.nodes) functions

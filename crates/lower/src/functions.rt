@@ -1,10 +1,11 @@
-ghost use Rattle.std.specs.Prelude.{◌≡◌, ◌+◌, IfOk, length, option_map};
+ghost use Rattle.std.specs.Prelude.{◌≡◌, ◌+◌, IfOk, length, option_map, ◌≤◌};
 ghost use Rattle.std.specs.Option.{option_copied};
 ghost use Rattle.c_syntax.specs.Plain.{plain_entries};
 ghost use Rattle.graphs.specs.Functions.{BodyDoes};
 ghost use Rattle.lower.specs.Bodies.{BodyNodes, ComesPart, EndPart, GivesPart, LeavesPart};
 ghost use Rattle.lower.specs.Exits.{exits_of};
 ghost use Rattle.lower.specs.Ready.{AllMayStand};
+ghost use Rattle.graphs.specs.Room.{body_room, function_room};
 ghost use Rattle.graph_parts.specs.Made.{Made};
 ghost use Rattle.tree_facts.specs.Facts.{facts_in, sites_in};
 
@@ -22,7 +23,8 @@ use tree_facts::{TreeFacts, has_value};
 /// Where a function with a result gives it; no other one comes to a value.
 #[tactic(auto, using(crate::proofs::Bodying::gives_parts))]
 fn put_gives(graph: &mut Graph, value: bool) -> Result<u32, Memory>
-    ensures { IfOk result (λ i. Made (GivesPart value) graph.old graph.new i 0) }
+    ensures made { IfOk result (λ i. Made (GivesPart value) graph.old graph.new i 0) }
+    ensures few { IfOk result (λ i. length graph.new ≤ length graph.old + 2) }
 {
     if value {
         let gives = graph.put(Node::Return)?;
@@ -36,7 +38,8 @@ fn put_gives(graph: &mut Graph, value: bool) -> Result<u32, Memory>
 #[tactic(auto, using(crate::proofs::Bodying::end_parts))]
 fn put_end(graph: &mut Graph, is_main: bool, value: bool, exits: Exits) -> Result<u32, Memory>
     requires { (exits_of exits).next ≡ (exits_of exits).leaves }
-    ensures { IfOk result (λ i. Made (EndPart is_main value) graph.old graph.new i (exits_of exits)) }
+    ensures made { IfOk result (λ i. Made (EndPart is_main value) graph.old graph.new i (exits_of exits)) }
+    ensures few { IfOk result (λ i. length graph.new ≤ length graph.old + 1) }
 {
     if is_main && value {
         let zero = graph.put(Node::Push {
@@ -51,7 +54,8 @@ fn put_end(graph: &mut Graph, is_main: bool, value: bool, exits: Exits) -> Resul
 
 /// How a function is left. No `break` and no `continue` stands outside a loop.
 fn put_exits(graph: &mut Graph, is_main: bool, value: bool) -> Result<Exits, Memory>
-    ensures { IfOk result (λ exits. Made (LeavesPart is_main value) graph.old graph.new 0 (exits_of exits)) }
+    ensures made { IfOk result (λ exits. Made (LeavesPart is_main value) graph.old graph.new 0 (exits_of exits)) }
+    ensures few { IfOk result (λ exits. length graph.new ≤ length graph.old + 6) }
 {
     let stuck = put_stuck(graph, 0)?;
     let leaves = graph.put(Node::Leave)?;
@@ -76,7 +80,8 @@ fn put_body(
     body: Option<&[Entry]>,
     exits: Exits,
 ) -> Result<u32, Memory>
-    ensures { IfOk result (λ i. Made (λ G. BodyDoes G (facts_in facts.now) (sites_in facts.now) gives (option_map plain_entries (option_copied body.entry))) graph.old graph.new i (exits_of exits)) }
+    ensures made { IfOk result (λ i. Made (λ G. BodyDoes G (facts_in facts.now) (sites_in facts.now) gives (option_map plain_entries (option_copied body.entry))) graph.old graph.new i (exits_of exits)) }
+    ensures few { IfOk result (λ i. length graph.new ≤ length graph.old + body_room (sites_in facts.now) (option_map plain_entries (option_copied body.entry))) }
 {
     match body {
         None => {
@@ -95,6 +100,7 @@ fn put_body(
 fn put_start(graph: &mut Graph, entry: u32) -> Result<u32, Memory>
     ensures begins { IfOk result (λ i. Made ComesPart graph.old graph.new i entry) }
     ensures last { IfOk result (λ i. length graph.new ≡ i + 1) }
+    ensures few { IfOk result (λ i. length graph.new ≤ length graph.old + 1) }
 {
     if graph.nodes().len() == entry as usize + 1 {
         return Ok(entry);
@@ -111,7 +117,8 @@ fn body_nodes(
     gives: ValueType,
     body: Option<&[Entry]>,
 ) -> Result<Vec<Node>, Memory>
-    ensures { IfOk result (λ nodes. BodyNodes (facts_in facts.now) (sites_in facts.now) is_main gives (option_map plain_entries (option_copied body.entry)) nodes.items) }
+    ensures body { IfOk result (λ nodes. BodyNodes (facts_in facts.now) (sites_in facts.now) is_main gives (option_map plain_entries (option_copied body.entry)) nodes.items) }
+    ensures few { IfOk result (λ nodes. length nodes.items ≤ function_room (sites_in facts.now) (option_map plain_entries (option_copied body.entry))) }
 {
     let mut graph = Graph::new(alloc);
     let exits = put_exits(&mut graph, is_main, has_value(gives))?;
@@ -131,6 +138,7 @@ pub fn emit_function(
 ) -> Result<Vec<Node>, Memory>
     ensures body { IfOk result (λ nodes. BodyNodes (facts_in facts.now) (sites_in facts.now) is_main gives (option_map plain_entries (option_copied body.entry)) nodes.items) }
     ensures stand { IfOk result (λ nodes. AllMayStand (sites_in facts.now).site nodes.items) }
+    ensures few { IfOk result (λ nodes. length nodes.items ≤ function_room (sites_in facts.now) (option_map plain_entries (option_copied body.entry))) }
 {
     let nodes = body_nodes(alloc, facts, is_main, gives, body)?;
     let kept = keep(alloc, facts, nodes.as_slice())?;

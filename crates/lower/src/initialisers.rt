@@ -1,9 +1,11 @@
-ghost use Rattle.std.specs.Prelude.{◌≡◌, IfOk, Some, map, option_map};
+ghost use Rattle.std.specs.Prelude.{◌≡◌, IfOk, Some, map, option_map, length, ◌≤◌, ◌+◌};
+ghost use Rattle.std.specs.List.{sum_by};
 ghost use Rattle.c_meaning.specs.Initialisers.{equals_token, want_of};
 ghost use Rattle.c_meaning.specs.Meaning.{text_of};
 ghost use Rattle.c_syntax.specs.Plain.{plain_declaration, plain_expr, plain_exprs, plain_initial, plain_start};
 ghost use Rattle.graphs.specs.Expressions.{number_of_text};
 ghost use Rattle.graphs.specs.Initialisers.{AllStart, ArrayZeroed, Clears, Declares, ElementSet, ElementsSet, Initialised, OnLocal, ScalarSet, Spells, Starts, ValueSet, Zeroes};
+ghost use Rattle.graphs.specs.Room.{declaration_room, expr_room, exprs_room, initial_room, pairs, start_room};
 ghost use Rattle.graph_parts.specs.Made.{Made};
 ghost use Rattle.lower.specs.Strings.{StringSet, is_array, text_with};
 ghost use Rattle.tree_facts.specs.Facts.{facts_in, sites_in};
@@ -30,7 +32,8 @@ fn want_of(of: Option<ValueType>) -> Option<Want>
 /// A declared variable is undefined from here on.
 #[tactic(auto, using(graph_parts::proofs::Building::parts_made))]
 fn put_cleared(graph: &mut Graph, slot: Option<Slot>, next: u32) -> Result<u32, Memory>
-    ensures { IfOk result (λ i. Made (λ G. OnLocal G slot (Clears G)) graph.old graph.new i next) }
+    ensures made { IfOk result (λ i. Made (λ G. OnLocal G slot (Clears G)) graph.old graph.new i next) }
+    ensures few { IfOk result (λ i. length graph.new ≤ length graph.old + 2) }
 {
     match slot {
         Some(Slot::Local { index }) => {
@@ -52,7 +55,8 @@ fn put_zeroed(
     element: Option<ValueType>,
     next: u32,
 ) -> Result<u32, Memory>
-    ensures { IfOk result (λ i. Made (λ G. OnLocal G slot (Zeroes G (want_of element))) graph.old graph.new i next) }
+    ensures made { IfOk result (λ i. Made (λ G. OnLocal G slot (Zeroes G (want_of element))) graph.old graph.new i next) }
+    ensures few { IfOk result (λ i. length graph.new ≤ length graph.old + 2) }
 {
     match (slot, want_of(element)) {
         (Some(Slot::Local { index }), Some(want)) => {
@@ -84,7 +88,8 @@ fn put_spell(
     index: u32,
     next: u32,
 ) -> Result<u32, Memory>
-    ensures { IfOk result (λ i. Made (λ G. Spells G number (text_with (facts_in facts.now) number) index) graph.old graph.new i next) }
+    ensures made { IfOk result (λ i. Made (λ G. Spells G number (text_with (facts_in facts.now) number) index) graph.old graph.new i next) }
+    ensures few { IfOk result (λ i. length graph.new ≤ length graph.old + 2) }
 {
     let Some(text) = number else {
         let stuck = put_stuck(graph, next)?;
@@ -110,7 +115,8 @@ fn put_spelled(
     x: &Expr,
     next: u32,
 ) -> Result<u32, Memory>
-    ensures { IfOk result (λ i. Made (λ G. OnLocal G slot (Spells G (number_of_text (facts_in facts.now) (plain_expr x.now)) (text_of (facts_in facts.now) (plain_expr x.now)))) graph.old graph.new i next) }
+    ensures made { IfOk result (λ i. Made (λ G. OnLocal G slot (Spells G (number_of_text (facts_in facts.now) (plain_expr x.now)) (text_of (facts_in facts.now) (plain_expr x.now)))) graph.old graph.new i next) }
+    ensures few { IfOk result (λ i. length graph.new ≤ length graph.old + 2) }
 {
     match slot {
         Some(Slot::Local { index }) => {
@@ -142,7 +148,8 @@ fn emit_scalar(
     x: &Expr,
     next: u32,
 ) -> Result<u32, Memory>
-    ensures { IfOk result (λ i. Made (λ G. ScalarSet G (facts_in facts.now) (sites_in facts.now) token (plain_expr x.now)) graph.old graph.new i next) }
+    ensures made { IfOk result (λ i. Made (λ G. ScalarSet G (facts_in facts.now) (sites_in facts.now) token (plain_expr x.now)) graph.old graph.new i next) }
+    ensures few { IfOk result (λ i. length graph.new ≤ length graph.old + (6 + pairs (sites_in facts.now) (equals_token token) + expr_room (sites_in facts.now) (plain_expr x.now))) }
 {
     let equals = equals_behind(token)?;
     let drop = graph.put(Node::Drop { next })?;
@@ -161,7 +168,8 @@ fn emit_element(
     x: &Expr,
     next: u32,
 ) -> Result<u32, Memory>
-    ensures { IfOk result (λ i. Made (λ G. ElementSet G (facts_in facts.now) (sites_in facts.now) token index (plain_expr x.now)) graph.old graph.new i next) }
+    ensures made { IfOk result (λ i. Made (λ G. ElementSet G (facts_in facts.now) (sites_in facts.now) token index (plain_expr x.now)) graph.old graph.new i next) }
+    ensures few { IfOk result (λ i. length graph.new ≤ length graph.old + (8 + expr_room (sites_in facts.now) (plain_expr x.now))) }
 {
     let drop = graph.put(Node::Drop { next })?;
     let store = graph.put(Node::Store { next: drop })?;
@@ -189,7 +197,8 @@ fn emit_elements(
     items: &[Expr],
     next: u32,
 ) -> Result<u32, Memory>
-    ensures { IfOk result (λ i. Made (λ G. ElementsSet G (facts_in facts.now) (sites_in facts.now) token 0 (plain_exprs items.now)) graph.old graph.new i next) }
+    ensures made { IfOk result (λ i. Made (λ G. ElementsSet G (facts_in facts.now) (sites_in facts.now) token 0 (plain_exprs items.now)) graph.old graph.new i next) }
+    ensures few { IfOk result (λ i. length graph.new ≤ length graph.old + exprs_room (sites_in facts.now) 8 (plain_exprs items.now)) }
 {
     let mut first = next;
     for place in (0..items.len()).rev() {
@@ -207,7 +216,8 @@ fn emit_string(
     x: &Expr,
     next: u32,
 ) -> Result<u32, Memory>
-    ensures { IfOk result (λ i. Made (λ G. StringSet G (facts_in facts.now) (sites_in facts.now) token (plain_expr x.now)) graph.old graph.new i next) }
+    ensures made { IfOk result (λ i. Made (λ G. StringSet G (facts_in facts.now) (sites_in facts.now) token (plain_expr x.now)) graph.old graph.new i next) }
+    ensures few { IfOk result (λ i. length graph.new ≤ length graph.old + 4) }
 {
     let spelled = put_spelled(graph, facts, facts.slot_at(token), x, next)?;
     let i = put_zeroed(
@@ -234,7 +244,8 @@ fn emit_single(
     x: &Expr,
     next: u32,
 ) -> Result<u32, Memory>
-    ensures { IfOk result (λ i. Made (λ G. ValueSet G (facts_in facts.now) (sites_in facts.now) token ((facts_in facts.now).declared_at token) (plain_expr x.now)) graph.old graph.new i next) }
+    ensures made { IfOk result (λ i. Made (λ G. ValueSet G (facts_in facts.now) (sites_in facts.now) token ((facts_in facts.now).declared_at token) (plain_expr x.now)) graph.old graph.new i next) }
+    ensures few { IfOk result (λ i. length graph.new ≤ length graph.old + (6 + pairs (sites_in facts.now) (equals_token token) + expr_room (sites_in facts.now) (plain_expr x.now))) }
 {
     if is_array(facts.declared_at(token)) {
         let i = emit_string(graph, facts, token, x, next)?;
@@ -252,7 +263,8 @@ fn emit_initial(
     initial: &Initial,
     next: u32,
 ) -> Result<u32, Memory>
-    ensures { IfOk result (λ i. Made (λ G. Initialised G (facts_in facts.now) (sites_in facts.now) token (Some (plain_initial initial.now))) graph.old graph.new i next) }
+    ensures made { IfOk result (λ i. Made (λ G. Initialised G (facts_in facts.now) (sites_in facts.now) token (Some (plain_initial initial.now))) graph.old graph.new i next) }
+    ensures few { IfOk result (λ i. length graph.new ≤ length graph.old + initial_room (sites_in facts.now) token (Some (plain_initial initial.now))) }
 {
     match initial {
         Initial::Value { value } => {
@@ -280,7 +292,8 @@ fn emit_optional_initial(
     initial: &Option<Initial>,
     next: u32,
 ) -> Result<u32, Memory>
-    ensures { IfOk result (λ i. Made (λ G. Initialised G (facts_in facts.now) (sites_in facts.now) token (option_map plain_initial initial.now)) graph.old graph.new i next) }
+    ensures made { IfOk result (λ i. Made (λ G. Initialised G (facts_in facts.now) (sites_in facts.now) token (option_map plain_initial initial.now)) graph.old graph.new i next) }
+    ensures few { IfOk result (λ i. length graph.new ≤ length graph.old + initial_room (sites_in facts.now) token (option_map plain_initial initial.now)) }
 {
     match initial {
         None => Ok(next),
@@ -293,7 +306,8 @@ fn emit_optional_initial(
 
 /// A declared variable, with its initialiser.
 fn emit_start(graph: &mut Graph, facts: &TreeFacts, start: &Start, next: u32) -> Result<u32, Memory>
-    ensures { IfOk result (λ i. Made (λ G. Starts G (facts_in facts.now) (sites_in facts.now) (plain_start start.now)) graph.old graph.new i next) }
+    ensures made { IfOk result (λ i. Made (λ G. Starts G (facts_in facts.now) (sites_in facts.now) (plain_start start.now)) graph.old graph.new i next) }
+    ensures few { IfOk result (λ i. length graph.new ≤ length graph.old + start_room (sites_in facts.now) (plain_start start.now)) }
 {
     let token = start.declarator.name_token;
     let initialised = emit_optional_initial(graph, facts, token, &start.initial, next)?;
@@ -308,7 +322,8 @@ fn emit_starts(
     starts: &[Start],
     next: u32,
 ) -> Result<u32, Memory>
-    ensures { IfOk result (λ i. Made (λ G. AllStart G (facts_in facts.now) (sites_in facts.now) (map plain_start starts.now)) graph.old graph.new i next) }
+    ensures made { IfOk result (λ i. Made (λ G. AllStart G (facts_in facts.now) (sites_in facts.now) (map plain_start starts.now)) graph.old graph.new i next) }
+    ensures few { IfOk result (λ i. length graph.new ≤ length graph.old + sum_by (start_room (sites_in facts.now)) (map plain_start starts.now)) }
 {
     let mut first = next;
     for place in (0..starts.len()).rev() {
@@ -324,7 +339,8 @@ pub fn emit_declaration(
     declaration: &Declaration,
     next: u32,
 ) -> Result<u32, Memory>
-    ensures { IfOk result (λ i. Made (λ G. Declares G (facts_in facts.now) (sites_in facts.now) (plain_declaration declaration.now)) graph.old graph.new i next) }
+    ensures made { IfOk result (λ i. Made (λ G. Declares G (facts_in facts.now) (sites_in facts.now) (plain_declaration declaration.now)) graph.old graph.new i next) }
+    ensures few { IfOk result (λ i. length graph.new ≤ length graph.old + declaration_room (sites_in facts.now) (plain_declaration declaration.now)) }
 {
     let i = emit_starts(graph, facts, declaration.starts.as_slice(), next)?;
     Ok(i)

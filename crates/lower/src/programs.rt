@@ -1,4 +1,4 @@
-ghost use Rattle.std.specs.Prelude.{◌≡◌, IfOk, IfSome, length, map};
+ghost use Rattle.std.specs.Prelude.{◌≡◌, ◌≤◌, ◌+◌, ◌*◌, IfOk, IfSome, length, map};
 ghost use Rattle.c_meaning.specs.Texts.{source_of};
 ghost use Rattle.c_types.specs.Answers.{known_of, tree_of};
 ghost use Rattle.clone_paths.specs.Cloned.{ArePlain};
@@ -6,14 +6,18 @@ ghost use Rattle.flow.specs.Program.{table_of};
 ghost use Rattle.sampling.specs.Runs.{IsReady};
 ghost use Rattle.std.specs.List.{All};
 ghost use Rattle.graphs.specs.Functions.{IsGraphOf};
+ghost use Rattle.graphs.specs.Room.{function_room, functions_room};
 ghost use Rattle.lower.specs.Means.{MeansText};
-ghost use Rattle.lower.specs.Programs.{AreFunctionsOf, HasNoMore, IsFunctionOf};
-ghost use Rattle.tree_facts.specs.Facts.{source_in, table_in};
+ghost use Rattle.lower.specs.Programs.{AreFunctionsOf, HasNoMore, IsFunctionOf, node_count};
+ghost use Rattle.tree_facts.specs.Facts.{known_in, sites_in, source_in, table_in};
+ghost use Rattle.c_syntax.specs.Spelling.{tree_kinds};
+ghost use Rattle.typed_texts.specs.Accepted.{IsAccepted};
 
 use crate::functions::emit_function;
 use c_types::Checked;
 use cbi_base::{Memory, Name, Seq};
 use clone_paths::{copy_of, copy_sites, copy_texts};
+use few_nodes::an_accepted_text_has_few_nodes;
 use flow::{Function, Program, SiteTable};
 use std::alloc::Global;
 use tree_facts::{TreeFacts, has_value};
@@ -37,6 +41,7 @@ fn function_of(
 ) -> Result<Option<Function>, Memory>
     ensures does { IfOk result (λ found. IfSome found (λ f. IsFunctionOf (source_in facts.now) number f)) }
     ensures name { IfOk result (λ found. IfSome found (λ f. f.name ≡ name.now)) }
+    ensures few { IfOk result (λ found. IfSome found (λ f. length f.nodes ≤ function_room (sites_in facts.now) ((source_in facts.now).body number))) }
 {
     let Some(signature) = facts.signature(number) else {
         return Ok(None);
@@ -62,6 +67,7 @@ fn functions_of(
     ensures are { IfOk result (λ found. IfSome found (λ fs. AreFunctionsOf (source_in facts.now) fs.items)) }
     ensures all { IfOk result (λ found. IfSome found (λ fs. HasNoMore (source_in facts.now) (length fs.items))) }
     ensures names { IfOk result (λ found. IfSome found (λ fs. map (λ f. f.name) fs.items ≡ names.now)) }
+    ensures few { IfOk result (λ found. IfSome found (λ fs. node_count fs.items ≤ functions_room (sites_in facts.now) (source_in facts.now).body (length (known_in facts.now).definitions))) }
 {
     if names.len() != facts.function_count() {
         return Ok(None);
@@ -88,6 +94,7 @@ fn program_of(
     ensures sites { IfOk result (λ found. IfSome found (λ p. table_of p ≡ table.now)) }
     ensures ready { IfOk result (λ found. IfSome found (λ p. IsReady p)) }
     ensures plain { IfOk result (λ found. IfSome found (λ p. All (λ f. ArePlain f.nodes) p.functions)) }
+    ensures few { IfOk result (λ found. IfSome found (λ p. node_count p.functions ≤ functions_room (sites_in facts.now) (source_in facts.now).body (length (known_in facts.now).definitions))) }
 {
     let Some(globals) = facts.globals(alloc)? else {
         return Ok(None);
@@ -111,7 +118,10 @@ pub fn lower(alloc: Global, checked: &Checked, table: &SiteTable) -> Result<Opti
     ensures sites { IfOk result (λ found. IfSome found (λ p. table_of p ≡ table.now)) }
     ensures ready { IfOk result (λ found. IfSome found (λ p. IsReady p)) }
     ensures plain { IfOk result (λ found. IfSome found (λ p. All (λ f. ArePlain f.nodes) p.functions)) }
+    ensures few { IsAccepted (tree_of checked.now) (known_of checked.now)
+        → IfOk result (λ found. IfSome found (λ p. node_count p.functions ≤ 16 * length (tree_kinds (tree_of checked.now)) + length table.now.sites)) }
 {
+    an_accepted_text_has_few_nodes();
     let facts = TreeFacts::new(alloc, checked, table)?;
     let program = program_of(alloc, &facts, table)?;
     Ok(program)

@@ -5,7 +5,7 @@ use Rattle.tree_facts.specs.Facts.{facts_in, sites_in}
 use Rattle.lower.proofs.Bodying.{function_made}
 use Rattle.lower.proofs.functions.body_nodes.Goals as goal
 
-pub returns : goal.returns
-returns c =
+pub returns-clause-body : goal.returns-clause-body
+returns-clause-body c =
     function_made (facts_in c.args.facts.now) (sites_in c.args.facts.now) c.args.is_main _ c.args.gives (option_map plain_entries (option_copied c.args.body)) _ _ _ _ _ _ _ _
-    c.has_value.ensures c.in_ok-exits.ensures c.in_ok-entry.ensures c.in_ok-_start.ensures.begins c.in_ok-_start.ensures.last c.in_ok-nodes.ensures
+    c.has_value.ensures c.in_ok-exits.ensures.made c.in_ok-entry.ensures.made c.in_ok-_start.ensures.begins c.in_ok-_start.ensures.last c.in_ok-nodes.ensures.finished

@@ -1,6 +1,7 @@
 use Rattle.std.proofs.Common.{◌≡◌, ◌+◌, ◌-◌, ◌<◌, arith, length}
 use Rattle.tree_facts.specs.Facts.{facts_in, sites_in}
 use Rattle.lower.proofs.Initialising.{elements_step}
+use Rattle.lower_expressions.proofs.Rooms.{exprs_more}
 use Rattle.lower.proofs.initialisers.emit_elements.Goals as goal
 
 pub loop-place-preserved : goal.loop-place-preserved
@@ -9,5 +10,11 @@ loop-place-preserved c =
     let low : c.loop-place.place - 1 < length c.args.items.now = omega (arith, c.loop-place.invariant.0, c.loop-place-test.true) in (
       omega (arith, low),
       elements_step (facts_in c.args.facts.now) (sites_in c.args.facts.now) c.args.token c.args.items.now c.loop-place.place (c.loop-place.place - 1) _ c.index-items-place.result
-          _ _ _ _ _ _ next low c.in_ok-index.ensures c.index-items-place.is c.loop-place.invariant.1 c.in_ok-first.ensures,
+          _ _ _ _ _ _ next low c.in_ok-index.ensures c.index-items-place.is c.loop-place.invariant.1 c.in_ok-first.ensures.made,
+      omega (
+        arith,
+        c.in_ok-first.ensures.few,
+        c.loop-place.invariant.2,
+        exprs_more (sites_in c.args.facts.now) 8 c.args.items.now c.loop-place.place (c.loop-place.place - 1) c.index-items-place.result next low c.index-items-place.is,
+      ),
     )

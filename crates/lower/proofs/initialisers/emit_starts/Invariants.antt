@@ -1,7 +1,9 @@
-use Rattle.std.proofs.Common.{◌≤◌, length, drop, map}
+use Rattle.std.proofs.Common.{◌+◌, ◌≤◌, length, drop, map}
 use Rattle.c_syntax.specs.Plain.{plain_start}
 use Rattle.tree_facts.specs.Facts.{facts_in, sites_in}
 use Rattle.graphs.specs.Initialisers.{AllStart}
+use Rattle.std.specs.List.{sum_by}
+use Rattle.graphs.specs.Room.{start_room}
 use Rattle.graph_parts.specs.Made.{Made}
 use Rattle.lower.proofs.initialisers.emit_starts.Given as goal
 
@@ -10,3 +12,4 @@ abbrev pub invariant-loop-place : goal.invariant-loop-place
 invariant-loop-place l =
     (l.place ≤ length l.starts)
     × Made (λ G. AllStart G (facts_in l.facts) (sites_in l.facts) (map plain_start (drop l.place l.starts))) l.initial.graph l.graph l.first l.next
+    × (length l.graph ≤ length l.initial.graph + sum_by (start_room (sites_in l.facts)) (map plain_start (drop l.place l.starts)))

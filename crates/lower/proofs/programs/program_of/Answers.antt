@@ -2,6 +2,7 @@ use Rattle.std.proofs.Common.{ap, sym, ◌∙◌, slice_get}
 use Rattle.tree_facts.specs.Facts.{source_in}
 use Rattle.lower.proofs.Graphing.{graph_some}
 use Rattle.lower.proofs.Readying.{plain_some, ready_some}
+use Rattle.lower.proofs.Rooms.{counted_some}
 use Rattle.lower.proofs.programs.program_of.Goals as goal
 
 pub returns-clause-graph : goal.returns-clause-graph
@@ -18,3 +19,7 @@ returns-clause-ready c =
 pub returns-clause-plain : goal.returns-clause-plain
 returns-clause-plain c =
     plain_some (source_in c.args.facts.now) c.in_ok-program.program _ _ _ _ _ c.in_ok-program.ensures.value (rw c.in-Some-2.is at c.in_ok-functions.ensures.are)
+
+pub returns-clause-few : goal.returns-clause-few
+returns-clause-few c =
+    counted_some _ c.in_ok-program.program _ _ _ _ _ c.in_ok-program.ensures.value (rw c.in-Some-2.is at c.in_ok-functions.ensures.few)

@@ -1,0 +1,5 @@
+pub mod Allowing
+pub mod Counting
+pub mod Expressions
+pub mod Statements
+pub mod Functions

@@ -1,0 +1,13 @@
+pub mod Main
+pub mod Counting
+pub mod Leaving
+pub mod Laying
+pub mod Filing
+pub mod Entering
+pub mod Fitting
+pub mod Sizes
+pub mod Distinct
+pub mod Measuring
+pub mod Strings
+pub mod Texts
+pub mod Variables
