@@ -1,5 +1,4 @@
 //! From a text to its programs, and to what a run comes to.
-use c_lexer::lex;
 use cbi_base::Outcome;
 use countdown_bank::Bank;
 use flow::Program;
@@ -19,23 +18,6 @@ pub(crate) fn schemes_of(letters: &str) -> Schemes {
     }
 }
 
-/// How many nodes the functions have together.
-fn node_count(program: &Program) -> usize {
-    let mut nodes = 0usize;
-    for function in program.functions() {
-        nodes = nodes.saturating_add(function.nodes.len());
-    }
-    nodes
-}
-
-/// How many tokens a text has.
-fn token_count(alloc: Global, text: &[u8]) -> Result<usize, Fail> {
-    match lex(alloc, text) {
-        Ok(tokens) => Ok(tokens.as_slice().len()),
-        Err(_) => Err("it has no tokens".into()),
-    }
-}
-
 /// The program of a text by a plan.
 fn planned(alloc: Global, text: &[u8], plan: Plan) -> Result<Program, Fail> {
     match compile(alloc, text, plan) {
@@ -44,7 +26,7 @@ fn planned(alloc: Global, text: &[u8], plan: Plan) -> Result<Program, Fail> {
     }
 }
 
-/// The program of a text with the sites of these schemes, or with none. It has at most 16 nodes a token, and one more a site.
+/// The program of a text with the sites of these schemes, or with none.
 pub(crate) fn compiled(alloc: Global, text: &[u8], letters: &str) -> Result<Program, Fail> {
     let plan = if letters.is_empty() {
         Plan::Plain
@@ -53,14 +35,7 @@ pub(crate) fn compiled(alloc: Global, text: &[u8], letters: &str) -> Result<Prog
             schemes: schemes_of(letters),
         }
     };
-    let program = planned(alloc, text, plan)?;
-    let most = token_count(alloc, text)?
-        .saturating_mul(16)
-        .saturating_add(program.table().sites().len());
-    if node_count(&program) > most {
-        return Err("too many nodes".into());
-    }
-    Ok(program)
+    planned(alloc, text, plan)
 }
 
 /// The sampled program of a text with the sites of these schemes.

@@ -1,9 +1,11 @@
 -- From programs that mean a text to ones that do what it means, by a plan.
-use Rattle.std.proofs.Common.{◌≡◌, ◌≢◌, ℕ, suc, arith, refl, sym, ◌∙◌, ap, ap₂, subst, List, [], ◌∷◌, length, map, slice_get, Some, Result, Ok, Err}
+use Rattle.std.proofs.Common.{All, ◌≡◌, ◌≢◌, ◌≤◌, ◌+◌, ◌*◌, ℕ, suc, arith, refl, sym, ◌∙◌, ap, ap₂, subst, List, [], ◌∷◌, length, map, slice_get, Some, Result, Ok, Err}
 use Rattle.std.specs.Prelude.{IfOk}
 use Rattle.cbi_base.specs.declared.outcome.Outcome.TheVariants.{Trapped}
 use Rattle.cbi_base.specs.declared.trap.Trap.TheVariants.{Internal}
 use Rattle.c_syntax.specs.ItemTree.{SourceTree}
+use Rattle.c_syntax.specs.Limits.{most_tokens}
+use Rattle.c_syntax.specs.Spelling.{tree_kinds}
 use Rattle.c_types.specs.declared.walk.Walk.{Walk}
 use Rattle.c_meaning.specs.Texts.{source_of, text_meaning}
 use Rattle.flow.specs.declared.program.Function.{Function}
@@ -11,19 +13,21 @@ use Rattle.flow.specs.declared.program.ProgramParts.{ProgramParts}
 use Rattle.flow.specs.declared.site.Site.{Site}
 use Rattle.flow.specs.declared.site.TableParts.{TableParts}
 use Rattle.flow.specs.Counting.{counts_of}
+use Rattle.flow.specs.Limits.{site_limit}
 use Rattle.flow.specs.Program.{table_of}
 use Rattle.flow.specs.Sampling.{samples}
 use Rattle.graphs.specs.Functions.{ending_of}
 use Rattle.sites.specs.declared.schemes.Schemes.{Schemes}
 use Rattle.sites.specs.Table.{sites_of}
-use Rattle.clone_paths.specs.Cloned.{Cloned}
-use Rattle.sampling.specs.Runs.{RunsLike, Samples}
+use Rattle.clone_paths.specs.Cloned.{ArePlain, Cloned, MayClone}
+use Rattle.sampling.specs.Runs.{IsReady, RunsLike, Samples}
 use Rattle.lower.specs.Means.{MeansText}
+use Rattle.lower.specs.Programs.{node_count}
 use Rattle.accepted_texts.specs.Accepted.{IsAccepted}
 use Rattle.study.specs.declared.plan.Plan.{Plan}
 use Rattle.study.specs.declared.plan.Plan.TheVariants as plan
 use Rattle.study.specs.Compiled.{DoesPlan}
-use Rattle.study.specs.Does.{DoesText, EndsAs, SamplesText}
+use Rattle.study.specs.Does.{DoesText, EndsAs, HasFewNodes, SamplesText}
 use Rattle.study.specs.Planned.{planned_sites}
 
 -- no run of the text comes to a fault of its own
@@ -31,8 +35,8 @@ abbrev pub NeverFaults : SourceTree → Walk → List Site → Type 0
 NeverFaults tree known table = (input : List ℕ) (turns : ℕ) → (text_meaning tree known table input turns).outcome ≢ Trapped Internal
 
 module _ (tree : SourceTree) (known : Walk) (table : List Site) where
-  full_does : (p : ProgramParts) → MeansText (source_of tree known table) p → p.sites ≡ table → NeverFaults tree known table → DoesText tree known table p
-  full_does p means sites never = record {
+  full_does : (p : ProgramParts) → MeansText (source_of tree known table) p → p.sites ≡ table → NeverFaults tree known table → HasFewNodes tree p → DoesText tree known table p
+  full_does p means sites never few = record {
     sites = sites;
     ends = λ input bank turns. record {
       ending = ending_of (text_meaning tree known table input turns);
@@ -40,6 +44,7 @@ module _ (tree : SourceTree) (known : Walk) (table : List Site) where
       goes = record { outcome = refl; output = refl; seen_is = refl; counts = refl };
     };
     never = never;
+    few = few;
   }
 
   -- a run of the sampled program beside one of the full one
@@ -73,6 +78,11 @@ module _ (tree : SourceTree) (known : Walk) (table : List Site) where
         (run input bank turns e.ending positive e.ends (λ internal. does.never input turns (sym e.goes.outcome ∙ internal)));
   }
 
+-- a sampled program's runs are samples where the full one is ready
+pub when_ready : {E : Type 0} (p : ProgramParts) (r : Result ProgramParts E) → IfOk r (λ q. IsReady p → Samples p q) → IsReady p → IfOk r (Samples p)
+when_ready p (Ok q) run ready = run ready
+when_ready p (Err e) run ready = tt
+
 -- so is the answer in sampled mode, where there is one
 pub sampled_result : {E : Type 0} (by : Plan) (schemes : Schemes) (tree : SourceTree) (known : Walk) (p : ProgramParts) (r : Result ProgramParts E) → by ≡ plan.Sampled schemes
     → DoesText tree known (planned_sites by tree known) p → IfOk r (Cloned p) → IfOk r (Samples p) → IfOk r (DoesPlan by tree known)
@@ -97,6 +107,26 @@ pub kept_names : {E : Type 0} (p : ProgramParts) (r : Result ProgramParts E) →
 kept_names p (Ok q) cloned = names_same p.functions q.functions cloned.functions.few (λ number f g x y. (cloned.functions.each number f g x y).name)
 kept_names p (Err e) cloned = tt
 
+-- a program that a text is lowered to has few nodes where its table is the one that was given
+pub few_of : (tree : SourceTree) (table : TableParts) (p : ProgramParts) → table_of p ≡ table → node_count p.functions ≤ 16 * length (tree_kinds tree) + length table.sites
+    → HasFewNodes tree p
+few_of tree table p same few = subst (λ (s : List Site). node_count p.functions ≤ 16 * length (tree_kinds tree) + length s) (sym (ap (λ (t : TableParts). t.sites) same)) few
+
+pub few_result : {E : Type 0} (tree : SourceTree) (table : TableParts) (r : Result ProgramParts E) → IfOk r (λ p. table_of p ≡ table)
+    → IfOk r (λ p. node_count p.functions ≤ 16 * length (tree_kinds tree) + length table.sites) → IfOk r (HasFewNodes tree)
+few_result tree table (Ok p) same few = few_of tree table p same few
+few_result tree table (Err e) same few = tt
+
+-- a program of few nodes may be sampled: a text has at most 100,000 tokens, and a table 65,536 sites
+pub may_clone : (tree : SourceTree) (sites : List Site) (table : TableParts) (p : ProgramParts) → All (λ (f : Function). ArePlain f.nodes) p.functions → HasFewNodes tree p
+    → length (tree_kinds tree) ≤ most_tokens → table_of p ≡ table → table.sites ≡ sites → length sites ≤ site_limit → MayClone p
+may_clone tree sites table p plain few tokens same planned short = record {
+  plain = plain;
+  few =
+      let long : length p.sites ≡ length sites = ap length (ap (λ (t : TableParts). t.sites) same ∙ planned) in
+      omega (arith, few, tokens, long, short);
+}
+
 -- what is known of accepted texts
 abbrev pub Never : Type 0
 Never =
@@ -116,7 +146,7 @@ module _ (never : Never) (never_plain : NeverPlain) (text : List ℕ) (tree : So
 
   -- a program with the table of the plan's sites that means the text does so
   pub looks : (plan : Plan) (table : TableParts) (p : ProgramParts) → table.sites ≡ planned_sites plan tree known → MeansText (source_of tree known table.sites) p → table_of p ≡ table
-      → DoesText tree known (planned_sites plan tree known) p
-  looks plan table p planned means same =
+      → HasFewNodes tree p → DoesText tree known (planned_sites plan tree known) p
+  looks plan table p planned means same few =
       full_does tree known (planned_sites plan tree known) p (subst (λ (s : List Site). MeansText (source_of tree known s) p) planned means)
-      (ap (λ (t : TableParts). t.sites) same ∙ planned) (faultless plan)
+      (ap (λ (t : TableParts). t.sites) same ∙ planned) (faultless plan) few

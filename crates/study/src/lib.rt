@@ -9,6 +9,6 @@ mod ranked;
 
 pub use error::CompileError;
 pub use laws::{plans_agree, refused_texts_are_not_compiled, studies_agree};
-pub use pipeline::{compile, compile_checked};
+pub use pipeline::compile;
 pub use plan::Plan;
 pub use ranked::{StudyFault, StudyResult, study};

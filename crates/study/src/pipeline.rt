@@ -1,16 +1,20 @@
-ghost use Rattle.std.specs.Prelude.{◌≡◌, ℕ, List, IfErr, IfOk, IsErr, OnOk};
+ghost use Rattle.std.specs.Prelude.{◌≡◌, ◌≤◌, ℕ, List, length, IfErr, IfOk, IsErr, OnOk};
+ghost use Rattle.std.specs.List.{All};
 ghost use Rattle.c_syntax.specs.ItemTree.{SourceTree};
+ghost use Rattle.c_syntax.specs.Limits.{most_tokens};
+ghost use Rattle.c_syntax.specs.Spelling.{tree_kinds};
 ghost use Rattle.c_types.specs.declared.walk.Walk.{Walk};
 ghost use Rattle.c_types.specs.Answers.{known_of, tree_of};
 ghost use Rattle.c_meaning.specs.Texts.{source_of};
 ghost use Rattle.flow.specs.Program.{table_of};
 ghost use Rattle.sites.specs.Table.{functions_of};
-ghost use Rattle.clone_paths.specs.Cloned.{Cloned};
-ghost use Rattle.sampling.specs.Runs.{IsReady, Samples};
+ghost use Rattle.clone_paths.specs.Cloned.{ArePlain, MayClone};
+ghost use Rattle.sampling.specs.Runs.{IsReady};
 ghost use Rattle.lower.specs.Means.{MeansText};
+ghost use Rattle.typed_texts.specs.Accepted.{IsAccepted as IsAcceptedTree};
 ghost use Rattle.accepted_texts.specs.Accepted.{IsAccepted};
 ghost use Rattle.study.specs.Compiled.{DoesPlan, IsCompiled};
-ghost use Rattle.study.specs.Does.{DoesText};
+ghost use Rattle.study.specs.Does.{DoesText, HasFewNodes};
 ghost use Rattle.study.specs.Planned.{FitsPlan, planned_sites};
 ghost use Rattle.study.specs.Refused.{CrowdedBy, IsRefusedText, RefusedBy};
 
@@ -21,7 +25,7 @@ use c_types::Checked;
 use cbi_base::{Memory, Refusal};
 use flow::{Program, SiteTable};
 use lower::lower;
-use sampling::{may_clone, sample};
+use sampling::sample;
 use sites::{SiteError, schemes_choose_sites, site_table};
 use std::alloc::Global;
 
@@ -48,6 +52,8 @@ fn lower_all(alloc: Global, checked: &Checked, table: &SiteTable) -> Result<Prog
     ensures means { IfOk result (λ p. MeansText (source_of (tree_of checked.now) (known_of checked.now) table.now.sites) p) }
     ensures table { IfOk result (λ p. table_of p ≡ table.now) }
     ensures ready { IfOk result IsReady }
+    ensures plain { IfOk result (λ p. All (λ f. ArePlain f.nodes) p.functions) }
+    ensures few { IsAcceptedTree (tree_of checked.now) (known_of checked.now) → IfOk result (HasFewNodes (tree_of checked.now)) }
 {
     match lower(alloc, checked, table)? {
         Some(program) => Ok(program),
@@ -55,39 +61,24 @@ fn lower_all(alloc: Global, checked: &Checked, table: &SiteTable) -> Result<Prog
     }
 }
 
-/// The sampled program of one that a text was compiled to. One of more than 2,000,000 nodes isn't sampled, which is answered as want of memory:
-/// that no text has so many isn't proved.
-fn sample_all(alloc: Global, program: &Program) -> Result<Program, Memory>
-    requires { IsReady program.now }
-    ensures cloned { IfOk result (Cloned program.now) }
-    ensures samples { IfOk result (Samples program.now) }
-{
-    if !may_clone(program) {
-        return Err(Memory);
-    }
-    sample(alloc, program)
-}
-
 /// The program of a text by a plan, from the one that looks at each visit of the plan's sites.
 fn by_plan(alloc: Global, program: Program, plan: Plan) -> Result<Program, Memory>
-    requires { IsReady program }
+    requires may_clone { MayClone program }
+    requires ready { IsReady program }
     ensures does { (tree : SourceTree) (known : Walk) → DoesText tree known (planned_sites plan tree known) program → IfOk result (DoesPlan plan tree known) }
     ensures names { IfOk result (λ q. (table_of q).functions ≡ (table_of program).functions) }
 {
     match plan {
         Plan::Plain | Plan::Full { .. } => Ok(program),
-        Plan::Sampled { .. } => sample_all(alloc, &program),
+        Plan::Sampled { .. } => sample(alloc, &program),
     }
 }
 
 /// The program of a checked text, by a plan. Refused with TooManySites exactly where the sites of the plan are more than 65,536, which those of a
-/// plain program never are. Memory is told where memory is wanting, and besides of a text whose parts aren't those of a program, and of one whose
-/// program has more than 2,000,000 nodes and is to be sampled.
-pub fn compile_checked(
-    alloc: Global,
-    checked: &Checked,
-    plan: Plan,
-) -> Result<Program, CompileError>
+/// plain program never are. Memory is told where memory is wanting, and besides of a text whose parts aren't those of a program.
+fn compile_checked(alloc: Global, checked: &Checked, plan: Plan) -> Result<Program, CompileError>
+    requires accepted { IsAcceptedTree (tree_of checked.now) (known_of checked.now) }
+    requires short { length (tree_kinds (tree_of checked.now)) ≤ most_tokens }
     ensures compiled { (text : List ℕ) → IsAccepted text (tree_of checked.now) (known_of checked.now) → IfOk result (IsCompiled text plan) }
     ensures fits { OnOk result (FitsPlan plan (tree_of checked.now) (known_of checked.now)) }
     ensures refused { IfErr result (CrowdedBy plan (tree_of checked.now) (known_of checked.now)) }
@@ -101,8 +92,7 @@ pub fn compile_checked(
 
 /// Compiles a text, of at most 1,048,576 bytes. It is refused by the first cause in this order: its tokens, its tree, its types (each with the line
 /// where it stands), and then its sites, which are more than 65,536. A plain program has no sites and isn't refused for them. Memory is told where
-/// memory is wanting, and besides of a text whose parts aren't those of a program, and of one whose program has more than 2,000,000 nodes and is to
-/// be sampled: that no accepted text is so isn't proved.
+/// memory is wanting, and besides of a text whose parts aren't those of a program: that no accepted text is so isn't proved.
 pub fn compile(alloc: Global, text: &[u8], plan: Plan) -> Result<Program, CompileError>
     ensures compiled { IfOk result (IsCompiled text.now plan) }
     ensures fits { OnOk result ((tree : SourceTree) (known : Walk) → IsAccepted text.now tree known → FitsPlan plan tree known) }
