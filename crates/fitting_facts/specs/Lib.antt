@@ -1,0 +1,3 @@
+pub mod FactsFit
+pub mod TextNames
+pub mod Owned
