@@ -1,0 +1,11 @@
+pub mod Counting
+pub mod Keeping
+pub mod Bodies
+pub mod Zeros
+pub mod Initials
+pub mod Starts
+pub mod Values
+pub mod Declaring
+pub mod Items
+pub mod Objects
+pub mod Globals

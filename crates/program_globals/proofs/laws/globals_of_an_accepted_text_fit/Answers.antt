@@ -1,0 +1,12 @@
+use Rattle.program_globals.proofs.Counting.{few_globals, objects_there}
+use Rattle.program_globals.proofs.Globals.{globals_fit}
+use Rattle.program_globals.proofs.laws.globals_of_an_accepted_text_fit.Goals as goal
+
+pub returns-clause-there : goal.returns-clause-there
+returns-clause-there c = λ tree walk a. objects_there tree walk a
+
+pub returns-clause-few : goal.returns-clause-few
+returns-clause-few c = λ tree walk a s. few_globals tree walk a s
+
+pub returns-clause-fit : goal.returns-clause-fit
+returns-clause-fit c = λ tree walk globals a s f e. globals_fit tree walk globals a s f e
