@@ -1,0 +1,10 @@
+pub mod Leading
+pub mod Standing
+pub mod Numbers
+pub mod Nodes
+pub mod Formats
+pub mod Arguments
+pub mod Expressions
+pub mod Statements
+pub mod Examples
+pub mod Bodies
