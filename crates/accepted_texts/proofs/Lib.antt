@@ -1,3 +1,4 @@
+pub mod Bytes
 pub mod Constants
 pub mod Fitting
 pub mod Lining

@@ -1,7 +1,10 @@
 ghost use Rattle.std.specs.Prelude.{◌≡◌, IfErr, IfOk, IsErr};
+ghost use Rattle.std.specs.List.{AllByRecursion};
+ghost use Rattle.c_syntax.specs.Spelling.{tree_kinds};
 ghost use Rattle.c_syntax.specs.Tokens.{line_at, lines_of};
 ghost use Rattle.c_syntax.specs.Plain.{plain_tree};
 ghost use Rattle.c_types.specs.Answers.{known_of, tree_of};
+ghost use Rattle.program_parts.specs.Parts.{IsOfBytes};
 ghost use Rattle.accepted_texts.specs.Accepted.{HasTokens, HasTree, IsAccepted};
 ghost use Rattle.accepted_texts.specs.Refused.{IsRefusedText, RefusedBy};
 
@@ -57,6 +60,7 @@ fn tree_with(alloc: Global, text: &[u8], tokens: &Tokens) -> Result<Tree, TextEr
 /// tree it is the first token from which no tree goes on; that it is the first one, no clause says.
 pub fn accept(alloc: Global, text: &[u8]) -> Result<Checked, TextError>
     ensures accepted { IfOk result (λ c. IsAccepted text.now (tree_of c) (known_of c)) }
+    ensures bytes { IfOk result (λ c. AllByRecursion IsOfBytes (tree_kinds (tree_of c))) }
     ensures refused { IfErr result (RefusedBy text.now) }
     ensures refused_only { IsRefusedText text.now → IsErr result }
 {

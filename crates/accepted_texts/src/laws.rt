@@ -1,15 +1,19 @@
-ghost use Rattle.std.specs.Prelude.{◌≡◌, ◌≢◌, ℕ, List, []};
-ghost use Rattle.std.specs.List.{All};
+ghost use Rattle.std.specs.Prelude.{◌≡◌, ◌≢◌, ◌<◌, ◌≤◌, ℕ, List, [], length};
+ghost use Rattle.std.specs.List.{All, AllByRecursion};
 ghost use Rattle.cbi_base.specs.declared.outcome.Outcome.TheVariants.{Trapped};
 ghost use Rattle.cbi_base.specs.declared.refusal.Refusal.{Refusal};
 ghost use Rattle.cbi_base.specs.declared.trap.Trap.TheVariants.{Internal};
 ghost use Rattle.c_syntax.specs.ItemTree.{SourceTree};
+ghost use Rattle.c_syntax.specs.Limits.{most_tokens};
+ghost use Rattle.c_syntax.specs.Spelling.{tree_kinds};
+ghost use Rattle.c_syntax.specs.Tokens.{KindFits};
 ghost use Rattle.c_types.specs.declared.walk.Walk.{Walk};
 ghost use Rattle.c_meaning.specs.Texts.{text_meaning};
 ghost use Rattle.flow.specs.Sites.{IsSite};
 ghost use Rattle.sites.specs.declared.schemes.Schemes.{Schemes};
 ghost use Rattle.sites.specs.Table.{sites_of};
 ghost use Rattle.typed_texts.specs.Sited.{IsSited, local_counts};
+ghost use Rattle.program_parts.specs.Parts.{IsOfBytes};
 ghost use Rattle.accepted_texts.specs.Accepted.{IsAccepted};
 ghost use Rattle.accepted_texts.specs.Refused.{IsRefusedText, RefusesText};
 
@@ -50,3 +54,11 @@ pub fn sites_of_accepted_texts_stand()
 {
     sites_of_an_accepted_text_stand();
 }
+
+/// Constants of an accepted text lie in their kinds, its strings are of bytes, and its tokens are few.
+pub fn tokens_of_accepted_texts_fit()
+    ensures constants { (text : List ℕ) (tree : SourceTree) (known : Walk) → IsAccepted text tree known → AllByRecursion KindFits (tree_kinds tree) }
+    ensures bytes { (text : List ℕ) (tree : SourceTree) (known : Walk) → All (λ b. b < 256) text → IsAccepted text tree known
+        → AllByRecursion IsOfBytes (tree_kinds tree) }
+    ensures short { (text : List ℕ) (tree : SourceTree) (known : Walk) → IsAccepted text tree known → length (tree_kinds tree) ≤ most_tokens }
+{}
