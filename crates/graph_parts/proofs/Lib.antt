@@ -6,3 +6,4 @@ pub mod Rows
 pub mod Serving
 pub mod Taking
 pub mod Visiting
+pub mod Ordered

@@ -10,7 +10,7 @@ use Rattle.c_meaning.specs.declared.value_type.ValueType.{ValueType}
 use Rattle.graphs.specs.Operators.{Negated, Prefixed, Through}
 use Rattle.graphs.specs.Paths.{Graph, Path, ◌then◌, Does, Emitted}
 use Rattle.graphs.specs.Values.{Placed, Valued}
-use Rattle.graph_parts.specs.Made.{Made, Part}
+use Rattle.graph_parts.specs.Made.{Made, MadeFor, MadeWays, Part}
 use Rattle.graph_parts.specs.Prefixes.{PrefixValue}
 use Rattle.graph_parts.specs.Purposes.{Serves, Takes, TakesPlace, TakesThrough, ways}
 use Rattle.graph_parts.specs.declared.purpose.Purpose.{Purpose}
@@ -23,10 +23,10 @@ serves_valued G R (purpose.Effect next) i h = h
 serves_valued G R (purpose.Truth yes_at no_at) i h = h
 
 -- an expression that is no place
-pub valued_made : (R : Part ℕ) (p : Purpose) (n0 n1 n2 : List Node) (i m : ℕ) → Made (λ G. Takes G) n0 n1 m p → Made R n1 n2 i m →
-    Made (λ G. Serves (Valued G (R G))) n0 n2 i p
+pub valued_made : (R : Part ℕ) (p : Purpose) (n0 n1 n2 : List Node) (i m : ℕ) → MadeFor (λ G. Takes G) n0 n1 m p → Made R n1 n2 i m →
+    MadeFor (λ G. Serves (Valued G (R G))) n0 n2 i p
 valued_made R p n0 n1 n2 i m taken made =
-    carried (λ G. R G then Takes G) (λ G. Serves (Valued G (R G))) p p (λ G i h. serves_valued G (R G) p i h) n0 n2 i (then_made R (λ G. Takes G) n0 n1 n2 i m p taken made)
+    carried (λ G. R G then Takes G) (λ G. Serves (Valued G (R G))) p p (λ G i h. serves_valued G (R G) p i h) (λ n b. b) n0 n2 i (then_made R (λ G. Takes G) n0 n1 n2 i m p taken made)
 
 serves_placed : (G : Graph) (of : Option ValueType) (P : Path ℕ) (p : Purpose) (i : ℕ) → (P then TakesPlace G of) i p → Serves (Placed G of P) i p
 serves_placed G of P (purpose.Value next) i h = h
@@ -34,10 +34,10 @@ serves_placed G of P (purpose.Effect next) i h = h
 serves_placed G of P (purpose.Truth yes_at no_at) i h = (h.2.0, (h.0, h.1, h.2.1), h.2.2)
 
 -- a place
-pub placed_made : (of : Option ValueType) (P : Part ℕ) (p : Purpose) (n0 n1 n2 : List Node) (i m : ℕ) → Made (λ G. TakesPlace G of) n0 n1 m p → Made P n1 n2 i m →
-    Made (λ G. Serves (Placed G of (P G))) n0 n2 i p
+pub placed_made : (of : Option ValueType) (P : Part ℕ) (p : Purpose) (n0 n1 n2 : List Node) (i m : ℕ) → MadeFor (λ G. TakesPlace G of) n0 n1 m p → Made P n1 n2 i m →
+    MadeFor (λ G. Serves (Placed G of (P G))) n0 n2 i p
 placed_made of P p n0 n1 n2 i m taken made =
-    carried (λ G. P G then TakesPlace G of) (λ G. Serves (Placed G of (P G))) p p (λ G i h. serves_placed G of (P G) p i h) n0 n2 i
+    carried (λ G. P G then TakesPlace G of) (λ G. Serves (Placed G of (P G))) p p (λ G i h. serves_placed G of (P G) p i h) (λ n b. b) n0 n2 i
     (then_made P (λ G. TakesPlace G of) n0 n1 n2 i m p taken made)
 
 serves_through : (G : Graph) (of : Option ValueType) (R : Path ℕ) (p : Purpose) (i : ℕ) → (R then TakesThrough G of) i p → Serves (Through G of R) i p
@@ -46,22 +46,22 @@ serves_through G of R (purpose.Effect next) i h = (h.2.0, (h.0, h.1, h.2.1), h.2
 serves_through G of R (purpose.Truth yes_at no_at) i h = (h.2.0, (h.0, h.1, h.2.1), h.2.2)
 
 -- the place that a pointer's value is
-pub through_made : (of : Option ValueType) (R : Part ℕ) (p : Purpose) (n0 n1 n2 : List Node) (i m : ℕ) → Made (λ G. TakesThrough G of) n0 n1 m p → Made R n1 n2 i m →
-    Made (λ G. Serves (Through G of (R G))) n0 n2 i p
+pub through_made : (of : Option ValueType) (R : Part ℕ) (p : Purpose) (n0 n1 n2 : List Node) (i m : ℕ) → MadeFor (λ G. TakesThrough G of) n0 n1 m p → Made R n1 n2 i m →
+    MadeFor (λ G. Serves (Through G of (R G))) n0 n2 i p
 through_made of R p n0 n1 n2 i m taken made =
-    carried (λ G. R G then TakesThrough G of) (λ G. Serves (Through G of (R G))) p p (λ G i h. serves_through G of (R G) p i h) n0 n2 i
+    carried (λ G. R G then TakesThrough G of) (λ G. Serves (Through G of (R G))) p p (λ G i h. serves_through G of (R G) p i h) (λ n b. b) n0 n2 i
     (then_made R (λ G. TakesThrough G of) n0 n1 n2 i m p taken made)
 
 -- an expression for its value, and one for what it does
-pub for_value : (m : Graph → Emitted) (n0 n1 : List Node) (i next : ℕ) → Made (λ G. Serves (m G)) n0 n1 i (purpose.Value next) → Made (λ G. (m G).value) n0 n1 i next
-for_value m n0 n1 i next made = carried (λ G. Serves (m G)) (λ G. (m G).value) (purpose.Value next) next (λ G i h. h) n0 n1 i made
+pub for_value : (m : Graph → Emitted) (n0 n1 : List Node) (i next : ℕ) → MadeFor (λ G. Serves (m G)) n0 n1 i (purpose.Value next) → Made (λ G. (m G).value) n0 n1 i next
+for_value m n0 n1 i next made = carried (λ G. Serves (m G)) (λ G. (m G).value) (purpose.Value next) next (λ G i h. h) (λ n b. b) n0 n1 i made
 
-pub for_effect : (m : Graph → Emitted) (n0 n1 : List Node) (i next : ℕ) → Made (λ G. Serves (m G)) n0 n1 i (purpose.Effect next) → Made (λ G. (m G).effect) n0 n1 i next
-for_effect m n0 n1 i next made = carried (λ G. Serves (m G)) (λ G. (m G).effect) (purpose.Effect next) next (λ G i h. h) n0 n1 i made
+pub for_effect : (m : Graph → Emitted) (n0 n1 : List Node) (i next : ℕ) → MadeFor (λ G. Serves (m G)) n0 n1 i (purpose.Effect next) → Made (λ G. (m G).effect) n0 n1 i next
+for_effect m n0 n1 i next made = carried (λ G. Serves (m G)) (λ G. (m G).effect) (purpose.Effect next) next (λ G i h. h) (λ n b. b) n0 n1 i made
 
-pub for_truth : (m : Graph → Emitted) (n0 n1 : List Node) (i yes_at no_at : ℕ) → Made (λ G. Serves (m G)) n0 n1 i (purpose.Truth yes_at no_at) →
-    Made (λ G. (m G).truth) n0 n1 i (ways yes_at no_at)
-for_truth m n0 n1 i yes_at no_at made = carried (λ G. Serves (m G)) (λ G. (m G).truth) (purpose.Truth yes_at no_at) (ways yes_at no_at) (λ G i h. h) n0 n1 i made
+pub for_truth : (m : Graph → Emitted) (n0 n1 : List Node) (i yes_at no_at : ℕ) → MadeFor (λ G. Serves (m G)) n0 n1 i (purpose.Truth yes_at no_at) →
+    MadeWays (λ G. (m G).truth) n0 n1 i (ways yes_at no_at)
+for_truth m n0 n1 i yes_at no_at made = carried (λ G. Serves (m G)) (λ G. (m G).truth) (purpose.Truth yes_at no_at) (ways yes_at no_at) (λ G i h. h) (λ n b. b) n0 n1 i made
 
 -- an operator whose whole is a value
 abbrev pub is_valued : PrefixOperator → Bool
@@ -87,32 +87,32 @@ negation m G = (m G).value then Does G (node.Sole unary.Not 0)
 
 module _ (facts : Facts) (sites : Sites) (m : Graph → Emitted) where
   -- a negation, whose truth goes the other way round
-  pub negated_truth : (n0 n1 : List Node) (i yes_at no_at : ℕ) → Made (λ G. Serves (m G)) n0 n1 i (purpose.Truth no_at yes_at) →
-      Made (λ G. Serves (Negated G facts sites (m G))) n0 n1 i (purpose.Truth yes_at no_at)
+  pub negated_truth : (n0 n1 : List Node) (i yes_at no_at : ℕ) → MadeFor (λ G. Serves (m G)) n0 n1 i (purpose.Truth no_at yes_at) →
+      MadeFor (λ G. Serves (Negated G facts sites (m G))) n0 n1 i (purpose.Truth yes_at no_at)
   negated_truth n0 n1 i yes_at no_at made =
-      carried (λ G. Serves (m G)) (λ G. Serves (Negated G facts sites (m G))) (purpose.Truth no_at yes_at) (purpose.Truth yes_at no_at) (λ G i h. inr h) n0 n1 i made
+      carried (λ G. Serves (m G)) (λ G. Serves (Negated G facts sites (m G))) (purpose.Truth no_at yes_at) (purpose.Truth yes_at no_at) (λ G i h. inr h) (λ n b. (b.1.0, (b.0, tt))) n0 n1 i made
 
-  pub negated_value : (n0 n1 n2 n3 : List Node) (after sole i next : ℕ) → Made (λ G. Takes G) n0 n1 after (purpose.Value next) →
+  pub negated_value : (n0 n1 n2 n3 : List Node) (after sole i next : ℕ) → MadeFor (λ G. Takes G) n0 n1 after (purpose.Value next) →
       sole ≡ length n1 → n2 ≡ n1 ++ node.Sole unary.Not after ∷ [] → Made (λ G. (m G).value) n2 n3 i sole →
-      Made (λ G. Serves (Negated G facts sites (m G))) n0 n3 i (purpose.Value next)
+      MadeFor (λ G. Serves (Negated G facts sites (m G))) n0 n3 i (purpose.Value next)
   negated_value n0 n1 n2 n3 after sole i next taken at is made =
-      carried (λ G. Serves (Valued G (negation m G))) (λ G. Serves (Negated G facts sites (m G))) (purpose.Value next) (purpose.Value next) (λ G i h. h) n0 n3 i
+      carried (λ G. Serves (Valued G (negation m G))) (λ G. Serves (Negated G facts sites (m G))) (purpose.Value next) (purpose.Value next) (λ G i h. h) (λ n b. b) n0 n3 i
       (valued_made (negation m) (purpose.Value next) n0 n1 n3 i after taken (made and_then row (node.Sole unary.Not 0) _ at is refl))
 
-  pub negated_effect : (n0 n1 n2 n3 : List Node) (after sole i next : ℕ) → Made (λ G. Takes G) n0 n1 after (purpose.Effect next) →
+  pub negated_effect : (n0 n1 n2 n3 : List Node) (after sole i next : ℕ) → MadeFor (λ G. Takes G) n0 n1 after (purpose.Effect next) →
       sole ≡ length n1 → n2 ≡ n1 ++ node.Sole unary.Not after ∷ [] → Made (λ G. (m G).value) n2 n3 i sole →
-      Made (λ G. Serves (Negated G facts sites (m G))) n0 n3 i (purpose.Effect next)
+      MadeFor (λ G. Serves (Negated G facts sites (m G))) n0 n3 i (purpose.Effect next)
   negated_effect n0 n1 n2 n3 after sole i next taken at is made =
-      carried (λ G. Serves (Valued G (negation m G))) (λ G. Serves (Negated G facts sites (m G))) (purpose.Effect next) (purpose.Effect next) (λ G i h. h) n0 n3 i
+      carried (λ G. Serves (Valued G (negation m G))) (λ G. Serves (Negated G facts sites (m G))) (purpose.Effect next) (purpose.Effect next) (λ G i h. h) (λ n b. b) n0 n3 i
       (valued_made (negation m) (purpose.Effect next) n0 n1 n3 i after taken (made and_then row (node.Sole unary.Not 0) _ at is refl))
 
 -- the operators that have a value
 pub prefixed_made : (facts : Facts) (sites : Sites) (token : ℕ) (operator : PrefixOperator) (of : Option ValueType) (cells : Option ℕ) (m : Graph → Emitted) (p : Purpose)
-    (n0 n1 n2 : List Node) (i after : ℕ) → is_valued operator ≡ true → Made (λ G. Takes G) n0 n1 after p →
-    Made (λ G. PrefixValue G facts sites token operator of (m G)) n1 n2 i after → Made (λ G. Serves (Prefixed G facts sites token operator of cells (m G))) n0 n2 i p
+    (n0 n1 n2 : List Node) (i after : ℕ) → is_valued operator ≡ true → MadeFor (λ G. Takes G) n0 n1 after p →
+    Made (λ G. PrefixValue G facts sites token operator of (m G)) n1 n2 i after → MadeFor (λ G. Serves (Prefixed G facts sites token operator of cells (m G))) n0 n2 i p
 prefixed_made facts sites token operator of cells m p n0 n1 n2 i after is taken made =
     carried (λ G. Serves (Valued G (PrefixValue G facts sites token operator of (m G)))) (λ G. Serves (Prefixed G facts sites token operator of cells (m G))) p p
-    (λ G i h. subst (λ e. Serves e i p) (prefix_valued G facts sites token operator of cells (m G) is) h) n0 n2 i
+    (λ G i h. subst (λ e. Serves e i p) (prefix_valued G facts sites token operator of cells (m G) is) h) (λ n b. b) n0 n2 i
     (valued_made (λ G. PrefixValue G facts sites token operator of (m G)) p n0 n1 n2 i after taken made)
 
 pub ruleset parts_served = (for_value, for_effect, for_truth)

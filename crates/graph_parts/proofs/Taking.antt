@@ -10,41 +10,41 @@ use Rattle.c_meaning.specs.Expressions.{is_struct}
 use Rattle.graphs.specs.Paths.{◌then◌, Does, Either, ForkTo, Nothing, Ways}
 use Rattle.graphs.specs.Operators.{LoadThrough, Pointed}
 use Rattle.graphs.specs.Values.{Discarded, LoadAt}
-use Rattle.graph_parts.specs.Made.{Made, Part}
+use Rattle.graph_parts.specs.Made.{Made, MadeFor, MadeWays, Part}
 use Rattle.graph_parts.specs.Purposes.{Takes, TakesPlace, TakesThrough, is_single, ways}
 use Rattle.graph_parts.specs.declared.purpose.Purpose.TheVariants as purpose
-use Rattle.graph_parts.proofs.Building.{carried, either_made, later_self, nothing_made, one_made, then_made, view_made}
+use Rattle.graph_parts.proofs.Building.{carried, either_made, later_self, nothing_made, one_made, stays_put, then_made, view_made}
 
-pub fork_made : (n0 n1 : List Node) (i yes_at no_at : ℕ) → i ≡ length n0 → n1 ≡ n0 ++ node.Fork yes_at no_at ∷ [] → Made (λ G. ForkTo G) n0 n1 i (ways yes_at no_at)
-fork_made n0 n1 i yes_at no_at at is = view_made (λ (w : Ways). view.Forks w.yes_to w.no_to) (node.Fork yes_at no_at) n0 n1 i (ways yes_at no_at) refl at is
+pub fork_made : (n0 n1 : List Node) (i yes_at no_at : ℕ) → i ≡ length n0 → n1 ≡ n0 ++ node.Fork yes_at no_at ∷ [] → MadeWays (λ G. ForkTo G) n0 n1 i (ways yes_at no_at)
+fork_made n0 n1 i yes_at no_at at is = view_made (λ (w : Ways). view.Forks w.yes_to w.no_to) (node.Fork yes_at no_at) n0 n1 i (ways yes_at no_at) refl at is (λ all b. b)
 
 -- a path before a fork
 pub tests_made : (R : Part ℕ) (n0 n1 n2 : List Node) (f i yes_at no_at : ℕ) → f ≡ length n0 → n1 ≡ n0 ++ node.Fork yes_at no_at ∷ [] → Made R n1 n2 i f →
-    Made (λ G. R G then ForkTo G) n0 n2 i (ways yes_at no_at)
+    MadeWays (λ G. R G then ForkTo G) n0 n2 i (ways yes_at no_at)
 tests_made R n0 n1 n2 f i yes_at no_at at is made = then_made R (λ G. ForkTo G) n0 n1 n2 i f (ways yes_at no_at) (fork_made n0 n1 f yes_at no_at at is) made
 
-pub take_value : (n : List Node) (next : ℕ) → Made (λ G. Takes G) n n next (purpose.Value next)
-take_value n next = record { does = λ fin l. refl; keeps = later_self 0 n }
+pub take_value : (n : List Node) (next : ℕ) → MadeFor (λ G. Takes G) n n next (purpose.Value next)
+take_value n next = record { does = λ fin l. refl; keeps = later_self 0 n; leads = λ below. stays_put n next below }
 
-pub take_effect : (n0 n1 : List Node) (i next : ℕ) → i ≡ length n0 → n1 ≡ n0 ++ node.Drop next ∷ [] → Made (λ G. Takes G) n0 n1 i (purpose.Effect next)
+pub take_effect : (n0 n1 : List Node) (i next : ℕ) → i ≡ length n0 → n1 ≡ n0 ++ node.Drop next ∷ [] → MadeFor (λ G. Takes G) n0 n1 i (purpose.Effect next)
 take_effect n0 n1 i next at is =
-    carried (λ G. Does G (node.Drop 0)) (λ G. Takes G) next (purpose.Effect next) (λ G i h. h) n0 n1 i (one_made (node.Drop 0) (node.Drop next) n0 n1 i next refl at is)
+    carried (λ G. Does G (node.Drop 0)) (λ G. Takes G) next (purpose.Effect next) (λ G i h. h) (λ n b. b) n0 n1 i (one_made (node.Drop 0) (node.Drop next) n0 n1 i next refl at is)
 
-pub take_truth : (n0 n1 : List Node) (i yes_at no_at : ℕ) → i ≡ length n0 → n1 ≡ n0 ++ node.Fork yes_at no_at ∷ [] → Made (λ G. Takes G) n0 n1 i (purpose.Truth yes_at no_at)
-take_truth n0 n1 i yes_at no_at at is = carried (λ G. ForkTo G) (λ G. Takes G) (ways yes_at no_at) (purpose.Truth yes_at no_at) (λ G i h. h) n0 n1 i (fork_made n0 n1 i yes_at no_at at is)
+pub take_truth : (n0 n1 : List Node) (i yes_at no_at : ℕ) → i ≡ length n0 → n1 ≡ n0 ++ node.Fork yes_at no_at ∷ [] → MadeFor (λ G. Takes G) n0 n1 i (purpose.Truth yes_at no_at)
+take_truth n0 n1 i yes_at no_at at is = carried (λ G. ForkTo G) (λ G. Takes G) (ways yes_at no_at) (purpose.Truth yes_at no_at) (λ G i h. h) (λ n b. b) n0 n1 i (fork_made n0 n1 i yes_at no_at at is)
 
-pub place_value : (of : Option ValueType) (n0 n1 : List Node) (i next : ℕ) → Made (λ G. LoadAt G of) n0 n1 i next → Made (λ G. TakesPlace G of) n0 n1 i (purpose.Value next)
-place_value of n0 n1 i next made = carried (λ G. LoadAt G of) (λ G. TakesPlace G of) next (purpose.Value next) (λ G i h. h) n0 n1 i made
+pub place_value : (of : Option ValueType) (n0 n1 : List Node) (i next : ℕ) → Made (λ G. LoadAt G of) n0 n1 i next → MadeFor (λ G. TakesPlace G of) n0 n1 i (purpose.Value next)
+place_value of n0 n1 i next made = carried (λ G. LoadAt G of) (λ G. TakesPlace G of) next (purpose.Value next) (λ G i h. h) (λ n b. b) n0 n1 i made
 
 pub place_effect : (of : Option ValueType) (n0 n1 : List Node) (i next : ℕ) → Made (λ G. Discarded G (is_struct of) of) n0 n1 i next →
-    Made (λ G. TakesPlace G of) n0 n1 i (purpose.Effect next)
+    MadeFor (λ G. TakesPlace G of) n0 n1 i (purpose.Effect next)
 place_effect of n0 n1 i next made =
-    carried (λ G. Discarded G (is_struct of) of) (λ G. TakesPlace G of) next (purpose.Effect next) (λ G i h. h) n0 n1 i made
+    carried (λ G. Discarded G (is_struct of) of) (λ G. TakesPlace G of) next (purpose.Effect next) (λ G i h. h) (λ n b. b) n0 n1 i made
 
 pub place_truth : (of : Option ValueType) (n0 n1 n2 : List Node) (f i yes_at no_at : ℕ) → f ≡ length n0 → n1 ≡ n0 ++ node.Fork yes_at no_at ∷ [] →
-    Made (λ G. LoadAt G of) n1 n2 i f → Made (λ G. TakesPlace G of) n0 n2 i (purpose.Truth yes_at no_at)
+    Made (λ G. LoadAt G of) n1 n2 i f → MadeFor (λ G. TakesPlace G of) n0 n2 i (purpose.Truth yes_at no_at)
 place_truth of n0 n1 n2 f i yes_at no_at at is made =
-    carried (λ G. LoadAt G of then ForkTo G) (λ G. TakesPlace G of) (ways yes_at no_at) (purpose.Truth yes_at no_at) (λ G i h. h) n0 n2 i
+    carried (λ G. LoadAt G of then ForkTo G) (λ G. TakesPlace G of) (ways yes_at no_at) (purpose.Truth yes_at no_at) (λ G i h. h) (λ n b. b) n0 n2 i
     (tests_made (λ G. LoadAt G of) n0 n1 n2 f i yes_at no_at at is made)
 
 -- a test of a pointer, with the load of null that is the trap
@@ -57,19 +57,19 @@ pointed_made n0 n1 n2 n3 trap fork i k at1 is1 at2 is2 at3 is3 =
     (one_made (node.Dup 0) (node.Dup fork) n2 n3 i fork refl at3 is3)
 
 pub through_value : (of : Option ValueType) (n0 n1 : List Node) (i next : ℕ) → Made (λ G. LoadThrough G of) n0 n1 i next →
-    Made (λ G. TakesThrough G of) n0 n1 i (purpose.Value next)
-through_value of n0 n1 i next made = carried (λ G. LoadThrough G of) (λ G. TakesThrough G of) next (purpose.Value next) (λ G i h. h) n0 n1 i made
+    MadeFor (λ G. TakesThrough G of) n0 n1 i (purpose.Value next)
+through_value of n0 n1 i next made = carried (λ G. LoadThrough G of) (λ G. TakesThrough G of) next (purpose.Value next) (λ G i h. h) (λ n b. b) n0 n1 i made
 
 pub through_effect : (of : Option ValueType) (n0 n1 n2 : List Node) (m i next : ℕ) → Made (λ G. Discarded G (is_struct of) of) n0 n1 m next → Made (λ G. Pointed G) n1 n2 i m →
-    Made (λ G. TakesThrough G of) n0 n2 i (purpose.Effect next)
+    MadeFor (λ G. TakesThrough G of) n0 n2 i (purpose.Effect next)
 through_effect of n0 n1 n2 m i next discarded made =
-    carried (λ G. Pointed G then Discarded G (is_struct of) of) (λ G. TakesThrough G of) next (purpose.Effect next) (λ G i h. h) n0 n2 i
+    carried (λ G. Pointed G then Discarded G (is_struct of) of) (λ G. TakesThrough G of) next (purpose.Effect next) (λ G i h. h) (λ n b. b) n0 n2 i
     (then_made (λ G. Pointed G) (λ G. Discarded G (is_struct of) of) n0 n1 n2 i m next discarded made)
 
 pub through_truth : (of : Option ValueType) (n0 n1 n2 : List Node) (f i yes_at no_at : ℕ) → f ≡ length n0 → n1 ≡ n0 ++ node.Fork yes_at no_at ∷ [] →
-    Made (λ G. LoadThrough G of) n1 n2 i f → Made (λ G. TakesThrough G of) n0 n2 i (purpose.Truth yes_at no_at)
+    Made (λ G. LoadThrough G of) n1 n2 i f → MadeFor (λ G. TakesThrough G of) n0 n2 i (purpose.Truth yes_at no_at)
 through_truth of n0 n1 n2 f i yes_at no_at at is made =
-    carried (λ G. LoadThrough G of then ForkTo G) (λ G. TakesThrough G of) (ways yes_at no_at) (purpose.Truth yes_at no_at) (λ G i h. h) n0 n2 i
+    carried (λ G. LoadThrough G of then ForkTo G) (λ G. TakesThrough G of) (ways yes_at no_at) (purpose.Truth yes_at no_at) (λ G i h. h) (λ n b. b) n0 n2 i
     (tests_made (λ G. LoadThrough G of) n0 n1 n2 f i yes_at no_at at is made)
 
 pub ruleset takes_made = (take_value, take_effect, take_truth)

@@ -7,13 +7,13 @@ use Rattle.c_meaning.specs.Facts.{Facts, Sites}
 use Rattle.c_meaning.specs.Visits.{listed}
 use Rattle.graphs.specs.Operators.{Assigned, Decided}
 use Rattle.graphs.specs.Paths.{Does, ForkTo, MarksAll, Nothing, Ways}
-use Rattle.graph_parts.specs.Made.{Made}
+use Rattle.graph_parts.specs.Made.{Made, MadeWays}
 use Rattle.graph_parts.specs.Purposes.{ways}
 use Rattle.graph_parts.proofs.Building.{nothing_made, one_made, then_made, view_made}
 use Rattle.graph_parts.proofs.Lists.{list_step}
 
 one_mark : (site : ℕ) (n0 n1 : List Node) (i k : ℕ) → i ≡ length n0 → n1 ≡ n0 ++ node.Mark site k ∷ [] → Made (λ G. λ i k. G i (view.Marks site k)) n0 n1 i k
-one_mark site n0 n1 i k at is = view_made (λ k. view.Marks site k) (node.Mark site k) n0 n1 i k refl at is
+one_mark site n0 n1 i k at is = view_made (λ k. view.Marks site k) (node.Mark site k) n0 n1 i k refl at is (λ all b. b)
 
 -- one more mark before those that were put
 pub marks_step : (sites : List ℕ) (m j : ℕ) (n0 n1 n2 : List Node) (entry i k : ℕ) → m ≡ j + 1 → j < length sites →
@@ -31,10 +31,10 @@ mark_made site n0 n1 i k at is =
 -- the fork of a condition, with the mark before it
 pub decided_made : (facts : Facts) (sites : Sites) (token : ℕ) (site : Option ℕ) (n0 n1 n2 : List Node) (f i yes_at no_at : ℕ) → site ≡ sites.branch_at token →
     f ≡ length n0 → n1 ≡ n0 ++ node.Fork yes_at no_at ∷ [] → Made (λ G. MarksAll G (listed site)) n1 n2 i f →
-    Made (λ G. Decided G facts sites token) n0 n2 i (ways yes_at no_at)
+    MadeWays (λ G. Decided G facts sites token) n0 n2 i (ways yes_at no_at)
 decided_made facts sites token site n0 n1 n2 f i yes_at no_at e at is marks =
     then_made (λ G. MarksAll G (listed (sites.branch_at token))) (λ G. ForkTo G) n0 n1 n2 i f (ways yes_at no_at)
-    (view_made (λ (w : Ways). view.Forks w.yes_to w.no_to) (node.Fork yes_at no_at) n0 n1 f (ways yes_at no_at) refl at is)
+    (view_made (λ (w : Ways). view.Forks w.yes_to w.no_to) (node.Fork yes_at no_at) n0 n1 f (ways yes_at no_at) refl at is (λ all b. b))
     (subst (λ s. Made (λ G. MarksAll G (listed s)) n1 n2 i f) e marks)
 
 -- a store, with the marks behind it

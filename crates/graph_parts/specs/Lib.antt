@@ -4,3 +4,5 @@ pub mod Purposes
 pub mod Replacing
 pub mod Parts
 pub mod Prefixes
+pub mod Ends
+pub mod Reach

@@ -4,7 +4,7 @@ ghost use Rattle.graphs.specs.Expressions.{TextPlace};
 ghost use Rattle.graphs.specs.Operators.{SizeValue, Variable};
 ghost use Rattle.graphs.specs.Paths.{Does};
 ghost use Rattle.graphs.specs.Values.{Placed, Valued};
-ghost use Rattle.graph_parts.specs.Made.{Made};
+ghost use Rattle.graph_parts.specs.Made.{MadeFor};
 ghost use Rattle.graph_parts.specs.Purposes.{Serves};
 
 use crate::graph::Graph;
@@ -23,7 +23,7 @@ pub fn put_constant(
     value: i64,
     purpose: Purpose,
 ) -> Result<u32, Memory>
-    ensures made { IfOk result (λ i. Made (λ G. Serves (Valued G (Does G (node.Push kind value 0)))) graph.old graph.new i purpose) }
+    ensures made { IfOk result (λ i. MadeFor (λ G. Serves (Valued G (Does G (node.Push kind value 0)))) graph.old graph.new i purpose) }
     ensures few { IfOk result (λ i. length graph.new ≤ length graph.old + 2) }
 {
     let next = put_taken(graph, purpose)?;
@@ -34,7 +34,7 @@ pub fn put_constant(
 /// A null pointer.
 #[tactic(auto, using(crate::proofs::Serving::leaves_made))]
 pub fn put_null(graph: &mut Graph, purpose: Purpose) -> Result<u32, Memory>
-    ensures made { IfOk result (λ i. Made (λ G. Serves (Valued G (Does G (node.Null 0)))) graph.old graph.new i purpose) }
+    ensures made { IfOk result (λ i. MadeFor (λ G. Serves (Valued G (Does G (node.Null 0)))) graph.old graph.new i purpose) }
     ensures few { IfOk result (λ i. length graph.new ≤ length graph.old + 2) }
 {
     let next = put_taken(graph, purpose)?;
@@ -44,7 +44,7 @@ pub fn put_null(graph: &mut Graph, purpose: Purpose) -> Result<u32, Memory>
 
 /// The object of the string with this number.
 pub fn put_text(graph: &mut Graph, number: Option<u32>, purpose: Purpose) -> Result<u32, Memory>
-    ensures made { IfOk result (λ i. Made (λ G. Serves (Valued G (TextPlace G number))) graph.old graph.new i purpose) }
+    ensures made { IfOk result (λ i. MadeFor (λ G. Serves (Valued G (TextPlace G number))) graph.old graph.new i purpose) }
     ensures few { IfOk result (λ i. length graph.new ≤ length graph.old + 3) }
 {
     let next = put_taken(graph, purpose)?;
@@ -65,7 +65,7 @@ pub fn put_text(graph: &mut Graph, number: Option<u32>, purpose: Purpose) -> Res
 
 /// How many cells an object has.
 pub fn put_size(graph: &mut Graph, cells: Option<u32>, purpose: Purpose) -> Result<u32, Memory>
-    ensures made { IfOk result (λ i. Made (λ G. Serves (SizeValue G cells)) graph.old graph.new i purpose) }
+    ensures made { IfOk result (λ i. MadeFor (λ G. Serves (SizeValue G cells)) graph.old graph.new i purpose) }
     ensures few { IfOk result (λ i. length graph.new ≤ length graph.old + 3) }
 {
     let next = put_taken(graph, purpose)?;
@@ -93,7 +93,7 @@ pub fn put_name(
     slot: Option<Slot>,
     purpose: Purpose,
 ) -> Result<u32, Memory>
-    ensures made { IfOk result (λ i. Made (λ G. Serves (Placed G of (Variable G slot))) graph.old graph.new i purpose) }
+    ensures made { IfOk result (λ i. MadeFor (λ G. Serves (Placed G of (Variable G slot))) graph.old graph.new i purpose) }
     ensures few { IfOk result (λ i. length graph.new ≤ length graph.old + 5) }
 {
     let next = put_taken_place(graph, of, purpose)?;

@@ -3,7 +3,7 @@ ghost use Rattle.c_meaning.specs.Visits.{listed};
 ghost use Rattle.graphs.specs.Operators.{Assigned, Decided};
 ghost use Rattle.graphs.specs.Paths.{MarksAll};
 ghost use Rattle.graphs.specs.Room.{branches, pairs};
-ghost use Rattle.graph_parts.specs.Made.{Made};
+ghost use Rattle.graph_parts.specs.Made.{Made, MadeWays};
 ghost use Rattle.graph_parts.specs.Purposes.{ways};
 ghost use Rattle.tree_facts.specs.Facts.{facts_in, sites_in};
 
@@ -50,7 +50,7 @@ pub fn put_decided(
     yes: u32,
     no: u32,
 ) -> Result<u32, Memory>
-    ensures made { IfOk result (λ i. Made (λ G. Decided G (facts_in facts.now) (sites_in facts.now) token) graph.old graph.new i (ways yes no)) }
+    ensures made { IfOk result (λ i. MadeWays (λ G. Decided G (facts_in facts.now) (sites_in facts.now) token) graph.old graph.new i (ways yes no)) }
     ensures few { IfOk result (λ i. length graph.new ≤ length graph.old + (1 + branches (sites_in facts.now) token)) }
 {
     let fork = graph.put(Node::Fork { yes, no })?;

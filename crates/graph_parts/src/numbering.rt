@@ -2,6 +2,8 @@ ghost use Rattle.std.specs.Prelude.{◌≡◌, ◌-◌, IfOk, length};
 ghost use Rattle.flow.specs.View.{view};
 ghost use Rattle.graphs.specs.Stands.{renamed};
 ghost use Rattle.graph_parts.specs.Finished.{Finished, turned};
+ghost use Rattle.graph_parts.specs.Made.{LeadBack};
+ghost use Rattle.graph_parts.specs.Reach.{LeadOn};
 
 use crate::graph::Graph;
 use cbi_base::Memory;
@@ -33,6 +35,7 @@ fn renumbered(node: Node, last: u32) -> Node
 pub fn finish(alloc: Global, graph: &Graph) -> Result<Vec<Node>, Memory>
     ensures finished { IfOk result (λ nodes. Finished graph.now nodes.items (turned (length graph.now - 1))) }
     ensures as_many { IfOk result (λ nodes. length nodes.items ≡ length graph.now) }
+    ensures leads { IfOk result (λ nodes. LeadBack 0 graph.now → LeadOn nodes.items) }
 {
     let nodes = graph.nodes();
     let mut finished = Vec::with_capacity(alloc, nodes.len())?;

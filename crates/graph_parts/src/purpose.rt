@@ -3,7 +3,7 @@ ghost use Rattle.graph_parts.specs.Purposes.{Takes, TakesPlace, TakesThrough, is
 ghost use Rattle.graphs.specs.Operators.{LoadThrough, Pointed};
 ghost use Rattle.graphs.specs.Values.{Discarded};
 ghost use Rattle.c_meaning.specs.Expressions.{is_struct};
-ghost use Rattle.graph_parts.specs.Made.{Made};
+ghost use Rattle.graph_parts.specs.Made.{Made, MadeFor};
 
 use crate::graph::Graph;
 use crate::values::{put_load, put_stuck};
@@ -25,7 +25,7 @@ pub enum Purpose {
 /// What becomes of a value on top.
 #[tactic(auto, using(crate::proofs::Taking::takes_made))]
 pub fn put_taken(graph: &mut Graph, purpose: Purpose) -> Result<u32, Memory>
-    ensures made { IfOk result (λ i. Made (λ G. Takes G) graph.old graph.new i purpose) }
+    ensures made { IfOk result (λ i. MadeFor (λ G. Takes G) graph.old graph.new i purpose) }
     ensures few { IfOk result (λ i. length graph.new ≤ length graph.old + 1) }
 {
     match purpose {
@@ -69,7 +69,7 @@ pub fn put_taken_place(
     of: Option<ValueType>,
     purpose: Purpose,
 ) -> Result<u32, Memory>
-    ensures made { IfOk result (λ i. Made (λ G. TakesPlace G of) graph.old graph.new i purpose) }
+    ensures made { IfOk result (λ i. MadeFor (λ G. TakesPlace G of) graph.old graph.new i purpose) }
     ensures few { IfOk result (λ i. length graph.new ≤ length graph.old + 3) }
 {
     match purpose {
@@ -138,7 +138,7 @@ pub fn put_taken_through(
     of: Option<ValueType>,
     purpose: Purpose,
 ) -> Result<u32, Memory>
-    ensures made { IfOk result (λ i. Made (λ G. TakesThrough G of) graph.old graph.new i purpose) }
+    ensures made { IfOk result (λ i. MadeFor (λ G. TakesThrough G of) graph.old graph.new i purpose) }
     ensures few { IfOk result (λ i. length graph.new ≤ length graph.old + 6) }
 {
     match purpose {

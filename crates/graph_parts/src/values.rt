@@ -1,7 +1,7 @@
 ghost use Rattle.std.specs.Prelude.{IfOk, length, ◌≤◌, ◌+◌};
 ghost use Rattle.graphs.specs.Paths.{Stuck};
 ghost use Rattle.graphs.specs.Values.{Converts, ConvertsBelow, Handed, LoadAt};
-ghost use Rattle.graph_parts.specs.Made.{Made};
+ghost use Rattle.graph_parts.specs.Made.{Made, MadeAlone};
 
 use crate::graph::Graph;
 use c_meaning::{Conversion, ValueType};
@@ -11,7 +11,7 @@ use flow::Node;
 /// Nodes that no run of a checked text comes to; `next` is where they would go on.
 #[tactic(auto, using(crate::proofs::Building::stuck_made))]
 pub fn put_stuck(graph: &mut Graph, next: u32) -> Result<u32, Memory>
-    ensures made { IfOk result (λ i. Made (λ G. Stuck G) graph.old graph.new i next) }
+    ensures made { IfOk result (λ i. MadeAlone (λ G. Stuck G) graph.old graph.new i next) }
     ensures few { IfOk result (λ i. length graph.new ≤ length graph.old + 2) }
 {
     let exit = graph.put(Node::Exit)?;

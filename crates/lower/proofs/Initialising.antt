@@ -1,6 +1,6 @@
 -- Initialisers, whose parts are put from the last one to the first.
 use Rattle.std.proofs.Common.{◌≡◌, ℕ, suc, ◌+◌, ◌<◌, refl, ap, sym, ◌∙◌, subst, arith, List, [], ◌∷◌, ◌++◌, length, drop, get_or, map, Option, Some}
-use Rattle.std.proofs.lemmas.List.{drop_more}
+use Rattle.std.proofs.lemmas.List.{drop_all, drop_more}
 use Rattle.c_syntax.specs.declared.expr.Expr.{Expr}
 use Rattle.c_syntax.specs.declared.statement.Start.{Start}
 use Rattle.c_syntax.specs.ExprTree.{ExprTree}
@@ -20,7 +20,7 @@ use Rattle.graphs.specs.Operators.{Assigned, Member, Variable}
 use Rattle.graphs.specs.Paths.{Graph, Path, ◌then◌, Does}
 use Rattle.graphs.specs.Values.{Dropped, WantedValue}
 use Rattle.graph_parts.specs.Made.{Made}
-use Rattle.graph_parts.proofs.Building.{one_made, then_made}
+use Rattle.graph_parts.proofs.Building.{nothing_made, one_made, then_made}
 use Rattle.graph_parts.proofs.Lists.{list_step}
 
 -- the value as one of this type
@@ -91,3 +91,14 @@ pub start_made : (facts : Facts) (sites : Sites) (x : StartTree) (slot : Option 
 start_made facts sites x slot n0 n1 n2 m i k e initialised cleared =
     then_made (λ G. OnLocal G (facts.slot_at x.declarator.name_token) (Clears G)) (λ G. Initialised G facts sites x.declarator.name_token x.initial) n0 n1 n2 i m k initialised
     (subst (λ q. Made (λ G. OnLocal G q (Clears G)) n1 n2 i m) e cleared)
+
+-- none is put yet
+pub elements_none : (facts : Facts) (sites : Sites) (token m : ℕ) (items : List Expr) (n : List Node) (k : ℕ) →
+    Made (λ G. ElementsSet G facts sites token m (plain_exprs (drop (length items) items))) n n k k
+elements_none facts sites token m items n k =
+    subst (λ l. Made (λ G. ElementsSet G facts sites token m (plain_exprs l)) n n k k) (sym (drop_all (length items) items (omega arith))) (nothing_made n k)
+
+pub starts_none : (facts : Facts) (sites : Sites) (starts : List Start) (n : List Node) (k : ℕ) →
+    Made (λ G. AllStart G facts sites (map plain_start (drop (length starts) starts))) n n k k
+starts_none facts sites starts n k =
+    subst (λ l. Made (λ G. AllStart G facts sites (map plain_start l)) n n k k) (sym (drop_all (length starts) starts (omega arith))) (nothing_made n k)

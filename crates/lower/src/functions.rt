@@ -1,4 +1,4 @@
-ghost use Rattle.std.specs.Prelude.{◌≡◌, ◌+◌, IfOk, length, option_map, ◌≤◌};
+ghost use Rattle.std.specs.Prelude.{◌≡◌, ◌+◌, IfOk, length, option_map, ◌<◌, ◌≤◌};
 ghost use Rattle.std.specs.Option.{option_copied};
 ghost use Rattle.c_syntax.specs.Plain.{plain_entries};
 ghost use Rattle.graphs.specs.Functions.{BodyDoes};
@@ -6,7 +6,9 @@ ghost use Rattle.lower.specs.Bodies.{BodyNodes, ComesPart, EndPart, GivesPart, L
 ghost use Rattle.lower.specs.Exits.{exits_of};
 ghost use Rattle.lower.specs.Ready.{AllMayStand};
 ghost use Rattle.graphs.specs.Room.{body_room, function_room};
-ghost use Rattle.graph_parts.specs.Made.{Made};
+ghost use Rattle.graph_parts.specs.Ends.{AllBelow, all_ends};
+ghost use Rattle.graph_parts.specs.Made.{Made, MadeAlone, MadeExits};
+ghost use Rattle.graph_parts.specs.Reach.{LeadOn};
 ghost use Rattle.tree_facts.specs.Facts.{facts_in, sites_in};
 
 use crate::exits::{Exits, next_at};
@@ -23,7 +25,7 @@ use tree_facts::{TreeFacts, has_value};
 /// Where a function with a result gives it; no other one comes to a value.
 #[tactic(auto, using(crate::proofs::Bodying::gives_parts))]
 fn put_gives(graph: &mut Graph, value: bool) -> Result<u32, Memory>
-    ensures made { IfOk result (λ i. Made (GivesPart value) graph.old graph.new i 0) }
+    ensures made { IfOk result (λ i. MadeAlone (GivesPart value) graph.old graph.new i 0) }
     ensures few { IfOk result (λ i. length graph.new ≤ length graph.old + 2) }
 {
     if value {
@@ -38,7 +40,7 @@ fn put_gives(graph: &mut Graph, value: bool) -> Result<u32, Memory>
 #[tactic(auto, using(crate::proofs::Bodying::end_parts))]
 fn put_end(graph: &mut Graph, is_main: bool, value: bool, exits: Exits) -> Result<u32, Memory>
     requires { (exits_of exits).next ≡ (exits_of exits).leaves }
-    ensures made { IfOk result (λ i. Made (EndPart is_main value) graph.old graph.new i (exits_of exits)) }
+    ensures made { IfOk result (λ i. MadeExits (EndPart is_main value) graph.old graph.new i (exits_of exits)) }
     ensures few { IfOk result (λ i. length graph.new ≤ length graph.old + 1) }
 {
     if is_main && value {
@@ -54,7 +56,8 @@ fn put_end(graph: &mut Graph, is_main: bool, value: bool, exits: Exits) -> Resul
 
 /// How a function is left. No `break` and no `continue` stands outside a loop.
 fn put_exits(graph: &mut Graph, is_main: bool, value: bool) -> Result<Exits, Memory>
-    ensures made { IfOk result (λ exits. Made (LeavesPart is_main value) graph.old graph.new 0 (exits_of exits)) }
+    ensures made { IfOk result (λ exits. MadeAlone (LeavesPart is_main value) graph.old graph.new 0 (exits_of exits)) }
+    ensures below { IfOk result (λ exits. AllBelow (length graph.new) (all_ends (exits_of exits))) }
     ensures few { IfOk result (λ exits. length graph.new ≤ length graph.old + 6) }
 {
     let stuck = put_stuck(graph, 0)?;
@@ -80,7 +83,7 @@ fn put_body(
     body: Option<&[Entry]>,
     exits: Exits,
 ) -> Result<u32, Memory>
-    ensures made { IfOk result (λ i. Made (λ G. BodyDoes G (facts_in facts.now) (sites_in facts.now) gives (option_map plain_entries (option_copied body.entry))) graph.old graph.new i (exits_of exits)) }
+    ensures made { IfOk result (λ i. MadeExits (λ G. BodyDoes G (facts_in facts.now) (sites_in facts.now) gives (option_map plain_entries (option_copied body.entry))) graph.old graph.new i (exits_of exits)) }
     ensures few { IfOk result (λ i. length graph.new ≤ length graph.old + body_room (sites_in facts.now) (option_map plain_entries (option_copied body.entry))) }
 {
     match body {
@@ -118,6 +121,8 @@ fn body_nodes(
     body: Option<&[Entry]>,
 ) -> Result<Vec<Node>, Memory>
     ensures body { IfOk result (λ nodes. BodyNodes (facts_in facts.now) (sites_in facts.now) is_main gives (option_map plain_entries (option_copied body.entry)) nodes.items) }
+    ensures leads { IfOk result (λ nodes. LeadOn nodes.items) }
+    ensures some { IfOk result (λ nodes. 0 < length nodes.items) }
     ensures few { IfOk result (λ nodes. length nodes.items ≤ function_room (sites_in facts.now) (option_map plain_entries (option_copied body.entry))) }
 {
     let mut graph = Graph::new(alloc);

@@ -5,7 +5,7 @@ ghost use Rattle.graphs.specs.Expressions.{Condition};
 ghost use Rattle.graphs.specs.Statements.{DoDo, ForLoop, ForStarts, OptionalCondition, OptionalEffect, ReturnDo, Runs, RunsAll, WhileDo};
 ghost use Rattle.lower.specs.Exits.{SecondRuns, exits_of};
 ghost use Rattle.graphs.specs.Room.{branches, entries_room, expr_room, for_start_room, part_room, second_room, statement_room};
-ghost use Rattle.graph_parts.specs.Made.{Made};
+ghost use Rattle.graph_parts.specs.Made.{Made, MadeExits, MadeWays};
 ghost use Rattle.graph_parts.specs.Purposes.{ways};
 ghost use Rattle.tree_facts.specs.Facts.{facts_in, sites_in};
 
@@ -47,7 +47,7 @@ fn emit_optional_condition(
     yes: u32,
     no: u32,
 ) -> Result<u32, Memory>
-    ensures made { IfOk result (λ i. Made (λ G. OptionalCondition G (facts_in facts.now) (sites_in facts.now) token (option_map plain_expr x.now)) graph.old graph.new i (ways yes no)) }
+    ensures made { IfOk result (λ i. MadeWays (λ G. OptionalCondition G (facts_in facts.now) (sites_in facts.now) token (option_map plain_expr x.now)) graph.old graph.new i (ways yes no)) }
     ensures few { IfOk result (λ i. length graph.new ≤ length graph.old + (1 + branches (sites_in facts.now) token + part_room (sites_in facts.now) (option_map plain_expr x.now))) }
 {
     match x {
@@ -89,7 +89,7 @@ fn emit_return(
     value: &Option<Expr>,
     exits: Exits,
 ) -> Result<u32, Memory>
-    ensures made { IfOk result (λ i. Made (λ G. ReturnDo G (facts_in facts.now) (sites_in facts.now) gives (option_map plain_expr value.now)) graph.old graph.new i (exits_of exits)) }
+    ensures made { IfOk result (λ i. MadeExits (λ G. ReturnDo G (facts_in facts.now) (sites_in facts.now) gives (option_map plain_expr value.now)) graph.old graph.new i (exits_of exits)) }
     ensures few { IfOk result (λ i. length graph.new ≤ length graph.old + (2 + part_room (sites_in facts.now) (option_map plain_expr value.now))) }
 {
     match value {
@@ -112,7 +112,7 @@ fn emit_while(
     condition: &Expr,
     exits: Exits,
 ) -> Result<u32, Memory>
-    ensures made { IfOk result (λ i. Made (λ G. WhileDo G (Condition G (facts_in facts.now) (sites_in facts.now) token (plain_expr condition.now)) (Runs G (facts_in facts.now) (sites_in facts.now) gives (plain_statement body.now))) graph.old graph.new i (exits_of exits)) }
+    ensures made { IfOk result (λ i. MadeExits (λ G. WhileDo G (Condition G (facts_in facts.now) (sites_in facts.now) token (plain_expr condition.now)) (Runs G (facts_in facts.now) (sites_in facts.now) gives (plain_statement body.now))) graph.old graph.new i (exits_of exits)) }
     ensures few { IfOk result (λ i. length graph.new ≤ length graph.old + (2 + branches (sites_in facts.now) token + expr_room (sites_in facts.now) (plain_expr condition.now) + statement_room (sites_in facts.now) (plain_statement body.now))) }
 {
     let again = graph.put(Node::Again { next: 0 })?;
@@ -139,7 +139,7 @@ fn emit_do(
     condition: &Expr,
     exits: Exits,
 ) -> Result<u32, Memory>
-    ensures made { IfOk result (λ i. Made (λ G. DoDo G (Condition G (facts_in facts.now) (sites_in facts.now) token (plain_expr condition.now)) (Runs G (facts_in facts.now) (sites_in facts.now) gives (plain_statement body.now))) graph.old graph.new i (exits_of exits)) }
+    ensures made { IfOk result (λ i. MadeExits (λ G. DoDo G (Condition G (facts_in facts.now) (sites_in facts.now) token (plain_expr condition.now)) (Runs G (facts_in facts.now) (sites_in facts.now) gives (plain_statement body.now))) graph.old graph.new i (exits_of exits)) }
     ensures few { IfOk result (λ i. length graph.new ≤ length graph.old + (2 + branches (sites_in facts.now) token + expr_room (sites_in facts.now) (plain_expr condition.now) + statement_room (sites_in facts.now) (plain_statement body.now))) }
 {
     let again = graph.put(Node::Again { next: 0 })?;
@@ -167,7 +167,7 @@ fn emit_for(
     step: &Option<Expr>,
     exits: Exits,
 ) -> Result<u32, Memory>
-    ensures made { IfOk result (λ i. Made (λ G. ForLoop G (OptionalCondition G (facts_in facts.now) (sites_in facts.now) token (option_map plain_expr condition.now)) (OptionalEffect G (facts_in facts.now) (sites_in facts.now) (option_map plain_expr step.now)) (Runs G (facts_in facts.now) (sites_in facts.now) gives (plain_statement body.now))) graph.old graph.new i (exits_of exits)) }
+    ensures made { IfOk result (λ i. MadeExits (λ G. ForLoop G (OptionalCondition G (facts_in facts.now) (sites_in facts.now) token (option_map plain_expr condition.now)) (OptionalEffect G (facts_in facts.now) (sites_in facts.now) (option_map plain_expr step.now)) (Runs G (facts_in facts.now) (sites_in facts.now) gives (plain_statement body.now))) graph.old graph.new i (exits_of exits)) }
     ensures few { IfOk result (λ i. length graph.new ≤ length graph.old + (2 + branches (sites_in facts.now) token + part_room (sites_in facts.now) (option_map plain_expr condition.now) + part_room (sites_in facts.now) (option_map plain_expr step.now) + statement_room (sites_in facts.now) (plain_statement body.now))) }
 {
     let again = graph.put(Node::Again { next: 0 })?;
@@ -193,7 +193,7 @@ fn emit_second(
     second: &Option<Box<Statement>>,
     exits: Exits,
 ) -> Result<u32, Memory>
-    ensures made { IfOk result (λ i. Made (λ G. SecondRuns G (facts_in facts.now) (sites_in facts.now) gives (plain_second second.now)) graph.old graph.new i (exits_of exits)) }
+    ensures made { IfOk result (λ i. MadeExits (λ G. SecondRuns G (facts_in facts.now) (sites_in facts.now) gives (plain_second second.now)) graph.old graph.new i (exits_of exits)) }
     ensures few { IfOk result (λ i. length graph.new ≤ length graph.old + second_room (sites_in facts.now) (plain_second second.now)) }
 {
     match second {
@@ -214,7 +214,7 @@ pub fn emit_statement(
     x: &Statement,
     exits: Exits,
 ) -> Result<u32, Memory>
-    ensures made { IfOk result (λ i. Made (λ G. Runs G (facts_in facts.now) (sites_in facts.now) gives (plain_statement x.now)) graph.old graph.new i (exits_of exits)) }
+    ensures made { IfOk result (λ i. MadeExits (λ G. Runs G (facts_in facts.now) (sites_in facts.now) gives (plain_statement x.now)) graph.old graph.new i (exits_of exits)) }
     ensures few { IfOk result (λ i. length graph.new ≤ length graph.old + statement_room (sites_in facts.now) (plain_statement x.now)) }
 {
     match x {
@@ -274,7 +274,7 @@ fn emit_entry(
     entry: &Entry,
     exits: Exits,
 ) -> Result<u32, Memory>
-    ensures made { IfOk result (λ i. Made (λ G. RunsAll G (facts_in facts.now) (sites_in facts.now) gives (plain_entry entry.now no_entries)) graph.old graph.new i (exits_of exits)) }
+    ensures made { IfOk result (λ i. MadeExits (λ G. RunsAll G (facts_in facts.now) (sites_in facts.now) gives (plain_entry entry.now no_entries)) graph.old graph.new i (exits_of exits)) }
     ensures few { IfOk result (λ i. length graph.new ≤ length graph.old + entries_room (sites_in facts.now) (plain_entry entry.now no_entries)) }
 {
     match entry {
@@ -298,7 +298,7 @@ pub fn emit_entries(
     entries: &[Entry],
     exits: Exits,
 ) -> Result<u32, Memory>
-    ensures made { IfOk result (λ i. Made (λ G. RunsAll G (facts_in facts.now) (sites_in facts.now) gives (plain_entries entries.now)) graph.old graph.new i (exits_of exits)) }
+    ensures made { IfOk result (λ i. MadeExits (λ G. RunsAll G (facts_in facts.now) (sites_in facts.now) gives (plain_entries entries.now)) graph.old graph.new i (exits_of exits)) }
     ensures few { IfOk result (λ i. length graph.new ≤ length graph.old + entries_room (sites_in facts.now) (plain_entries entries.now)) }
 {
     let mut first = exits.next;

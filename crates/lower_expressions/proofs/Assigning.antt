@@ -16,13 +16,13 @@ use Rattle.graphs.specs.Expressions.{LastDoes, emitted}
 use Rattle.graphs.specs.Operators.{Assign, Assigned, Changed, Comma}
 use Rattle.graphs.specs.Paths.{Graph, ◌then◌, Emitted, Stuck}
 use Rattle.graphs.specs.Values.{Valued, WantedValue}
-use Rattle.graph_parts.specs.Made.{Made, Part}
+use Rattle.graph_parts.specs.Made.{Made, MadeAlone, MadeFor, Part}
 use Rattle.graph_parts.specs.Parts.{effect_part, place_part, serving, value_part}
 use Rattle.graph_parts.specs.Purposes.{Serves, Takes}
 use Rattle.lower_expressions.specs.Weights.{exprs_weight, weight}
 use Rattle.graph_parts.specs.declared.purpose.Purpose.{Purpose}
 use Rattle.graph_parts.specs.declared.purpose.Purpose.TheVariants as purpose
-use Rattle.graph_parts.proofs.Building.{◌and_then◌, carried}
+use Rattle.graph_parts.proofs.Building.{surely_made, ◌and_then◌, carried}
 use Rattle.graph_parts.proofs.Lists.{list_step}
 use Rattle.graph_parts.proofs.Serving.{valued_made}
 
@@ -39,23 +39,23 @@ module _ (facts : Facts) (sites : Sites) where
         Assign G facts sites token a (is_null_as (type_of facts target) value) (type_of facts target) (type_of facts value)
         (emitted G facts sites target) (emitted G facts sites value)
 
-    assign_made : (n0 n1 n2 : List Node) (after i : ℕ) → Made (λ G. Takes G) n0 n1 after p → Made (assigns (assignment sign)) n1 n2 i after →
-        Made (serving facts sites (e.Assign token sign target value)) n0 n2 i p
+    assign_made : (n0 n1 n2 : List Node) (after i : ℕ) → MadeFor (λ G. Takes G) n0 n1 after p → Made (assigns (assignment sign)) n1 n2 i after →
+        MadeFor (serving facts sites (e.Assign token sign target value)) n0 n2 i p
     assign_made n0 n1 n2 after i taken made =
-        carried (λ G. Serves (Valued G (assigns (assignment sign) G))) (serving facts sites (e.Assign token sign target value)) p p (λ G i h. h) n0 n2 i
+        carried (λ G. Serves (Valued G (assigns (assignment sign) G))) (serving facts sites (e.Assign token sign target value)) p p (λ G i h. h) (λ n b. b) n0 n2 i
         (valued_made (assigns (assignment sign)) p n0 n1 n2 i after taken made)
 
-    pub assign_plain : (n0 n1 n2 n3 n4 : List Node) (after stored found i : ℕ) → Plain ≡ assignment sign → Made (λ G. Takes G) n0 n1 after p →
+    pub assign_plain : (n0 n1 n2 n3 n4 : List Node) (after stored found i : ℕ) → Plain ≡ assignment sign → MadeFor (λ G. Takes G) n0 n1 after p →
         Made (λ G. Assigned G facts sites token) n1 n2 stored after →
         Made (λ G. WantedValue G (is_null_as (type_of facts target) value) (type_of facts value) (type_of facts target) (emitted G facts sites value)) n2 n3 found stored →
-        Made (place_part facts sites target) n3 n4 i found → Made (serving facts sites (e.Assign token sign target value)) n0 n4 i p
+        Made (place_part facts sites target) n3 n4 i found → MadeFor (serving facts sites (e.Assign token sign target value)) n0 n4 i p
     assign_plain n0 n1 n2 n3 n4 after stored found i is taken assigned wanted placed =
         assign_made n0 n1 n4 after i taken (subst (λ a. Made (assigns a) n1 n4 i after) is (placed and_then wanted and_then assigned))
 
-    pub assign_by : (o : Binary) (n0 n1 n2 n3 n4 : List Node) (after changed found i : ℕ) → By o ≡ assignment sign → Made (λ G. Takes G) n0 n1 after p →
+    pub assign_by : (o : Binary) (n0 n1 n2 n3 n4 : List Node) (after changed found i : ℕ) → By o ≡ assignment sign → MadeFor (λ G. Takes G) n0 n1 after p →
         Made (λ G. Changed G facts sites token (type_of facts target) (operation o (type_of facts target) (type_of facts value))) n1 n2 changed after →
         Made (value_part facts sites value) n2 n3 found changed → Made (place_part facts sites target) n3 n4 i found →
-        Made (serving facts sites (e.Assign token sign target value)) n0 n4 i p
+        MadeFor (serving facts sites (e.Assign token sign target value)) n0 n4 i p
     assign_by o n0 n1 n2 n3 n4 after changed found i is taken change made placed =
         assign_made n0 n1 n4 after i taken (subst (λ a. Made (assigns a) n1 n4 i after) is (placed and_then made and_then change))
 
@@ -80,31 +80,31 @@ module _ (facts : Facts) (sites : Sites) where
 
   -- one more operand before the last ones
   pub comma_step : (p : Purpose) (operands : List Expr) (m j : ℕ) (d : Expr) (n0 n1 n2 : List Node) (entry i : ℕ) → m ≡ j + 1 → m < length operands →
-      d ≡ get_or operands j d → Made (λ G. Serves (LastDoes G facts sites (plain_exprs (drop m operands)))) n0 n1 entry p →
-      Made (serving facts sites (plain_expr d)) n1 n2 i (purpose.Effect entry) →
-      Made (λ G. Serves (LastDoes G facts sites (plain_exprs (drop j operands)))) n0 n2 i p
+      d ≡ get_or operands j d → MadeFor (λ G. Serves (LastDoes G facts sites (plain_exprs (drop m operands)))) n0 n1 entry p →
+      MadeFor (serving facts sites (plain_expr d)) n1 n2 i (purpose.Effect entry) →
+      MadeFor (λ G. Serves (LastDoes G facts sites (plain_exprs (drop j operands)))) n0 n2 i p
   comma_step p operands m j d n0 n1 n2 entry i e low at rest made =
       let more : length (drop (j + 1) operands) ≡ suc (length operands - (j + 1) - 1) = omega (arith, e, low, length-drop (j + 1) operands) in
       list_step (lasts p) (effect_part facts sites (plain_expr (get_or operands j d))) operands m j d n0 n1 n2 entry i p e (omega (arith, e, low))
       (λ G i h. comma_into G (get_or operands j d) (drop (j + 1) operands) (length operands - (j + 1) - 1) p i more h) rest
       (subst (λ q. Made (effect_part facts sites (plain_expr q)) n1 n2 i entry) at
-      (carried (serving facts sites (plain_expr d)) (effect_part facts sites (plain_expr d)) (purpose.Effect entry) entry (λ G i h. h) n1 n2 i made))
+      (carried (serving facts sites (plain_expr d)) (effect_part facts sites (plain_expr d)) (purpose.Effect entry) entry (λ G i h. h) (λ n b. b) n1 n2 i made))
 
   -- the last operand alone
   pub last_made : (p : Purpose) (operands : List Expr) (j : ℕ) (d : Expr) (n0 n1 : List Node) (i : ℕ) → length operands ≡ j + 1 → d ≡ get_or operands j d →
-      Made (serving facts sites (plain_expr d)) n0 n1 i p → Made (λ G. Serves (LastDoes G facts sites (plain_exprs (drop j operands)))) n0 n1 i p
+      MadeFor (serving facts sites (plain_expr d)) n0 n1 i p → MadeFor (λ G. Serves (LastDoes G facts sites (plain_exprs (drop j operands)))) n0 n1 i p
   last_made p operands j d n0 n1 i e at made =
-      subst (λ l. Made (λ G. Serves (LastDoes G facts sites (plain_exprs l))) n0 n1 i p) (sym (alone operands j d e at)) made
+      subst (λ l. MadeFor (λ G. Serves (LastDoes G facts sites (plain_exprs l))) n0 n1 i p) (sym (alone operands j d e at)) made
 
-  pub none_made : (p : Purpose) (operands : List Expr) (n0 n1 n2 : List Node) (after i : ℕ) → length operands ≡ 0 → Made (λ G. Takes G) n0 n1 after p →
-      Made (λ G. Stuck G) n1 n2 i after → Made (λ G. Serves (LastDoes G facts sites (plain_exprs operands))) n0 n2 i p
-  none_made p [] n0 n1 n2 after i e taken made = valued_made (λ G. Stuck G) p n0 n1 n2 i after taken made
+  pub none_made : (p : Purpose) (operands : List Expr) (n0 n1 n2 : List Node) (after i : ℕ) → length operands ≡ 0 → MadeFor (λ G. Takes G) n0 n1 after p →
+      MadeAlone (λ G. Stuck G) n1 n2 i after → MadeFor (λ G. Serves (LastDoes G facts sites (plain_exprs operands))) n0 n2 i p
+  none_made p [] n0 n1 n2 after i e taken made = valued_made (λ G. Stuck G) p n0 n1 n2 i after taken (surely_made (λ G. Stuck G) n1 n2 i after made)
   none_made p (x ∷ xs) n0 n1 n2 after i e taken made = absurd (omega (arith, e))
 
   -- all operands are put
   pub lasts_whole : (p : Purpose) (operands : List Expr) (m : ℕ) (n0 n1 : List Node) (i : ℕ) → m ≡ 0 →
-      Made (λ G. Serves (LastDoes G facts sites (plain_exprs (drop m operands)))) n0 n1 i p → Made (λ G. Serves (LastDoes G facts sites (plain_exprs operands))) n0 n1 i p
-  lasts_whole p operands m n0 n1 i e made = subst (λ q. Made (λ G. Serves (LastDoes G facts sites (plain_exprs (drop q operands)))) n0 n1 i p) e made
+      MadeFor (λ G. Serves (LastDoes G facts sites (plain_exprs (drop m operands)))) n0 n1 i p → MadeFor (λ G. Serves (LastDoes G facts sites (plain_exprs operands))) n0 n1 i p
+  lasts_whole p operands m n0 n1 i e made = subst (λ q. MadeFor (λ G. Serves (LastDoes G facts sites (plain_exprs (drop q operands)))) n0 n1 i p) e made
 
 -- what is left to emit of each
 pub operand_weighs : (xs : List Expr) (j : ℕ) (d : Expr) → j < length xs → d ≡ get_or xs j d → 8 + weight (plain_expr d) ≤ exprs_weight (plain_exprs xs)

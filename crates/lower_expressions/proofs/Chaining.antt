@@ -1,7 +1,7 @@
 -- Chains: operators of one level.
 use Rattle.std.proofs.Common.{◌≡◌, inl, ℕ, zero, suc, ◌+◌, ◌<◌, ◌≤◌, ◌∙◌, ap, refl, subst, sym, arith, List, [], ◌∷◌, ◌++◌, length, drop, get_or, Option, true, false, rules}
 use Rattle.std.specs.Prelude.{pos}
-use Rattle.std.proofs.lemmas.List.{drop_more}
+use Rattle.std.proofs.lemmas.List.{drop_all, drop_more}
 use Rattle.cbi_base.specs.declared.operators.Binary.{Binary}
 use Rattle.cbi_base.specs.declared.scalar.Kind.TheVariants.{Int}
 use Rattle.c_syntax.specs.ExprTree as e
@@ -22,22 +22,34 @@ use Rattle.graphs.specs.Expressions.{LinksDo, emitted}
 use Rattle.graphs.specs.Operators.{Decided, Flagged, Linked, Operates}
 use Rattle.graphs.specs.Paths.{Graph, ◌then◌, Does, Either, Stuck, Ways}
 use Rattle.graphs.specs.Values.{NullOr, Valued}
-use Rattle.lower_expressions.specs.Linking.{Shortcut, To, link_part, type_before}
+use Rattle.lower_expressions.specs.Linking.{Shortcut, To, either_end, link_part, type_before}
 use Rattle.graphs.specs.Functions.{standing}
-use Rattle.graph_parts.specs.Made.{Made, Part}
+use Rattle.graph_parts.specs.Ends.{AllBelow}
+use Rattle.graph_parts.specs.Made.{Made, MadeAlone, MadeFor, MadeTo, MadeWays, Part, Stands}
 use Rattle.graph_parts.specs.Parts.{serving}
 use Rattle.graph_parts.specs.Purposes.{Serves, Takes, ways}
 use Rattle.lower_expressions.specs.Weights.{links_weight, weight}
 use Rattle.graph_parts.specs.declared.purpose.Purpose.{Purpose}
 use Rattle.graph_parts.specs.declared.purpose.Purpose.TheVariants as purpose
-use Rattle.graph_parts.proofs.Building.{◌and_then◌, carried, either_made, later_self, later_trans, row, then_made}
+use Rattle.graph_parts.proofs.Building.{◌and_then◌, back_both, below_more, carried, either_made, later_self, later_trans, nothing_made, row, stays_put, surely_made, then_made}
 use Rattle.graph_parts.proofs.Serving.{valued_made}
 
 -- one way of a condition goes on at what was put before
-to_made : (n : List Node) (j k : ℕ) → Made {K = ℕ} (λ G. To j) n n j k
-to_made n j k = record { does = λ fin l. refl; keeps = later_self 0 n }
+to_made : (n : List Node) (right k : ℕ) → MadeTo (either_end right) (λ G. To right) n n right k
+to_made n right k = record { does = λ fin l. refl; keeps = later_self 0 n; leads = λ below. stays_put n right (below.0, tt) }
 
-joined_yes : (D : Part Ways) (R S : Part ℕ) (n0 n1 n2 : List Node) (right i k : ℕ) → Made R n0 n1 right k → Made (λ G. Either (D G) (To right) (S G)) n1 n2 i k →
+-- what goes on at one node, beside the other
+beside : (R : Part ℕ) (right : ℕ) (n0 n1 : List Node) (i k : ℕ) → Made R n0 n1 i k → MadeTo (either_end right) R n0 n1 i k
+beside R right n0 n1 i k made = carried R R k k (λ G i h. h) (λ n b. b.1) n0 n1 i made
+
+cut_stands : (R : Part ℕ) (S : Part ℕ) (n0 n1 n2 : List Node) (right i k : ℕ) → Made R n0 n1 right k → MadeTo (either_end right) S n1 n2 i k → AllBelow (length n0) (k ∷ []) →
+    Stands (length n0) n2 i
+cut_stands R S n0 n1 n2 right i k made cut below =
+    let second : Stands (length n0) n1 right = made.leads below in
+    let first : Stands (length n1) n2 i = cut.leads (second.inside, below_more (length n0) (length n1) (k ∷ []) made.keeps.longer below) in
+    record { inside = first.inside; back = back_both (length n0) n1 n2 second.back cut.keeps first.back }
+
+joined_yes : (D : Part Ways) (R S : Part ℕ) (n0 n1 n2 : List Node) (right i k : ℕ) → Made R n0 n1 right k → MadeTo (either_end right) (λ G. Either (D G) (To right) (S G)) n1 n2 i k →
     Made (λ G. Either (D G) (R G) (S G)) n0 n2 i k
 joined_yes D R S n0 n1 n2 right i k made cut = record {
   does = λ fin l.
@@ -46,9 +58,10 @@ joined_yes D R S n0 n1 n2 right i k made cut = record {
       let r : R (standing fin) right k = made.does fin (later_trans (length n0) (length n0) n1 n2 fin (omega arith) cut.keeps l) in
       (e.0, e.1, e.2, subst (λ j. R (standing fin) j k) (sym e.3) r, e.4);
   keeps = later_trans 0 0 n0 n1 n2 (omega arith) made.keeps cut.keeps;
+  leads = λ below. cut_stands R (λ G. Either (D G) (To right) (S G)) n0 n1 n2 right i k made cut below;
 }
 
-joined_no : (D : Part Ways) (R S : Part ℕ) (n0 n1 n2 : List Node) (right i k : ℕ) → Made S n0 n1 right k → Made (λ G. Either (D G) (R G) (To right)) n1 n2 i k →
+joined_no : (D : Part Ways) (R S : Part ℕ) (n0 n1 n2 : List Node) (right i k : ℕ) → Made S n0 n1 right k → MadeTo (either_end right) (λ G. Either (D G) (R G) (To right)) n1 n2 i k →
     Made (λ G. Either (D G) (R G) (S G)) n0 n2 i k
 joined_no D R S n0 n1 n2 right i k made cut = record {
   does = λ fin l.
@@ -57,22 +70,23 @@ joined_no D R S n0 n1 n2 right i k made cut = record {
       let s : S (standing fin) right k = made.does fin (later_trans (length n0) (length n0) n1 n2 fin (omega arith) cut.keeps l) in
       (e.0, e.1, e.2, e.3, subst (λ j. S (standing fin) j k) (sym e.4) s);
   keeps = later_trans 0 0 n0 n1 n2 (omega arith) made.keeps cut.keeps;
+  leads = λ below. cut_stands S (λ G. Either (D G) (R G) (To right)) n0 n1 n2 right i k made cut below;
 }
 
 -- what `&&` and `||` do with their left values
 pub shortcut_both : (facts : Facts) (sites : Sites) (token right : ℕ) (n0 n1 n2 : List Node) (zero_at i k : ℕ) → zero_at ≡ length n0 →
-    n1 ≡ n0 ++ node.Push Int (pos 0) k ∷ [] → Made (λ G. Decided G facts sites token) n1 n2 i (ways right zero_at) →
-    Made (λ G. Shortcut G facts sites true token right) n0 n2 i k
+    n1 ≡ n0 ++ node.Push Int (pos 0) k ∷ [] → MadeWays (λ G. Decided G facts sites token) n1 n2 i (ways right zero_at) →
+    MadeTo (either_end right) (λ G. Shortcut G facts sites true token right) n0 n2 i k
 shortcut_both facts sites token right n0 n1 n2 zero_at i k at new decided =
     either_made (λ G. Decided G facts sites token) (λ G. To right) (λ G. Does G (node.Push Int (pos 0) 0)) n0 n1 n1 n2 i right zero_at k
-    (row (node.Push Int (pos 0) 0) _ at new (search rules)) (to_made n1 right k) decided
+    (beside (λ G. Does G (node.Push Int (pos 0) 0)) right n0 n1 zero_at k (row (node.Push Int (pos 0) 0) _ at new (search rules))) (to_made n1 right k) decided
 
 pub shortcut_either : (facts : Facts) (sites : Sites) (token right : ℕ) (n0 n1 n2 : List Node) (one_at i k : ℕ) → one_at ≡ length n0 →
-    n1 ≡ n0 ++ node.Push Int (pos 1) k ∷ [] → Made (λ G. Decided G facts sites token) n1 n2 i (ways one_at right) →
-    Made (λ G. Shortcut G facts sites false token right) n0 n2 i k
+    n1 ≡ n0 ++ node.Push Int (pos 1) k ∷ [] → MadeWays (λ G. Decided G facts sites token) n1 n2 i (ways one_at right) →
+    MadeTo (either_end right) (λ G. Shortcut G facts sites false token right) n0 n2 i k
 shortcut_either facts sites token right n0 n1 n2 one_at i k at new decided =
     either_made (λ G. Decided G facts sites token) (λ G. Does G (node.Push Int (pos 1) 0)) (λ G. To right) n0 n0 n1 n2 i one_at right k
-    (to_made n0 right k) (row (node.Push Int (pos 1) 0) _ at new (search rules)) decided
+    (to_made n0 right k) (beside (λ G. Does G (node.Push Int (pos 1) 0)) right n0 n1 one_at k (row (node.Push Int (pos 1) 0) _ at new (search rules))) decided
 
 abbrev rest_of : Link → LinkList → LinkList
 rest_of x rest = e.more_links x.token x.sign (plain_expr x.operand) rest
@@ -103,6 +117,12 @@ module _ (facts : Facts) (sites : Sites) where
       let more : j + 1 ≡ suc j = omega arith in
       ap (type_before facts left links) more ∙ type_next left links j d low at
 
+  -- none is put yet
+  pub links_none : (left : Option ValueType) (m : ℕ) (links : List Link) (n : List Node) (k : ℕ) →
+      Made (λ G. LinksDo G facts sites (type_before facts left links m) (plain_links (drop (length links) links))) n n k k
+  links_none left m links n k =
+      subst (λ l. Made (λ G. LinksDo G facts sites (type_before facts left links m) (plain_links l)) n n k k) (sym (drop_all (length links) links (omega arith))) (nothing_made n k)
+
   -- one more operator before those that were put
   pub links_step : (left : Option ValueType) (links : List Link) (m j : ℕ) (d : Link) (n0 n1 n2 : List Node) (entry i k : ℕ) → m ≡ j + 1 → j < length links →
       d ≡ get_or links j d → Made (λ G. LinksDo G facts sites (type_before facts left links m) (plain_links (drop m links))) n0 n1 entry k →
@@ -119,12 +139,12 @@ module _ (facts : Facts) (sites : Sites) where
   module _ (token : ℕ) (left right : Option ValueType) (R : Part ℕ) where
     -- `&&` and `||`
     pub both_made : (n0 n1 n2 n3 : List Node) (flagged right_at i k : ℕ) → Made (λ G. Flagged G) n0 n1 flagged k → Made R n1 n2 right_at flagged →
-        Made (λ G. Shortcut G facts sites true token right_at) n2 n3 i k → Made (λ G. Linked G facts sites Both token left right (R G)) n0 n3 i k
+        MadeTo (either_end right_at) (λ G. Shortcut G facts sites true token right_at) n2 n3 i k → Made (λ G. Linked G facts sites Both token left right (R G)) n0 n3 i k
     both_made n0 n1 n2 n3 flagged right_at i k flags made cut =
         joined_yes (λ G. Decided G facts sites token) (λ G. R G then Flagged G) (λ G. Does G (node.Push Int (pos 0) 0)) n0 n2 n3 right_at i k (made and_then flags) cut
 
     pub either_links : (n0 n1 n2 n3 : List Node) (flagged right_at i k : ℕ) → Made (λ G. Flagged G) n0 n1 flagged k → Made R n1 n2 right_at flagged →
-        Made (λ G. Shortcut G facts sites false token right_at) n2 n3 i k → Made (λ G. Linked G facts sites tree.Either token left right (R G)) n0 n3 i k
+        MadeTo (either_end right_at) (λ G. Shortcut G facts sites false token right_at) n2 n3 i k → Made (λ G. Linked G facts sites tree.Either token left right (R G)) n0 n3 i k
     either_links n0 n1 n2 n3 flagged right_at i k flags made cut =
         joined_no (λ G. Decided G facts sites token) (λ G. Does G (node.Push Int (pos 1) 0)) (λ G. R G then Flagged G) n0 n2 n3 right_at i k (made and_then flags) cut
 
@@ -132,8 +152,8 @@ module _ (facts : Facts) (sites : Sites) where
         Made (λ G. Linked G facts sites (Computes o) token left right (R G)) n0 n2 i k
     computes_made o n0 n1 n2 done i k operated made = made and_then operated
 
-    pub unjoined_made : (n0 n1 : List Node) (i k : ℕ) → Made {K = ℕ} (λ G. Stuck G) n0 n1 i k → Made (λ G. Linked G facts sites Unjoined token left right (R G)) n0 n1 i k
-    unjoined_made n0 n1 i k made = made
+    pub unjoined_made : (n0 n1 : List Node) (i k : ℕ) → MadeAlone {K = ℕ} (λ G. Stuck G) n0 n1 i k → Made (λ G. Linked G facts sites Unjoined token left right (R G)) n0 n1 i k
+    unjoined_made n0 n1 i k made = surely_made (λ G. Stuck G) n0 n1 i k made
 
   pub linked_by : (j : Joint) (left : Option ValueType) (token : ℕ) (sign : Sign) (operand : ExprTree) (n0 n1 : List Node) (i k : ℕ) → j ≡ joint sign →
       Made (λ G. Linked G facts sites j token left (operand_type (is_null_beside (binary_of sign) left operand) (type_of facts operand))
@@ -155,11 +175,11 @@ module _ (facts : Facts) (sites : Sites) where
   chain_serves G first links (purpose.Truth yes_at no_at) i h = inl h
 
   -- the operators of one level
-  pub chain_made : (first : ExprTree) (links : LinkList) (p : Purpose) (n0 n1 n2 n3 : List Node) (after done i : ℕ) → Made (λ G. Takes G) n0 n1 after p →
+  pub chain_made : (first : ExprTree) (links : LinkList) (p : Purpose) (n0 n1 n2 n3 : List Node) (after done i : ℕ) → MadeFor (λ G. Takes G) n0 n1 after p →
       Made (λ G. LinksDo G facts sites (operand_type (begins_null facts first links) (type_of facts first)) links) n1 n2 done after →
-      Made (λ G. NullOr G (begins_null facts first links) (emitted G facts sites first)) n2 n3 i done → Made (serving facts sites (e.Chain 0 first links)) n0 n3 i p
+      Made (λ G. NullOr G (begins_null facts first links) (emitted G facts sites first)) n2 n3 i done → MadeFor (serving facts sites (e.Chain 0 first links)) n0 n3 i p
   chain_made first links p n0 n1 n2 n3 after done i taken linked made =
-      carried (λ G. Serves (Valued G (chain_value first links G))) (serving facts sites (e.Chain 0 first links)) p p (λ G i h. chain_serves G first links p i h) n0 n3 i
+      carried (λ G. Serves (Valued G (chain_value first links G))) (serving facts sites (e.Chain 0 first links)) p p (λ G i h. chain_serves G first links p i h) (λ n b. b) n0 n3 i
       (valued_made (chain_value first links) p n0 n1 n3 i after taken (made and_then linked))
 
 pub ruleset shortcuts_made = (shortcut_both, shortcut_either)

@@ -14,7 +14,7 @@ use Rattle.graphs.specs.Expressions.{Condition, emitted}
 use Rattle.graphs.specs.Operators.{Cast}
 use Rattle.graphs.specs.Paths.{Graph, Path, ◌then◌, Does, Either, Emitted, Stuck}
 use Rattle.graphs.specs.Values.{ArmAs, ArmEffect, ArmValue, HandedValue, Valued}
-use Rattle.graph_parts.specs.Made.{Made}
+use Rattle.graph_parts.specs.Made.{Made, MadeAlone, MadeFor, MadeWays}
 use Rattle.lower_expressions.specs.Arms.{arm_effect_part, arm_value_part}
 use Rattle.graph_parts.specs.Parts.{serving, value_part}
 use Rattle.graph_parts.specs.Purposes.{Serves, Takes, ways}
@@ -42,18 +42,18 @@ cast_valued G is_null (Some type.Struct) m is = refl
 
 -- a cast of a value
 pub cast_value : (is_null : Bool) (want : Option ValueType) (m : Graph → Emitted) (p : Purpose) (n0 n1 n2 : List Node) (i after : ℕ) → is_void want ≡ false →
-    Made (λ G. Takes G) n0 n1 after p → Made (λ G. HandedValue G is_null want (m G)) n1 n2 i after → Made (λ G. Serves (Cast G is_null want (m G))) n0 n2 i p
+    MadeFor (λ G. Takes G) n0 n1 after p → Made (λ G. HandedValue G is_null want (m G)) n1 n2 i after → MadeFor (λ G. Serves (Cast G is_null want (m G))) n0 n2 i p
 cast_value is_null want m p n0 n1 n2 i after is taken made =
     carried (λ G. Serves (Valued G (HandedValue G is_null want (m G)))) (λ G. Serves (Cast G is_null want (m G))) p p
-    (λ G i h. subst (λ x. Serves x i p) (cast_valued G is_null want (m G) is) h) n0 n2 i
+    (λ G i h. subst (λ x. Serves x i p) (cast_valued G is_null want (m G) is) h) (λ n b. b) n0 n2 i
     (valued_made (λ G. HandedValue G is_null want (m G)) p n0 n1 n2 i after taken made)
 
 -- a cast to `void`, for what the operand does
 pub cast_effect : (is_null : Bool) (want : Option ValueType) (m : Graph → Emitted) (n0 n1 : List Node) (i next : ℕ) → is_void want ≡ true →
-    Made (λ G. Serves (m G)) n0 n1 i (purpose.Effect next) → Made (λ G. Serves (Cast G is_null want (m G))) n0 n1 i (purpose.Effect next)
+    MadeFor (λ G. Serves (m G)) n0 n1 i (purpose.Effect next) → MadeFor (λ G. Serves (Cast G is_null want (m G))) n0 n1 i (purpose.Effect next)
 cast_effect is_null want m n0 n1 i next is made =
-    subst (λ w. Made (λ G. Serves (Cast G is_null w (m G))) n0 n1 i (purpose.Effect next)) (sym (void_is want is))
-    (carried (λ G. Serves (m G)) (λ G. Serves (Cast G is_null (Some type.Void) (m G))) (purpose.Effect next) (purpose.Effect next) (λ G i h. h) n0 n1 i made)
+    subst (λ w. MadeFor (λ G. Serves (Cast G is_null w (m G))) n0 n1 i (purpose.Effect next)) (sym (void_is want is))
+    (carried (λ G. Serves (m G)) (λ G. Serves (Cast G is_null (Some type.Void) (m G))) (purpose.Effect next) (purpose.Effect next) (λ G i h. h) (λ n b. b) n0 n1 i made)
 
 -- it has no value
 cast_stuck : (G : Graph) (is_null : Bool) (m : Emitted) (p : Purpose) (i : ℕ) → ((next : ℕ) → p ≡ purpose.Effect next → ⊥) → Stuck G {K = ℕ} i 0 →
@@ -63,10 +63,10 @@ cast_stuck G is_null m (purpose.Effect next) i other h = absurd (other next refl
 cast_stuck G is_null m (purpose.Truth yes_at no_at) i other h = h
 
 pub cast_nothing : (is_null : Bool) (want : Option ValueType) (m : Graph → Emitted) (p : Purpose) (n0 n1 : List Node) (i : ℕ) → is_void want ≡ true →
-    ((next : ℕ) → p ≡ purpose.Effect next → ⊥) → Made {K = ℕ} (λ G. Stuck G) n0 n1 i 0 → Made (λ G. Serves (Cast G is_null want (m G))) n0 n1 i p
+    ((next : ℕ) → p ≡ purpose.Effect next → ⊥) → MadeAlone {K = ℕ} (λ G. Stuck G) n0 n1 i 0 → MadeFor (λ G. Serves (Cast G is_null want (m G))) n0 n1 i p
 cast_nothing is_null want m p n0 n1 i is other made =
-    subst (λ w. Made (λ G. Serves (Cast G is_null w (m G))) n0 n1 i p) (sym (void_is want is))
-    (carried {K = ℕ} (λ G. Stuck G) (λ G. Serves (Cast G is_null (Some type.Void) (m G))) 0 p (λ G i h. cast_stuck G is_null (m G) p i other h) n0 n1 i made)
+    subst (λ w. MadeFor (λ G. Serves (Cast G is_null w (m G))) n0 n1 i p) (sym (void_is want is))
+    (carried {K = ℕ} (λ G. Stuck G) (λ G. Serves (Cast G is_null (Some type.Void) (m G))) 0 p (λ G i h. cast_stuck G is_null (m G) p i other h) (λ n b. tt) n0 n1 i made)
 
 arm_dropping : (G : Graph) (is_null : Bool) (have want : Option ValueType) (m : Emitted) → is_void want ≡ false →
     (ArmValue G is_null have want m then Does G (node.Drop 0)) ≡ ArmEffect G is_null have want m
@@ -82,13 +82,13 @@ pub arm_dropped : (is_null : Bool) (have want : Option ValueType) (m : Graph →
     drop ≡ length n0 → n1 ≡ n0 ++ node.Drop k ∷ [] → Made (λ G. ArmValue G is_null have want (m G)) n1 n2 i drop → Made (λ G. ArmEffect G is_null have want (m G)) n0 n2 i k
 arm_dropped is_null have want m n0 n1 n2 drop i k is at new made =
     carried (λ G. ArmValue G is_null have want (m G) then Does G (node.Drop 0)) (λ G. ArmEffect G is_null have want (m G)) k k
-    (λ G i h. subst (λ (x : Path ℕ). x i k) (arm_dropping G is_null have want (m G) is) h) n0 n2 i (made and_then row (node.Drop 0) _ at new refl)
+    (λ G i h. subst (λ (x : Path ℕ). x i k) (arm_dropping G is_null have want (m G) is) h) (λ n b. b) n0 n2 i (made and_then row (node.Drop 0) _ at new refl)
 
 pub arm_void : (is_null : Bool) (have want : Option ValueType) (m : Graph → Emitted) (n0 n1 : List Node) (i k : ℕ) → is_void want ≡ true →
-    Made (λ G. Serves (m G)) n0 n1 i (purpose.Effect k) → Made (λ G. ArmEffect G is_null have want (m G)) n0 n1 i k
+    MadeFor (λ G. Serves (m G)) n0 n1 i (purpose.Effect k) → Made (λ G. ArmEffect G is_null have want (m G)) n0 n1 i k
 arm_void is_null have want m n0 n1 i k is made =
     subst (λ w. Made (λ G. ArmEffect G is_null have w (m G)) n0 n1 i k) (sym (void_is want is))
-    (carried (λ G. Serves (m G)) (λ G. ArmEffect G is_null have (Some type.Void) (m G)) (purpose.Effect k) k (λ G i h. h) n0 n1 i made)
+    (carried (λ G. Serves (m G)) (λ G. ArmEffect G is_null have (Some type.Void) (m G)) (purpose.Effect k) k (λ G i h. h) (λ n b. b) n0 n1 i made)
 
 module _ (facts : Facts) (sites : Sites) where
   -- an arm that is no null pointer
@@ -101,7 +101,7 @@ module _ (facts : Facts) (sites : Sites) where
   module _ (token : ℕ) (c x y : ExprTree) where
     -- the value of the whole
     pub chosen_made : (n0 n1 n2 n3 : List Node) (no_at yes_at i k : ℕ) → Made (arm_value_part facts sites (facts.type_at token) y) n0 n1 no_at k →
-        Made (arm_value_part facts sites (facts.type_at token) x) n1 n2 yes_at k → Made (λ G. Condition G facts sites token c) n2 n3 i (ways yes_at no_at) →
+        Made (arm_value_part facts sites (facts.type_at token) x) n1 n2 yes_at k → MadeWays (λ G. Condition G facts sites token c) n2 n3 i (ways yes_at no_at) →
         Made (value_part facts sites (e.Conditional token c x y)) n0 n3 i k
     chosen_made n0 n1 n2 n3 no_at yes_at i k second first decided =
         either_made (λ G. Condition G facts sites token c) (arm_value_part facts sites (facts.type_at token) x) (arm_value_part facts sites (facts.type_at token) y)
@@ -114,20 +114,20 @@ module _ (facts : Facts) (sites : Sites) where
     chosen_serves G (purpose.Truth yes_at no_at) i other h = h
 
     -- or its truth
-    pub conditional_taken : (p : Purpose) (n0 n1 n2 : List Node) (after i : ℕ) → ((next : ℕ) → p ≡ purpose.Effect next → ⊥) → Made (λ G. Takes G) n0 n1 after p →
-        Made (value_part facts sites (e.Conditional token c x y)) n1 n2 i after → Made (serving facts sites (e.Conditional token c x y)) n0 n2 i p
+    pub conditional_taken : (p : Purpose) (n0 n1 n2 : List Node) (after i : ℕ) → ((next : ℕ) → p ≡ purpose.Effect next → ⊥) → MadeFor (λ G. Takes G) n0 n1 after p →
+        Made (value_part facts sites (e.Conditional token c x y)) n1 n2 i after → MadeFor (serving facts sites (e.Conditional token c x y)) n0 n2 i p
     conditional_taken p n0 n1 n2 after i other taken made =
         carried (λ G. Serves (Valued G (value_part facts sites (e.Conditional token c x y) G))) (serving facts sites (e.Conditional token c x y)) p p
-        (λ G i h. chosen_serves G p i other h) n0 n2 i
+        (λ G i h. chosen_serves G p i other h) (λ n b. b) n0 n2 i
         (valued_made (value_part facts sites (e.Conditional token c x y)) p n0 n1 n2 i after taken made)
 
     -- and for what it does
     pub conditional_effect : (next : ℕ) (n0 n1 n2 n3 : List Node) (no_at yes_at i : ℕ) →
         Made (arm_effect_part facts sites (facts.type_at token) y) n0 n1 no_at next → Made (arm_effect_part facts sites (facts.type_at token) x) n1 n2 yes_at next →
-        Made (λ G. Condition G facts sites token c) n2 n3 i (ways yes_at no_at) → Made (serving facts sites (e.Conditional token c x y)) n0 n3 i (purpose.Effect next)
+        MadeWays (λ G. Condition G facts sites token c) n2 n3 i (ways yes_at no_at) → MadeFor (serving facts sites (e.Conditional token c x y)) n0 n3 i (purpose.Effect next)
     conditional_effect next n0 n1 n2 n3 no_at yes_at i second first decided =
         carried (λ G. Either (Condition G facts sites token c) (arm_effect_part facts sites (facts.type_at token) x G) (arm_effect_part facts sites (facts.type_at token) y G))
-        (serving facts sites (e.Conditional token c x y)) next (purpose.Effect next) (λ G i h. h) n0 n3 i
+        (serving facts sites (e.Conditional token c x y)) next (purpose.Effect next) (λ G i h. h) (λ n b. b) n0 n3 i
         (either_made (λ G. Condition G facts sites token c) (arm_effect_part facts sites (facts.type_at token) x) (arm_effect_part facts sites (facts.type_at token) y)
         n0 n1 n2 n3 i yes_at no_at next second first decided)
 

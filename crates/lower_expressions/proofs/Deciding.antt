@@ -8,7 +8,7 @@ use Rattle.c_meaning.specs.Facts.{Facts, Sites}
 use Rattle.graphs.specs.Expressions.{Condition, emitted}
 use Rattle.graphs.specs.Operators.{DecidesAt}
 use Rattle.graphs.specs.Paths.{◌then◌, ForkTo, MarksAll, Ways}
-use Rattle.graph_parts.specs.Made.{Made}
+use Rattle.graph_parts.specs.Made.{Made, MadeFor, MadeWays}
 use Rattle.graph_parts.specs.Parts.{serving, value_part}
 use Rattle.graph_parts.specs.Purposes.{ways}
 use Rattle.graph_parts.specs.declared.purpose.Purpose.TheVariants as purpose
@@ -17,28 +17,28 @@ use Rattle.graph_parts.proofs.Visiting.{mark_made}
 
 module _ (facts : Facts) (sites : Sites) (token : ℕ) (x : ExprTree) (site : Option ℕ) (found : site ≡ sites.branch_at token) where
   decides : (o : Option ℕ) (n0 n1 : List Node) (i : ℕ) (k : Ways) → o ≡ site →
-      Made (λ G. DecidesAt G facts sites o (emitted G facts sites x).value (emitted G facts sites x).truth) n0 n1 i k →
-      Made (λ G. Condition G facts sites token x) n0 n1 i k
+      MadeWays (λ G. DecidesAt G facts sites o (emitted G facts sites x).value (emitted G facts sites x).truth) n0 n1 i k →
+      MadeWays (λ G. Condition G facts sites token x) n0 n1 i k
   decides o n0 n1 i k e made =
-      subst (λ o. Made (λ G. DecidesAt G facts sites o (emitted G facts sites x).value (emitted G facts sites x).truth) n0 n1 i k) (e ∙ found) made
+      subst (λ o. MadeWays (λ G. DecidesAt G facts sites o (emitted G facts sites x).value (emitted G facts sites x).truth) n0 n1 i k) (e ∙ found) made
 
   -- without a site its truth does
-  pub unsited_made : (n0 n1 : List Node) (i yes_at no_at : ℕ) → site ≡ None → Made (serving facts sites x) n0 n1 i (purpose.Truth yes_at no_at) →
-      Made (λ G. Condition G facts sites token x) n0 n1 i (ways yes_at no_at)
+  pub unsited_made : (n0 n1 : List Node) (i yes_at no_at : ℕ) → site ≡ None → MadeFor (serving facts sites x) n0 n1 i (purpose.Truth yes_at no_at) →
+      MadeWays (λ G. Condition G facts sites token x) n0 n1 i (ways yes_at no_at)
   unsited_made n0 n1 i yes_at no_at none made =
       decides None n0 n1 i (ways yes_at no_at) (sym none)
       (carried (serving facts sites x) (λ G. DecidesAt G facts sites None (emitted G facts sites x).value (emitted G facts sites x).truth) (purpose.Truth yes_at no_at)
-      (ways yes_at no_at) (λ G i h. h) n0 n1 i made)
+      (ways yes_at no_at) (λ G i h. h) (λ n b. b) n0 n1 i made)
 
   -- with a site its value is before the mark, and the fork behind it
   pub sited_made : (number : ℕ) (n0 n1 n2 n3 : List Node) (fork mark i yes_at no_at : ℕ) → site ≡ Some number →
       fork ≡ length n0 → n1 ≡ n0 ++ node.Fork yes_at no_at ∷ [] → mark ≡ length n1 → n2 ≡ n1 ++ node.Mark number fork ∷ [] → Made (value_part facts sites x) n2 n3 i mark →
-      Made (λ G. Condition G facts sites token x) n0 n3 i (ways yes_at no_at)
+      MadeWays (λ G. Condition G facts sites token x) n0 n3 i (ways yes_at no_at)
   sited_made number n0 n1 n2 n3 fork mark i yes_at no_at is at1 is1 at2 is2 value =
       decides (Some number) n0 n3 i (ways yes_at no_at) (sym is)
       (then_made (value_part facts sites x) (λ G. MarksAll G (number ∷ []) then ForkTo G) n0 n2 n3 i mark (ways yes_at no_at)
       (then_made (λ G. MarksAll G (number ∷ [])) (λ G. ForkTo G) n0 n1 n2 mark fork (ways yes_at no_at)
-      (view_made (λ (w : Ways). view.Forks w.yes_to w.no_to) (node.Fork yes_at no_at) n0 n1 fork (ways yes_at no_at) refl at1 is1)
+      (view_made (λ (w : Ways). view.Forks w.yes_to w.no_to) (node.Fork yes_at no_at) n0 n1 fork (ways yes_at no_at) refl at1 is1 (λ all b. b))
       (mark_made number n1 n2 mark fork at2 is2)) value)
 
 pub ruleset conditions_made = (unsited_made, sited_made)

@@ -16,25 +16,26 @@ use Rattle.graphs.specs.Operators.{DecidesAt, LinkedTruth}
 use Rattle.graphs.specs.Paths.{Graph, Path, ◌then◌, Emitted, Ways}
 use Rattle.graphs.specs.Values.{NullOr, NullTruth}
 use Rattle.graphs.specs.Functions.{standing}
-use Rattle.graph_parts.specs.Made.{Later, Made}
+use Rattle.graph_parts.specs.Ends.{AllBelow, two_ends}
+use Rattle.graph_parts.specs.Made.{Later, LeadBack, MadeFor, MadeWays, Stands}
 use Rattle.graph_parts.specs.Parts.{serving, truth_part}
 use Rattle.graph_parts.specs.Purposes.{Serves, ways}
 use Rattle.graph_parts.specs.declared.purpose.Purpose.TheVariants as purpose
 use Rattle.lower_expressions.specs.Forking.{all_fork, forks_at, no_before, yes_before}
 use Rattle.lower_expressions.specs.Linking.{link_part, type_before}
-use Rattle.graph_parts.proofs.Building.{◌and_then◌, carried, later_self, later_trans, row}
+use Rattle.graph_parts.proofs.Building.{◌and_then◌, back_both, below_more, carried, later_self, later_trans, none_back, row}
 use Rattle.graph_parts.proofs.Taking.{fork_made}
 use Rattle.lower_expressions.proofs.Chaining.{plain_cons}
 
 -- a null pointer's truth
 pub null_truth : (m : Graph → Emitted) (n0 n1 n2 : List Node) (f i yes_at no_at : ℕ) → f ≡ length n0 → n1 ≡ n0 ++ node.Fork yes_at no_at ∷ [] →
-    i ≡ length n1 → n2 ≡ n1 ++ node.Null f ∷ [] → Made (λ G. NullTruth G true (m G)) n0 n2 i (ways yes_at no_at)
+    i ≡ length n1 → n2 ≡ n1 ++ node.Null f ∷ [] → MadeWays (λ G. NullTruth G true (m G)) n0 n2 i (ways yes_at no_at)
 null_truth m n0 n1 n2 f i yes_at no_at at new at' new' = row (node.Null 0) _ at' new' refl and_then fork_made n0 n1 f yes_at no_at at new
 
-pub own_truth : (m : Graph → Emitted) (n0 n1 : List Node) (i yes_at no_at : ℕ) → Made (λ G. Serves (m G)) n0 n1 i (purpose.Truth yes_at no_at) →
-    Made (λ G. NullTruth G false (m G)) n0 n1 i (ways yes_at no_at)
+pub own_truth : (m : Graph → Emitted) (n0 n1 : List Node) (i yes_at no_at : ℕ) → MadeFor (λ G. Serves (m G)) n0 n1 i (purpose.Truth yes_at no_at) →
+    MadeWays (λ G. NullTruth G false (m G)) n0 n1 i (ways yes_at no_at)
 own_truth m n0 n1 i yes_at no_at made =
-    carried (λ G. Serves (m G)) (λ G. NullTruth G false (m G)) (purpose.Truth yes_at no_at) (ways yes_at no_at) (λ G i h. h) n0 n1 i made
+    carried (λ G. Serves (m G)) (λ G. NullTruth G false (m G)) (purpose.Truth yes_at no_at) (ways yes_at no_at) (λ G i h. h) (λ n b. b) n0 n1 i made
 
 first_true : (a b : Bool) → (a && b) ≡ true → a ≡ true
 first_true true b h = refl
@@ -112,15 +113,23 @@ pub record Leads (facts : Facts) (sites : Sites) (first : ExprTree) (links : Lis
   pub does : (fin : List Node) → Later (length old) new fin → (i : ℕ) → chain_truth facts sites first links (standing fin) j i from →
       chain_truth facts sites first links (standing fin) (length links) i to
   pub keeps : Later 0 old new
+  pub leads : AllBelow (length old) (two_ends to) → AllBelow (length new) (two_ends from) × LeadBack (length old) new
+
+-- where a left side goes on, if its right side and the whole do
+chosen_below : (j : Joint) (n right yes_at no_at : ℕ) → right < n → yes_at < n → no_at < n → AllBelow n (two_ends (ways (yes_before j right yes_at) (no_before j right no_at)))
+chosen_below Both n right yes_at no_at r y m = (r, (m, tt))
+chosen_below tree.Either n right yes_at no_at r y m = (y, (r, tt))
+chosen_below (Computes o) n right yes_at no_at r y m = (y, (r, tt))
+chosen_below Unjoined n right yes_at no_at r y m = (y, (r, tt))
 
 module _ (facts : Facts) (sites : Sites) (first : ExprTree) (links : List Link) where
   pub leads_all : (n : List Node) (k : Ways) → Leads facts sites first links (length links) n n k k
-  leads_all n k = record { does = λ fin l i h. h; keeps = later_self 0 n }
+  leads_all n k = record { does = λ fin l i h. h; keeps = later_self 0 n; leads = λ below. (below, none_back n) }
 
   -- the right side of one more operator
   pub leads_step : (m j : ℕ) (d : Link) (n0 n1 n2 : List Node) (right yes_at no_at : ℕ) (to : Ways) → m ≡ j + 1 → j < length links → d ≡ get_or links j d →
       all_fork sites links ≡ true → Leads facts sites first links m n0 n1 (ways yes_at no_at) to →
-      Made (λ G. NullTruth G (is_null_beside (binary_of d.sign) (type_before facts (begins_as facts sites first links) links j) (plain_expr d.operand)) (emitted G facts sites (plain_expr d.operand)))
+      MadeWays (λ G. NullTruth G (is_null_beside (binary_of d.sign) (type_before facts (begins_as facts sites first links) links j) (plain_expr d.operand)) (emitted G facts sites (plain_expr d.operand)))
       n1 n2 right (ways yes_at no_at) →
       Leads facts sites first links j n0 n2 (ways (yes_before (joint d.sign) right yes_at) (no_before (joint d.sign) right no_at)) to
   leads_step m j d n0 n1 n2 right yes_at no_at to e low at all rest made = record {
@@ -139,12 +148,19 @@ module _ (facts : Facts) (sites : Sites) (first : ExprTree) (links : List Link) 
         rest.does fin (later_trans (length n0) (length n0) n1 n2 fin (omega arith) made.keeps l) i
         (subst (λ q. chain_truth facts sites first links G q i (ways yes_at no_at)) (sym here) next);
     keeps = later_trans 0 0 n0 n1 n2 (omega arith) rest.keeps made.keeps;
+    leads = λ below.
+        let second : AllBelow (length n1) (two_ends (ways yes_at no_at)) × LeadBack (length n0) n1 = rest.leads below in
+        let right_at : Stands (length n1) n2 right = made.leads second.0 in
+        let all : AllBelow (length n2) (two_ends (ways yes_at no_at)) = below_more (length n1) (length n2) (two_ends (ways yes_at no_at)) made.keeps.longer second.0 in (
+          chosen_below (joint d.sign) (length n2) right yes_at no_at right_at.inside all.0 all.1.0,
+          back_both (length n0) n1 n2 second.1 made.keeps right_at.back,
+        );
   }
 
   -- before them all stands the first operand
   pub leads_end : (n0 n1 n2 : List Node) (i : ℕ) (from to : Ways) → Leads facts sites first links 0 n0 n1 from to →
-      Made (λ G. NullTruth G (begins_null facts first (plain_links links)) (emitted G facts sites first)) n1 n2 i from →
-      Made (truth_part facts sites (e.Chain 0 first (plain_links links))) n0 n2 i to
+      MadeWays (λ G. NullTruth G (begins_null facts first (plain_links links)) (emitted G facts sites first)) n1 n2 i from →
+      MadeWays (truth_part facts sites (e.Chain 0 first (plain_links links))) n0 n2 i to
   leads_end n0 n1 n2 i from to leads made = record {
     does = λ fin l.
         let G : Graph = standing fin in
@@ -154,19 +170,23 @@ module _ (facts : Facts) (sites : Sites) (first : ExprTree) (links : List Link) 
         (leads.does fin (later_trans (length n0) (length n0) n1 n2 fin (omega arith) made.keeps l) i
         (made.does fin (later_trans (length n0) (length n1) n2 n2 fin leads.keeps.longer (later_self 0 n2) l))));
     keeps = later_trans 0 0 n0 n1 n2 (omega arith) leads.keeps made.keeps;
+    leads = λ below.
+        let second : AllBelow (length n1) (two_ends from) × LeadBack (length n0) n1 = leads.leads below in
+        let begins : Stands (length n1) n2 i = made.leads second.0 in
+        record { inside = begins.inside; back = back_both (length n0) n1 n2 second.1 made.keeps begins.back };
   }
 
   -- all right sides are put
   pub leads_whole : (m : ℕ) (n0 n1 n2 : List Node) (i : ℕ) (from to : Ways) → m ≡ 0 → Leads facts sites first links m n0 n1 from to →
-      Made (λ G. NullTruth G (begins_null facts first (plain_links links)) (emitted G facts sites first)) n1 n2 i from →
-      Made (truth_part facts sites (e.Chain 0 first (plain_links links))) n0 n2 i to
+      MadeWays (λ G. NullTruth G (begins_null facts first (plain_links links)) (emitted G facts sites first)) n1 n2 i from →
+      MadeWays (truth_part facts sites (e.Chain 0 first (plain_links links))) n0 n2 i to
   leads_whole m n0 n1 n2 i from to none leads made =
       leads_end n0 n1 n2 i from to (subst (λ q. Leads facts sites first links q n0 n1 from to) none leads) made
 
 -- it is the truth of the chain
 pub forked_chain : (facts : Facts) (sites : Sites) (first : ExprTree) (links : LinkList) (n0 n1 : List Node) (i yes_at no_at : ℕ) →
-    Made (truth_part facts sites (e.Chain 0 first links)) n0 n1 i (ways yes_at no_at) → Made (serving facts sites (e.Chain 0 first links)) n0 n1 i (purpose.Truth yes_at no_at)
+    MadeWays (truth_part facts sites (e.Chain 0 first links)) n0 n1 i (ways yes_at no_at) → MadeFor (serving facts sites (e.Chain 0 first links)) n0 n1 i (purpose.Truth yes_at no_at)
 forked_chain facts sites first links n0 n1 i yes_at no_at made =
-    carried (truth_part facts sites (e.Chain 0 first links)) (serving facts sites (e.Chain 0 first links)) (ways yes_at no_at) (purpose.Truth yes_at no_at) (λ G i h. h) n0 n1 i made
+    carried (truth_part facts sites (e.Chain 0 first links)) (serving facts sites (e.Chain 0 first links)) (ways yes_at no_at) (purpose.Truth yes_at no_at) (λ G i h. h) (λ n b. b) n0 n1 i made
 
 pub ruleset null_truths = (null_truth, own_truth)

@@ -11,40 +11,40 @@ use Rattle.c_meaning.specs.Visits.{listed}
 use Rattle.graphs.specs.Calls.{Argument, Arguments, CallDoes, CallFunction, CallLibrary, WithResult}
 use Rattle.graphs.specs.Paths.{Graph, Path, ◌then◌, MarksAll, Stuck}
 use Rattle.lower_expressions.specs.Giving.{CalledDoes, FunctionDoes, Given, GivenTakes, LibraryDoes, function_gives, giving_of, is_refused, library_gives, result_gives}
-use Rattle.graph_parts.specs.Made.{Made, Part}
+use Rattle.graph_parts.specs.Made.{Made, MadeAlone, MadeFor, Part}
 use Rattle.graph_parts.specs.Purposes.{Serves, Takes}
 use Rattle.lower_expressions.specs.declared.calls.Giving.{Giving}
 use Rattle.lower_expressions.specs.declared.calls.Giving.TheVariants as giving
 use Rattle.graph_parts.specs.declared.purpose.Purpose.{Purpose}
 use Rattle.graph_parts.specs.declared.purpose.Purpose.TheVariants as purpose
-use Rattle.graph_parts.proofs.Building.{carried, later_self, then_made}
+use Rattle.graph_parts.proofs.Building.{carried, later_self, stays_put, then_made}
 
 module _ (facts : Facts) (sites : Sites) (token : ℕ) where
-  pub given_value : (p : Purpose) (n0 n1 : List Node) (i : ℕ) → Made (λ G. Takes G) n0 n1 i p →
-      Made (λ G. GivenTakes G facts sites token giving.Value) n0 n1 i p
-  given_value p n0 n1 i made = carried (λ G. Takes G) (λ G. GivenTakes G facts sites token giving.Value) p p (λ G i h. h) n0 n1 i made
+  pub given_value : (p : Purpose) (n0 n1 : List Node) (i : ℕ) → MadeFor (λ G. Takes G) n0 n1 i p →
+      MadeFor (λ G. GivenTakes G facts sites token giving.Value) n0 n1 i p
+  given_value p n0 n1 i made = carried (λ G. Takes G) (λ G. GivenTakes G facts sites token giving.Value) p p (λ G i h. h) (λ n b. b) n0 n1 i made
 
   pub given_returned : (site : Option ℕ) (p : Purpose) (n0 n1 n2 : List Node) (after i : ℕ) → site ≡ sites.return_at token →
-      Made (λ G. Takes G) n0 n1 after p →
-      Made (λ G. MarksAll G (listed site)) n1 n2 i after → Made (λ G. GivenTakes G facts sites token giving.Returned) n0 n2 i p
+      MadeFor (λ G. Takes G) n0 n1 after p →
+      Made (λ G. MarksAll G (listed site)) n1 n2 i after → MadeFor (λ G. GivenTakes G facts sites token giving.Returned) n0 n2 i p
   given_returned site p n0 n1 n2 after i e taken marked =
       carried (λ G. MarksAll G (listed (sites.return_at token)) then Takes G) (λ G. GivenTakes G facts sites token giving.Returned) p p
-      (λ G i h. h) n0 n2 i
+      (λ G i h. h) (λ n b. b) n0 n2 i
       (then_made (λ G. MarksAll G (listed (sites.return_at token))) (λ G. Takes G) n0 n1 n2 i after p taken
       (subst (λ s. Made (λ G. MarksAll G (listed s)) n1 n2 i after) e marked))
 
-  pub given_nothing : (n : List Node) (next : ℕ) → Made (λ G. GivenTakes G facts sites token giving.Nothing) n n next (purpose.Effect next)
-  given_nothing n next = record { does = λ fin l. refl; keeps = later_self 0 n }
+  pub given_nothing : (n : List Node) (next : ℕ) → MadeFor (λ G. GivenTakes G facts sites token giving.Nothing) n n next (purpose.Effect next)
+  given_nothing n next = record { does = λ fin l. refl; keeps = later_self 0 n; leads = λ below. stays_put n next below }
 
-  pub stuck_value : (n0 n1 : List Node) (i k next : ℕ) → Made (λ G. Stuck G) n0 n1 i k →
-      Made (λ G. GivenTakes G facts sites token giving.Nothing) n0 n1 i (purpose.Value next)
+  pub stuck_value : (n0 n1 : List Node) (i k next : ℕ) → MadeAlone (λ G. Stuck G) n0 n1 i k →
+      MadeFor (λ G. GivenTakes G facts sites token giving.Nothing) n0 n1 i (purpose.Value next)
   stuck_value n0 n1 i k next made =
-      carried (λ G. Stuck G) (λ G. GivenTakes G facts sites token giving.Nothing) k (purpose.Value next) (λ G i h. h) n0 n1 i made
+      carried (λ G. Stuck G) (λ G. GivenTakes G facts sites token giving.Nothing) k (purpose.Value next) (λ G i h. h) (λ n b. tt) n0 n1 i made
 
-  pub stuck_truth : (n0 n1 : List Node) (i k yes_at no_at : ℕ) → Made (λ G. Stuck G) n0 n1 i k →
-      Made (λ G. GivenTakes G facts sites token giving.Nothing) n0 n1 i (purpose.Truth yes_at no_at)
+  pub stuck_truth : (n0 n1 : List Node) (i k yes_at no_at : ℕ) → MadeAlone (λ G. Stuck G) n0 n1 i k →
+      MadeFor (λ G. GivenTakes G facts sites token giving.Nothing) n0 n1 i (purpose.Truth yes_at no_at)
   stuck_truth n0 n1 i k yes_at no_at made =
-      carried (λ G. Stuck G) (λ G. GivenTakes G facts sites token giving.Nothing) k (purpose.Truth yes_at no_at) (λ G i h. h) n0 n1 i made
+      carried (λ G. Stuck G) (λ G. GivenTakes G facts sites token giving.Nothing) k (purpose.Truth yes_at no_at) (λ G i h. h) (λ n b. tt) n0 n1 i made
 
   given_serves : (G : Graph) (g : Giving) (R : Path ℕ) (p : Purpose) (i : ℕ) → is_refused g p ≡ false → (R then GivenTakes G facts sites token g) i p →
       Serves (Given G facts sites token g R) i p
@@ -60,10 +60,10 @@ module _ (facts : Facts) (sites : Sites) (token : ℕ) where
   given_serves G giving.Nothing R (purpose.Truth yes_at no_at) i e h = cc
 
   pub given_made : (g : Giving) (R : Part ℕ) (p : Purpose) (n0 n1 n2 : List Node) (after i : ℕ) → is_refused g p ≡ false →
-      Made (λ G. GivenTakes G facts sites token g) n0 n1 after p → Made R n1 n2 i after → Made (λ G. Serves (Given G facts sites token g (R G))) n0 n2 i p
+      MadeFor (λ G. GivenTakes G facts sites token g) n0 n1 after p → Made R n1 n2 i after → MadeFor (λ G. Serves (Given G facts sites token g (R G))) n0 n2 i p
   given_made g R p n0 n1 n2 after i e taken made =
       carried (λ G. R G then GivenTakes G facts sites token g) (λ G. Serves (Given G facts sites token g (R G))) p p (λ G i h. given_serves G g
-      (R G) p i e h) n0 n2 i
+      (R G) p i e h) (λ n b. b) n0 n2 i
       (then_made R (λ G. GivenTakes G facts sites token g) n0 n1 n2 i after p taken made)
 
   pub refused_serves : (G : Graph) (g : Giving) (R : Path ℕ) (p : Purpose) (i k : ℕ) → is_refused g p ≡ true → Stuck G i k →

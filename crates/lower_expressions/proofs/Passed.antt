@@ -3,7 +3,7 @@ use Rattle.std.proofs.Common.{◌≡◌, ℕ, zero, suc, ◌+◌, ◌<◌, ◌==
 use Rattle.std.specs.Option.{option_and_then}
 use Rattle.std.proofs.lemmas.Bool.{eqb-true}
 use Rattle.std.proofs.lemmas.Bool.Decides.{nat_tests}
-use Rattle.std.proofs.lemmas.List.{drop_more}
+use Rattle.std.proofs.lemmas.List.{drop_all, drop_more}
 use Rattle.c_rules.specs.declared.library.Library.{Library}
 use Rattle.c_rules.specs.declared.library.Library.TheVariants as library
 use Rattle.c_syntax.specs.ExprTree as e
@@ -28,11 +28,11 @@ use Rattle.graphs.specs.Calls.{Arguments, CallDoes, Prints}
 use Rattle.graphs.specs.Expressions.{ArgumentsDo, FormatDoes, LoneDoes, emitted, number_of_text}
 use Rattle.graphs.specs.Paths.{Graph, Path, ◌then◌, Does, HaltsAt, Only, Stuck}
 use Rattle.graphs.specs.Values.{HandedValue}
-use Rattle.graph_parts.specs.Made.{Made, Part}
+use Rattle.graph_parts.specs.Made.{Made, MadeAlone, MadeFor, Part}
 use Rattle.graph_parts.specs.Parts.{serving}
 use Rattle.graph_parts.specs.Purposes.{Serves}
 use Rattle.graph_parts.specs.declared.purpose.Purpose.{Purpose}
-use Rattle.graph_parts.proofs.Building.{carried, then_made}
+use Rattle.graph_parts.proofs.Building.{carried, nothing_made, surely_made, then_made}
 use Rattle.lower_expressions.specs.Giving.{CalledDoes, FunctionDoes, Given, GivenTakes, LibraryDoes, giving_of, is_refused}
 use Rattle.lower_expressions.specs.Passing.{Acts, Formats, LibraryActs, fits, format_types, known, library_fits, library_types, number_of_first, others, params_of, passed, prints, takes, text_of_first, type_of_first, types_of_text, types_passed}
 use Rattle.lower_expressions.specs.declared.calls.Giving.{Giving}
@@ -50,6 +50,12 @@ others_dropped [] zero = refl
 others_dropped [] (suc j) = refl
 others_dropped (t ∷ ts) zero = refl
 others_dropped (t ∷ ts) (suc j) = others_dropped ts j
+
+-- none is put yet
+pub arguments_none : (facts : Facts) (sites : Sites) (types : List ValueType) (arguments : List Expr) (n : List Node) (k : ℕ) →
+    Made (λ G. ArgumentsDo G facts sites types (plain_exprs (drop (length arguments) arguments))) n n k k
+arguments_none facts sites types arguments n k =
+    subst (λ l. Made (λ G. ArgumentsDo G facts sites types (plain_exprs l)) n n k k) (sym (drop_all (length arguments) arguments (omega arith))) (nothing_made n k)
 
 pub arguments_step : (facts : Facts) (sites : Sites) (types : List ValueType) (arguments : List Expr) (m j : ℕ) (d : Expr) (want : Option ValueType)
     (n0 n1 n2 : List Node) (entry i k : ℕ) →
@@ -250,36 +256,36 @@ module _ (facts : Facts) (sites : Sites) where
         (subst (λ q. Serves (Given G facts sites token q (called_part c xs G)) i p) gives h))
 
     -- a value is wanted where there is none
-    pub refused_made : (n0 n1 : List Node) (i k : ℕ) → is_refused g p ≡ true → Made (λ G. Stuck G) n0 n1 i k →
-        Made (serving facts sites (e.Call token name xs)) n0 n1 i p
+    pub refused_made : (n0 n1 : List Node) (i k : ℕ) → is_refused g p ≡ true → MadeAlone (λ G. Stuck G) n0 n1 i k →
+        MadeFor (serving facts sites (e.Call token name xs)) n0 n1 i p
     refused_made n0 n1 i k refused made =
         carried (λ G. Stuck G) (serving facts sites (e.Call token name xs)) k p
-        (λ G i h. call_serves G i (refused_serves facts sites token G g (called_part c xs G) p i k refused h)) n0 n1 i made
+        (λ G i h. call_serves G i (refused_serves facts sites token G g (called_part c xs G) p i k refused h)) (λ n b. tt) n0 n1 i made
 
-    acted_made : (n0 n1 n2 : List Node) (after i : ℕ) → is_refused g p ≡ false → Made (λ G. GivenTakes G facts sites token g) n0 n1 after p →
-        Made (called_part c xs) n1 n2 i after → Made (serving facts sites (e.Call token name xs)) n0 n2 i p
+    acted_made : (n0 n1 n2 : List Node) (after i : ℕ) → is_refused g p ≡ false → MadeFor (λ G. GivenTakes G facts sites token g) n0 n1 after p →
+        Made (called_part c xs) n1 n2 i after → MadeFor (serving facts sites (e.Call token name xs)) n0 n2 i p
     acted_made n0 n1 n2 after i kept taken made =
         carried (λ G. Serves (Given G facts sites token g (called_part c xs G))) (serving facts sites (e.Call token name xs)) p p
-        (λ G i h. call_serves G i h) n0 n2 i
+        (λ G i h. call_serves G i h) (λ n b. b) n0 n2 i
         (given_made facts sites token g (called_part c xs) p n0 n1 n2 after i kept taken made)
 
     -- the arguments aren't those that the call takes
-    pub unfit_made : (n0 n1 n2 n3 : List Node) (after acts i : ℕ) → is_refused g p ≡ false → Made (λ G. GivenTakes G facts sites token g) n0 n1 after p →
-        Made (λ G. Acts G facts c xs) n1 n2 acts after → fits facts c xs ≡ false → Made (λ G. Stuck G) n2 n3 i acts →
-        Made (serving facts sites (e.Call token name xs)) n0 n3 i p
+    pub unfit_made : (n0 n1 n2 n3 : List Node) (after acts i : ℕ) → is_refused g p ≡ false → MadeFor (λ G. GivenTakes G facts sites token g) n0 n1 after p →
+        Made (λ G. Acts G facts c xs) n1 n2 acts after → fits facts c xs ≡ false → MadeAlone (λ G. Stuck G) n2 n3 i acts →
+        MadeFor (serving facts sites (e.Call token name xs)) n0 n3 i p
     unfit_made n0 n1 n2 n3 after acts i kept taken acted unfit made =
         acted_made n0 n1 n3 after i kept taken
-        (carried (λ G. Stuck G then Acts G facts c xs) (called_part c xs) after after (λ G i h. all_unfit G c xs i after unfit h) n1 n3 i
-        (then_made (λ G. Stuck G) (λ G. Acts G facts c xs) n1 n2 n3 i acts after acted made))
+        (carried (λ G. Stuck G then Acts G facts c xs) (called_part c xs) after after (λ G i h. all_unfit G c xs i after unfit h) (λ n b. b) n1 n3 i
+        (then_made (λ G. Stuck G) (λ G. Acts G facts c xs) n1 n2 n3 i acts after acted (surely_made (λ G. Stuck G) n2 n3 i acts made)))
 
     pub call_made : (types : List ValueType) (ys : ExprList) (n0 n1 n2 n3 : List Node) (after acts i : ℕ) → is_refused g p ≡ false →
-        Made (λ G. GivenTakes G facts sites token g) n0 n1 after p → Made (λ G. Acts G facts c xs) n1 n2 acts after → fits facts c xs ≡ true →
+        MadeFor (λ G. GivenTakes G facts sites token g) n0 n1 after p → Made (λ G. Acts G facts c xs) n1 n2 acts after → fits facts c xs ≡ true →
         types ≡ types_passed facts c xs → ys ≡ passed c xs → Made (λ G. ArgumentsDo G facts sites types ys) n2 n3 i acts →
-        Made (serving facts sites (e.Call token name xs)) n0 n3 i p
+        MadeFor (serving facts sites (e.Call token name xs)) n0 n3 i p
     call_made types ys n0 n1 n2 n3 after acts i kept taken acted fit wants passes made =
         acted_made n0 n1 n3 after i kept taken
         (carried (λ G. ArgumentsDo G facts sites (types_passed facts c xs) (passed c xs) then Acts G facts c xs) (called_part c xs) after after
-        (λ G i h. all_passed G c xs i after fit h) n1 n3 i
+        (λ G i h. all_passed G c xs i after fit h) (λ n b. b) n1 n3 i
         (then_made (λ G. ArgumentsDo G facts sites (types_passed facts c xs) (passed c xs)) (λ G. Acts G facts c xs) n1 n2 n3 i acts after acted
         (subst (λ t. Made (λ G. ArgumentsDo G facts sites t (passed c xs)) n2 n3 i acts) wants
         (subst (λ y. Made (λ G. ArgumentsDo G facts sites types y) n2 n3 i acts) passes made))))

@@ -19,10 +19,10 @@ use Rattle.graphs.specs.Calls.{Argument, Arguments, CallDoes, CallFunction, Call
 use Rattle.graphs.specs.Expressions.{LastDoes, emitted}
 use Rattle.graphs.specs.Operators.{Cast, Pointed, Postfixed, Prefixed, SizeValue}
 use Rattle.graphs.specs.Paths.{Graph, Path, Emitted, Stuck}
-use Rattle.graph_parts.specs.Made.{Made, Part}
+use Rattle.graph_parts.specs.Made.{Made, MadeAlone, Part}
 use Rattle.graph_parts.specs.Parts.{place_part, value_part}
 use Rattle.lower_expressions.specs.Spots.{is_nowhere, spots_part}
-use Rattle.graph_parts.proofs.Building.{◌and_then◌, carried}
+use Rattle.graph_parts.proofs.Building.{◌and_then◌, carried, surely_made}
 
 module _ (G : Graph) where
   size_nowhere : (cells : Option ℕ) (i k : ℕ) → Stuck G i k → (SizeValue G cells).place i k
@@ -110,8 +110,8 @@ module _ (G : Graph) where
     comma_nowhere (x ∷ y ∷ xs) i k other h = h
 
 module _ (facts : Facts) (sites : Sites) where
-  pub nowhere_made : (x : ExprTree) (n0 n1 : List Node) (i k : ℕ) → is_nowhere x ≡ true → Made {K = ℕ} (λ G. Stuck G) n0 n1 i k → Made (place_part facts sites x) n0 n1 i k
-  nowhere_made x n0 n1 i k is made = carried (λ G. Stuck G) (place_part facts sites x) k k (λ G i h. form_nowhere G facts sites x i k is h) n0 n1 i made
+  pub nowhere_made : (x : ExprTree) (n0 n1 : List Node) (i k : ℕ) → is_nowhere x ≡ true → MadeAlone {K = ℕ} (λ G. Stuck G) n0 n1 i k → Made (place_part facts sites x) n0 n1 i k
+  nowhere_made x n0 n1 i k is made = carried (λ G. Stuck G) (place_part facts sites x) k k (λ G i h. form_nowhere G facts sites x i k is h) (λ n b. tt) n0 n1 i made
 
   -- the place that a pointer's value is
   pub through_place : (token : ℕ) (operand : ExprTree) (n0 n1 n2 : List Node) (pointed i k : ℕ) → Made (λ G. Pointed G) n0 n1 pointed k →
@@ -119,21 +119,21 @@ module _ (facts : Facts) (sites : Sites) where
   through_place token operand n0 n1 n2 pointed i k tested made = made and_then tested
 
   pub prefix_nowhere : (token : ℕ) (operator : PrefixOperator) (operand : ExprTree) (n0 n1 : List Node) (i k : ℕ) → (operator ≡ prefix.Indirection → ⊥) →
-      Made {K = ℕ} (λ G. Stuck G) n0 n1 i k → Made (place_part facts sites (e.Prefix token operator operand)) n0 n1 i k
+      MadeAlone {K = ℕ} (λ G. Stuck G) n0 n1 i k → Made (place_part facts sites (e.Prefix token operator operand)) n0 n1 i k
   prefix_nowhere token operator operand n0 n1 i k other made =
       carried (λ G. Stuck G) (place_part facts sites (e.Prefix token operator operand)) k k
-      (λ G i h. prefixed_nowhere G facts sites token operator (type_of facts operand) (facts.cells_at (token_of operand)) (emitted G facts sites operand) i k other h) n0 n1 i made
+      (λ G i h. prefixed_nowhere G facts sites token operator (type_of facts operand) (facts.cells_at (token_of operand)) (emitted G facts sites operand) i k other h) (λ n b. tt) n0 n1 i made
 
   -- one operand alone is what it is
   pub lone_place : (token : ℕ) (xs : List Expr) (d : Expr) (n0 n1 : List Node) (i k : ℕ) → length xs ≡ 1 → d ≡ get_or xs 0 d → Made (place_part facts sites (plain_expr d)) n0 n1 i k →
       Made (place_part facts sites (e.Comma token (plain_exprs xs))) n0 n1 i k
   lone_place token xs d n0 n1 i k one at made =
-      carried (place_part facts sites (plain_expr d)) (place_part facts sites (e.Comma token (plain_exprs xs))) k k (λ G i h. lone_comma G facts sites xs d i k one at h) n0 n1 i made
+      carried (place_part facts sites (plain_expr d)) (place_part facts sites (e.Comma token (plain_exprs xs))) k k (λ G i h. lone_comma G facts sites xs d i k one at h) (λ n b. b) n0 n1 i made
 
-  pub comma_nowhere_made : (token : ℕ) (xs : List Expr) (n0 n1 : List Node) (i k : ℕ) → (length xs ≡ 1 → ⊥) → Made {K = ℕ} (λ G. Stuck G) n0 n1 i k →
+  pub comma_nowhere_made : (token : ℕ) (xs : List Expr) (n0 n1 : List Node) (i k : ℕ) → (length xs ≡ 1 → ⊥) → MadeAlone {K = ℕ} (λ G. Stuck G) n0 n1 i k →
       Made (place_part facts sites (e.Comma token (plain_exprs xs))) n0 n1 i k
   comma_nowhere_made token xs n0 n1 i k other made =
-      carried (λ G. Stuck G) (place_part facts sites (e.Comma token (plain_exprs xs))) k k (λ G i h. comma_nowhere G facts sites xs i k other h) n0 n1 i made
+      carried (λ G. Stuck G) (place_part facts sites (e.Comma token (plain_exprs xs))) k k (λ G i h. comma_nowhere G facts sites xs i k other h) (λ n b. tt) n0 n1 i made
 
   module _ (primary : ExprTree) (operators : PostfixList) where
     abbrev pub postfixed_place : Bool → Part ℕ
@@ -145,6 +145,6 @@ module _ (facts : Facts) (sites : Sites) where
         Made (place_part facts sites (e.Postfix primary operators)) n0 n1 i k
     behind_place n0 n1 i k ends made = subst (λ b. Made (postfixed_place b) n0 n1 i k) (sym ends) made
 
-    pub behind_nowhere : (n0 n1 : List Node) (i k : ℕ) → ends_as_place (is_place primary) operators ≡ false → Made {K = ℕ} (λ G. Stuck G) n0 n1 i k →
+    pub behind_nowhere : (n0 n1 : List Node) (i k : ℕ) → ends_as_place (is_place primary) operators ≡ false → MadeAlone {K = ℕ} (λ G. Stuck G) n0 n1 i k →
         Made (place_part facts sites (e.Postfix primary operators)) n0 n1 i k
-    behind_nowhere n0 n1 i k ends made = subst (λ b. Made (postfixed_place b) n0 n1 i k) (sym ends) made
+    behind_nowhere n0 n1 i k ends made = subst (λ b. Made (postfixed_place b) n0 n1 i k) (sym ends) (surely_made (postfixed_place false) n0 n1 i k made)

@@ -158,7 +158,7 @@ module _ (facts : Facts) (sites : Sites) where
       (carried (λ G. first_part facts sites (taken || has_more (others whole)) (place_before known all j) (type_behind facts of all j) whole G
       then Behind G facts sites taken (place_after whole) (facts.type_at (token_after whole)) (others whole))
       (λ G. Behind G facts sites taken (place_before known all j) (type_behind facts of all j) whole) k k
-      (λ G i h. first_then G taken (place_before known all j) (type_behind facts of all j) whole i k h) n0 n2 i
+      (λ G i h. first_then G taken (place_before known all j) (type_behind facts of all j) whole i k h) (λ n b. b) n0 n2 i
       (then_made (first_part facts sites (taken || has_more (others whole)) (place_before known all j) (type_behind facts of all j) whole)
       (λ G. Behind G facts sites taken (place_after whole) (facts.type_at (token_after whole)) (others whole)) n0 n1 n2 i entry k last3 first'))
 

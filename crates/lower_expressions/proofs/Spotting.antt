@@ -8,7 +8,7 @@ use Rattle.c_meaning.specs.Trees.{ends_as_place, is_place, type_of}
 use Rattle.graphs.specs.Operators.{Postfixed}
 use Rattle.graphs.specs.Paths.{Graph, Path}
 use Rattle.graphs.specs.Values.{Valued}
-use Rattle.graph_parts.specs.Made.{Made, Part}
+use Rattle.graph_parts.specs.Made.{Made, MadeFor, Part}
 use Rattle.graph_parts.specs.Parts.{serving}
 use Rattle.graph_parts.specs.Purposes.{Serves, Takes, TakesPlace}
 use Rattle.lower_expressions.specs.Spots.{spots_part}
@@ -27,10 +27,10 @@ module _ (facts : Facts) (sites : Sites) (primary : ExprTree) (operators : Postf
 
   -- they lead to a place
   pub postfix_place : (p : Purpose) (n0 n1 n2 : List Node) (after i : ℕ) → ends_as_place (is_place primary) operators ≡ true →
-      Made (λ G. TakesPlace G (type_of facts (e.Postfix primary operators))) n0 n1 after p → Made (spots true) n1 n2 i after →
-      Made (serving facts sites (e.Postfix primary operators)) n0 n2 i p
+      MadeFor (λ G. TakesPlace G (type_of facts (e.Postfix primary operators))) n0 n1 after p → Made (spots true) n1 n2 i after →
+      MadeFor (serving facts sites (e.Postfix primary operators)) n0 n2 i p
   postfix_place p n0 n1 n2 after i ends taken made =
-      subst (λ b. Made (postfixed b) n0 n2 i p) (sym ends)
+      subst (λ b. MadeFor (postfixed b) n0 n2 i p) (sym ends)
       (placed_made (type_of facts (e.Postfix primary operators)) (spots true) p n0 n1 n2 i after taken made)
 
   value_serves : (G : Graph) (p : Purpose) (i : ℕ) → Serves (Valued G (spots (is_taken p) G)) i p → postfixed false G i p
@@ -40,8 +40,8 @@ module _ (facts : Facts) (sites : Sites) (primary : ExprTree) (operators : Postf
 
   -- or to a value
   pub postfix_value : (p : Purpose) (n0 n1 n2 : List Node) (after i : ℕ) → ends_as_place (is_place primary) operators ≡ false →
-      Made (λ G. Takes G) n0 n1 after p → Made (spots (is_taken p)) n1 n2 i after → Made (serving facts sites (e.Postfix primary operators)) n0 n2 i p
+      MadeFor (λ G. Takes G) n0 n1 after p → Made (spots (is_taken p)) n1 n2 i after → MadeFor (serving facts sites (e.Postfix primary operators)) n0 n2 i p
   postfix_value p n0 n1 n2 after i ends taken made =
-      subst (λ b. Made (postfixed b) n0 n2 i p) (sym ends)
-      (carried (λ G. Serves (Valued G (spots (is_taken p) G))) (postfixed false) p p (λ G i h. value_serves G p i h) n0 n2 i
+      subst (λ b. MadeFor (postfixed b) n0 n2 i p) (sym ends)
+      (carried (λ G. Serves (Valued G (spots (is_taken p) G))) (postfixed false) p p (λ G i h. value_serves G p i h) (λ n b. b) n0 n2 i
       (valued_made (spots (is_taken p)) p n0 n1 n2 i after taken made))

@@ -10,7 +10,7 @@ use Rattle.c_meaning.specs.Facts.{Facts, Sites}
 use Rattle.graphs.specs.Operators.{Negated}
 use Rattle.graphs.specs.Paths.{Graph, ◌then◌, Does, Emitted, Stuck}
 use Rattle.graphs.specs.Values.{Valued}
-use Rattle.graph_parts.specs.Made.{Made, Part}
+use Rattle.graph_parts.specs.Made.{Made, MadeAlone, MadeFor, Part}
 use Rattle.graph_parts.specs.Prefixes.{PrefixValue}
 use Rattle.graph_parts.specs.Purposes.{Serves, Takes}
 use Rattle.graph_parts.specs.declared.purpose.Purpose.{Purpose}
@@ -29,10 +29,10 @@ turned_serves facts sites G m (purpose.Effect next) i other h = h
 turned_serves facts sites G m (purpose.Truth yes_at no_at) i other h = absurd (other yes_at no_at refl)
 
 pub turned_made : (facts : Facts) (sites : Sites) (m : Graph → Emitted) (p : Purpose) (n0 n1 n2 : List Node) (after i : ℕ) →
-    ((yes_at no_at : ℕ) → p ≡ purpose.Truth yes_at no_at → ⊥) → Made (λ G. Takes G) n0 n1 after p →
-    Made (λ G. (m G).value then Does G (node.Sole unary.Not 0)) n1 n2 i after → Made (λ G. Serves (Negated G facts sites (m G))) n0 n2 i p
+    ((yes_at no_at : ℕ) → p ≡ purpose.Truth yes_at no_at → ⊥) → MadeFor (λ G. Takes G) n0 n1 after p →
+    Made (λ G. (m G).value then Does G (node.Sole unary.Not 0)) n1 n2 i after → MadeFor (λ G. Serves (Negated G facts sites (m G))) n0 n2 i p
 turned_made facts sites m p n0 n1 n2 after i other taken made =
-    carried (λ G. Serves (Valued G (turned m G))) (λ G. Serves (Negated G facts sites (m G))) p p (λ G i h. turned_serves facts sites G m p i other h) n0 n2 i
+    carried (λ G. Serves (Valued G (turned m G))) (λ G. Serves (Negated G facts sites (m G))) p p (λ G i h. turned_serves facts sites G m p i other h) (λ n b. b) n0 n2 i
     (valued_made (turned m) p n0 n1 n2 i after taken made)
 
 -- the operators whose whole is a value
@@ -63,8 +63,8 @@ value_stuck G facts sites token prefix.Not of m i k up down at plus minus comple
 
 pub value_stuck_made : (facts : Facts) (sites : Sites) (token : ℕ) (operator : PrefixOperator) (of : Option ValueType) (m : Graph → Emitted) (n0 n1 : List Node) (i k : ℕ) →
     (operator ≡ prefix.Increment → ⊥) → (operator ≡ prefix.Decrement → ⊥) → (operator ≡ prefix.Address → ⊥) → (operator ≡ prefix.Plus → ⊥) →
-    (operator ≡ prefix.Minus → ⊥) → (operator ≡ prefix.Complement → ⊥) → Made {K = ℕ} (λ G. Stuck G) n0 n1 i k →
+    (operator ≡ prefix.Minus → ⊥) → (operator ≡ prefix.Complement → ⊥) → MadeAlone {K = ℕ} (λ G. Stuck G) n0 n1 i k →
     Made (λ G. PrefixValue G facts sites token operator of (m G)) n0 n1 i k
 value_stuck_made facts sites token operator of m n0 n1 i k up down at plus minus complement made =
     carried {K = ℕ} (λ G. Stuck G) (λ G. PrefixValue G facts sites token operator of (m G)) k k
-    (λ G i h. value_stuck G facts sites token operator of (m G) i k up down at plus minus complement h) n0 n1 i made
+    (λ G i h. value_stuck G facts sites token operator of (m G) i k up down at plus minus complement h) (λ n b. tt) n0 n1 i made

@@ -27,6 +27,10 @@ type_before facts left links zero = left
 type_before facts left [] (suc j) = left
 type_before facts left (x ∷ links) (suc j) = type_before facts (facts.type_at x.token) links j
 
+-- it goes on at the right side, or behind the whole
+abbrev pub either_end : ℕ → ℕ → List ℕ
+either_end right k = right ∷ k ∷ []
+
 -- control is at this node
 abbrev pub To : ℕ → Path ℕ
 To j i k = i ≡ j

@@ -4,7 +4,7 @@ ghost use Rattle.c_syntax.specs.ExprTree as e;
 ghost use Rattle.c_syntax.specs.Plain.{plain_expr, plain_exprs};
 ghost use Rattle.graphs.specs.Expressions.{ArgumentsDo};
 ghost use Rattle.graphs.specs.Room.{expr_room, exprs_room, returns};
-ghost use Rattle.graph_parts.specs.Made.{Made};
+ghost use Rattle.graph_parts.specs.Made.{Made, MadeFor};
 ghost use Rattle.graph_parts.specs.Parts.{serving};
 ghost use Rattle.lower_expressions.specs.Giving.{GivenTakes, giving_of, is_refused, library_gives};
 ghost use Rattle.lower_expressions.specs.Taken.{wanted_types};
@@ -82,7 +82,7 @@ fn put_given(
     giving: Giving,
     purpose: Purpose,
 ) -> Result<u32, Memory>
-    ensures made { IfOk result (λ i. Made (λ G. GivenTakes G (facts_in facts.now) (sites_in facts.now) token giving) graph.old graph.new i purpose) }
+    ensures made { IfOk result (λ i. MadeFor (λ G. GivenTakes G (facts_in facts.now) (sites_in facts.now) token giving) graph.old graph.new i purpose) }
     ensures few { IfOk result (λ i. length graph.new ≤ length graph.old + (2 + returns (sites_in facts.now) token)) }
 {
     match giving {
@@ -135,7 +135,7 @@ pub fn emit_call(
     arguments: &[Expr],
     purpose: Purpose,
 ) -> Result<u32, Memory>
-    ensures made { IfOk result (λ i. Made (serving (facts_in facts.now) (sites_in facts.now) (e.Call token name.now (plain_exprs arguments.now))) graph.old graph.new i purpose) }
+    ensures made { IfOk result (λ i. MadeFor (serving (facts_in facts.now) (sites_in facts.now) (e.Call token name.now (plain_exprs arguments.now))) graph.old graph.new i purpose) }
     ensures few { IfOk result (λ i. length graph.new ≤ length graph.old + expr_room (sites_in facts.now) (e.Call token name.now (plain_exprs arguments.now))) }
 {
     let called = facts.called_as(token, name);

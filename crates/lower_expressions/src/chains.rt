@@ -4,7 +4,7 @@ ghost use Rattle.c_syntax.specs.Plain.{plain_expr, plain_links};
 ghost use Rattle.graphs.specs.Expressions.{LinksDo, emitted};
 ghost use Rattle.graphs.specs.Values.{NullOr};
 ghost use Rattle.graphs.specs.Room.{branches, expr_room, links_room};
-ghost use Rattle.graph_parts.specs.Made.{Made};
+ghost use Rattle.graph_parts.specs.Made.{Made, MadeFor};
 ghost use Rattle.graph_parts.specs.Parts.{serving};
 ghost use Rattle.graph_parts.specs.declared.purpose.Purpose.TheVariants as purpose;
 ghost use Rattle.lower_expressions.specs.Linking.{link_part};
@@ -113,7 +113,7 @@ pub fn emit_chain_value(
     links: &[Link],
     purpose: Purpose,
 ) -> Result<u32, Memory>
-    ensures made { IfOk result (λ i. Made (serving (facts_in facts.now) (sites_in facts.now) (e.Chain 0 (plain_expr first.now) (plain_links links.now))) graph.old graph.new i purpose) }
+    ensures made { IfOk result (λ i. MadeFor (serving (facts_in facts.now) (sites_in facts.now) (e.Chain 0 (plain_expr first.now) (plain_links links.now))) graph.old graph.new i purpose) }
     ensures few { IfOk result (λ i. length graph.new ≤ length graph.old + expr_room (sites_in facts.now) (e.Chain 0 (plain_expr first.now) (plain_links links.now))) }
 {
     let is_null = begins_null(facts, first, links);
@@ -135,7 +135,7 @@ pub fn emit_chain_truth(
     yes: u32,
     no: u32,
 ) -> Result<u32, Memory>
-    ensures made { IfOk result (λ i. Made (serving (facts_in facts.now) (sites_in facts.now) (e.Chain 0 (plain_expr first.now) (plain_links links.now))) graph.old graph.new i (purpose.Truth yes no)) }
+    ensures made { IfOk result (λ i. MadeFor (serving (facts_in facts.now) (sites_in facts.now) (e.Chain 0 (plain_expr first.now) (plain_links links.now))) graph.old graph.new i (purpose.Truth yes no)) }
     ensures few { IfOk result (λ i. length graph.new ≤ length graph.old + expr_room (sites_in facts.now) (e.Chain 0 (plain_expr first.now) (plain_links links.now))) }
 {
     if all_fork(facts, links) {
@@ -155,7 +155,7 @@ pub fn emit_chain(
     links: &[Link],
     purpose: Purpose,
 ) -> Result<u32, Memory>
-    ensures made { IfOk result (λ i. Made (serving (facts_in facts.now) (sites_in facts.now) (e.Chain 0 (plain_expr first.now) (plain_links links.now))) graph.old graph.new i purpose) }
+    ensures made { IfOk result (λ i. MadeFor (serving (facts_in facts.now) (sites_in facts.now) (e.Chain 0 (plain_expr first.now) (plain_links links.now))) graph.old graph.new i purpose) }
     ensures few { IfOk result (λ i. length graph.new ≤ length graph.old + expr_room (sites_in facts.now) (e.Chain 0 (plain_expr first.now) (plain_links links.now))) }
 {
     match purpose {

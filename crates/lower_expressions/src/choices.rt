@@ -6,7 +6,7 @@ ghost use Rattle.graphs.specs.Expressions.{LastDoes, emitted};
 ghost use Rattle.graphs.specs.Operators.{Cast};
 ghost use Rattle.graphs.specs.Values.{HandedValue};
 ghost use Rattle.graphs.specs.Room.{branches, expr_room, exprs_room};
-ghost use Rattle.graph_parts.specs.Made.{Made};
+ghost use Rattle.graph_parts.specs.Made.{Made, MadeFor};
 ghost use Rattle.graph_parts.specs.Parts.{serving, value_part};
 ghost use Rattle.graph_parts.specs.Purposes.{Serves};
 ghost use Rattle.lower_expressions.specs.Arms.{arm_effect_part, arm_value_part};
@@ -53,7 +53,7 @@ pub fn emit_cast(
     operand: &Expr,
     purpose: Purpose,
 ) -> Result<u32, Memory>
-    ensures made { IfOk result (λ i. Made (λ G. Serves (Cast G (is_null_as want (plain_expr operand.now)) want (emitted G (facts_in facts.now) (sites_in facts.now) (plain_expr operand.now)))) graph.old graph.new i purpose) }
+    ensures made { IfOk result (λ i. MadeFor (λ G. Serves (Cast G (is_null_as want (plain_expr operand.now)) want (emitted G (facts_in facts.now) (sites_in facts.now) (plain_expr operand.now)))) graph.old graph.new i purpose) }
     ensures few { IfOk result (λ i. length graph.new ≤ length graph.old + (4 + expr_room (sites_in facts.now) (plain_expr operand.now))) }
 {
     if !is_void(want) {
@@ -149,7 +149,7 @@ pub fn emit_conditional(
     second: &Expr,
     purpose: Purpose,
 ) -> Result<u32, Memory>
-    ensures made { IfOk result (λ i. Made (serving (facts_in facts.now) (sites_in facts.now) (e.Conditional token (plain_expr condition.now) (plain_expr first.now) (plain_expr second.now))) graph.old graph.new i purpose) }
+    ensures made { IfOk result (λ i. MadeFor (serving (facts_in facts.now) (sites_in facts.now) (e.Conditional token (plain_expr condition.now) (plain_expr first.now) (plain_expr second.now))) graph.old graph.new i purpose) }
     ensures few { IfOk result (λ i. length graph.new ≤ length graph.old + expr_room (sites_in facts.now) (e.Conditional token (plain_expr condition.now) (plain_expr first.now) (plain_expr second.now))) }
 {
     match purpose {
@@ -176,7 +176,7 @@ pub fn emit_last(
     operands: &[Expr],
     purpose: Purpose,
 ) -> Result<u32, Memory>
-    ensures made { IfOk result (λ i. Made (λ G. Serves (LastDoes G (facts_in facts.now) (sites_in facts.now) (plain_exprs operands.now))) graph.old graph.new i purpose) }
+    ensures made { IfOk result (λ i. MadeFor (λ G. Serves (LastDoes G (facts_in facts.now) (sites_in facts.now) (plain_exprs operands.now))) graph.old graph.new i purpose) }
     ensures few { IfOk result (λ i. length graph.new ≤ length graph.old + (3 + exprs_room (sites_in facts.now) 0 (plain_exprs operands.now))) }
 {
     if operands.len() == 0 {

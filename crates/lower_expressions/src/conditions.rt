@@ -2,7 +2,7 @@ ghost use Rattle.std.specs.Prelude.{IfOk, length, ◌≤◌, ◌+◌};
 ghost use Rattle.c_syntax.specs.Plain.{plain_expr};
 ghost use Rattle.graphs.specs.Expressions.{Condition};
 ghost use Rattle.graphs.specs.Room.{branches, expr_room};
-ghost use Rattle.graph_parts.specs.Made.{Made};
+ghost use Rattle.graph_parts.specs.Made.{MadeWays};
 ghost use Rattle.graph_parts.specs.Purposes.{ways};
 ghost use Rattle.tree_facts.specs.Facts.{facts_in, sites_in};
 
@@ -24,7 +24,7 @@ pub fn emit_condition(
     yes: u32,
     no: u32,
 ) -> Result<u32, Memory>
-    ensures made { IfOk result (λ i. Made (λ G. Condition G (facts_in facts.now) (sites_in facts.now) token (plain_expr x.now)) graph.old graph.new i (ways yes no)) }
+    ensures made { IfOk result (λ i. MadeWays (λ G. Condition G (facts_in facts.now) (sites_in facts.now) token (plain_expr x.now)) graph.old graph.new i (ways yes no)) }
     ensures few { IfOk result (λ i. length graph.new ≤ length graph.old + (1 + branches (sites_in facts.now) token + expr_room (sites_in facts.now) (plain_expr x.now))) }
 {
     match facts.branch_at(token) {

@@ -5,7 +5,7 @@ ghost use Rattle.c_meaning.specs.Trees.{type_of};
 ghost use Rattle.graphs.specs.Expressions.{emitted};
 ghost use Rattle.graphs.specs.Values.{WantedValue};
 ghost use Rattle.graphs.specs.Room.{expr_room};
-ghost use Rattle.graph_parts.specs.Made.{Made};
+ghost use Rattle.graph_parts.specs.Made.{Made, MadeFor};
 ghost use Rattle.graph_parts.specs.Parts.{effect_part, serving, value_part};
 ghost use Rattle.tree_facts.specs.Facts.{facts_in, sites_in};
 
@@ -26,7 +26,7 @@ use tree_facts::{TreeFacts, is_null_as};
 /// An expression, for what its value is wanted for.
 #[cycle(emission)]
 pub fn emit(graph: &mut Graph, facts: &TreeFacts, x: &Expr, purpose: Purpose) -> Result<u32, Memory>
-    ensures made { IfOk result (λ i. Made (serving (facts_in facts.now) (sites_in facts.now) (plain_expr x.now)) graph.old graph.new i purpose) }
+    ensures made { IfOk result (λ i. MadeFor (serving (facts_in facts.now) (sites_in facts.now) (plain_expr x.now)) graph.old graph.new i purpose) }
     ensures few { IfOk result (λ i. length graph.new ≤ length graph.old + expr_room (sites_in facts.now) (plain_expr x.now)) }
 {
     match x {

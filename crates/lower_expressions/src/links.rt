@@ -2,8 +2,8 @@ ghost use Rattle.std.specs.Prelude.{◌≡◌, ◌<◌, IfOk, length, ◌≤◌,
 ghost use Rattle.c_syntax.specs.Plain.{plain_expr, plain_links};
 ghost use Rattle.c_meaning.specs.Trees.{begins_null};
 ghost use Rattle.graphs.specs.Room.{branches};
-ghost use Rattle.graph_parts.specs.Made.{Made};
-ghost use Rattle.lower_expressions.specs.Linking.{Shortcut, type_before};
+ghost use Rattle.graph_parts.specs.Made.{MadeTo};
+ghost use Rattle.lower_expressions.specs.Linking.{Shortcut, either_end, type_before};
 ghost use Rattle.tree_facts.specs.Facts.{facts_in, sites_in};
 
 use c_meaning::ValueType;
@@ -53,7 +53,7 @@ pub fn put_shortcut(
     right: u32,
     next: u32,
 ) -> Result<u32, Memory>
-    ensures made { IfOk result (λ i. Made (λ G. Shortcut G (facts_in facts.now) (sites_in facts.now) is_both token right) graph.old graph.new i next) }
+    ensures made { IfOk result (λ i. MadeTo (either_end right) (λ G. Shortcut G (facts_in facts.now) (sites_in facts.now) is_both token right) graph.old graph.new i next) }
     ensures few { IfOk result (λ i. length graph.new ≤ length graph.old + (2 + branches (sites_in facts.now) token)) }
 {
     if is_both {

@@ -8,7 +8,7 @@ ghost use Rattle.graphs.specs.Operators.{Negated, OneOperand};
 ghost use Rattle.graphs.specs.Paths.{◌then◌, Does};
 ghost use Rattle.flow.specs.declared.node.Node.TheVariants as node;
 ghost use Rattle.graphs.specs.Room.{expr_room, pairs};
-ghost use Rattle.graph_parts.specs.Made.{Made};
+ghost use Rattle.graph_parts.specs.Made.{Made, MadeFor};
 ghost use Rattle.graph_parts.specs.Parts.{serving};
 ghost use Rattle.graph_parts.specs.Prefixes.{PrefixValue};
 ghost use Rattle.graph_parts.specs.Purposes.{Serves};
@@ -37,7 +37,7 @@ pub fn emit_assign(
     value: &Expr,
     purpose: Purpose,
 ) -> Result<u32, Memory>
-    ensures made { IfOk result (λ i. Made (serving (facts_in facts.now) (sites_in facts.now) (e.Assign token sign (plain_expr target.now) (plain_expr value.now))) graph.old graph.new i purpose) }
+    ensures made { IfOk result (λ i. MadeFor (serving (facts_in facts.now) (sites_in facts.now) (e.Assign token sign (plain_expr target.now) (plain_expr value.now))) graph.old graph.new i purpose) }
     ensures few { IfOk result (λ i. length graph.new ≤ length graph.old + expr_room (sites_in facts.now) (e.Assign token sign (plain_expr target.now) (plain_expr value.now))) }
 {
     let left = facts.type_of(target);
@@ -160,7 +160,7 @@ pub fn emit_not(
     operand: &Expr,
     purpose: Purpose,
 ) -> Result<u32, Memory>
-    ensures made { IfOk result (λ i. Made (λ G. Serves (Negated G (facts_in facts.now) (sites_in facts.now) (emitted G (facts_in facts.now) (sites_in facts.now) (plain_expr operand.now)))) graph.old graph.new i purpose) }
+    ensures made { IfOk result (λ i. MadeFor (λ G. Serves (Negated G (facts_in facts.now) (sites_in facts.now) (emitted G (facts_in facts.now) (sites_in facts.now) (plain_expr operand.now)))) graph.old graph.new i purpose) }
     ensures few { IfOk result (λ i. length graph.new ≤ length graph.old + (2 + expr_room (sites_in facts.now) (plain_expr operand.now))) }
 {
     match purpose {
@@ -186,7 +186,7 @@ pub fn emit_prefix(
     operand: &Expr,
     purpose: Purpose,
 ) -> Result<u32, Memory>
-    ensures made { IfOk result (λ i. Made (serving (facts_in facts.now) (sites_in facts.now) (e.Prefix token operator (plain_expr operand.now))) graph.old graph.new i purpose) }
+    ensures made { IfOk result (λ i. MadeFor (serving (facts_in facts.now) (sites_in facts.now) (e.Prefix token operator (plain_expr operand.now))) graph.old graph.new i purpose) }
     ensures few { IfOk result (λ i. length graph.new ≤ length graph.old + expr_room (sites_in facts.now) (e.Prefix token operator (plain_expr operand.now))) }
 {
     match operator {

@@ -5,7 +5,7 @@ ghost use Rattle.c_syntax.specs.Plain.{plain_expr, plain_operators, plain_postfi
 ghost use Rattle.graphs.specs.Expressions.{Behind, emitted};
 ghost use Rattle.graphs.specs.Operators.{Spot};
 ghost use Rattle.graphs.specs.Room.{expr_room, postfix_room};
-ghost use Rattle.graph_parts.specs.Made.{Made};
+ghost use Rattle.graph_parts.specs.Made.{Made, MadeFor};
 ghost use Rattle.graph_parts.specs.Parts.{place_part, serving};
 ghost use Rattle.lower_expressions.specs.Spots.{first_part, spots_part};
 ghost use Rattle.tree_facts.specs.Facts.{facts_in, sites_in};
@@ -141,7 +141,7 @@ pub fn emit_postfix(
     operators: &[PostfixOperator],
     purpose: Purpose,
 ) -> Result<u32, Memory>
-    ensures made { IfOk result (λ i. Made (serving (facts_in facts.now) (sites_in facts.now) (e.Postfix (plain_expr primary.now) (plain_operators operators.now))) graph.old graph.new i purpose) }
+    ensures made { IfOk result (λ i. MadeFor (serving (facts_in facts.now) (sites_in facts.now) (e.Postfix (plain_expr primary.now) (plain_operators operators.now))) graph.old graph.new i purpose) }
     ensures few { IfOk result (λ i. length graph.new ≤ length graph.old + expr_room (sites_in facts.now) (e.Postfix (plain_expr primary.now) (plain_operators operators.now))) }
 {
     let known = is_place(primary);

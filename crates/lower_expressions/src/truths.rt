@@ -5,7 +5,7 @@ ghost use Rattle.c_meaning.specs.Trees.{joint};
 ghost use Rattle.graphs.specs.Expressions.{emitted};
 ghost use Rattle.graphs.specs.Values.{NullTruth};
 ghost use Rattle.graphs.specs.Room.{expr_room};
-ghost use Rattle.graph_parts.specs.Made.{Made};
+ghost use Rattle.graph_parts.specs.Made.{MadeWays};
 ghost use Rattle.graph_parts.specs.Parts.{truth_part};
 ghost use Rattle.graph_parts.specs.Purposes.{ways};
 ghost use Rattle.lower_expressions.specs.Forking.{all_fork, forks_at, no_before, yes_before};
@@ -76,7 +76,7 @@ pub fn emit_null_truth(
     yes: u32,
     no: u32,
 ) -> Result<u32, Memory>
-    ensures made { IfOk result (λ i. Made (λ G. NullTruth G is_null (emitted G (facts_in facts.now) (sites_in facts.now) (plain_expr x.now))) graph.old graph.new i (ways yes no)) }
+    ensures made { IfOk result (λ i. MadeWays (λ G. NullTruth G is_null (emitted G (facts_in facts.now) (sites_in facts.now) (plain_expr x.now))) graph.old graph.new i (ways yes no)) }
     ensures few { IfOk result (λ i. length graph.new ≤ length graph.old + (2 + expr_room (sites_in facts.now) (plain_expr x.now))) }
 {
     if is_null {
@@ -99,7 +99,7 @@ pub fn emit_forked(
     no: u32,
 ) -> Result<u32, Memory>
     requires { all_fork (sites_in facts.now) links.now ≡ true }
-    ensures made { IfOk result (λ i. Made (truth_part (facts_in facts.now) (sites_in facts.now) (e.Chain 0 (plain_expr first.now) (plain_links links.now))) graph.old graph.new i (ways yes no)) }
+    ensures made { IfOk result (λ i. MadeWays (truth_part (facts_in facts.now) (sites_in facts.now) (e.Chain 0 (plain_expr first.now) (plain_links links.now))) graph.old graph.new i (ways yes no)) }
     ensures few { IfOk result (λ i. length graph.new ≤ length graph.old + expr_room (sites_in facts.now) (e.Chain 0 (plain_expr first.now) (plain_links links.now))) }
 {
     let begins = begins_null(facts, first, links);

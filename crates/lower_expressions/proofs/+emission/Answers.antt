@@ -7,18 +7,19 @@ use Rattle.c_syntax.specs.Plain.{plain_expr, plain_exprs, plain_links, plain_ope
 use Rattle.c_types.specs.ExprWalk.{binary_of}
 use Rattle.cbi_base.specs.declared.operators.Unary.TheVariants as unary
 use Rattle.flow.specs.declared.node.Node.TheVariants as node
-use Rattle.graph_parts.proofs.Building.{row, ◌and_then◌}
+use Rattle.graph_parts.proofs.Building.{row, surely_made, ◌and_then◌}
+use Rattle.graphs.specs.Paths.{Stuck}
 use Rattle.graph_parts.proofs.Serving.{negated_truth, prefixed_made, through_made}
 use Rattle.graphs.specs.Expressions.{emitted}
 use Rattle.graphs.specs.Room.{branches, exprs_room}
 use Rattle.graphs.specs.Values.{NullOr}
 use Rattle.c_meaning.specs.Visits.{listed}
 use Rattle.lower_expressions.proofs.Assigning.{assign_by, assign_plain, comma_step, last_made, lasts_whole, none_made, operand_weighs}
-use Rattle.lower_expressions.proofs.Chaining.{both_made, chain_made, computes_made, either_links, link_weighs, linked_by, links_step}
+use Rattle.lower_expressions.proofs.Chaining.{both_made, chain_made, computes_made, either_links, link_weighs, linked_by, links_none, links_step}
 use Rattle.lower_expressions.proofs.Choosing.{arm_dropped, arm_value_made, cast_effect, cast_nothing, cast_value, chosen_made, conditional_effect, conditional_taken}
 use Rattle.lower_expressions.proofs.Deciding.{sited_made, unsited_made}
 use Rattle.lower_expressions.proofs.Forked.{forked_chain, leads_all, leads_step, leads_whole}
-use Rattle.lower_expressions.proofs.Passed.{arguments_step, call_made, refused_made, unfit_made}
+use Rattle.lower_expressions.proofs.Passed.{arguments_none, arguments_step, call_made, refused_made, unfit_made}
 use Rattle.lower_expressions.proofs.Placing.{behind_nowhere, behind_place, comma_nowhere_made, prefix_nowhere, through_place}
 use Rattle.lower_expressions.proofs.Postfixing.{behind_none, behind_step, behind_whole, operator_weighs}
 use Rattle.lower_expressions.proofs.Rooms.{exprs_all, exprs_more, links_all, links_more, passed_room, postfix_all, postfix_more, wider}
@@ -396,6 +397,10 @@ pub postfix::emit_behind-returns-clause-few : goal.postfix::emit_behind-returns-
 postfix::emit_behind-returns-clause-few t c =
     omega (arith, c.loop-place.invariant.2, postfix_all (sites_in c.args.facts.now) c.args.operators.now c.loop-place.place (omega (arith, c.loop-place-test.false)))
 
+pub calls::emit_arguments-loop-place-init : goal.calls::emit_arguments-loop-place-init
+calls::emit_arguments-loop-place-init t c =
+    (omega arith, arguments_none (facts_in c.args.facts.now) (sites_in c.args.facts.now) _ c.args.arguments.now _ _, omega arith)
+
 pub calls::emit_arguments-loop-place-preserved : goal.calls::emit_arguments-loop-place-preserved
 calls::emit_arguments-loop-place-preserved t c =
     let next : c.loop-place.place ≡ c.loop-place.place - 1 + 1 = omega (arith, c.loop-place-test.true) in
@@ -468,7 +473,11 @@ chains::emit_link-returns-in_ok-i-in-Computes-clause-made t c =
 pub chains::emit_link-returns-in_ok-i-in-Unjoined-clause-made : goal.chains::emit_link-returns-in_ok-i-in-Unjoined-clause-made
 chains::emit_link-returns-in_ok-i-in-Unjoined-clause-made t c =
     linked_by (facts_in c.args.facts.now) (sites_in c.args.facts.now) tree.Unjoined c.args.left c.args.link.now.token c.args.link.now.sign (plain_expr c.args.link.now.operand) _ _ _ _ (sym (ap joint_of c.in-Unjoined.is) ∙ c.joint_by.ensures)
-    c.in_ok-i-in-Unjoined.ensures.made
+    (surely_made (λ G. Stuck G) _ _ _ _ c.in_ok-i-in-Unjoined.ensures.made)
+
+pub chains::emit_links-loop-place-init : goal.chains::emit_links-loop-place-init
+chains::emit_links-loop-place-init t c =
+    (omega arith, links_none (facts_in c.args.facts.now) (sites_in c.args.facts.now) c.args.left _ c.args.links.now _ _, omega arith)
 
 pub chains::emit_links-loop-place-preserved : goal.chains::emit_links-loop-place-preserved
 chains::emit_links-loop-place-preserved t c =

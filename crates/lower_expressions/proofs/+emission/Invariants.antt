@@ -1,6 +1,6 @@
 use Rattle.c_syntax.specs.ExprTree as e
 use Rattle.c_syntax.specs.Plain.{plain_expr, plain_exprs, plain_links, plain_operators, plain_postfix}
-use Rattle.graph_parts.specs.Made.{Made}
+use Rattle.graph_parts.specs.Made.{Made, MadeFor}
 use Rattle.graph_parts.specs.Purposes.{Serves, ways}
 use Rattle.graphs.specs.Expressions.{ArgumentsDo, Behind, LastDoes, LinksDo}
 use Rattle.graphs.specs.Room.{exprs_room, links_room, postfix_room}
@@ -17,7 +17,7 @@ use Rattle.lower_expressions.proofs.+emission.Given as goal
 abbrev pub invariant-choices::emit_last-loop-place : goal.invariant-choices::emit_last-loop-place
 invariant-choices::emit_last-loop-place l =
     (l.place < length l.operands)
-    × Made (λ G. Serves (LastDoes G (facts_in l.facts) (sites_in l.facts) (plain_exprs (drop l.place l.operands)))) l.fn.graph l.graph l.entry l.fn.purpose
+    × MadeFor (λ G. Serves (LastDoes G (facts_in l.facts) (sites_in l.facts) (plain_exprs (drop l.place l.operands)))) l.fn.graph l.graph l.entry l.fn.purpose
     × (length l.graph ≤ length l.fn.graph + (3 + exprs_room (sites_in l.facts) 0 (plain_exprs (drop l.place l.operands))))
 
 -- the operators of a chain from this place on are done

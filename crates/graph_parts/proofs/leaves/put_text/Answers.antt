@@ -1,12 +1,12 @@
 use Rattle.std.proofs.Common.{refl}
 use Rattle.flow.specs.declared.node.Node.TheVariants as node
 use Rattle.graphs.specs.Paths.{Does, Stuck}
-use Rattle.graph_parts.proofs.Building.{one_made}
+use Rattle.graph_parts.proofs.Building.{one_made, surely_made}
 use Rattle.graph_parts.proofs.Serving.{valued_made}
 use Rattle.graph_parts.proofs.leaves.put_text.Goals as goal
 
 pub returns-in_ok-i-in-None-clause-made : goal.returns-in_ok-i-in-None-clause-made
-returns-in_ok-i-in-None-clause-made c = rw (c.in-None.is) (valued_made (λ G. Stuck G) c.args.purpose _ _ _ _ _ c.in_ok-next.ensures.made c.in_ok-i-in-None.ensures.made)
+returns-in_ok-i-in-None-clause-made c = rw (c.in-None.is) (valued_made (λ G. Stuck G) c.args.purpose _ _ _ _ _ c.in_ok-next.ensures.made (surely_made (λ G. Stuck G) _ _ _ _ c.in_ok-i-in-None.ensures.made))
 
 pub returns-in_ok-i-in-Some-clause-made : goal.returns-in_ok-i-in-Some-clause-made
 returns-in_ok-i-in-Some-clause-made c =

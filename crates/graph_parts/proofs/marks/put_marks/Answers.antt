@@ -1,4 +1,8 @@
-use Rattle.std.proofs.Common.{◌≡◌, ◌+◌, ◌-◌, ◌<◌, arith, length}
+use Rattle.std.proofs.Common.{◌≡◌, ◌+◌, ◌-◌, ◌<◌, arith, length, subst, sym}
+use Rattle.graph_parts.specs.Made.{Made}
+use Rattle.std.proofs.lemmas.List.{drop_all}
+use Rattle.graphs.specs.Paths.{MarksAll}
+use Rattle.graph_parts.proofs.Building.{nothing_made}
 use Rattle.graph_parts.proofs.Visiting.{marks_step}
 use Rattle.graph_parts.proofs.marks.put_marks.Goals as goal
 
@@ -11,3 +15,10 @@ loop-place-preserved c =
           c.in_ok-first.ensures.number c.in_ok-first.ensures.added,
       omega (arith, c.loop-place.invariant.2, c.in_ok-first.ensures.one, c.loop-place-test.true),
     )
+
+pub loop-place-init : goal.loop-place-init
+loop-place-init c = (
+  omega arith,
+  subst (λ l. Made (λ G. MarksAll G l) c.args.graph.now c.args.graph.now c.args.next c.args.next) (sym (drop_all (length c.args.sites.now) c.args.sites.now (omega arith))) (nothing_made c.args.graph.now c.args.next),
+  omega arith,
+)

@@ -1,6 +1,7 @@
 use Rattle.std.proofs.Common.{rules, ◌-◌, ap, subst, arith, length}
 use Rattle.graph_parts.specs.Finished.{Finished, turned}
 use Rattle.graph_parts.proofs.Numbers.{all_turned, none_turned, turned_before}
+use Rattle.graph_parts.proofs.Ordered.{leads_on}
 use Rattle.graph_parts.proofs.numbering.finish.Goals as goal
 
 pub overflow_cast-last : goal.overflow_cast-last
@@ -21,3 +22,6 @@ returns-clause-finished c =
 
 pub returns-clause-as_many : goal.returns-clause-as_many
 returns-clause-as_many c = omega (arith, ap length c.nodes-nodes.ensures.value, c.loop-i.invariant.count, c.loop-i-test.false)
+
+pub returns-clause-leads : goal.returns-clause-leads
+returns-clause-leads c = λ back. leads_on _ _ (returns-clause-as_many c) (returns-clause-finished c) back

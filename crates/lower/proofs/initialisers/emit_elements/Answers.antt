@@ -1,8 +1,12 @@
 use Rattle.std.proofs.Common.{◌≡◌, ◌+◌, ◌-◌, ◌<◌, arith, length}
 use Rattle.tree_facts.specs.Facts.{facts_in, sites_in}
-use Rattle.lower.proofs.Initialising.{elements_step}
+use Rattle.lower.proofs.Initialising.{elements_none, elements_step}
 use Rattle.lower_expressions.proofs.Rooms.{exprs_more}
 use Rattle.lower.proofs.initialisers.emit_elements.Goals as goal
+
+pub loop-place-init : goal.loop-place-init
+loop-place-init c =
+    (omega arith, elements_none (facts_in c.args.facts.now) (sites_in c.args.facts.now) c.args.token _ c.args.items.now _ _, omega arith)
 
 pub loop-place-preserved : goal.loop-place-preserved
 loop-place-preserved c =

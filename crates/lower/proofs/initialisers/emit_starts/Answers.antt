@@ -1,8 +1,12 @@
 use Rattle.std.proofs.Common.{◌≡◌, ◌+◌, ◌-◌, ◌<◌, arith, length}
 use Rattle.tree_facts.specs.Facts.{facts_in, sites_in}
-use Rattle.lower.proofs.Initialising.{starts_step}
+use Rattle.lower.proofs.Initialising.{starts_none, starts_step}
 use Rattle.lower.proofs.Rooms.{starts_more}
 use Rattle.lower.proofs.initialisers.emit_starts.Goals as goal
+
+pub loop-place-init : goal.loop-place-init
+loop-place-init c =
+    (omega arith, starts_none (facts_in c.args.facts.now) (sites_in c.args.facts.now) c.args.starts.now _ _, omega arith)
 
 pub loop-place-preserved : goal.loop-place-preserved
 loop-place-preserved c =

@@ -6,7 +6,7 @@ use Rattle.graphs.specs.Statements.{ForLoop, ForStarts, OptionalCondition, Optio
 use Rattle.tree_facts.specs.Facts.{facts_in, sites_in}
 use Rattle.lower.specs.Exits.{exits_of}
 use Rattle.graph_parts.proofs.Building.{then_made}
-use Rattle.lower.proofs.Looping.{again_below, declared_made, do_made, do_parts, entries_step, for_made, for_parts, branch_made, stated_made, while_made, while_parts}
+use Rattle.lower.proofs.Looping.{again_below, break_made, continue_made, declared_made, do_made, do_parts, empty_made, entries_none, entries_step, for_made, for_parts, branch_made, stated_made, while_made, while_parts}
 use Rattle.lower.proofs.Rooms.{entries_more}
 use Rattle.lower.proofs.statements.+statements.Goals as goal
 
@@ -81,6 +81,22 @@ emit_entry-returns-in_ok-i-in-Statement-clause-made t c =
 pub emit_statement-returns-in-Block-clause-made : goal.emit_statement-returns-in-Block-clause-made
 emit_statement-returns-in-Block-clause-made t c =
     rw (c.in-Block.is, plain.plain_block c.in-Block.token c.in-Block.entries) (rw c.as_slice.ensures.value at c.emit_entries.ensures.made)
+
+pub emit_statement-returns-in-Empty-clause-made : goal.emit_statement-returns-in-Empty-clause-made
+emit_statement-returns-in-Empty-clause-made t c =
+    rw (c.in-Empty.is, plain.plain_empty c.in-Empty.token) (empty_made (facts_in c.args.facts.now) (sites_in c.args.facts.now) c.args.gives c.in-Empty.token _ (exits_of c.args.exits))
+
+pub emit_statement-returns-in-Break-clause-made : goal.emit_statement-returns-in-Break-clause-made
+emit_statement-returns-in-Break-clause-made t c =
+    rw (c.in-Break.is, plain.plain_break c.in-Break.token) (break_made (facts_in c.args.facts.now) (sites_in c.args.facts.now) c.args.gives c.in-Break.token _ (exits_of c.args.exits))
+
+pub emit_statement-returns-in-Continue-clause-made : goal.emit_statement-returns-in-Continue-clause-made
+emit_statement-returns-in-Continue-clause-made t c =
+    rw (c.in-Continue.is, plain.plain_continue c.in-Continue.token) (continue_made (facts_in c.args.facts.now) (sites_in c.args.facts.now) c.args.gives c.in-Continue.token _ (exits_of c.args.exits))
+
+pub emit_entries-loop-place-init : goal.emit_entries-loop-place-init
+emit_entries-loop-place-init t c =
+    (omega arith, entries_none (facts_in c.args.facts.now) (sites_in c.args.facts.now) c.args.gives c.args.entries.now _ (exits_of c.args.exits), omega arith)
 
 pub emit_entries-loop-place-preserved : goal.emit_entries-loop-place-preserved
 emit_entries-loop-place-preserved t c =

@@ -4,12 +4,12 @@ use Rattle.tree_facts.specs.Facts.{facts_in, sites_in}
 use Rattle.graphs.specs.Statements.{RunsAll}
 use Rattle.graphs.specs.Room.{entries_room}
 use Rattle.lower.specs.Exits.{exits_of}
-use Rattle.graph_parts.specs.Made.{Made}
+use Rattle.graph_parts.specs.Made.{MadeExits}
 use Rattle.lower.proofs.statements.+statements.Given as goal
 
 -- the entries from this place on are put
 abbrev pub invariant-emit_entries-loop-place : goal.invariant-emit_entries-loop-place
 invariant-emit_entries-loop-place l =
     (l.place ≤ length l.entries)
-    × Made (λ G. RunsAll G (facts_in l.facts) (sites_in l.facts) l.gives (plain_entries (drop l.place l.entries))) l.initial.graph l.graph l.first (exits_of l.exits)
+    × MadeExits (λ G. RunsAll G (facts_in l.facts) (sites_in l.facts) l.gives (plain_entries (drop l.place l.entries))) l.initial.graph l.graph l.first (exits_of l.exits)
     × (length l.graph ≤ length l.initial.graph + entries_room (sites_in l.facts) (plain_entries (drop l.place l.entries)))

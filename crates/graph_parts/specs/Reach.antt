@@ -1,0 +1,13 @@
+-- Where control goes on: each node leads to later ones, but for `again`, which leads to any.
+use Rattle.std.specs.Prelude.{◌≡◌, ℕ, List, length, Some, IsTrue, slice_get}
+use Rattle.flow.specs.declared.node.Node.{Node}
+use Rattle.flow.specs.declared.scope.Bounds.{Bounds}
+use Rattle.flow.specs.Nodes.{leads_rightly}
+use Rattle.flow.specs.View.{view}
+
+abbrev pub among : ℕ → Bounds
+among count = record { function = 0; locals = 0; nodes = count }
+
+-- the nodes of a function in the order of a program
+pub record LeadOn (nodes : List Node) : Type 0 where
+  pub each : (place : ℕ) (n : Node) → slice_get nodes place ≡ Some n → IsTrue (leads_rightly (among (length nodes)) place (view n))
