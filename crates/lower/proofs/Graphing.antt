@@ -18,11 +18,8 @@ use Rattle.lower.specs.Means.{MeansText}
 use Rattle.tree_facts.specs.Objects.{begun_with}
 use Rattle.lower.specs.Programs.{AreFunctionsOf, HasNoMore, IsFunctionOf}
 use Rattle.std.proofs.Common.{◌++◌, ⊎_elim, add-one, get_or, length-append, map, take}
-use Rattle.std.specs.Prelude.{IfSome}
 use Rattle.std.proofs.Math.Seq.{take-suc}
 use Rattle.std.proofs.lemmas.List.{length-map, length-take, map-append}
-use Rattle.flow.specs.declared.program.Global.{Global}
-use Rattle.flow.specs.Program.{parts_of}
 use Rattle.std.proofs.lemmas.Bool.{cases_lt}
 use Rattle.std.proofs.lemmas.Option.{slice_get_past, slice_get_within}
 use Rattle.c_syntax.specs.ItemTree.{SourceTree}
@@ -124,19 +121,20 @@ slice_last : {X : Type 0} (xs : List X) (x : X) → slice_get (xs ++ x ∷ []) (
 slice_last [] x = refl
 slice_last (y ∷ xs) x = slice_last xs x
 
-one_function : (f g : Function) → Some f ≡ Some g → f ≡ g
-one_function f g e = cc
+one_thing : {X : Type 0} (x y : X) → Some x ≡ Some y → x ≡ y
+one_thing x y e = cc
 
--- one function more
-pub function_pushed : (src : Source) (fs : List Function) (f : Function) → AreFunctionsOf src fs → IsFunctionOf src (length fs) f → AreFunctionsOf src (fs ++ f ∷ [])
-function_pushed src fs f are is number g at =
+-- one thing more, of which the same is known
+pub each_pushed : {X : Type 0} (P : ℕ → X → Type 0) (xs : List X) (x : X) → ((number : ℕ) (y : X) → slice_get xs number ≡ Some y → P number y) → P (length xs) x →
+    (number : ℕ) (y : X) → slice_get (xs ++ x ∷ []) number ≡ Some y → P number y
+each_pushed P xs x are is number y at =
     ⊎_elim
-    (λ l. are number g (sym (slice_before fs (f ∷ []) number l) ∙ at))
+    (λ l. are number y (sym (slice_before xs (x ∷ []) number l) ∙ at))
     (λ ge.
-    let here : length fs ≡ number = omega (arith, ge, slice_get_within (fs ++ f ∷ []) number g at, length-append fs (f ∷ [])) in
-    subst (λ n. IsFunctionOf src n g) here
-    (subst (λ x. IsFunctionOf src (length fs) x) (one_function f g (sym (slice_last fs f) ∙ ap (slice_get (fs ++ f ∷ [])) here ∙ at)) is))
-    (cases_lt number (length fs))
+    let here : length xs ≡ number = omega (arith, ge, slice_get_within (xs ++ x ∷ []) number y at, length-append xs (x ∷ [])) in
+    subst (λ n. P n y) here
+    (subst (λ z. P (length xs) z) (one_thing x y (sym (slice_last xs x) ∙ ap (slice_get (xs ++ x ∷ [])) here ∙ at)) is))
+    (cases_lt number (length xs))
 
 -- there are no more functions than definitions
 pub no_more_functions : (f : TreeFacts) (count : ℕ) → count ≡ length (known_in f).definitions → HasNoMore (source_in f) count
@@ -174,20 +172,10 @@ source_is f tree w table p e1 e2 e3 is =
     subst (λ t. IsGraphOf (source_of t w table) p) e1 (subst (λ k. IsGraphOf (source_of (tree_in f) k table) p) e2
     (subst (λ s. IsGraphOf (source_of (tree_in f) (known_in f) s) p) e3 is))
 
--- the program that came out of its parts, if one did
-pub graph_some : (src : Source) (o : Option ProgramParts) (texts : List Text) (globals : List Global) (functions : List Function) (main : ℕ) (sites : List Site) →
-    IfSome o (λ q. q ≡ parts_of texts globals functions main sites) → AreFunctionsOf src functions → HasNoMore src (length functions) →
-    Some (begun_with src.facts.statics.texts globals) ≡ src.objects → length globals ≡ src.facts.statics.globals → texts ≡ src.facts.statics.texts → main ≡ src.main →
-    ((number : ℕ) → slice_get sites number ≡ src.sites.site number) → IfSome o (λ p. IsGraphOf src p)
-graph_some src None texts globals functions main sites is are none_more objects count same entered seen = tt
-graph_some src (Some q) texts globals functions main sites is are none_more objects count same entered seen =
-    rw is (graph_of src (parts_of texts globals functions main sites) are none_more objects count same entered seen)
-
 -- and it does what the text means
-pub means_some : (f : TreeFacts) (tree : SourceTree) (w : Walk) (table : List Site) (o : Option ProgramParts) → tree_in f ≡ tree → known_in f ≡ w → table_in f ≡ table →
-    IfSome o (λ p. IsGraphOf (source_in f) p) → IfSome o (λ p. MeansText (source_of tree w table) p)
-means_some f tree w table None e1 e2 e3 is = tt
-means_some f tree w table (Some p) e1 e2 e3 is = graph_means (source_of tree w table) p (source_is f tree w table p e1 e2 e3 is)
+pub means_is : (f : TreeFacts) (tree : SourceTree) (w : Walk) (table : List Site) (p : ProgramParts) → tree_in f ≡ tree → known_in f ≡ w → table_in f ≡ table →
+    IsGraphOf (source_in f) p → MeansText (source_of tree w table) p
+means_is f tree w table p e1 e2 e3 is = graph_means (source_of tree w table) p (source_is f tree w table p e1 e2 e3 is)
 
 -- one thing more, seen by a part of it
 pub seen_pushed : {X Y : Type 0} (f : X → Y) (xs : List X) (x : X) (ys : List Y) (i : ℕ) (y : Y) → i < length ys → map f xs ≡ take i ys → f x ≡ y → y ≡ get_or ys i y →

@@ -1,26 +1,32 @@
--- The nodes of a function that may stand do what all of them do.
+-- The nodes of a function that name what is there and may stand do what all of them do.
 use Rattle.graphs.specs.Functions.{standing}
 use Rattle.std.proofs.Common.{◌≡◌, ℕ, zero, suc, refl, ap, sym, ◌∙◌, subst, List, [], ◌∷◌, Option, Some, None, Bool, true, false, slice_get, option_map}
-use Rattle.std.specs.Prelude.{not, ◌||◌, if◌then◌else◌}
-use Rattle.std.proofs.lemmas.Bool.{false≢true}
+use Rattle.std.specs.Prelude.{not, ◌&&◌, ◌||◌, IsTrue, if◌then◌else◌}
 use Rattle.std.proofs.lemmas.Option.{slice_get-map}
 use Rattle.c_syntax.specs.StatementTree.{EntryList}
 use Rattle.flow.specs.declared.node.Node.{Node}
 use Rattle.flow.specs.declared.node.Node.TheVariants as node
 use Rattle.flow.specs.declared.node.View.{View}
 use Rattle.flow.specs.declared.node.View.TheVariants as view
+use Rattle.flow.specs.declared.scope.Bounds.{Bounds}
+use Rattle.flow.specs.declared.scope.Names.{Names}
 use Rattle.flow.specs.declared.site.Site.{Site}
 use Rattle.flow.specs.Code.{view_at}
 use Rattle.flow.specs.View.{view as view_of}
-use Rattle.c_meaning.specs.declared.value_type.ValueType.{ValueType}
-use Rattle.c_meaning.specs.Facts.{Facts, Sites}
+use Rattle.flow.specs.Nodes.{names_fit}
+use Rattle.c_meaning.specs.Facts.{Facts, Signature, Sites}
 use Rattle.c_meaning.specs.Trees.{has_value}
+use Rattle.graphs.specs.Paths.{Graph}
 use Rattle.graphs.specs.Stands.{renamed}
 use Rattle.graph_parts.specs.Finished.{Finished}
 use Rattle.lower.specs.Bodies.{BodyNodes}
 use Rattle.lower.specs.Keeps.{Apart, IsKept, Keeps}
-use Rattle.lower.specs.Ready.{AllMayStand, IsFree, forks, is_condition, kept_node, kept_nodes, may_stand}
+use Rattle.fitting_nodes.specs.Fitting.{BodyFits, fits_view, fitting}
+use Rattle.fitting_nodes.proofs.Nodes.{view_fits}
+use Rattle.fitting_nodes.proofs.Statements as fits
+use Rattle.lower.specs.Ready.{AllMayStand, IsFree, forks, is_condition, kept_node, kept_nodes, may_stand, stays}
 use Rattle.lower.proofs.Keeping.{body_into, comes_into, leaves_into}
+use Rattle.lower.proofs.Readying.{fork_is}
 
 -- each node changed, by its number
 abbrev changed_by : (ℕ → Node → Node) → List Node → List Node
@@ -36,39 +42,37 @@ or_true : (a b : Bool) → b ≡ true → (a || b) ≡ true
 or_true true b e = refl
 or_true false b e = e
 
-fork_stands : (site_of : ℕ → Option Site) (nodes : List Node) (v : View) → forks v ≡ true → may_stand site_of nodes v ≡ true
-fork_stands site_of nodes (view.Row op next) e = refl
-fork_stands site_of nodes (view.Halts op) e = refl
-fork_stands site_of nodes (view.Forks when_true when_false) e = refl
-fork_stands site_of nodes (view.Turns next) e = refl
-fork_stands site_of nodes (view.Calls function next) e = refl
-fork_stands site_of nodes view.Gives e = refl
-fork_stands site_of nodes view.Quits e = refl
-fork_stands site_of nodes (view.Marks site next) e = absurd (false≢true e)
-fork_stands site_of nodes (view.Skips by next) e = absurd (false≢true e)
-fork_stands site_of nodes (view.Tests site next) e = absurd (false≢true e)
-fork_stands site_of nodes (view.Picks weight fast slow) e = absurd (false≢true e)
-fork_stands site_of nodes (view.Imports next) e = absurd (false≢true e)
-fork_stands site_of nodes (view.Exports next) e = absurd (false≢true e)
-fork_stands site_of nodes view.Nowhere e = refl
+pub both : (a b : Bool) → a ≡ true → b ≡ true → (a && b) ≡ true
+both true b e f = f
+both false b e f = e
 
-module _ (site_of : ℕ → Option Site) (nodes : List Node) where
+module _ (names : Names) (bounds : Bounds) (site_of : ℕ → Option Site) (nodes : List Node) where
+  abbrev kept : List Node
+  kept = kept_nodes names bounds site_of nodes
+
   -- a fork stays one
-  fork_kept : (x : Option Node) → forks (view_at x) ≡ true → forks (view_at (option_map (kept_node site_of nodes) x)) ≡ true
-  fork_kept None e = e
-  fork_kept (Some one) e = rw (fork_stands site_of nodes (view_of one) e) e
+  fork_stays : (one : Node) → forks (view_of one) ≡ true → stays names bounds site_of nodes one ≡ true
+  fork_stays one e =
+      let is = fork_is (view_of one) e in
+      both (names_fit names bounds one) (may_stand site_of nodes (view_of one))
+      (view_fits names bounds one (subst (λ v. IsTrue (fits_view names bounds v)) (sym is.2) refl))
+      (subst (λ v. may_stand site_of nodes v ≡ true) (sym is.2) refl)
 
-  still_forks : (next : ℕ) → forks (view_at (slice_get nodes next)) ≡ true → forks (view_at (slice_get (kept_nodes site_of nodes) next)) ≡ true
+  fork_kept : (x : Option Node) → forks (view_at x) ≡ true → forks (view_at (option_map (kept_node names bounds site_of nodes) x)) ≡ true
+  fork_kept None e = e
+  fork_kept (Some one) e = rw (fork_stays one e) e
+
+  still_forks : (next : ℕ) → forks (view_at (slice_get nodes next)) ≡ true → forks (view_at (slice_get kept next)) ≡ true
   still_forks next e =
-      ap (λ x. forks (view_at x)) (slice_get-map (kept_node site_of nodes) nodes next) ∙ fork_kept (slice_get nodes next) e
+      ap (λ x. forks (view_at x)) (slice_get-map (kept_node names bounds site_of nodes) nodes next) ∙ fork_kept (slice_get nodes next) e
 
   still_before : (condition : Bool) (next : ℕ) → (not condition || forks (view_at (slice_get nodes next))) ≡ true →
-      (not condition || forks (view_at (slice_get (kept_nodes site_of nodes) next))) ≡ true
+      (not condition || forks (view_at (slice_get kept next))) ≡ true
   still_before true next e = still_forks next e
   still_before false next e = refl
 
   -- a view that may stand among the nodes may stand among those that are kept
-  still : (v : View) → may_stand site_of nodes v ≡ true → may_stand site_of (kept_nodes site_of nodes) v ≡ true
+  still : (v : View) → may_stand site_of nodes v ≡ true → may_stand site_of kept v ≡ true
   still (view.Row op next) e = refl
   still (view.Halts op) e = refl
   still (view.Forks when_true when_false) e = refl
@@ -84,78 +88,94 @@ module _ (site_of : ℕ → Option Site) (nodes : List Node) where
   still (view.Exports next) e = e
   still view.Nowhere e = refl
 
-  kept_stands : (one : Node) (stands : Bool) → may_stand site_of nodes (view_of one) ≡ stands →
-      may_stand site_of (kept_nodes site_of nodes) (view_of (if stands then one else node.Exit)) ≡ true
-  kept_stands one true e = still (view_of one) e
-  kept_stands one false e = refl
+  kept_stands : (one : Node) (named stands : Bool) → may_stand site_of nodes (view_of one) ≡ stands →
+      may_stand site_of kept (view_of (if named && stands then one else node.Exit)) ≡ true
+  kept_stands one true true e = still (view_of one) e
+  kept_stands one true false e = refl
+  kept_stands one false stands e = refl
 
-  kept_from : (x : Option Node) (one : Node) → option_map (kept_node site_of nodes) x ≡ Some one → may_stand site_of (kept_nodes site_of nodes) (view_of one) ≡ true
+  kept_from : (x : Option Node) (one : Node) → option_map (kept_node names bounds site_of nodes) x ≡ Some one → may_stand site_of kept (view_of one) ≡ true
   kept_from None one e = absurd (cc)
   kept_from (Some was) one e =
-      let is : kept_node site_of nodes was ≡ one = cc in
-      subst (λ y. may_stand site_of (kept_nodes site_of nodes) (view_of y) ≡ true) is (kept_stands was (may_stand site_of nodes (view_of was)) refl)
+      let is : kept_node names bounds site_of nodes was ≡ one = cc in
+      subst (λ y. may_stand site_of kept (view_of y) ≡ true) is
+      (kept_stands was (names_fit names bounds was) (may_stand site_of nodes (view_of was)) refl)
 
   -- each of those that are kept may stand among them
-  pub all_may_stand : AllMayStand site_of (kept_nodes site_of nodes)
+  pub all_may_stand : AllMayStand site_of kept
   all_may_stand = record {
-    each = λ place one at. kept_from (slice_get nodes place) one (sym (slice_get-map (kept_node site_of nodes) nodes place) ∙ at);
+    each = λ place one at. kept_from (slice_get nodes place) one (sym (slice_get-map (kept_node names bounds site_of nodes) nodes place) ∙ at);
   }
 
-module _ (site_of : ℕ → Option Site) (old nodes : List Node) (ren : ℕ → ℕ) (finished : Finished old nodes ren) where
+module _ (names : Names) (bounds : Bounds) (site_of : ℕ → Option Site) (old nodes : List Node) (ren : ℕ → ℕ) (finished : Finished old nodes ren) where
   -- whether what a node became is kept
-  abbrev stays : ℕ → Bool
-  stays i = may_stand site_of nodes (view_at (slice_get nodes (ren i)))
+  abbrev remains : Option Node → Bool
+  remains None = false
+  remains (Some one) = stays names bounds site_of nodes one
 
   abbrev kept_old : ℕ → Node → Node
-  kept_old i x = if stays i then x else node.Exit
+  kept_old i x = if remains (slice_get nodes (ren i)) then x else node.Exit
 
   abbrev graph : List Node
   graph = changed_by kept_old old
 
-  view_found : (x : Option Node) (v : View) → option_map view_of x ≡ Some v → view_at x ≡ v
-  view_found None v e = absurd (cc)
-  view_found (Some x) v e = cc
-
-  stays_is : (i : ℕ) (x : Node) → slice_get old i ≡ Some x → stays i ≡ may_stand site_of nodes (renamed ren (view_of x))
-  stays_is i x at = ap (may_stand site_of nodes) (view_found (slice_get nodes (ren i)) (renamed ren (view_of x)) (finished.each i x at))
-
-  kept_view : (n x : Node) (stands : Bool) → view_of n ≡ renamed ren (view_of x) →
-      view_of (if stands then n else node.Exit) ≡ renamed ren (view_of (if stands then x else node.Exit))
+  kept_view : (n x : Node) (stay : Bool) → view_of n ≡ renamed ren (view_of x) →
+      view_of (if stay then n else node.Exit) ≡ renamed ren (view_of (if stay then x else node.Exit))
   kept_view n x true e = e
   kept_view n x false e = refl
 
   became : (i : ℕ) (x : Node) (n : Option Node) → slice_get nodes (ren i) ≡ n → option_map view_of n ≡ Some (renamed ren (view_of x)) →
-      option_map view_of (option_map (kept_node site_of nodes) n) ≡ Some (renamed ren (view_of (kept_old i x)))
+      option_map view_of (option_map (kept_node names bounds site_of nodes) n) ≡ Some (renamed ren (view_of (kept_old i x)))
   became i x None here e = absurd (cc)
   became i x (Some n) here e =
       let same : view_of n ≡ renamed ren (view_of x) = cc in
-      ap Some (rw here (kept_view n x (may_stand site_of nodes (view_of n)) same))
+      ap Some (rw here (kept_view n x (stays names bounds site_of nodes n) same))
 
   kept_each : (i : ℕ) (x : Node) (was : Option Node) → slice_get old i ≡ was → option_map (kept_old i) was ≡ Some x →
-      option_map view_of (option_map (kept_node site_of nodes) (slice_get nodes (ren i))) ≡ Some (renamed ren (view_of x))
+      option_map view_of (option_map (kept_node names bounds site_of nodes) (slice_get nodes (ren i))) ≡ Some (renamed ren (view_of x))
   kept_each i x None at e = absurd (cc)
   kept_each i x (Some y) at e =
       let is : kept_old i y ≡ x = cc in
-      subst (λ z. option_map view_of (option_map (kept_node site_of nodes) (slice_get nodes (ren i))) ≡ Some (renamed ren (view_of z))) is
+      subst (λ z. option_map view_of (option_map (kept_node names bounds site_of nodes) (slice_get nodes (ren i))) ≡ Some (renamed ren (view_of z))) is
       (became i y (slice_get nodes (ren i)) refl (finished.each i y at))
 
-  kept_finished : Finished graph (kept_nodes site_of nodes) ren
+  kept_finished : Finished graph (kept_nodes names bounds site_of nodes) ren
   kept_finished = record {
     each = λ i x at.
-        ap (option_map view_of) (slice_get-map (kept_node site_of nodes) nodes (ren i))
+        ap (option_map view_of) (slice_get-map (kept_node names bounds site_of nodes) nodes (ren i))
         ∙ kept_each i x (slice_get old i) refl (sym (changed_at kept_old old i) ∙ at);
   }
 
-  stands_still : (i : ℕ) (v : View) (was : Option Node) → slice_get old i ≡ was → option_map view_of was ≡ Some v → may_stand site_of nodes (renamed ren v) ≡ true →
-      option_map view_of (option_map (kept_old i) was) ≡ Some v
-  stands_still i v None at e stands = absurd (cc)
-  stands_still i v (Some x) at e stands =
-      let same : view_of x ≡ v = cc in
-      let holds : stays i ≡ true = stays_is i x at ∙ ap (λ u. may_stand site_of nodes (renamed ren u)) same ∙ stands in
-      rw holds e
+  -- what a node names doesn't depend on where it leads
+  renamed_fits : (v : View) → IsTrue (fits_view names bounds v) → IsTrue (fits_view names bounds (renamed ren v))
+  renamed_fits (view.Row op next) f = f
+  renamed_fits other f = f
 
-  still_stands : (i : ℕ) (v : View) → standing old i v → may_stand site_of nodes (renamed ren v) ≡ true → standing graph i v
-  still_stands i v e stands = ap (option_map view_of) (changed_at kept_old old i) ∙ stands_still i v (slice_get old i) refl e stands
+  node_stays : (v : View) (n : Option Node) → option_map view_of n ≡ Some (renamed ren v) → IsTrue (fits_view names bounds v) →
+      may_stand site_of nodes (renamed ren v) ≡ true → remains n ≡ true
+  node_stays v None e f stands = absurd (cc)
+  node_stays v (Some n) e f stands =
+      let same : view_of n ≡ renamed ren v = cc in
+      both (names_fit names bounds n) (may_stand site_of nodes (view_of n))
+      (view_fits names bounds n (subst (λ u. IsTrue (fits_view names bounds u)) (sym same) (renamed_fits v f)))
+      (ap (may_stand site_of nodes) same ∙ stands)
+
+  there : (i : ℕ) (v : View) (was : Option Node) → slice_get old i ≡ was → option_map view_of was ≡ Some v → IsTrue (fits_view names bounds v) →
+      may_stand site_of nodes (renamed ren v) ≡ true → remains (slice_get nodes (ren i)) ≡ true
+  there i v None at e f stands = absurd (cc)
+  there i v (Some x) at e f stands =
+      let same : view_of x ≡ v = cc in
+      node_stays v (slice_get nodes (ren i)) (finished.each i x at ∙ ap (λ u. Some (renamed ren u)) same) f stands
+
+  stands_still : (i : ℕ) (v : View) (was : Option Node) → option_map view_of was ≡ Some v → remains (slice_get nodes (ren i)) ≡ true →
+      option_map view_of (option_map (kept_old i) was) ≡ Some v
+  stands_still i v None e holds = absurd (cc)
+  stands_still i v (Some x) e holds = rw holds e
+
+  still_stands : (i : ℕ) (v : View) → fitting names bounds (standing old) i v → may_stand site_of nodes (renamed ren v) ≡ true → standing graph i v
+  still_stands i v e stands =
+      ap (option_map view_of) (changed_at kept_old old i)
+      ∙ stands_still i v (slice_get old i) e.0 (there i v (slice_get old i) refl e.0 e.1 stands)
 
   other_stands : (v : View) → IsKept v → may_stand site_of nodes (renamed ren v) ≡ true
   other_stands (view.Row op next) is = refl
@@ -173,6 +193,10 @@ module _ (site_of : ℕ → Option Site) (old nodes : List Node) (ren : ℕ → 
   other_stands (view.Exports next) is = absurd is
   other_stands view.Nowhere is = refl
 
+  view_found : (x : Option Node) (v : View) → option_map view_of x ≡ Some v → view_at x ≡ v
+  view_found None v e = absurd (cc)
+  view_found (Some x) v e = cc
+
   fork_behind : (next when_true when_false : ℕ) (x : Option Node) → slice_get old next ≡ x → option_map view_of x ≡ Some (view.Forks when_true when_false) →
       forks (view_at (slice_get nodes (ren next))) ≡ true
   fork_behind next when_true when_false None at e = absurd (cc)
@@ -184,30 +208,35 @@ module _ (site_of : ℕ → Option Site) (old nodes : List Node) (ren : ℕ → 
   free_stands true before e = absurd (cc)
   free_stands false before e = refl
 
-  keeps : Keeps (standing old) (standing graph) (IsFree site_of)
+  keeps : Keeps (fitting names bounds (standing old)) (standing graph) (IsFree site_of)
   keeps = record {
     kept = λ at v is e. still_stands at v e (other_stands v is);
     visit = λ at site next free e.
         still_stands at (view.Marks site next) e (free_stands (is_condition (site_of site)) (forks (view_at (slice_get nodes (ren next)))) free);
     decided = λ at site next when_true when_false e f.
         still_stands at (view.Marks site next) e
-        (or_true (not (is_condition (site_of site))) (forks (view_at (slice_get nodes (ren next)))) (fork_behind next when_true when_false (slice_get old next) refl f));
+        (or_true (not (is_condition (site_of site))) (forks (view_at (slice_get nodes (ren next)))) (fork_behind next when_true when_false (slice_get old next) refl f.0));
   }
 
--- what is kept of the nodes does the body
-pub body_kept : (facts : Facts) (sites : Sites) (is_main : Bool) (gives : ValueType) (body : Option EntryList) (nodes kept : List Node) → Apart (IsFree sites.site) sites →
-    BodyNodes facts sites is_main gives body nodes → kept ≡ kept_nodes sites.site nodes → BodyNodes facts sites is_main gives body kept
-body_kept facts sites is_main gives body nodes kept apart b is =
-    let into : Keeps (standing b.graph) (standing (graph sites.site b.graph nodes b.ren b.finished)) (IsFree sites.site) = keeps sites.site b.graph nodes b.ren b.finished in
-    rw is (record {
-      graph = graph sites.site b.graph nodes b.ren b.finished;
-      ren = b.ren;
-      finished = kept_finished sites.site b.graph nodes b.ren b.finished;
-      start = b.start;
-      first_node = b.first_node;
-      entry = b.entry;
-      begins = comes_into (standing b.graph) (standing (graph sites.site b.graph nodes b.ren b.finished)) (IsFree sites.site) into b.start b.entry b.begins;
-      exits = b.exits;
-      runs = (body_into (standing b.graph) (standing (graph sites.site b.graph nodes b.ren b.finished)) (IsFree sites.site) into facts sites apart gives body).leads b.entry b.exits b.runs;
-      leaves = leaves_into (standing b.graph) (standing (graph sites.site b.graph nodes b.ren b.finished)) (IsFree sites.site) into is_main (has_value gives) b.exits b.leaves;
-    })
+module _ (facts : Facts) (sites : Sites) (names : Names) (bounds : Bounds) (apart : Apart (IsFree sites.site) sites) (is_main : Bool) (f : Signature) where
+  -- what is kept of the nodes does the body, where it fits
+  pub body_kept : (lo : ℕ) (body : EntryList) (nodes kept : List Node) → BodyFits facts sites names bounds f lo body →
+      BodyNodes facts sites is_main f.result (Some body) nodes → kept ≡ kept_nodes names bounds sites.site nodes → BodyNodes facts sites is_main f.result (Some body) kept
+  body_kept lo body nodes kept fit b is =
+      let G : Graph = fitting names bounds (standing b.graph) in
+      let H : Graph = standing (graph names bounds sites.site b.graph nodes b.ren b.finished) in
+      let into : Keeps G H (IsFree sites.site) = keeps names bounds sites.site b.graph nodes b.ren b.finished in
+      rw is (record {
+        graph = graph names bounds sites.site b.graph nodes b.ren b.finished;
+        ren = b.ren;
+        finished = kept_finished names bounds sites.site b.graph nodes b.ren b.finished;
+        start = b.start;
+        first_node = b.first_node;
+        entry = b.entry;
+        begins = comes_into G H (IsFree sites.site) into b.start b.entry (fits.comes_into names bounds (standing b.graph) b.start b.entry b.begins);
+        exits = b.exits;
+        runs = (body_into G H (IsFree sites.site) into facts sites apart f.result (Some body)).leads b.entry b.exits
+            (fits.body_fits names bounds (standing b.graph) facts sites f lo body b.entry b.exits fit b.runs);
+        leaves = leaves_into G H (IsFree sites.site) into is_main (has_value f.result) b.exits
+            (fits.leaves_into names bounds (standing b.graph) is_main (has_value f.result) b.exits b.leaves);
+      })

@@ -1,9 +1,6 @@
 -- A program whose functions' nodes may stand is one that may be sampled.
 use Rattle.std.proofs.Common.{◌≡◌, ℕ, refl, subst, List, Bool, true, false, Option, Some, None, slice_get}
-use Rattle.std.specs.Prelude.{not, ◌||◌, IfSome}
-use Rattle.flow.specs.declared.program.Global.{Global}
-use Rattle.flow.specs.declared.program.Text.{Text}
-use Rattle.flow.specs.Program.{parts_of}
+use Rattle.std.specs.Prelude.{not, ◌||◌}
 use Rattle.std.specs.List.{All}
 use Rattle.std.proofs.lemmas.Bool.{false≢true}
 use Rattle.std.proofs.lemmas.Option.{slice_get-get_or}
@@ -57,7 +54,8 @@ condition_site : (s : Option Site) → IsBranch s → is_condition s ≡ true
 condition_site None is = absurd is
 condition_site (Some s) is = condition_kind s.kind is
 
-fork_is : (v : View) → forks v ≡ true → (when_true when_false : ℕ) × (v ≡ view.Forks when_true when_false)
+-- a node that forks is a fork
+pub fork_is : (v : View) → forks v ≡ true → (when_true when_false : ℕ) × (v ≡ view.Forks when_true when_false)
 fork_is (view.Row op next) e = absurd (false≢true e)
 fork_is (view.Halts op) e = absurd (false≢true e)
 fork_is (view.Forks when_true when_false) e = (when_true, when_false, refl)
@@ -98,15 +96,3 @@ module _ (src : Source) (site next : ℕ) (is : IsBranch (src.sites.site site)) 
 pub ready_program : (src : Source) (p : ProgramParts) → AreFunctionsOf src p.functions → ((number : ℕ) → slice_get p.sites number ≡ src.sites.site number) → IsReady p
 ready_program src p are sites function place site next at is =
     at_function src site next (subst IsBranch (sites site) is) p.functions function place (slice_get p.functions function) are refl at
-
--- the program that came out of its parts, if one did
-pub ready_some : (src : Source) (o : Option ProgramParts) (texts : List Text) (globals : List Global) (functions : List Function) (main : ℕ) (sites : List Site) →
-    IfSome o (λ q. q ≡ parts_of texts globals functions main sites) → AreFunctionsOf src functions → ((number : ℕ) → slice_get sites number ≡ src.sites.site number) →
-    IfSome o (λ p. IsReady p)
-ready_some src None texts globals functions main sites is are seen = tt
-ready_some src (Some q) texts globals functions main sites is are seen = rw is (ready_program src (parts_of texts globals functions main sites) are seen)
-
-pub plain_some : (src : Source) (o : Option ProgramParts) (texts : List Text) (globals : List Global) (functions : List Function) (main : ℕ) (sites : List Site) →
-    IfSome o (λ q. q ≡ parts_of texts globals functions main sites) → AreFunctionsOf src functions → IfSome o (λ p. All (λ f. ArePlain f.nodes) p.functions)
-plain_some src None texts globals functions main sites is are = tt
-plain_some src (Some q) texts globals functions main sites is are = rw is (plain_program src functions are)

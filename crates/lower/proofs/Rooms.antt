@@ -1,6 +1,5 @@
 -- How much room the parts of a function, and all functions, have.
-use Rattle.std.proofs.Common.{◌≡◌, ℕ, suc, ◌+◌, ◌<◌, ◌≤◌, ◌∙◌, Box, ap, sym, subst, arith, List, [], ◌∷◌, ◌++◌, length, length-append, drop, get_or, map, Option, Some, None, slice_get}
-use Rattle.std.specs.Prelude.{IfSome}
+use Rattle.std.proofs.Common.{◌≡◌, ℕ, suc, ◌+◌, ◌*◌, ◌<◌, ◌≤◌, ◌∙◌, Box, ap, sym, subst, arith, List, [], ◌∷◌, ◌++◌, length, length-append, drop, get_or, map, Option, Some, None, slice_get}
 use Rattle.std.specs.List.{sum_by}
 use Rattle.std.specs.Global.{Global as Alloc}
 use Rattle.std.proofs.lemmas.List.{drop_more}
@@ -12,16 +11,11 @@ use Rattle.c_syntax.specs.declared.statement.Start.{Start}
 use Rattle.c_syntax.specs.declared.statement.Statement.{Statement}
 use Rattle.c_syntax.specs.declared.statement.Statement.TheVariants as statement
 use Rattle.c_syntax.specs.StatementTree.{EntryList, no_entries}
+use Rattle.c_syntax.specs.Spelling.{tree_kinds}
 use Rattle.c_syntax.specs.Plain.{plain_entries, plain_entry, plain_expr, plain_second, plain_start, plain_statement}
 use Rattle.c_syntax.proofs.PlainStatements.{plain_declared_before, plain_if, plain_if_else, plain_stated_before}
-use Rattle.c_syntax.specs.ItemTree.{SourceTree}
-use Rattle.c_types.specs.declared.walk.Walk.{Walk}
 use Rattle.flow.specs.declared.program.Function.{Function}
-use Rattle.flow.specs.declared.program.Global.{Global}
-use Rattle.flow.specs.declared.program.ProgramParts.{ProgramParts}
-use Rattle.flow.specs.declared.program.Text.{Text}
 use Rattle.flow.specs.declared.site.Site.{Site}
-use Rattle.flow.specs.Program.{parts_of}
 use Rattle.c_meaning.specs.Facts.{Sites}
 use Rattle.c_meaning.specs.Known.{bodies}
 use Rattle.c_meaning.specs.Texts.{sites_of}
@@ -66,19 +60,9 @@ module _ (sites : Sites) where
       let here : length f.nodes ≤ function_room sites (body (length fs)) = subst (λ k. length f.nodes ≤ function_room sites (body k)) e one in
       omega (arith, split, last, more, all, here)
 
--- the functions of a program have as many nodes as those that it is made of
-pub counted_some : (m : ℕ) (o : Option ProgramParts) (texts : List Text) (globals : List Global) (functions : List Function) (main : ℕ) (sites : List Site) →
-    IfSome o (λ q. q ≡ parts_of texts globals functions main sites) → node_count functions ≤ m → IfSome o (λ p. node_count p.functions ≤ m)
-counted_some m None texts globals functions main sites is few = tt
-counted_some m (Some q) texts globals functions main sites is few = rw is few
-
 -- they are no more than what is known of the text's room
-pub few_some : (m : ℕ) (f : TreeFacts) (tree : SourceTree) (w : Walk) (table : List Site) (o : Option ProgramParts) → tree_in f ≡ tree → known_in f ≡ w → table_in f ≡ table →
-    IfSome o (λ p. node_count p.functions ≤ functions_room (sites_in f) (source_in f).body (length (known_in f).definitions)) →
-    functions_room (sites_of table) (slice_get (bodies tree)) (length w.definitions) ≤ m → IfSome o (λ p. node_count p.functions ≤ m)
-few_some m f tree w table None e1 e2 e3 few most = tt
-few_some m f tree w table (Some p) e1 e2 e3 few most =
-    let of_tree = subst (λ t. node_count p.functions ≤ functions_room (sites_of (table_in f)) (slice_get (bodies t)) (length (known_in f).definitions)) e1 few in
-    let of_walk = subst (λ (k : Walk). node_count p.functions ≤ functions_room (sites_of (table_in f)) (slice_get (bodies tree)) (length k.definitions)) e2 of_tree in
-    let of_table = subst (λ s. node_count p.functions ≤ functions_room (sites_of s) (slice_get (bodies tree)) (length w.definitions)) e3 of_walk in
-    omega (arith, of_table, most)
+pub few_of : (f : TreeFacts) (functions : List Function) (table : List Site) → table_in f ≡ table →
+    node_count functions ≤ functions_room (sites_in f) (source_in f).body (length (known_in f).definitions) →
+    functions_room (sites_of (table_in f)) (slice_get (bodies (tree_in f))) (length (known_in f).definitions) ≤ 16 * length (tree_kinds (tree_in f)) + length (table_in f) →
+    node_count functions ≤ 16 * length (tree_kinds (tree_in f)) + length table
+few_of f functions table e few most = omega (arith, few, most, ap length e)

@@ -8,15 +8,7 @@ use Rattle.flow.specs.declared.site.SiteKind.TheVariants as kind
 use Rattle.c_meaning.specs.Texts.{first_of, is_branch, is_pair, is_return, sites_from, sites_of}
 use Rattle.c_meaning.specs.Visits.{listed}
 use Rattle.lower.specs.Keeps.{AllFree, Apart}
-use Rattle.lower.specs.Ready.{AllMayStand, IsFree, is_condition, kept_nodes}
-use Rattle.lower.specs.Bodies.{BodyNodes}
-use Rattle.lower.proofs.Kept.{all_may_stand, body_kept}
-use Rattle.c_syntax.specs.StatementTree.{EntryList}
-use Rattle.flow.specs.declared.node.Node.{Node}
-use Rattle.c_meaning.specs.declared.value_type.ValueType.{ValueType}
-use Rattle.std.specs.Prelude.{Option}
-use Rattle.tree_facts.specs.declared.facts.TreeFacts.{TreeFacts}
-use Rattle.tree_facts.specs.Facts.{facts_in, sites_in, table_in}
+use Rattle.lower.specs.Ready.{IsFree, is_condition}
 
 at_drop : (xs : List Site) (n : ℕ) (s : Site) (rest : List Site) → drop n xs ≡ s ∷ rest → (slice_get xs n ≡ Some s) × (drop (suc n) xs ≡ rest)
 at_drop [] zero s rest e = absurd (cc)
@@ -59,13 +51,3 @@ sites_apart table = record {
   returns = λ token. first_free (IsFree (slice_get table)) (sites_from 0 is_return token table) (all_free table is_return no_return token 0 table refl);
   pairs = λ token. all_free table is_pair no_pair token 0 table refl;
 }
-
-module _ (f : TreeFacts) (nodes kept : List Node) (is : kept ≡ kept_nodes (sites_in f).site nodes) where
-  -- what is kept of a function's nodes does its body
-  pub function_kept : (is_main : Bool) (gives : ValueType) (body : Option EntryList) → BodyNodes (facts_in f) (sites_in f) is_main gives body nodes →
-      BodyNodes (facts_in f) (sites_in f) is_main gives body kept
-  function_kept is_main gives body b = body_kept (facts_in f) (sites_in f) is_main gives body nodes kept (sites_apart (table_in f)) b is
-
-  -- each of them may stand there
-  pub function_stands : AllMayStand (sites_in f).site kept
-  function_stands = rw is (all_may_stand (sites_in f).site nodes)

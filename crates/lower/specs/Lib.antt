@@ -5,3 +5,4 @@ pub mod Ready
 pub mod Keeps
 pub mod Programs
 pub mod Means
+pub mod Fits

@@ -1,26 +1,29 @@
-ghost use Rattle.std.specs.Prelude.{◌≡◌, ◌+◌, IfOk, length, option_map, ◌<◌, ◌≤◌};
+ghost use Rattle.std.specs.Prelude.{◌≡◌, ◌==◌, ◌+◌, ◌<◌, IfOk, length, option_map, ◌≤◌};
 ghost use Rattle.std.specs.Option.{option_copied};
 ghost use Rattle.c_syntax.specs.Plain.{plain_entries};
 ghost use Rattle.graphs.specs.Functions.{BodyDoes};
 ghost use Rattle.lower.specs.Bodies.{BodyNodes, ComesPart, EndPart, GivesPart, LeavesPart};
 ghost use Rattle.lower.specs.Exits.{exits_of};
+ghost use Rattle.lower.specs.Fits.{HasFitting, bounds_with};
 ghost use Rattle.lower.specs.Ready.{AllMayStand};
 ghost use Rattle.graphs.specs.Room.{body_room, function_room};
 ghost use Rattle.graph_parts.specs.Ends.{AllBelow, all_ends};
 ghost use Rattle.graph_parts.specs.Made.{Made, MadeAlone, MadeExits};
 ghost use Rattle.graph_parts.specs.Reach.{LeadOn};
-ghost use Rattle.tree_facts.specs.Facts.{facts_in, sites_in};
+ghost use Rattle.flow.specs.Nodes.{NodesFit};
+ghost use Rattle.tree_facts.specs.Facts.{facts_in, sites_in, source_in};
 
 use crate::exits::{Exits, next_at};
 use crate::keep::keep;
+use crate::names::number_of;
 use crate::statements::emit_entries;
 use c_meaning::ValueType;
 use c_syntax::Entry;
 use cbi_base::{Kind, Memory};
-use flow::Node;
+use flow::{Bounds, Names, Node};
 use graph_parts::{Graph, finish, put_stuck};
 use std::alloc::Global;
-use tree_facts::{TreeFacts, has_value};
+use tree_facts::{Signature, TreeFacts, has_value};
 
 /// Where a function with a result gives it; no other one comes to a value.
 #[tactic(auto, using(crate::proofs::Bodying::gives_parts))]
@@ -121,8 +124,8 @@ fn body_nodes(
     body: Option<&[Entry]>,
 ) -> Result<Vec<Node>, Memory>
     ensures body { IfOk result (λ nodes. BodyNodes (facts_in facts.now) (sites_in facts.now) is_main gives (option_map plain_entries (option_copied body.entry)) nodes.items) }
-    ensures leads { IfOk result (λ nodes. LeadOn nodes.items) }
     ensures some { IfOk result (λ nodes. 0 < length nodes.items) }
+    ensures leads { IfOk result (λ nodes. LeadOn nodes.items) }
     ensures few { IfOk result (λ nodes. length nodes.items ≤ function_room (sites_in facts.now) (option_map plain_entries (option_copied body.entry))) }
 {
     let mut graph = Graph::new(alloc);
@@ -133,19 +136,32 @@ fn body_nodes(
     Ok(nodes)
 }
 
-/// The nodes of a function with this result and body, in the order of a program. Each of them may stand in a program that is to be sampled.
+/// The nodes of the function with this number and signature, in the order of a program. Each of them may stand in a program, and in one that is
+/// to be sampled.
 pub fn emit_function(
     alloc: Global,
     facts: &TreeFacts<'_>,
-    is_main: bool,
-    gives: ValueType,
-    body: Option<&[Entry]>,
+    names: &Names,
+    number: u32,
+    signature: &Signature,
 ) -> Result<Vec<Node>, Memory>
-    ensures body { IfOk result (λ nodes. BodyNodes (facts_in facts.now) (sites_in facts.now) is_main gives (option_map plain_entries (option_copied body.entry)) nodes.items) }
+    requires { HasFitting (source_in facts.now) names.now number signature.now ((source_in facts.now).body number) }
+    ensures body { IfOk result (λ nodes. BodyNodes (facts_in facts.now) (sites_in facts.now) (number == (source_in facts.now).main) signature.now.result ((source_in facts.now).body number) nodes.items) }
     ensures stand { IfOk result (λ nodes. AllMayStand (sites_in facts.now).site nodes.items) }
-    ensures few { IfOk result (λ nodes. length nodes.items ≤ function_room (sites_in facts.now) (option_map plain_entries (option_copied body.entry))) }
+    ensures entry { IfOk result (λ nodes. 0 < length nodes.items) }
+    ensures fit { IfOk result (λ nodes. NodesFit names.now (bounds_with number signature.now (length nodes.items)) nodes.items) }
+    ensures few { IfOk result (λ nodes. length nodes.items ≤ function_room (sites_in facts.now) ((source_in facts.now).body number)) }
 {
-    let nodes = body_nodes(alloc, facts, is_main, gives, body)?;
-    let kept = keep(alloc, facts, nodes.as_slice())?;
+    let is_main = number == facts.main();
+    let body = facts.body(number);
+    let nodes = body_nodes(alloc, facts, is_main, signature.gives(), body)?;
+    let locals = number_of(signature.locals().len())?;
+    let count = number_of(nodes.len())?;
+    let bounds = Bounds {
+        function: number,
+        locals,
+        nodes: count,
+    };
+    let kept = keep(alloc, facts, names, bounds, nodes.as_slice())?;
     Ok(kept)
 }

@@ -1,11 +1,11 @@
 ghost use Rattle.std.specs.Prelude.{◌≡◌, IfOk, map, slice_get};
 ghost use Rattle.flow.specs.Code.{view_at};
 ghost use Rattle.flow.specs.View.{view};
-ghost use Rattle.lower.specs.Ready.{forks, is_condition, kept_node, kept_nodes, may_stand};
+ghost use Rattle.lower.specs.Ready.{forks, is_condition, kept_node, kept_nodes, may_stand, stays};
 ghost use Rattle.tree_facts.specs.Facts.{sites_in};
 
 use cbi_base::Memory;
-use flow::{Node, SiteKind};
+use flow::{Bounds, Names, Node, SiteKind, names_fit};
 use std::alloc::Global;
 use tree_facts::TreeFacts;
 
@@ -41,25 +41,44 @@ fn may_stand(facts: &TreeFacts<'_>, nodes: &[Node], node: Node) -> bool
     }
 }
 
-/// The node, or one that ends the run where it may not stand among these.
-fn kept_node(facts: &TreeFacts<'_>, nodes: &[Node], node: Node) -> Node
-    ensures { result ≡ kept_node (sites_in facts.now).site nodes.now node }
+/// Whether a node among these names what is there, and may stand there.
+fn stays(facts: &TreeFacts<'_>, names: &Names, bounds: Bounds, nodes: &[Node], node: Node) -> bool
+    ensures { result ≡ stays names.now bounds (sites_in facts.now).site nodes.now node }
 {
-    if may_stand(facts, nodes, node) {
+    names_fit(names, bounds, node) && may_stand(facts, nodes, node)
+}
+
+/// The node, or one that ends the run where it doesn't stay among these.
+fn kept_node(
+    facts: &TreeFacts<'_>,
+    names: &Names,
+    bounds: Bounds,
+    nodes: &[Node],
+    node: Node,
+) -> Node
+    ensures { result ≡ kept_node names.now bounds (sites_in facts.now).site nodes.now node }
+{
+    if stays(facts, names, bounds, nodes, node) {
         node
     } else {
         Node::Exit
     }
 }
 
-/// The nodes that may stand among these, the others as ones that end the run: no way through a body leads to one of those, so what is
-/// known of the ways is known of all nodes then.
-pub fn keep(alloc: Global, facts: &TreeFacts<'_>, nodes: &[Node]) -> Result<Vec<Node>, Memory>
-    ensures { IfOk result (λ kept. kept.items ≡ kept_nodes (sites_in facts.now).site nodes.now) }
+/// The nodes that name what is there and may stand among these, the others as ones that end the run: no way through a body leads to one of
+/// those, so what is known of the ways is known of all nodes then.
+pub fn keep(
+    alloc: Global,
+    facts: &TreeFacts<'_>,
+    names: &Names,
+    bounds: Bounds,
+    nodes: &[Node],
+) -> Result<Vec<Node>, Memory>
+    ensures { IfOk result (λ kept. kept.items ≡ kept_nodes names.now bounds (sites_in facts.now).site nodes.now) }
 {
     let mut kept = Vec::with_capacity(alloc, nodes.len())?;
     for node in nodes {
-        kept.push(kept_node(facts, nodes, *node))?;
+        kept.push(kept_node(facts, names, bounds, nodes, *node))?;
     }
     Ok(kept)
 }

@@ -5,6 +5,7 @@ mod exits;
 mod functions;
 mod initialisers;
 mod keep;
+mod names;
 mod programs;
 mod statements;
 

@@ -118,6 +118,11 @@ few_result tree table (Ok p) same few = few_of tree table p same few
 few_result tree table (Err e) same few = tt
 
 -- a program of few nodes may be sampled: a text has at most 100,000 tokens, and a table 65,536 sites
+-- the nodes are few beside the sites of the table, which are the program's
+pub few_beside : (tree : SourceTree) (table : TableParts) (p : ProgramParts) → table_of p ≡ table → node_count p.functions ≤ 16 * length (tree_kinds tree) + length table.sites →
+    HasFewNodes tree p
+few_beside tree table p same few = omega (arith, few, ap length (ap (λ (t : TableParts). t.sites) same))
+
 pub may_clone : (tree : SourceTree) (sites : List Site) (table : TableParts) (p : ProgramParts) → All (λ (f : Function). ArePlain f.nodes) p.functions → HasFewNodes tree p
     → length (tree_kinds tree) ≤ most_tokens → table_of p ≡ table → table.sites ≡ sites → length sites ≤ site_limit → MayClone p
 may_clone tree sites table p plain few tokens same planned short = record {

@@ -1,18 +1,14 @@
 -- The sites of a plan are those of its schemes.
-use Rattle.std.proofs.Common.{arith, ℕ, ◌≡◌, ◌<◌, ◌≤◌, refl, subst, ap, ◌∙◌, inl, inr, List, [], length}
+use Rattle.std.proofs.Common.{◌≡◌, ◌<◌, ◌≤◌, refl, subst, ap, ◌∙◌, inl, inr, List, [], length}
 use Rattle.std.proofs.lemmas.Bool.{cases_lt}
-use Rattle.std.proofs.lemmas.List.{length-map}
-use Rattle.c_syntax.specs.declared.token.Token.{Token}
 use Rattle.c_syntax.specs.ItemTree.{SourceTree}
-use Rattle.c_syntax.specs.Limits.{most_tokens}
-use Rattle.c_syntax.specs.Spelling.{tree_kinds}
 use Rattle.c_types.specs.declared.walk.Walk.{Walk}
 use Rattle.flow.specs.declared.site.Site.{Site}
 use Rattle.flow.specs.Limits.{site_limit}
 use Rattle.sites.specs.declared.schemes.Schemes.{Schemes}
 use Rattle.sites.specs.Table.{sites_of}
 use Rattle.sites.specs.Wanted.{no_schemes}
-use Rattle.accepted_texts.specs.Accepted.{IsAccepted}
+use Rattle.text_programs.specs.Ready.{AreSitesOf}
 use Rattle.study.specs.declared.plan.Plan.{Plan}
 use Rattle.study.specs.declared.plan.Plan.TheVariants as plan
 use Rattle.study.specs.Planned.{planned_sites, schemes_of}
@@ -37,6 +33,8 @@ few_sites made sites same refused =
 pub many_sites : (made sites : List Site) → made ≡ sites → site_limit < length made → site_limit < length sites
 many_sites made sites same many = subst (λ (s : List Site). site_limit < length s) same many
 
--- an accepted text has as many tokens as its tree, and they are few
-pub few_tokens : (text : List ℕ) (tree : SourceTree) (known : Walk) → IsAccepted text tree known → length (tree_kinds tree) ≤ most_tokens
-few_tokens text tree known h = omega (arith, ap length h.has_tree.is_tree.kinds, length-map h.tokens (λ (t : Token). t.kind), h.has_tree.has_tokens.keeps.few)
+-- they are sites of the text, or there are none
+pub planned_are : (plan : Plan) (tree : SourceTree) (known : Walk) (sites : List Site) → sites ≡ planned_sites plan tree known → AreSitesOf tree known sites
+planned_are plan.Plain tree known sites e = inl e
+planned_are (plan.Full schemes) tree known sites e = inr (schemes, e)
+planned_are (plan.Sampled schemes) tree known sites e = inr (schemes, e)

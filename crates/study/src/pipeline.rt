@@ -1,26 +1,24 @@
-ghost use Rattle.std.specs.Prelude.{◌≡◌, ◌≤◌, ℕ, List, length, IfErr, IfOk, IsErr, OnOk};
-ghost use Rattle.std.specs.List.{All};
+ghost use Rattle.std.specs.Prelude.{◌≡◌, ℕ, List, IfErr, IfOk, IsErr, OnOk};
 ghost use Rattle.c_syntax.specs.ItemTree.{SourceTree};
-ghost use Rattle.c_syntax.specs.Limits.{most_tokens};
-ghost use Rattle.c_syntax.specs.Spelling.{tree_kinds};
 ghost use Rattle.c_types.specs.declared.walk.Walk.{Walk};
 ghost use Rattle.c_types.specs.Answers.{known_of, tree_of};
-ghost use Rattle.c_meaning.specs.Texts.{source_of};
 ghost use Rattle.flow.specs.Program.{table_of};
 ghost use Rattle.sites.specs.Table.{functions_of};
-ghost use Rattle.clone_paths.specs.Cloned.{ArePlain, MayClone};
+ghost use Rattle.clone_paths.specs.Cloned.{MayClone};
+ghost use Rattle.text_programs.specs.Ready.{IsWholeText};
 ghost use Rattle.sampling.specs.Runs.{IsReady};
-ghost use Rattle.lower.specs.Means.{MeansText};
-ghost use Rattle.typed_texts.specs.Accepted.{IsAccepted as IsAcceptedTree};
 ghost use Rattle.accepted_texts.specs.Accepted.{IsAccepted};
 ghost use Rattle.study.specs.Compiled.{DoesPlan, IsCompiled};
-ghost use Rattle.study.specs.Does.{DoesText, HasFewNodes};
+ghost use Rattle.study.specs.Does.{DoesText};
 ghost use Rattle.study.specs.Planned.{FitsPlan, planned_sites};
 ghost use Rattle.study.specs.Refused.{CrowdedBy, IsRefusedText, RefusedBy};
 
 use crate::error::CompileError;
 use crate::plan::{Plan, schemes_of};
-use accepted_texts::{accept, accepted_texts_never_fault, one_accepted_text};
+use accepted_texts::{
+    accept, accepted_texts_never_fault, one_accepted_text, sites_of_accepted_texts_stand,
+    tokens_of_accepted_texts_fit,
+};
 use c_types::Checked;
 use cbi_base::{Memory, Refusal};
 use flow::{Program, SiteTable};
@@ -46,21 +44,6 @@ fn sites_for(alloc: Global, checked: &Checked, plan: Plan) -> Result<SiteTable, 
     }
 }
 
-/// The program of a checked text with the sites of a table, which looks at each visit of them. Parts that aren't those of a program are answered
-/// as want of memory: that no checked text has such parts isn't proved.
-fn lower_all(alloc: Global, checked: &Checked, table: &SiteTable) -> Result<Program, Memory>
-    ensures means { IfOk result (λ p. MeansText (source_of (tree_of checked.now) (known_of checked.now) table.now.sites) p) }
-    ensures table { IfOk result (λ p. table_of p ≡ table.now) }
-    ensures ready { IfOk result IsReady }
-    ensures plain { IfOk result (λ p. All (λ f. ArePlain f.nodes) p.functions) }
-    ensures few { IsAcceptedTree (tree_of checked.now) (known_of checked.now) → IfOk result (HasFewNodes (tree_of checked.now)) }
-{
-    match lower(alloc, checked, table)? {
-        Some(program) => Ok(program),
-        None => Err(Memory),
-    }
-}
-
 /// The program of a text by a plan, from the one that looks at each visit of the plan's sites.
 fn by_plan(alloc: Global, program: Program, plan: Plan) -> Result<Program, Memory>
     requires may_clone { MayClone program }
@@ -75,24 +58,23 @@ fn by_plan(alloc: Global, program: Program, plan: Plan) -> Result<Program, Memor
 }
 
 /// The program of a checked text, by a plan. Refused with TooManySites exactly where the sites of the plan are more than 65,536, which those of a
-/// plain program never are. Memory is told where memory is wanting, and besides of a text whose parts aren't those of a program.
+/// plain program never are.
 fn compile_checked(alloc: Global, checked: &Checked, plan: Plan) -> Result<Program, CompileError>
-    requires accepted { IsAcceptedTree (tree_of checked.now) (known_of checked.now) }
-    requires short { length (tree_kinds (tree_of checked.now)) ≤ most_tokens }
+    requires { IsWholeText (tree_of checked.now) (known_of checked.now) }
     ensures compiled { (text : List ℕ) → IsAccepted text (tree_of checked.now) (known_of checked.now) → IfOk result (IsCompiled text plan) }
     ensures fits { OnOk result (FitsPlan plan (tree_of checked.now) (known_of checked.now)) }
     ensures refused { IfErr result (CrowdedBy plan (tree_of checked.now) (known_of checked.now)) }
 {
     accepted_texts_never_fault();
     let table = sites_for(alloc, checked, plan)?;
-    let program = lower_all(alloc, checked, &table)?;
+    let program = lower(alloc, checked, &table)?;
     let planned = by_plan(alloc, program, plan)?;
     Ok(planned)
 }
 
 /// Compiles a text, of at most 1,048,576 bytes. It is refused by the first cause in this order: its tokens, its tree, its types (each with the line
-/// where it stands), and then its sites, which are more than 65,536. A plain program has no sites and isn't refused for them. Memory is told where
-/// memory is wanting, and besides of a text whose parts aren't those of a program: that no accepted text is so isn't proved.
+/// where it stands), and then its sites, which are more than 65,536. A plain program has no sites and isn't refused for them. There is a program of
+/// each accepted text with so few sites, but for want of memory.
 pub fn compile(alloc: Global, text: &[u8], plan: Plan) -> Result<Program, CompileError>
     ensures compiled { IfOk result (IsCompiled text.now plan) }
     ensures fits { OnOk result ((tree : SourceTree) (known : Walk) → IsAccepted text.now tree known → FitsPlan plan tree known) }
@@ -100,6 +82,8 @@ pub fn compile(alloc: Global, text: &[u8], plan: Plan) -> Result<Program, Compil
     ensures refused_only { IsRefusedText plan text.now → IsErr result }
 {
     one_accepted_text();
+    sites_of_accepted_texts_stand();
+    tokens_of_accepted_texts_fit();
     let checked = accept(alloc, text)?;
     compile_checked(alloc, &checked, plan)
 }

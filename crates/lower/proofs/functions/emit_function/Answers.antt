@@ -1,13 +1,21 @@
-use Rattle.std.proofs.Common.{ap, arith, length}
-use Rattle.std.proofs.lemmas.List.{length-map}
-use Rattle.tree_facts.specs.Facts.{sites_in}
-use Rattle.lower.specs.Ready.{kept_node}
-use Rattle.lower.proofs.Siting.{function_kept, function_stands}
+use Rattle.std.proofs.Common.{◌≡◌, ap, arith, length}
+use Rattle.lower.proofs.Naming.{as_many, function_fits, function_kept, function_stands}
 use Rattle.lower.proofs.functions.emit_function.Goals as goal
 
 pub returns : goal.returns
-returns c = record {
-  body = function_kept c.args.facts.now _ _ (rw c.as_slice.ensures.value at c.in_ok-kept.ensures) c.args.is_main c.args.gives _ c.in_ok-nodes.ensures.body;
-  stand = function_stands c.args.facts.now _ _ c.in_ok-kept.ensures;
-  few = omega (arith, c.in_ok-nodes.ensures.few, ap length c.in_ok-kept.ensures, ap length c.as_slice.ensures.value, length-map c.as_slice.result.now (kept_node (sites_in c.args.facts.now).site c.as_slice.result.now));
-}
+returns c =
+    let f = c.args.facts.now in
+    let names = c.args.names.now in
+    let s = c.args.signature.now in
+    let own : c.in_ok-locals.locals ≡ length s.locals = omega (arith, c.in_ok-locals.ensures, ap length c.locals.ensures) in
+    let all : c.in_ok-count.count ≡ length c.in_ok-nodes.nodes.items = omega (arith, c.in_ok-count.ensures, c.len.ensures) in
+    let is = rw c.as_slice.ensures.value at c.in_ok-kept.ensures in
+    let long = as_many f names c.args.number c.in_ok-locals.locals c.in_ok-count.count s _ _ own all is in
+    record {
+      body = function_kept f names c.args.number c.in_ok-locals.locals c.in_ok-count.count s _ _ own all is _ _ c.requires
+          (rw (c.body-body.ensures, c.main.ensures, c.gives.ensures) at c.in_ok-nodes.ensures.body);
+      stand = function_stands f names c.args.number c.in_ok-locals.locals c.in_ok-count.count s _ _ own all is;
+      entry = omega (arith, c.in_ok-nodes.ensures.some, long);
+      fit = function_fits f names c.args.number c.in_ok-locals.locals c.in_ok-count.count s _ _ own all is c.in_ok-nodes.ensures.leads;
+      few = omega (arith, rw c.body-body.ensures at c.in_ok-nodes.ensures.few, long);
+    }

@@ -1,25 +1,61 @@
-use Rattle.std.proofs.Common.{ap, sym, ◌∙◌, slice_get}
-use Rattle.tree_facts.specs.Facts.{source_in}
-use Rattle.lower.proofs.Graphing.{graph_some}
-use Rattle.lower.proofs.Readying.{plain_some, ready_some}
-use Rattle.lower.proofs.Rooms.{counted_some}
+use Rattle.std.proofs.Common.{◌∙◌, ◌≤◌, ◌+◌, ◌*◌, length}
+use Rattle.c_syntax.specs.Spelling.{tree_kinds}
+use Rattle.tree_facts.specs.Facts.{known_in, table_in, tree_in}
+use Rattle.lower.specs.Programs.{node_count}
+use Rattle.lower.proofs.Assembling.{are_parts, fitting_facts, globals_are, names_as_many, none_of, program_graph, program_parts, program_plain, program_ready, texts_are}
+use Rattle.lower.proofs.Rooms.{few_of}
 use Rattle.lower.proofs.programs.program_of.Goals as goal
+
+pub unreachable-requires : goal.unreachable-requires
+unreachable-requires c =
+    globals_are c.args.facts.now c.args.table.now c.requires.ready (none_of c.in_ok-globals.field-0 _ _ c.in_default.not-Some c.in_ok-globals.ensures.objects)
+
+pub names_of-requires : goal.names_of-requires
+names_of-requires c = texts_are c.args.facts.now c.args.table.now c.requires.ready
+
+pub functions_of-requires-clause-fitting : goal.functions_of-requires-clause-fitting
+functions_of-requires-clause-fitting c =
+    fitting_facts c.args.facts.now c.args.table.now c.in_ok-names.names _ c.requires.sites c.requires.ready c.in_ok-names.ensures
+    (names_as_many c.args.facts.now c.args.table.now _ c.requires.ready c.functions.ensures)
+
+pub functions_of-requires-clause-as_many : goal.functions_of-requires-clause-as_many
+functions_of-requires-clause-as_many c = names_as_many c.args.facts.now c.args.table.now _ c.requires.ready c.functions.ensures
+
+pub of-requires : goal.of-requires
+of-requires c =
+    let few : node_count c.in_ok-functions.functions.items ≤ 16 * length (tree_kinds (tree_in c.args.facts.now)) + length c.args.table.now.sites =
+    few_of c.args.facts.now c.in_ok-functions.functions.items c.args.table.now.sites c.requires.sites c.in_ok-functions.ensures.few
+    (c.an_accepted_text_has_few_nodes.ensures (tree_in c.args.facts.now) (known_in c.args.facts.now) (table_in c.args.facts.now) c.requires.ready.whole.accepted) in
+    rw (c.from_vec.ensures, c.from_vec-2.ensures)
+    (program_parts c.args.facts.now c.args.table.now.sites c.in_ok-copy_texts.field-0 c.in-Some.globals.items c.in_ok-functions.functions.items c.main.result
+    c.in_ok-copy_sites.field-0 (c.in_ok-copy_texts.ensures ∙ c.texts.ensures) c.main.ensures (c.in_ok-copy_sites.ensures ∙ c.sites.ensures.value)
+    (c.parts_of_an_accepted_text_are_a_program.ensures (tree_in c.args.facts.now) (known_in c.args.facts.now) c.args.table.now c.in-Some.globals.items
+    c.in_ok-functions.functions.items c.requires.ready
+    (are_parts c.args.facts.now c.args.table.now c.in_ok-names.names c.in-Some.globals.items c.in_ok-functions.functions.items c.requires.sites c.in_ok-names.ensures
+    (rw c.in-Some.is at c.in_ok-globals.ensures.objects) (rw c.in-Some.is at c.in_ok-globals.ensures.count) (c.in_ok-functions.ensures.names ∙ c.functions.ensures)
+    c.in_ok-functions.ensures.are c.in_ok-functions.ensures.stand few) c.sites.ensures.is_table.few))
 
 pub returns-clause-graph : goal.returns-clause-graph
 returns-clause-graph c =
-    graph_some (source_in c.args.facts.now) c.in_ok-program.program _ _ _ _ _ c.in_ok-program.ensures.value (rw c.in-Some-2.is at c.in_ok-functions.ensures.are)
-    (rw c.in-Some-2.is at c.in_ok-functions.ensures.all) (rw c.in-Some.is at c.in_ok-globals.ensures.objects) (rw c.in-Some.is at c.in_ok-globals.ensures.count)
-    (c.into_vec-texts.ensures ∙ c.in_ok-texts.ensures ∙ c.texts.ensures) c.main.ensures (λ number. ap (λ l. slice_get l number) (c.into_vec-sites.ensures ∙ c.in_ok-sites.ensures ∙ c.sites.ensures.value ∙ sym c.requires))
+    program_graph c.args.facts.now c.args.table.now.sites c.in_ok-copy_texts.field-0 c.in-Some.globals.items c.in_ok-functions.functions.items c.main.result
+    c.in_ok-copy_sites.field-0 (c.in_ok-copy_texts.ensures ∙ c.texts.ensures) c.main.ensures (c.in_ok-copy_sites.ensures ∙ c.sites.ensures.value) c.in_ok-program.program
+    (rw c.from_vec-2.ensures at (rw c.from_vec.ensures at c.in_ok-program.ensures)) c.requires.sites c.in_ok-functions.ensures.are c.in_ok-functions.ensures.all
+    (rw c.in-Some.is at c.in_ok-globals.ensures.objects) (rw c.in-Some.is at c.in_ok-globals.ensures.count)
 
 pub returns-clause-ready : goal.returns-clause-ready
 returns-clause-ready c =
-    ready_some (source_in c.args.facts.now) c.in_ok-program.program _ _ _ _ _ c.in_ok-program.ensures.value (rw c.in-Some-2.is at c.in_ok-functions.ensures.are)
-    (λ number. ap (λ l. slice_get l number) (c.into_vec-sites.ensures ∙ c.in_ok-sites.ensures ∙ c.sites.ensures.value ∙ sym c.requires))
+    program_ready c.args.facts.now c.args.table.now.sites c.in_ok-copy_texts.field-0 c.in-Some.globals.items c.in_ok-functions.functions.items c.main.result
+    c.in_ok-copy_sites.field-0 (c.in_ok-copy_texts.ensures ∙ c.texts.ensures) c.main.ensures (c.in_ok-copy_sites.ensures ∙ c.sites.ensures.value) c.in_ok-program.program
+    (rw c.from_vec-2.ensures at (rw c.from_vec.ensures at c.in_ok-program.ensures)) c.requires.sites c.in_ok-functions.ensures.are
 
 pub returns-clause-plain : goal.returns-clause-plain
 returns-clause-plain c =
-    plain_some (source_in c.args.facts.now) c.in_ok-program.program _ _ _ _ _ c.in_ok-program.ensures.value (rw c.in-Some-2.is at c.in_ok-functions.ensures.are)
+    program_plain c.args.facts.now c.args.table.now.sites c.in_ok-copy_texts.field-0 c.in-Some.globals.items c.in_ok-functions.functions.items c.main.result
+    c.in_ok-copy_sites.field-0 (c.in_ok-copy_texts.ensures ∙ c.texts.ensures) c.main.ensures (c.in_ok-copy_sites.ensures ∙ c.sites.ensures.value) c.in_ok-program.program
+    (rw c.from_vec-2.ensures at (rw c.from_vec.ensures at c.in_ok-program.ensures)) c.requires.sites c.in_ok-functions.ensures.are
 
 pub returns-clause-few : goal.returns-clause-few
 returns-clause-few c =
-    counted_some _ c.in_ok-program.program _ _ _ _ _ c.in_ok-program.ensures.value (rw c.in-Some-2.is at c.in_ok-functions.ensures.few)
+    rw c.in_ok-program.ensures (rw c.from_vec-2.ensures
+    (few_of c.args.facts.now c.in_ok-functions.functions.items c.args.table.now.sites c.requires.sites c.in_ok-functions.ensures.few
+    (c.an_accepted_text_has_few_nodes.ensures (tree_in c.args.facts.now) (known_in c.args.facts.now) (table_in c.args.facts.now) c.requires.ready.whole.accepted)))

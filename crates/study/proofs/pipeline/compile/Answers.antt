@@ -1,6 +1,5 @@
 use Rattle.std.proofs.lemmas.Result.{err_from_is_err_and}
 use Rattle.accepted_texts.proofs.Fitting.{tree_accepted}
-use Rattle.study.proofs.Planning.{few_tokens}
 use Rattle.study.proofs.Refusing.{crowded_result, fits_each, not_accepted, refused_fails}
 use Rattle.study.proofs.pipeline.compile.Goals as goal
 
@@ -24,8 +23,11 @@ returns-clause-refused c =
 pub returns-clause-refused_only : goal.returns-clause-refused_only
 returns-clause-refused_only c = refused_fails c.args.plan c.args.text.now _ _ c.compile_checked.result c.in_ok-checked.ensures.accepted c.compile_checked.ensures.fits
 
-pub compile_checked-requires-clause-accepted : goal.compile_checked-requires-clause-accepted
-compile_checked-requires-clause-accepted c = tree_accepted c.args.text.now _ _ c.in_ok-checked.ensures.accepted
-
-pub compile_checked-requires-clause-short : goal.compile_checked-requires-clause-short
-compile_checked-requires-clause-short c = few_tokens c.args.text.now _ _ c.in_ok-checked.ensures.accepted
+pub compile_checked-requires : goal.compile_checked-requires
+compile_checked-requires c = record {
+  accepted = tree_accepted c.args.text.now _ _ c.in_ok-checked.ensures.accepted;
+  sited = c.sites_of_accepted_texts_stand.ensures.sited c.args.text.now _ _ c.in_ok-checked.ensures.accepted;
+  constants = c.tokens_of_accepted_texts_fit.ensures.constants c.args.text.now _ _ c.in_ok-checked.ensures.accepted;
+  bytes = c.in_ok-checked.ensures.bytes;
+  short = c.tokens_of_accepted_texts_fit.ensures.short c.args.text.now _ _ c.in_ok-checked.ensures.accepted;
+}

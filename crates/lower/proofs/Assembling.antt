@@ -1,0 +1,132 @@
+-- The program that is put together of the parts of an accepted text.
+use Rattle.std.proofs.Common.{◌≡◌, ℕ, ◌≤◌, ap, refl, sym, ◌∙◌, subst, List, Option, Some, None, Bool, false, [], length, map, option_map, slice_get}
+use Rattle.std.specs.Prelude.{◌+◌, ◌*◌, IsSome}
+use Rattle.std.specs.List.{All}
+use Rattle.std.proofs.lemmas.Bool.{false≢true}
+use Rattle.c_syntax.specs.ItemTree.{SourceTree}
+use Rattle.c_syntax.specs.Spelling.{tree_kinds}
+use Rattle.c_types.specs.declared.walk.Walk.{Walk}
+use Rattle.clone_paths.specs.Cloned.{ArePlain}
+use Rattle.flow.specs.declared.program.Function.{Function}
+use Rattle.flow.specs.declared.program.Global.{Global}
+use Rattle.flow.specs.declared.program.ProgramParts.{ProgramParts}
+use Rattle.flow.specs.declared.program.Text.{Text}
+use Rattle.flow.specs.declared.scope.Names.{Names}
+use Rattle.flow.specs.declared.site.Site.{Site}
+use Rattle.flow.specs.declared.site.TableParts.{TableParts}
+use Rattle.flow.specs.Code.{Callee}
+use Rattle.flow.specs.Program.{AreTexts, IsProgram, parts_of}
+use Rattle.c_meaning.specs.Texts.{source_of}
+use Rattle.fitting_facts.specs.TextNames.{names_of_text}
+use Rattle.graphs.specs.Functions.{IsGraphOf}
+use Rattle.program_globals.proofs.Counting.{objects_there}
+use Rattle.program_parts.proofs.Counting.{as_many}
+use Rattle.program_parts.proofs.Texts.{texts_fit}
+use Rattle.sampling.specs.Runs.{IsReady}
+use Rattle.text_programs.specs.Parts.{ArePartsOf, FitsAsFunction}
+use Rattle.text_programs.specs.Ready.{IsReadyText}
+use Rattle.tree_facts.specs.declared.facts.TreeFacts.{TreeFacts}
+use Rattle.tree_facts.specs.Facts.{facts_in, known_in, source_in, table_in, tree_in}
+use Rattle.tree_facts.specs.Objects.{begun_with}
+use Rattle.lower.specs.Fits.{AreFitting, NodesStand}
+use Rattle.lower.specs.Programs.{AreFunctionsOf, HasNoMore, IsFunctionOf, node_count}
+use Rattle.lower.proofs.Graphing.{graph_of}
+use Rattle.lower.proofs.Readying.{plain_program, ready_program}
+use Rattle.lower.proofs.Texts.{are_fitting}
+
+-- what is known of a checked tree is known of its facts
+pub ready_facts : (f : TreeFacts) (tree : SourceTree) (w : Walk) (table : TableParts) → tree_in f ≡ tree → known_in f ≡ w → IsReadyText tree w table →
+    IsReadyText (tree_in f) (known_in f) table
+ready_facts f tree w table e1 e2 ready =
+    subst (λ (k : Walk). IsReadyText (tree_in f) k table) (sym e2) (subst (λ (t : SourceTree). IsReadyText t w table) (sym e1) ready)
+
+-- each function has a signature, and a body that fits
+pub fitting_facts : (f : TreeFacts) (table : TableParts) (names : Names) (count : ℕ) → table_in f ≡ table.sites → IsReadyText (tree_in f) (known_in f) table →
+    names ≡ names_of_text (tree_in f) (known_in f) table.sites → count ≡ length (known_in f).definitions → AreFitting (source_in f) names count
+fitting_facts f table names count e ready known all =
+    rw (known, all) (subst (λ (xs : List Site). AreFitting (source_of (tree_in f) (known_in f) xs) (names_of_text (tree_in f) (known_in f) table.sites)
+    (length (known_in f).definitions)) (sym e) (are_fitting (tree_in f) (known_in f) table ready))
+
+-- there are as many functions as names
+pub names_as_many : (f : TreeFacts) (table : TableParts) (called : List (List ℕ)) → IsReadyText (tree_in f) (known_in f) table → called ≡ table.functions →
+    length called ≡ length (known_in f).definitions
+names_as_many f table called ready e = ap length (e ∙ ready.functions) ∙ as_many (tree_in f) (known_in f) ready.whole.accepted.walked
+
+-- the strings are texts of a program
+pub texts_are : (f : TreeFacts) (table : TableParts) → IsReadyText (tree_in f) (known_in f) table → AreTexts (facts_in f).statics.texts
+texts_are f table ready = texts_fit (tree_in f) (known_in f) ready.whole.accepted ready.whole.sited ready.whole.bytes
+
+none_there : {X : Type 0} (o : Option X) → IsSome o → None ≡ o → ⊥
+none_there None is e = false≢true is
+none_there (Some x) is e = cc
+
+-- the globals have what they begin with
+pub globals_are : (f : TreeFacts) (table : TableParts) → IsReadyText (tree_in f) (known_in f) table → None ≡ (source_in f).objects → ⊥
+globals_are f table ready e = none_there (source_in f).objects (objects_there (tree_in f) (known_in f) ready.whole.accepted) e
+
+abbrev value_of : Option Callee → Bool
+value_of None = false
+value_of (Some c) = c.value
+
+abbrev params_of : Option Callee → ℕ
+params_of None = 0
+params_of (Some c) = c.params
+
+abbrev locals_of : Option Callee → List ℕ
+locals_of None = []
+locals_of (Some c) = c.locals
+
+-- a function that is called as the text's is, and whose nodes may stand in it
+fits_as : (tree : SourceTree) (walk : Walk) (table : TableParts) (number : ℕ) (f : Function) → IsFunctionOf (source_of tree walk table.sites) number f →
+    NodesStand (names_of_text tree walk table.sites) number f → FitsAsFunction tree walk table number f
+fits_as tree walk table number f is stand = record {
+  signature = is.signature;
+  known = is.known;
+  value = ap value_of is.called;
+  params = ap params_of is.called;
+  locals = ap locals_of is.called;
+  entry = stand.entry;
+  nodes = stand.nodes;
+}
+
+-- all parts but those that are copied
+pub are_parts : (f : TreeFacts) (table : TableParts) (names : Names) (globals : List Global) (functions : List Function) → table_in f ≡ table.sites →
+    names ≡ names_of_text (tree_in f) (known_in f) table.sites → Some (begun_with (facts_in f).statics.texts globals) ≡ (source_in f).objects →
+    length globals ≡ (facts_in f).statics.globals → map (λ g. g.name) functions ≡ table.functions → AreFunctionsOf (source_in f) functions →
+    ((number : ℕ) (g : Function) → slice_get functions number ≡ Some g → NodesStand names number g) →
+    node_count functions ≤ 16 * length (tree_kinds (tree_in f)) + length table.sites → ArePartsOf (tree_in f) (known_in f) table globals functions
+are_parts f table names globals functions e known objects count called are stand few = record {
+  objects = objects;
+  count = count;
+  names = called;
+  each = λ number g at. fits_as (tree_in f) (known_in f) table number g
+      (subst (λ (xs : List Site). IsFunctionOf (source_of (tree_in f) (known_in f) xs) number g) e (are number g at))
+      (subst (λ (n : Names). NodesStand n number g) known (stand number g at));
+  few = few;
+}
+
+module _ (f : TreeFacts) (table : List Site) (texts : List Text) (globals : List Global) (functions : List Function) (main : ℕ) (sites : List Site)
+    (texts_is : texts ≡ (facts_in f).statics.texts) (main_is : main ≡ (source_in f).main) (sites_are : sites ≡ table) where
+  -- they are the parts of a program, where the text's own are
+  pub program_parts : IsProgram (parts_of (facts_in f).statics.texts globals functions (source_in f).main table) → IsProgram (parts_of texts globals functions main sites)
+  program_parts is = rw (texts_is, main_is, sites_are) is
+
+  module _ (p : ProgramParts) (is : p ≡ parts_of texts globals functions main sites) (table_is : table_in f ≡ table) (are : AreFunctionsOf (source_in f) functions) where
+    seen : (number : ℕ) → slice_get sites number ≡ (source_in f).sites.site number
+    seen number = ap (λ (xs : List Site). slice_get xs number) (sites_are ∙ sym table_is)
+
+    pub program_graph : HasNoMore (source_in f) (length functions) → Some (begun_with (facts_in f).statics.texts globals) ≡ (source_in f).objects →
+        length globals ≡ (facts_in f).statics.globals → IsGraphOf (source_in f) p
+    program_graph none_more objects count =
+        rw is (graph_of (source_in f) (parts_of texts globals functions main sites) are none_more objects count texts_is main_is seen)
+
+    pub program_ready : IsReady p
+    program_ready = rw is (ready_program (source_in f) (parts_of texts globals functions main sites) are seen)
+
+    pub program_plain : All (λ g. ArePlain g.nodes) p.functions
+    program_plain = rw is (plain_program (source_in f) functions are)
+
+-- what isn't there has no objects
+pub none_of : {X Y : Type 0} → (found : Option X) (g : X → Y) (objects : Option Y) → ((x : X) → found ≡ Some x → ⊥) → option_map g found ≡ objects → None ≡ objects
+none_of None g objects none e = e
+none_of (Some x) g objects none e = absurd (none x refl)

@@ -1,0 +1,95 @@
+-- Each function of an accepted text has a signature, and a body that fits.
+use Rattle.std.proofs.Common.{◌≡◌, ℕ, zero, suc, ◌<◌, inl, inr, refl, sym, subst, arith, List, [], ◌∷◌, Option, Some, None, length, slice_get}
+use Rattle.c_syntax.specs.ItemTree.{SourceTree}
+use Rattle.c_syntax.specs.StatementTree.{EntryList}
+use Rattle.c_types.specs.declared.walk.Definition.{Definition}
+use Rattle.c_types.specs.declared.walk.Walk.{Walk}
+use Rattle.flow.specs.declared.scope.Names.{Names}
+use Rattle.flow.specs.declared.site.Site.{Site}
+use Rattle.flow.specs.declared.site.TableParts.{TableParts}
+use Rattle.c_meaning.specs.Facts.{Signature}
+use Rattle.c_meaning.specs.Known.{bodies, facts_of}
+use Rattle.c_meaning.specs.Runs.{Source}
+use Rattle.c_meaning.specs.Texts.{source_of, sites_of as sites_by_token}
+use Rattle.sites.specs.Wanted.{no_schemes}
+use Rattle.typed.specs.TypedSource.{TypedBody}
+use Rattle.typed.specs.TypedText.{TextFits}
+use Rattle.typed_texts.specs.Accepted.{IsAccepted}
+use Rattle.typed_texts.proofs.Whole.{none_fits, table_fits}
+use Rattle.fitting_facts.specs.Owned.{BodyOwns}
+use Rattle.fitting_facts.specs.TextNames.{names_of_text}
+use Rattle.fitting_facts.proofs.Fitting.{facts_fit}
+use Rattle.fitting_facts.proofs.Items.{offsets_near}
+use Rattle.fitting_facts.proofs.Owning.{none_owned, table_owned}
+use Rattle.fitting_nodes.specs.Fitting.{BodyStands}
+use Rattle.fitting_nodes.proofs.Bodies.{body_stands}
+use Rattle.program_parts.specs.Parts.{IsSigned}
+use Rattle.program_parts.proofs.Sizes.{definition_signed}
+use Rattle.text_formats.proofs.Formatting.{body_formatted}
+use Rattle.text_programs.specs.Ready.{AreSitesOf, IsReadyText}
+use Rattle.lower.specs.Fits.{AreFitting, HasFitting, IsFitting}
+
+-- a place before the end of a list has something
+thing_there : {X : Type 0} (xs : List X) (place : ℕ) → place < length xs → (one : X) × (slice_get xs place ≡ Some one)
+thing_there [] place low = absurd (omega (arith, low))
+thing_there (x ∷ xs) zero low = (x, refl)
+thing_there (x ∷ xs) (suc place) low = thing_there xs place (omega (arith, low))
+
+module _ (tree : SourceTree) (walk : Walk) (accepted : IsAccepted tree walk) where
+  -- the types of the text fit with these sites
+  types_fit : (sites : List Site) → AreSitesOf tree walk sites → TextFits tree walk sites
+  types_fit sites (inl e) = subst (TextFits tree walk) (sym e) (none_fits tree walk accepted)
+  types_fit sites (inr h) = subst (TextFits tree walk) (sym h.1) (table_fits tree walk h.0 accepted)
+
+  -- each body owns the sites that stand within it
+  sites_owned : (sites : List Site) (number : ℕ) (body : EntryList) → AreSitesOf tree walk sites → slice_get (bodies tree) number ≡ Some body →
+      BodyOwns sites number body
+  sites_owned sites number body (inl e) at =
+      subst (λ (xs : List Site). BodyOwns xs number body) (sym e) (none_owned tree walk no_schemes number body accepted.formed.shaped at)
+  sites_owned sites number body (inr h) at =
+      subst (λ (xs : List Site). BodyOwns xs number body) (sym h.1) (table_owned tree walk h.0 number body accepted.formed.shaped at)
+
+module _ (tree : SourceTree) (walk : Walk) (table : TableParts) (ready : IsReadyText tree walk table) where
+  abbrev src : Source
+  src = source_of tree walk table.sites
+
+  abbrev names : Names
+  names = names_of_text tree walk table.sites
+
+  -- a body whose types fit
+  body_fits : (number : ℕ) (f : Signature) (body : Option EntryList) → slice_get (bodies tree) number ≡ body →
+      TypedBody (facts_of tree walk) (sites_by_token table.sites) f body → HasFitting src names number f body
+  body_fits number f None at typed = typed
+  body_fits number f (Some body) at typed =
+      let owns : BodyOwns table.sites number body = sites_owned tree walk ready.whole.accepted table.sites number body ready.sites at in
+      let stands : BodyStands tree body = body_stands tree number body ready.whole.accepted.formed.shaped ready.whole.constants at in (
+        owns.lo,
+        λ count. record {
+          facts_fit = facts_fit tree walk table.sites ready.whole.accepted (offsets_near tree walk ready.whole.accepted);
+          texts = refl;
+          locals = refl;
+          typed = typed;
+          formats = body_formatted tree walk number body ready.whole.accepted at;
+          placed = owns.placed;
+          owned = owns.owned;
+          constants = stands.constants;
+          few = omega (arith, stands.within, ready.whole.short);
+        },
+      )
+
+  -- a function that is defined
+  defined_fits : (number : ℕ) (d : Definition) → slice_get walk.definitions number ≡ Some d → IsFitting src names number
+  defined_fits number d at =
+      let signed : IsSigned (facts_of tree walk) number d = definition_signed tree walk ready.whole.accepted number d at in
+      record {
+        signature = signed.own;
+        known = signed.is;
+        body = body_fits number signed.own (slice_get (bodies tree) number) refl
+            ((types_fit tree walk ready.whole.accepted table.sites ready.sites).functions number signed.own signed.is);
+      }
+
+  -- all of them
+  pub are_fitting : AreFitting src names (length walk.definitions)
+  are_fitting number low =
+      let d : (one : Definition) × (slice_get walk.definitions number ≡ Some one) = thing_there walk.definitions number low in
+      defined_fits number d.0 d.1

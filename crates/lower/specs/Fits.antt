@@ -1,0 +1,35 @@
+-- What is known of a function whose nodes may stand in a program.
+use Rattle.std.specs.Prelude.{◌≡◌, ℕ, ◌<◌, length, Option, Some, None}
+use Rattle.c_syntax.specs.StatementTree.{EntryList}
+use Rattle.flow.specs.declared.program.Function.{Function}
+use Rattle.flow.specs.declared.scope.Bounds.{Bounds}
+use Rattle.flow.specs.declared.scope.Names.{Names}
+use Rattle.flow.specs.Nodes.{NodesFit}
+use Rattle.flow.specs.Program.{bounds_of}
+use Rattle.c_meaning.specs.Facts.{Signature}
+use Rattle.c_meaning.specs.Runs.{Source}
+use Rattle.fitting_nodes.specs.Fitting.{BodyFits}
+
+-- what the nodes of the function with this number and signature may name, where it has so many of them
+abbrev pub bounds_with : ℕ → Signature → ℕ → Bounds
+bounds_with number f count = record { function = number; locals = length f.locals; nodes = count }
+
+-- it has a body that fits, with however many nodes
+abbrev pub HasFitting : Source → Names → ℕ → Signature → Option EntryList → Type 0
+HasFitting src names number f None = ⊥
+HasFitting src names number f (Some body) = (lo : ℕ) × ((count : ℕ) → BodyFits src.facts src.sites names (bounds_with number f count) f lo body)
+
+-- and it has a signature
+pub record IsFitting (src : Source) (names : Names) (number : ℕ) : Type 0 where
+  pub signature : Signature
+  pub known : src.facts.signature number ≡ Some signature
+  pub body : HasFitting src names number signature (src.body number)
+
+-- so it is with the first functions of the text
+abbrev pub AreFitting : Source → Names → ℕ → Type 0
+AreFitting src names count = (number : ℕ) → number < count → IsFitting src names number
+
+-- the function with this number has nodes, and each may stand in it
+pub record NodesStand (names : Names) (number : ℕ) (f : Function) : Type 0 where
+  pub entry : 0 < length f.nodes
+  pub nodes : NodesFit names (bounds_of number f) f.nodes
