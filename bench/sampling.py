@@ -1,11 +1,12 @@
 #!/usr/bin/env python3
 """Times a loop of 10,000,000 turns without sites, with each visit of its sites observed, and sampled.
 
-usage: sampling.py CBI SAMPLER      the built tools of the crates cbi and sampled_file (README.md says how they are built)
-       sampling.py --nodes SAMPLER  how many nodes a turn takes, by kind, without timing
+usage: sampling.py CBI          the built tool (README.md says how it is built)
+       sampling.py --nodes CBI  how many nodes a turn takes, by kind, without timing
 
-The loop has one site, its condition, or two, with a condition within it. Printed are processor seconds and the most memory of each run, plain, full,
-and sampled with made banks of mean 1, 10, 100 and 1000; and what the sampled run counted: fast and slow choices, and tests.
+The loop is compiled by `transform`. It has one site, its condition, or two, with a condition within it. Printed are processor seconds and the most
+memory of each run, plain, full, and sampled with made banks of mean 1, 10, 100 and 1000; and what the sampled run counted: fast and slow choices,
+and tests.
 """
 import os
 import random
@@ -13,25 +14,23 @@ import subprocess
 import sys
 import tempfile
 
-from programs import END, get, program, put, step
 from timing import timed
 
 TURNS = "100000000"
 ROUNDS = 10000000
 MEANS = (1, 10, 100, 1000)
-SITES = ["site branch 0 1 0 for", "site branch 0 1 1 if"]
 
 
-def loop(rounds, sites, marked):
-    """A loop, and within it a condition where there are two sites; with marks, or without."""
-    mark = [[f"mark {n}"] if marked else [] for n in range(2)]
-    body = get(0) + ["push i 1", "math and"] + mark[1] + ["fork @odd @on", "odd:"] + step(1) + ["on:"] if sites == 2 else step(1)
-    lines = put(0, 0) + put(1, 0) + ["loop:"] + get(0) + [f"push i {rounds}", "math lt"] + mark[0] + ["fork @in @out", "in:"] + body + step(0)
-    return program([("main", "value", 0, [1, 1], lines + ["again @loop", "out:"] + END)], 0, SITES[:sites] if marked else ())
+def loop(rounds, sites):
+    """The text of a loop, and within it a condition where there are two sites."""
+    body = "if (turn & 1) odd = odd + 1;" if sites == 2 else "odd = odd + 1;"
+    return f"int main(void) {{ int turn = 0; int odd = 0; for (; turn < {rounds}; turn = turn + 1) {body} return 0; }}\n"
 
 
-def sampled(sampler, text):
-    return subprocess.run([sampler], input=text.encode(), stdout=subprocess.PIPE, check=True).stdout.decode()
+def compiled(tool, text, mode):
+    """The file of the text's program in this mode, with the sites of its conditions."""
+    words = [tool, "transform", "--mode", mode, "--schemes", "branches", "-"]
+    return subprocess.run(words, input=text.encode(), stdout=subprocess.PIPE, check=True).stdout.decode()
 
 
 def draws(mean):
@@ -67,6 +66,10 @@ def walked(text, bank):
             operands.append(value)
         elif kind == "drop":
             operands.pop()
+        elif kind == "dup":
+            operands.append(operands[-1])
+        elif kind == "clear":
+            cells[int(words[0])] = None
         elif kind == "math":
             b, a = operands.pop(), operands.pop()
             operands.append({"lt": int(a < b), "and": a & b, "add": a + b}[words[0]])
@@ -89,39 +92,36 @@ def walked(text, bank):
             return seen
 
 
-def print_nodes(sampler, rounds=100000):
+def print_nodes(tool, rounds=100000):
     """Nodes a turn, and how many of them belong to sampling."""
     for sites in (1, 2):
-        texts = [("plain", loop(rounds, sites, False), 1), ("full", loop(rounds, sites, True), 1)]
-        clone = sampled(sampler, texts[1][1])
-        for name, text, mean in texts + [("sampled", clone, mean) for mean in MEANS]:
-            seen = walked(text, draws(mean))
+        text = loop(rounds, sites)
+        for mode, mean in [("plain", 1), ("full", 1)] + [("sampled", mean) for mean in MEANS]:
+            seen = walked(compiled(tool, text, mode), draws(mean))
             observed = seen.pop("observed", 0)
             own = {kind: seen[kind] / rounds for kind in ("mark", "choose", "test", "skip") if kind in seen}
             parts = " ".join(f"{kind} {count:.3f}" for kind, count in own.items())
-            print(f"sites {sites} {name:8} mean {mean:4} nodes {sum(seen.values()) / rounds:6.2f} a turn: {parts} observed {observed / rounds:.4f}")
+            print(f"sites {sites} {mode:8} mean {mean:4} nodes {sum(seen.values()) / rounds:6.2f} a turn: {parts} observed {observed / rounds:.4f}")
 
 
-def print_times(tool, sampler):
+def print_times(tool):
     with tempfile.TemporaryDirectory() as folder:
         path = {name: os.path.join(folder, name) for name in ("program", "bank", "report", "out")}
         for sites in (1, 2):
-            full = loop(ROUNDS, sites, True)
-            runs = [("plain", loop(ROUNDS, sites, False), 1), ("full", full, 1)]
-            clone = sampled(sampler, full)
-            for name, text, mean in runs + [("sampled", clone, mean) for mean in MEANS]:
+            text = loop(ROUNDS, sites)
+            for mode, mean in [("plain", 1), ("full", 1)] + [("sampled", mean) for mean in MEANS]:
                 with open(path["program"], "w", encoding="ascii") as file:
-                    file.write(text)
+                    file.write(compiled(tool, text, mode))
                 timed([tool, "bank", "--rate", str(mean), "--count", "65536", "--seed", "7"], path["bank"])
                 words = [tool, "run", "--turns", TURNS, "--bank", path["bank"], "--report", path["report"], "--run", "1", path["program"]]
                 status, seconds, _, memory, _, _ = min(timed(words, path["out"]) for _ in range(3))
                 with open(path["report"], encoding="ascii") as report:
                     work = next(line.strip() for line in report if line.startswith("work "))
-                print(f"sites {sites} {name:8} mean {mean:4} {seconds:6.2f} s {memory:5} MB status {status} {work}", flush=True)
+                print(f"sites {sites} {mode:8} mean {mean:4} {seconds:6.2f} s {memory:5} MB status {status} {work}", flush=True)
                 os.remove(path["report"])
 
 
 if sys.argv[1] == "--nodes":
     print_nodes(sys.argv[2])
 else:
-    print_times(sys.argv[1], sys.argv[2])
+    print_times(sys.argv[1])

@@ -5,8 +5,8 @@ use Rattle.c_lexer.specs.declared.bytes.Class.TheVariants as class
 use Rattle.c_lexer.specs.Bytes.{has, run, past, begins}
 use Rattle.c_lexer.specs.Reading.{strip, comment_at}
 use Rattle.c_lexer.specs.Values.{after_close}
-use Rattle.c_lexer.specs.Pieces.{StopsAt, IsComment, line, block}
-use Rattle.c_lexer.proofs.RunLaws.{run-past, run-AllOf, past-StopsAt, past-append}
+use Rattle.c_lexer.specs.Pieces.{RunEnds, IsComment, line, block}
+use Rattle.c_lexer.proofs.RunLaws.{run-past, run-AllOf, past-RunEnds, past-append}
 use Rattle.c_lexer.proofs.Steps.{bound, chosen, strip-some}
 
 -- a comment in front of the rest
@@ -78,7 +78,7 @@ line_splits bytes r rest is h =
     record {
       front = 47 ∷ 47 ∷ run class.Line r;
       is = is ∙ ap (λ xs. 47 ∷ 47 ∷ xs) (sym (run-past class.Line r) ∙ ap (λ xs. run class.Line r ++ xs) past_is);
-      comment = line (run class.Line r) refl (run-AllOf class.Line r) (subst (StopsAt class.Line) past_is (past-StopsAt class.Line r));
+      comment = line (run class.Line r) refl (run-AllOf class.Line r) (subst (RunEnds class.Line) past_is (past-RunEnds class.Line r));
     }
 
 block_splits : (bytes r rest : List ℕ) → bytes ≡ 47 ∷ 42 ∷ r → Closes r rest → SplitsComment bytes rest

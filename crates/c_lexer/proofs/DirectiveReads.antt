@@ -16,7 +16,7 @@ use Rattle.c_lexer.specs.Bytes.{has, run, past, begins, begins_with}
 use Rattle.c_lexer.specs.Spellings.{word_of}
 use Rattle.c_lexer.specs.Reading.{strip, strip_text, blanks_at, constant_at, number_at, character_at, name_at, trailing_at, trails_within, trails, header_at, header_line, is_include, defined_name_at, define_in}
 use Rattle.c_lexer.specs.Values.{class_of}
-use Rattle.c_lexer.specs.Pieces.{AllOf, StopsAt, IsComment, line, block, Spells, IsNumber, IsCharacter, IsConstant, IsTrailing, blank, return, comment, Trails, EndsLine, IsHeader, standard_io, standard_library, assert, IsInclude, IsDefine}
+use Rattle.c_lexer.specs.Pieces.{AllOf, RunEnds, IsComment, line, block, Spells, IsNumber, IsCharacter, IsConstant, IsTrailing, blank, return, comment, Trails, EndsLine, IsHeader, standard_io, standard_library, assert, IsInclude, IsDefine}
 use Rattle.c_lexer.proofs.RunLaws.{run-append, past-append, all_of_first}
 use Rattle.c_lexer.proofs.Fronts.{and_true}
 use Rattle.c_lexer.proofs.CommentLaws.{comment-append}
@@ -83,13 +83,13 @@ header-read header rest (standard_io is) = rw is refl
 header-read header rest (standard_library is) = rw is refl
 header-read header rest (assert is) = rw is refl
 
-header-begins : (header rest : List ℕ) → IsHeader header → StopsAt class.Blank (header ++ rest)
+header-begins : (header rest : List ℕ) → IsHeader header → RunEnds class.Blank (header ++ rest)
 unfolding has
 header-begins header rest (standard_io is) = rw is refl
 header-begins header rest (standard_library is) = rw is refl
 header-begins header rest (assert is) = rw is refl
 
-word-begins : (rest : List ℕ) → StopsAt class.Blank (codes "include" ++ rest) × StopsAt class.Blank (codes "define" ++ rest)
+word-begins : (rest : List ℕ) → RunEnds class.Blank (codes "include" ++ rest) × RunEnds class.Blank (codes "define" ++ rest)
 unfolding has
 word-begins rest = (refl, refl)
 
@@ -99,7 +99,7 @@ pub record Opened (row text : List ℕ) : Type 0 where
   pub opens : strip 35 row ≡ Some rest
   pub is : past class.Blank rest ≡ text
 
-opened : (row blanks text : List ℕ) → row ≡ 35 ∷ blanks ++ text → AllOf class.Blank blanks → StopsAt class.Blank text → Opened row text
+opened : (row blanks text : List ℕ) → row ≡ 35 ∷ blanks ++ text → AllOf class.Blank blanks → RunEnds class.Blank text → Opened row text
 opened row blanks text is all stops = record { rest = blanks ++ text; opens = ap (strip 35) is; is = past-append class.Blank blanks text all stops }
 
 pub record IncludeRead (row : List ℕ) : Type 0 where
@@ -178,7 +178,7 @@ constant-read spelled end c h =
     quoted ∙ character-read spelled end c w)
     h
 
-constant-begins : (spelled end : List ℕ) (c : Constant) → IsConstant spelled end c → StopsAt class.Blank (spelled ++ end)
+constant-begins : (spelled end : List ℕ) (c : Constant) → IsConstant spelled end c → RunEnds class.Blank (spelled ++ end)
 constant-begins spelled end c h =
     ⊎_elim
     (λ (w : IsNumber spelled end c). let f = number-first spelled end c w in rw f.is (no_blank f.digit (omega (arith, f.low))))
@@ -201,14 +201,14 @@ first_letter (b ∷ bs) h = record { letter = b; others = bs; is = refl; is_lett
 pub name-first : (bytes : List ℕ) → IsName bytes → FirstLetter bytes
 name-first bytes h = first_letter bytes h.begins
 
-name-begins : (name rest : List ℕ) → IsName name → StopsAt class.Blank (name ++ rest)
+name-begins : (name rest : List ℕ) → IsName name → RunEnds class.Blank (name ++ rest)
 name-begins name rest h = let f = name-first name h in rw f.is (no_blank f.letter (omega (arith, letter_high f.letter f.is_letter)))
 
 all_in_name : (bytes : List ℕ) → list_all is_name_byte bytes ≡ true → AllOf class.Name bytes
 unfolding has
 all_in_name bytes h = h
 
-pub name-read : (name after : List ℕ) → IsName name → StopsAt class.Name after → name_at (name ++ after) ≡ Some (name, after)
+pub name-read : (name after : List ℕ) → IsName name → RunEnds class.Name after → name_at (name ++ after) ≡ Some (name, after)
 unfolding name_at
 name-read name after h stops =
     let all = all_in_name name h.runs in
@@ -223,14 +223,14 @@ unfolding has
 blank_no_name b h = grind (arith, nat_tests)
 
 -- at least one blank
-blanks-read : (blanks rest : List ℕ) → 0 < length blanks → AllOf class.Blank blanks → StopsAt class.Blank rest → blanks_at (blanks ++ rest) ≡ Some rest
+blanks-read : (blanks rest : List ℕ) → 0 < length blanks → AllOf class.Blank blanks → RunEnds class.Blank rest → blanks_at (blanks ++ rest) ≡ Some rest
 blanks-read [] rest some all stops = absurd (omega arith)
 blanks-read (b ∷ bs) rest some all stops =
     let first = (all_of_first class.Blank b bs all).0 in
     let rest_is : past class.Blank ((b ∷ bs) ++ rest) ≡ rest = past-append class.Blank (b ∷ bs) rest all stops in
     rw first (ap Some (sym (rw first refl) ∙ rest_is))
 
-blanks-stop : (blanks rest : List ℕ) → 0 < length blanks → AllOf class.Blank blanks → StopsAt class.Name (blanks ++ rest)
+blanks-stop : (blanks rest : List ℕ) → 0 < length blanks → AllOf class.Blank blanks → RunEnds class.Name (blanks ++ rest)
 blanks-stop [] rest some all = absurd (omega arith)
 blanks-stop (b ∷ bs) rest some all = blank_no_name b (all_of_first class.Blank b bs all).0
 

@@ -14,7 +14,7 @@ use Rattle.c_lexer.specs.Spellings.{value_in, signs, sign_of}
 use Rattle.c_lexer.specs.Reading.{first_of, strip, comment_at, number_at, character_at, name_at}
 use Rattle.c_lexer.specs.Cutting.{as_piece, sign_with, sign_at, comment_or_sign, plain_at, line_at, directive_at, unless_known, new_directive_at, piece_at, is_fresh}
 use Rattle.c_lexer.specs.Piece.{Piece, Nothing, Name, Constant', Text, Punctuator, Definition, Known}
-use Rattle.c_lexer.specs.Pieces.{Place, Stands, AllOf, StopsAt, IsComment, IsNumber, IsCharacter, IsText, IsInclude, IsDefine}
+use Rattle.c_lexer.specs.Pieces.{Place, StandsAs, AllOf, RunEnds, IsComment, IsNumber, IsCharacter, IsText, IsInclude, IsDefine}
 use Rattle.c_lexer.specs.Pieces as piece
 use Rattle.c_lexer.proofs.FreshLaws.{fresh-known}
 use Rattle.c_lexer.proofs.Steps.{bound, strip-some, chosen, some_unless}
@@ -79,7 +79,7 @@ comment-reach place bytes after c =
     let fresh = is_fresh place.before in
     ap (λ xs. piece_at fresh place.known (xs ++ after)) first.1 ∙ plain-piece fresh place.known 47 (first.0 ++ after) (λ e. absurd (omega arith)) (λ e. absurd (omega arith)) ∙ slash-read (first.0 ++ after) ∙ (λ i. comment_or_sign (comment_at (sym first.1 i ++ after)) (47 ∷ (first.0 ++ after))) ∙ ap (λ o. comment_or_sign o (47 ∷ (first.0 ++ after))) (comment-append bytes after c)
 
-name-reach : (place : Place) (bytes after : List ℕ) → IsName bytes → StopsAt class.Name after → piece_at (is_fresh place.before) place.known (bytes ++ after) ≡ Some (Name bytes, after)
+name-reach : (place : Place) (bytes after : List ℕ) → IsName bytes → RunEnds class.Name after → piece_at (is_fresh place.before) place.known (bytes ++ after) ≡ Some (Name bytes, after)
 name-reach place bytes after h stops =
     let fresh = is_fresh place.before in
     let f = name-first bytes h in
@@ -118,24 +118,24 @@ hash-read known fresh rest h = rw h refl
 opened-hash : (row body : List ℕ) → Opened row body → (rest : List ℕ) × (row ≡ 35 ∷ rest)
 opened-hash row body o = (o.rest, strip-some 35 row o.rest o.opens)
 
-directive-read : (row body after : List ℕ) → Opened row body → AllOf class.Line row → StopsAt class.Line after → directive_at (row ++ after) ≡ line_at body after
+directive-read : (row body after : List ℕ) → Opened row body → AllOf class.Line row → RunEnds class.Line after → directive_at (row ++ after) ≡ line_at body after
 unfolding directive_at
 directive-read row body after o all stops =
     let row_is : run class.Line (row ++ after) ≡ row = run-append class.Line row after all stops in
     let after_is : past class.Line (row ++ after) ≡ after = past-append class.Line row after all stops in
     (λ i. option_and_then (λ rest. line_at (past class.Blank rest) (after_is i)) (strip 35 (row_is i))) ∙ ap (λ z. option_and_then (λ rest. line_at (past class.Blank rest) after) z) o.opens ∙ ap (λ t. line_at t after) o.is
 
-directive-reach : (place : Place) (row body after : List ℕ) → is_fresh place.before ≡ true → Opened row body → AllOf class.Line row → StopsAt class.Line after → piece_at (is_fresh place.before) place.known (row ++ after) ≡ option_and_then (unless_known place.known) (line_at body after)
+directive-reach : (place : Place) (row body after : List ℕ) → is_fresh place.before ≡ true → Opened row body → AllOf class.Line row → RunEnds class.Line after → piece_at (is_fresh place.before) place.known (row ++ after) ≡ option_and_then (unless_known place.known) (line_at body after)
 directive-reach place row body after fresh o all stops =
     let hash = opened-hash row body o in
     ap (λ xs. piece_at (is_fresh place.before) place.known (xs ++ after)) hash.1 ∙ hash-read place.known (is_fresh place.before) (hash.0 ++ after) fresh ∙ ap (λ xs. new_directive_at place.known (xs ++ after)) (sym hash.1) ∙ ap (option_and_then (unless_known place.known)) (directive-read row body after o all stops)
 
-include-reach : (place : Place) (row after : List ℕ) → is_fresh place.before ≡ true → IsInclude row → AllOf class.Line row → StopsAt class.Line after → piece_at (is_fresh place.before) place.known (row ++ after) ≡ Some (Nothing, after)
+include-reach : (place : Place) (row after : List ℕ) → is_fresh place.before ≡ true → IsInclude row → AllOf class.Line row → RunEnds class.Line after → piece_at (is_fresh place.before) place.known (row ++ after) ≡ Some (Nothing, after)
 include-reach place row after fresh h all stops =
     let r = include-read row h in
     directive-reach place row r.text after fresh r.begun all stops ∙ rw r.include refl
 
-define-reach : (place : Place) (row after defined : List ℕ) (c : Constant) → is_fresh place.before ≡ true → IsDefine row defined c → place.known defined ≡ None → AllOf class.Line row → StopsAt class.Line after → piece_at (is_fresh place.before) place.known (row ++ after) ≡ Some (Definition defined c, after)
+define-reach : (place : Place) (row after defined : List ℕ) (c : Constant) → is_fresh place.before ≡ true → IsDefine row defined c → place.known defined ≡ None → AllOf class.Line row → RunEnds class.Line after → piece_at (is_fresh place.before) place.known (row ++ after) ≡ Some (Definition defined c, after)
 define-reach place row after defined c fresh h new all stops =
     let r = define-read row defined c h in
     directive-reach place row r.text after fresh r.begun all stops ∙ rw (r.no_include, r.define, new) refl
@@ -324,7 +324,7 @@ separator-reach place b after h =
     let low = separator_low b h in
     plain-piece (is_fresh place.before) place.known b after (λ e. omega arith) (λ e. omega arith) ∙ separator-read b after h
 
-pub stands-reach : (place : Place) (bytes after : List ℕ) (p : Piece) → Stands place bytes after p → Reaches place (bytes ++ after) after p
+pub stands-reach : (place : Place) (bytes after : List ℕ) (p : Piece) → StandsAs place bytes after p → Reaches place (bytes ++ after) after p
 stands-reach place bytes after p (piece.separator b is h e) = moved-reach place _ after p Nothing e (itself place _ after Nothing (ap (λ xs. piece_at (is_fresh place.before) place.known (xs ++ after)) is ∙ separator-reach place b after h))
 stands-reach place bytes after p (piece.comment c e) = moved-reach place _ after p Nothing e (itself place _ after Nothing (comment-reach place bytes after c))
 stands-reach place bytes after p (piece.name h stops e) = moved-reach place _ after p (Name bytes) e (itself place _ after (Name bytes) (name-reach place bytes after h stops))

@@ -12,7 +12,7 @@ use Rattle.c_lexer.specs.declared.bytes.Class.TheVariants as class
 use Rattle.c_lexer.specs.Bytes.{has, run, past, begins}
 use Rattle.c_lexer.specs.Reading.{strip, with_rest, radix_at, suffix_at, small_value, constant_from, number_at, byte_of, octal_at, hexadecimal_escape_at, escape_at, element_at, character_at, text_within, text_at}
 use Rattle.c_lexer.specs.Values.{class_of, base_of, value_of, kind_of, simple_escape}
-use Rattle.c_lexer.specs.Pieces.{AllOf, StopsAt, Spells, IsSuffix, IsNumber, IsElement, plain, letter, octal, hexadecimal, AreElements, IsCharacter}
+use Rattle.c_lexer.specs.Pieces.{AllOf, RunEnds, Spells, IsSuffix, IsNumber, IsElement, plain, letter, octal, hexadecimal, AreElements, IsCharacter}
 use Rattle.c_lexer.proofs.RunLaws.{run-append, past-append, all_of_first}
 use Rattle.c_lexer.proofs.Fronts.{and_true}
 
@@ -34,12 +34,12 @@ byte-read base value digits some is small =
     rw (none, small-read base digits (omega (arith)), below, is) refl
 
 -- the front of a run with what follows cut off
-take-stops : (k : Class) (n : ℕ) (after : List ℕ) → StopsAt k after → StopsAt k (take n after)
+take-stops : (k : Class) (n : ℕ) (after : List ℕ) → RunEnds k after → RunEnds k (take n after)
 take-stops k zero after h = refl
 take-stops k (suc n) [] h = refl
 take-stops k (suc n) (a ∷ rest) h = h
 
-run-take : (k : Class) (n : ℕ) (digits after : List ℕ) → AllOf k digits → length digits ≤ n → (length digits < n → StopsAt k after) → run k (take n (digits ++ after)) ≡ digits
+run-take : (k : Class) (n : ℕ) (digits after : List ℕ) → AllOf k digits → length digits ≤ n → (length digits < n → RunEnds k after) → run k (take n (digits ++ after)) ≡ digits
 run-take k zero [] after all short stops = refl
 run-take k zero (d ∷ ds) after all short stops = absurd (omega arith)
 run-take k (suc n) [] [] all short stops = refl
@@ -48,13 +48,13 @@ run-take k (suc n) (d ∷ ds) after all short stops =
     let first = all_of_first k d ds all in
     rw first.0 (ap (λ xs. d ∷ xs) (run-take k n ds after first.1 (omega arith) (λ h. stops (omega arith))))
 
-octal-read : (value : ℕ) (digits after : List ℕ) → 0 < length digits → length digits ≤ 3 → AllOf class.Octal digits → (length digits < 3 → StopsAt class.Octal after) → value ≡ value_of 8 digits → value < 256 → octal_at (digits ++ after) ≡ Some (value, after)
+octal-read : (value : ℕ) (digits after : List ℕ) → 0 < length digits → length digits ≤ 3 → AllOf class.Octal digits → (length digits < 3 → RunEnds class.Octal after) → value ≡ value_of 8 digits → value < 256 → octal_at (digits ++ after) ≡ Some (value, after)
 unfolding octal_at
 octal-read value digits after some short all stops is small =
     let front : run class.Octal (take 3 (digits ++ after)) ≡ digits = run-take class.Octal 3 digits after all short stops in
     (λ i. with_rest (byte_of 8 (front i)) (drop (length (front i)) (digits ++ after))) ∙ (λ i. with_rest (byte-read 8 value digits some is small i) (drop-append_seam digits after i))
 
-hexadecimal-read : (value : ℕ) (digits after : List ℕ) → 0 < length digits → AllOf class.Hexadecimal digits → StopsAt class.Hexadecimal after → value ≡ value_of 16 digits → value < 256 → hexadecimal_escape_at (digits ++ after) ≡ Some (value, after)
+hexadecimal-read : (value : ℕ) (digits after : List ℕ) → 0 < length digits → AllOf class.Hexadecimal digits → RunEnds class.Hexadecimal after → value ≡ value_of 16 digits → value < 256 → hexadecimal_escape_at (digits ++ after) ≡ Some (value, after)
 unfolding hexadecimal_escape_at
 hexadecimal-read value digits after some all stops is small =
     (λ i. with_rest (byte_of 16 (run-append class.Hexadecimal digits after all stops i)) (past-append class.Hexadecimal digits after all stops i)) ∙ (λ i. with_rest (byte-read 16 value digits some is small i) after)
@@ -169,7 +169,7 @@ radix-read radix.Hexadecimal spelled digits rest h some all none =
     ⊎_elim (λ (w : spelled ≡ 48 ∷ 120 ∷ digits). rw w refl) (λ (w : spelled ≡ 48 ∷ 88 ∷ digits). rw w refl) h
 
 -- a byte that is in no number is none of these
-number_byte : (c : ℕ) (after : List ℕ) → has class.Number c ≡ true → StopsAt class.Number after → begins c after ≡ false
+number_byte : (c : ℕ) (after : List ℕ) → has class.Number c ≡ true → RunEnds class.Number after → begins c after ≡ false
 number_byte c [] h stops = refl
 number_byte c (a ∷ rest) h stops = ne-eqb a c (λ e. let there : has class.Number a ≡ true = ap (has class.Number) e ∙ h in let not_there : has class.Number a ≡ false = stops in cc)
 
@@ -177,12 +177,12 @@ letters_in_number : (has class.Number 117 ≡ true) × (has class.Number 85 ≡ 
 unfolding has
 letters_in_number = (refl, refl, refl, refl)
 
-suffix-read : (suffixed : Bool) (suffix after : List ℕ) → IsSuffix suffixed suffix → StopsAt class.Number after → suffix_at (suffix ++ after) ≡ (suffixed, after)
+suffix-read : (suffixed : Bool) (suffix after : List ℕ) → IsSuffix suffixed suffix → RunEnds class.Number after → suffix_at (suffix ++ after) ≡ (suffixed, after)
 unfolding suffix_at
 suffix-read false suffix after h stops = rw (h, number_byte 117 after letters_in_number.0 stops, number_byte 85 after letters_in_number.1 stops) refl
 suffix-read true suffix after h stops = ⊎_elim (λ (w : suffix ≡ 117 ∷ []). rw w refl) (λ (w : suffix ≡ 85 ∷ []). rw w refl) h
 
-suffix-NoX : (suffixed : Bool) (suffix after : List ℕ) → IsSuffix suffixed suffix → StopsAt class.Number after → NoX (suffix ++ after)
+suffix-NoX : (suffixed : Bool) (suffix after : List ℕ) → IsSuffix suffixed suffix → RunEnds class.Number after → NoX (suffix ++ after)
 suffix-NoX false suffix after h stops = rw h (record { lower = number_byte 120 after letters_in_number.2 stops; upper = number_byte 88 after letters_in_number.3 stops })
 suffix-NoX true suffix after h stops = ⊎_elim (λ (w : suffix ≡ 117 ∷ []). rw w (record { lower = refl; upper = refl })) (λ (w : suffix ≡ 85 ∷ []). rw w (record { lower = refl; upper = refl })) h
 
@@ -199,7 +199,7 @@ no_suffix_digit radix.Octal = (refl, refl)
 no_suffix_digit radix.Decimal = (refl, refl)
 no_suffix_digit radix.Hexadecimal = (refl, refl)
 
-digits-stop : (r : Radix) (after : List ℕ) → StopsAt class.Number after → StopsAt (class_of r) after
+digits-stop : (r : Radix) (after : List ℕ) → RunEnds class.Number after → RunEnds (class_of r) after
 digits-stop r [] stops = refl
 digits-stop r (a ∷ rest) stops =
     elim (has (class_of r) a) as (λ v. has (class_of r) a ≡ v → has (class_of r) a ≡ false) [
@@ -207,7 +207,7 @@ digits-stop r (a ∷ rest) stops =
       | false ↦ λ e. e
     ] refl
 
-suffix-stops : (r : Radix) (suffixed : Bool) (suffix after : List ℕ) → IsSuffix suffixed suffix → StopsAt class.Number after → StopsAt (class_of r) (suffix ++ after)
+suffix-stops : (r : Radix) (suffixed : Bool) (suffix after : List ℕ) → IsSuffix suffixed suffix → RunEnds class.Number after → RunEnds (class_of r) (suffix ++ after)
 suffix-stops r false suffix after h stops = rw h (digits-stop r after stops)
 suffix-stops r true suffix after h stops = ⊎_elim (λ (w : suffix ≡ 117 ∷ []). rw w (no_suffix_digit r).0) (λ (w : suffix ≡ 85 ∷ []). rw w (no_suffix_digit r).1) h
 
@@ -215,7 +215,7 @@ kind-small : (r : Radix) (suffixed : Bool) (v : ℕ) (k : Kind) → kind_of r su
 unfolding kind_of
 kind-small r suffixed v k h = grind (arith, nat_tests)
 
-constant-read : (r : Radix) (digits : List ℕ) (suffixed : Bool) (after : List ℕ) (constant : Constant) → 0 < length digits → StopsAt class.Number after → kind_of r suffixed (value_of (base_of r) digits) ≡ Some constant.kind → constant.value ≡ pos (value_of (base_of r) digits) → constant_from r digits (suffixed, after) ≡ Some (constant, after)
+constant-read : (r : Radix) (digits : List ℕ) (suffixed : Bool) (after : List ℕ) (constant : Constant) → 0 < length digits → RunEnds class.Number after → kind_of r suffixed (value_of (base_of r) digits) ≡ Some constant.kind → constant.value ≡ pos (value_of (base_of r) digits) → constant_from r digits (suffixed, after) ≡ Some (constant, after)
 constant-read r digits suffixed after constant some stops kind value =
     let none : eqb (length digits) 0 ≡ false = ne-eqb (length digits) 0 (λ e. omega arith) in
     let small = small-read (base_of r) digits (kind-small r suffixed (value_of (base_of r) digits) constant.kind kind) in

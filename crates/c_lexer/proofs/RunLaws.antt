@@ -5,7 +5,7 @@ use Rattle.std.proofs.lemmas.List.Sums.{prefix_len-le-length}
 use Rattle.std.proofs.Math.Numerals.{one-add}
 use Rattle.c_lexer.specs.declared.bytes.Class.{Class}
 use Rattle.c_lexer.specs.Bytes.{has, run, past, begins_with}
-use Rattle.c_lexer.specs.Pieces.{AllOf, StopsAt}
+use Rattle.c_lexer.specs.Pieces.{AllOf, RunEnds}
 
 pub run_is_front : (k : Class) (bytes : List ℕ) → take (prefix_len (has k) bytes) bytes ≡ run k bytes
 run_is_front k [] = refl
@@ -43,11 +43,11 @@ run-AllOf k (b ∷ bs) =
       | false ↦ λ e. refl
     ] refl
 
-pub past-StopsAt : (k : Class) (bytes : List ℕ) → StopsAt k (past k bytes)
-past-StopsAt k [] = refl
-past-StopsAt k (b ∷ bs) =
+pub past-RunEnds : (k : Class) (bytes : List ℕ) → RunEnds k (past k bytes)
+past-RunEnds k [] = refl
+past-RunEnds k (b ∷ bs) =
     elim (has k b) as (λ v. has k b ≡ v → begins_with k (cond v (past k bs) (b ∷ bs)) ≡ false) [
-      | true ↦ λ e. past-StopsAt k bs
+      | true ↦ λ e. past-RunEnds k bs
       | false ↦ λ e. e
     ] refl
 
@@ -60,14 +60,14 @@ all_of_first k b bs =
     ] refl
 
 -- what follows a run is no part of it
-pub run-append : (k : Class) (bytes after : List ℕ) → AllOf k bytes → StopsAt k after → run k (bytes ++ after) ≡ bytes
+pub run-append : (k : Class) (bytes after : List ℕ) → AllOf k bytes → RunEnds k after → run k (bytes ++ after) ≡ bytes
 run-append k [] [] h stops = refl
 run-append k [] (c ∷ cs) h stops = rw stops refl
 run-append k (b ∷ bs) after h stops =
     let first = all_of_first k b bs h in
     rw first.0 (ap (λ xs. b ∷ xs) (run-append k bs after first.1 stops))
 
-pub past-append : (k : Class) (bytes after : List ℕ) → AllOf k bytes → StopsAt k after → past k (bytes ++ after) ≡ after
+pub past-append : (k : Class) (bytes after : List ℕ) → AllOf k bytes → RunEnds k after → past k (bytes ++ after) ≡ after
 past-append k [] [] h stops = refl
 past-append k [] (c ∷ cs) h stops = rw stops refl
 past-append k (b ∷ bs) after h stops =

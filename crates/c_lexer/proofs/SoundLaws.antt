@@ -9,8 +9,8 @@ use Rattle.c_lexer.specs.declared.bytes.Class.TheVariants as class
 use Rattle.c_lexer.specs.Bytes.{has, run, past, begins, begins_with}
 use Rattle.c_lexer.specs.Reading.{strip, with_rest, hexadecimal_at, radix_from, radix_at, suffix_at, small_value, number_at, byte_of, octal_at, hexadecimal_escape_at, escape_at, element_at, character_at, text_within}
 use Rattle.c_lexer.specs.Values.{class_of, base_of, value_of, kind_of, simple_escape}
-use Rattle.c_lexer.specs.Pieces.{StopsAt, Spells, IsSuffix, IsNumber, IsElement, plain, letter, octal, hexadecimal, AreElements, IsCharacter}
-use Rattle.c_lexer.proofs.RunLaws.{run-past, run-AllOf, past-StopsAt}
+use Rattle.c_lexer.specs.Pieces.{RunEnds, Spells, IsSuffix, IsNumber, IsElement, plain, letter, octal, hexadecimal, AreElements, IsCharacter}
+use Rattle.c_lexer.proofs.RunLaws.{run-past, run-AllOf, past-RunEnds}
 use Rattle.c_lexer.proofs.Fronts.{constant-parts, character-parts, or_false}
 use Rattle.c_lexer.proofs.Steps.{bound, chosen, some_if, some_unless, strip-some}
 
@@ -127,7 +127,7 @@ number-found bytes x h =
 record FrontRun (k : Class) (n : ℕ) (bytes digits : List ℕ) : Type 0 where
   is : bytes ≡ digits ++ drop (length digits) bytes
   short : length digits ≤ n
-  stops : length digits < n → StopsAt k (drop (length digits) bytes)
+  stops : length digits < n → RunEnds k (drop (length digits) bytes)
 
 run-longer : (k : Class) (n b : ℕ) (bs digits : List ℕ) → FrontRun k n bs digits → FrontRun k (suc n) (b ∷ bs) (b ∷ digits)
 run-longer k n b bs digits inner = record { is = ap (λ xs. b ∷ xs) inner.is; short = omega (arith, inner.short); stops = λ h. inner.stops (omega arith) }
@@ -179,7 +179,7 @@ octal-found quote bytes x h =
     record {
       front = 92 ∷ digits;
       is = ap (λ xs. 92 ∷ xs) (front.is ∙ ap (λ xs. digits ++ xs) parts.1);
-      element = octal digits refl byte.some front.short (run-AllOf class.Octal (take 3 bytes)) (λ less. subst (StopsAt class.Octal) parts.1 (front.stops less)) byte.is byte.small;
+      element = octal digits refl byte.some front.short (run-AllOf class.Octal (take 3 bytes)) (λ less. subst (RunEnds class.Octal) parts.1 (front.stops less)) byte.is byte.small;
     }
 
 hexadecimal-found : (quote : ℕ) (bytes : List ℕ) (x : ℕ × List ℕ) → hexadecimal_escape_at bytes ≡ Some x → ElementFound quote (92 ∷ 120 ∷ bytes) x
@@ -191,7 +191,7 @@ hexadecimal-found quote bytes x h =
     record {
       front = 92 ∷ 120 ∷ digits;
       is = ap (λ xs. 92 ∷ 120 ∷ xs) (sym (run-past class.Hexadecimal bytes) ∙ ap (λ xs. digits ++ xs) parts.1);
-      element = hexadecimal digits refl byte.some (run-AllOf class.Hexadecimal bytes) (subst (StopsAt class.Hexadecimal) parts.1 (past-StopsAt class.Hexadecimal bytes)) byte.is byte.small;
+      element = hexadecimal digits refl byte.some (run-AllOf class.Hexadecimal bytes) (subst (RunEnds class.Hexadecimal) parts.1 (past-RunEnds class.Hexadecimal bytes)) byte.is byte.small;
     }
 
 escape-found : (quote : ℕ) (bytes : List ℕ) (x : ℕ × List ℕ) → escape_at bytes ≡ Some x → ElementFound quote (92 ∷ bytes) x

@@ -9,9 +9,9 @@ use Rattle.c_lexer.specs.Spellings.{sign_of}
 use Rattle.c_lexer.specs.Reading.{first_of, strip, comment_at, number_at, character_at, text_at, name_at, is_include, define_in}
 use Rattle.c_lexer.specs.Cutting.{as_piece, sign_with, sign_at, comment_or_sign, plain_at, line_at, directive_at, unless_known, new_directive_at, piece_at, is_fresh}
 use Rattle.c_lexer.specs.Piece.{Piece, Nothing, Name, Constant', Text, Punctuator, Definition}
-use Rattle.c_lexer.specs.Pieces.{Place, Stands, separator, comment, name, number, character, text, punctuator, include, define, StopsAt}
+use Rattle.c_lexer.specs.Pieces.{Place, StandsAs, separator, comment, name, number, character, text, punctuator, include, define, RunEnds}
 use Rattle.c_lexer.proofs.FreshLaws.{fresh-is}
-use Rattle.c_lexer.proofs.RunLaws.{run-past, run-AllOf, past-StopsAt}
+use Rattle.c_lexer.proofs.RunLaws.{run-past, run-AllOf, past-RunEnds}
 use Rattle.c_lexer.proofs.CommentLaws.{comment-splits}
 use Rattle.c_lexer.proofs.Fronts.{name-parts, name-IsName, first_of-some, unless_known-is}
 use Rattle.c_lexer.proofs.SoundLaws.{number-found, character-found, text-found}
@@ -21,7 +21,7 @@ use Rattle.c_lexer.proofs.Steps.{bound, chosen, some_unless}
 pub record StandsFound (place : Place) (left : List ℕ) (x : Piece × List ℕ) : Type 0 where
   pub bytes : List ℕ
   pub is : left ≡ bytes ++ x.1
-  pub stands : Stands place bytes x.1 x.0
+  pub stands : StandsAs place bytes x.1 x.0
 
 -- one answer for another that is equal
 moved-found : (place : Place) (left : List ℕ) (y x : Piece × List ℕ) → y ≡ x → StandsFound place left y → StandsFound place left x
@@ -39,7 +39,7 @@ name-stands place left y h =
     record {
       bytes = y.0;
       is = sym (run-past class.Name left) ∙ ap (λ (z : List ℕ × List ℕ). z.0 ++ z.1) same;
-      stands = name (name-IsName left y h) (subst (λ (z : List ℕ × List ℕ). StopsAt class.Name z.1) same (past-StopsAt class.Name left)) refl;
+      stands = name (name-IsName left y h) (subst (λ (z : List ℕ × List ℕ). RunEnds class.Name z.1) same (past-RunEnds class.Name left)) refl;
     }
 
 sign_with-stands : (place : Place) (n : ℕ) (left : List ℕ) (y : Sign × List ℕ) → sign_with n left ≡ Some y → StandsFound place left (Punctuator y.0, y.1)
@@ -130,7 +130,7 @@ directive-stands place left x fresh h =
     moved-found place left (Nothing, after) x (same ∙ unless_known-is place.known a.value x a.then) (record {
       bytes = line;
       is = whole;
-      stands = include (fresh-is place.before fresh) (include-found line b.value b.is w.0) (run-AllOf class.Line left) (past-StopsAt class.Line left) refl;
+      stands = include (fresh-is place.before fresh) (include-found line b.value b.is w.0) (run-AllOf class.Line left) (past-RunEnds class.Line left) refl;
     }))
     (λ (w : (is_include text ≡ false) × (option_and_then (λ d. Some (Definition d.0 d.1, after)) (define_in text) ≡ Some a.value)).
     let d = bound (define_in text) (λ d. Some (Definition d.0 d.1, after)) a.value w.1 in
@@ -139,7 +139,7 @@ directive-stands place left x fresh h =
     moved-found place left (Definition d.value.0 d.value.1, after) x (let e : Some (Definition d.value.0 d.value.1, after) ≡ Some x = new.1 in cc) (record {
       bytes = line;
       is = whole;
-      stands = define d.value.0 d.value.1 (fresh-is place.before fresh) (define-found line b.value d.value b.is d.is) (none-of (place.known d.value.0) new.0) (run-AllOf class.Line left) (past-StopsAt class.Line left) refl;
+      stands = define d.value.0 d.value.1 (fresh-is place.before fresh) (define-found line b.value d.value b.is d.is) (none-of (place.known d.value.0) new.0) (run-AllOf class.Line left) (past-RunEnds class.Line left) refl;
     }))
     (chosen (is_include text) (Some (Nothing, after)) (option_and_then (λ d. Some (Definition d.0 d.1, after)) (define_in text)) (Some a.value) b.then)
 

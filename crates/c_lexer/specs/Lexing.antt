@@ -9,12 +9,12 @@ use Rattle.c_syntax.specs.declared.token.TokenKind.TheVariants as kind
 use Rattle.c_lexer.specs.Bytes.{newlines}
 use Rattle.c_lexer.specs.Spellings.{word_of}
 use Rattle.c_lexer.specs.Piece.{Piece, Nothing, Name, Constant', Text, Punctuator, Definition, Known}
-use Rattle.c_lexer.specs.Pieces.{Place, Stands}
+use Rattle.c_lexer.specs.Pieces.{Place, StandsAs}
 
 -- The bytes are the longest that stand as a piece at the place (C99 6.4, paragraph 4).
 pub record IsLongest (place : Place) (bytes after : List ℕ) (piece : Piece) : Type 0 where
-  pub stands : Stands place bytes after piece
-  pub longest : (front rest : List ℕ) (other : Piece) → bytes ++ after ≡ front ++ rest → Stands place front rest other → length front ≤ length bytes
+  pub stands : StandsAs place bytes after piece
+  pub longest : (front rest : List ℕ) (other : Piece) → bytes ++ after ≡ front ++ rest → StandsAs place front rest other → length front ≤ length bytes
 
 -- a piece with the bytes that it takes
 pub record Taken : Type 0 where
@@ -84,7 +84,7 @@ pub record Lexes (text : List ℕ) (tokens : List Token) : Type 0 where
 
 -- Nothing stands here.
 abbrev pub NothingStands : Place → List ℕ → Type 0
-NothingStands place left = (bytes after : List ℕ) (piece : Piece) → left ≡ bytes ++ after → Stands place bytes after piece → ⊥
+NothingStands place left = (bytes after : List ℕ) (piece : Piece) → left ≡ bytes ++ after → StandsAs place bytes after piece → ⊥
 
 -- The cutting stops at this byte of this line, since nothing stands there.
 pub record Stops (text : List ℕ) (line byte : ℕ) : Type 0 where

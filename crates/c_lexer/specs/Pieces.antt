@@ -19,12 +19,12 @@ abbrev pub AllOf : Class → List ℕ → Type 0
 AllOf k bytes = list_all (has k) bytes ≡ true
 
 -- no byte of the class comes next
-abbrev pub StopsAt : Class → List ℕ → Type 0
-StopsAt k bytes = begins_with k bytes ≡ false
+abbrev pub RunEnds : Class → List ℕ → Type 0
+RunEnds k bytes = begins_with k bytes ≡ false
 
 -- From `//` up to the next newline or the end, or from `/*` to the next `*/` (C99 6.4.9).
 pub data IsComment (bytes after : List ℕ) : Type 0 where
-  line : (body : List ℕ) → bytes ≡ 47 ∷ 47 ∷ body → AllOf class.Line body → StopsAt class.Line after → IsComment bytes after
+  line : (body : List ℕ) → bytes ≡ 47 ∷ 47 ∷ body → AllOf class.Line body → RunEnds class.Line after → IsComment bytes after
   block : (body : List ℕ) → bytes ≡ 47 ∷ 42 ∷ body → after_close body ≡ Some [] → IsComment bytes after
 
 -- A decimal constant begins with no `0`, an octal one does, and a hexadecimal one begins with `0x` or `0X`.
@@ -50,7 +50,7 @@ pub record IsNumber (bytes after : List ℕ) (constant : Constant) : Type 0 wher
   pub has_digit : 0 < length digits
   pub all_digits : AllOf (class_of radix) digits
   pub is_suffix : IsSuffix suffixed suffix
-  pub whole : StopsAt class.Number after
+  pub whole : RunEnds class.Number after
   pub kind : kind_of radix suffixed (value_of (base_of radix) digits) ≡ Some constant.kind
   pub value : constant.value ≡ pos (value_of (base_of radix) digits)
 
@@ -60,9 +60,9 @@ pub data IsElement (quote : ℕ) (bytes after : List ℕ) (value : ℕ) : Type 0
   plain : bytes ≡ value ∷ [] → value ≢ 10 → value ≢ quote → value ≢ 92 → IsElement quote bytes after value
   letter : (c : ℕ) → bytes ≡ 92 ∷ c ∷ [] → simple_escape c ≡ Some value → IsElement quote bytes after value
   octal : (digits : List ℕ) → bytes ≡ 92 ∷ digits → 0 < length digits → length digits ≤ 3 → AllOf class.Octal digits →
-      (length digits < 3 → StopsAt class.Octal after) → value ≡ value_of 8 digits → value < 256 → IsElement quote bytes after value
+      (length digits < 3 → RunEnds class.Octal after) → value ≡ value_of 8 digits → value < 256 → IsElement quote bytes after value
   hexadecimal : (digits : List ℕ) → bytes ≡ 92 ∷ 120 ∷ digits → 0 < length digits → AllOf class.Hexadecimal digits →
-      StopsAt class.Hexadecimal after → value ≡ value_of 16 digits → value < 256 → IsElement quote bytes after value
+      RunEnds class.Hexadecimal after → value ≡ value_of 16 digits → value < 256 → IsElement quote bytes after value
 
 -- bytes of a string, one after another
 abbrev pub AreElements : List ℕ → List ℕ → List ℕ → Type 0
@@ -146,14 +146,14 @@ pub record IsFresh (before : List ℕ) : Type 0 where
   pub are_blank : AllOf class.Blank blanks
 
 -- These bytes, at this place and before those after them, are a piece.
-pub data Stands (place : Place) (bytes after : List ℕ) (piece : Piece) : Type 0 where
-  separator : (b : ℕ) → bytes ≡ b ∷ [] → is_separator b ≡ true → piece ≡ Nothing → Stands place bytes after piece
-  comment : IsComment bytes after → piece ≡ Nothing → Stands place bytes after piece
-  name : IsName bytes → StopsAt class.Name after → piece ≡ Name bytes → Stands place bytes after piece
-  number : (constant : Constant) → IsNumber bytes after constant → piece ≡ Constant' constant → Stands place bytes after piece
-  character : (constant : Constant) → IsCharacter bytes after constant → piece ≡ Constant' constant → Stands place bytes after piece
-  text : (values : List ℕ) → IsText bytes after values → piece ≡ Text values → Stands place bytes after piece
-  punctuator : (sign : Sign) → sign_of bytes ≡ Some sign → piece ≡ Punctuator sign → Stands place bytes after piece
-  include : IsFresh place.before → IsInclude bytes → AllOf class.Line bytes → StopsAt class.Line after → piece ≡ Nothing → Stands place bytes after piece
+pub data StandsAs (place : Place) (bytes after : List ℕ) (piece : Piece) : Type 0 where
+  separator : (b : ℕ) → bytes ≡ b ∷ [] → is_separator b ≡ true → piece ≡ Nothing → StandsAs place bytes after piece
+  comment : IsComment bytes after → piece ≡ Nothing → StandsAs place bytes after piece
+  name : IsName bytes → RunEnds class.Name after → piece ≡ Name bytes → StandsAs place bytes after piece
+  number : (constant : Constant) → IsNumber bytes after constant → piece ≡ Constant' constant → StandsAs place bytes after piece
+  character : (constant : Constant) → IsCharacter bytes after constant → piece ≡ Constant' constant → StandsAs place bytes after piece
+  text : (values : List ℕ) → IsText bytes after values → piece ≡ Text values → StandsAs place bytes after piece
+  punctuator : (sign : Sign) → sign_of bytes ≡ Some sign → piece ≡ Punctuator sign → StandsAs place bytes after piece
+  include : IsFresh place.before → IsInclude bytes → AllOf class.Line bytes → RunEnds class.Line after → piece ≡ Nothing → StandsAs place bytes after piece
   define : (name : List ℕ) (constant : Constant) → IsFresh place.before → IsDefine bytes name constant → place.known name ≡ None →
-      AllOf class.Line bytes → StopsAt class.Line after → piece ≡ Definition name constant → Stands place bytes after piece
+      AllOf class.Line bytes → RunEnds class.Line after → piece ≡ Definition name constant → StandsAs place bytes after piece

@@ -14,7 +14,7 @@ abbrev pub can_begin : ℕ → Bool
 can_begin b = is_letter b || is_digit b || (b == 35) || (b == 39) || (b == 34) || is_separator b || is_some (sign_of (b ∷ []))
 
 -- The cutting stops at this line, at a byte that can begin a piece, or at one that can't.
-pub record StopsAt (text : List ℕ) (line : ℕ) (can : Bool) : Type 0 where
+pub record CuttingStops (text : List ℕ) (line : ℕ) (can : Bool) : Type 0 where
   pub byte : ℕ
   pub stops : Stops text line byte
   pub begins : can_begin byte ≡ can
@@ -38,8 +38,8 @@ abbrev pub lexed_answer : List Token → Result (List Token) LexError
 lexed_answer tokens = if nat_lt most_tokens (length tokens) then Err error.TooLarge else Ok tokens
 
 abbrev pub ErrorSays : List ℕ → LexError → Type 0
-ErrorSays text (error.BadByte line) = StopsAt text line false
-ErrorSays text (error.BadToken line) = StopsAt text line true
+ErrorSays text (error.BadByte line) = CuttingStops text line false
+ErrorSays text (error.BadToken line) = CuttingStops text line true
 ErrorSays text error.TooLarge = HasMany text
 ErrorSays text error.Memory = Unit {0}
 

@@ -5,7 +5,7 @@ ghost use Rattle.c_lexer.specs.Bytes.{is_separator, is_digit, is_hexadecimal, ha
 use cbi_base::is_name_byte;
 
 /// A class of bytes whose runs are read as one.
-#[derive(Clone, Copy, Debug, PartialEq, Eq)]
+#[derive(Clone, Copy, PartialEq, Eq)]
 pub(crate) enum Class {
     /// Letters, `_` and digits.
     Name,

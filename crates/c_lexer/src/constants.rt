@@ -15,7 +15,7 @@ const TWO_TO_31: u64 = 1 << 31;
 const TWO_TO_32: u64 = 1 << 32;
 
 /// How the digits of an integer constant count.
-#[derive(Clone, Copy, Debug, PartialEq, Eq)]
+#[derive(Clone, Copy, PartialEq, Eq)]
 pub(crate) enum Radix {
     Octal,
     Decimal,

@@ -5,7 +5,7 @@ ghost use Rattle.std.specs.Prelude.{◌≡◌, true, false, ◌≤◌, ◌<◌, 
 ghost use Rattle.c_syntax.specs.declared.token.Token.{Token};
 ghost use Rattle.c_syntax.specs.Limits.{most_bytes};
 ghost use Rattle.c_lexer.specs.Lexing.{Lexes, Stops};
-ghost use Rattle.c_lexer.specs.Refusals.{Says, StopsAt, IsTooLarge, lexed_answer, refusal_for};
+ghost use Rattle.c_lexer.specs.Refusals.{Says, CuttingStops, IsTooLarge, lexed_answer, refusal_for};
 ghost use Rattle.c_lexer.specs.Endings.{Ending, Ends};
 
 mod bytes;
@@ -48,8 +48,8 @@ pub fn lex(alloc: Global, text: &[u8]) -> Result<Tokens, LexError>
 
     // Each refusal comes only where its cause holds ..
     ensures too_large { result ≡ Err LexError.TooLarge → IsTooLarge text.now }
-    ensures bad_byte { (line : ℕ) → result ≡ Err (LexError.BadByte line) → StopsAt text.now line false }
-    ensures bad_token { (line : ℕ) → result ≡ Err (LexError.BadToken line) → StopsAt text.now line true }
+    ensures bad_byte { (line : ℕ) → result ≡ Err (LexError.BadByte line) → CuttingStops text.now line false }
+    ensures bad_token { (line : ℕ) → result ≡ Err (LexError.BadToken line) → CuttingStops text.now line true }
 
     // .. and wherever its cause holds, unless memory runs out.
     ensures long { most_bytes < length text.now → result ≡ Err LexError.TooLarge }
@@ -68,8 +68,3 @@ pub fn lex(alloc: Global, text: &[u8]) -> Result<Tokens, LexError>
 pub fn one_cutting()
     ensures { (text : List ℕ) (a b : Ending) → Ends text a → Ends text b → a ≡ b }
 {}
-
-#[cfg(test)]
-mod tests;
-#[cfg(test)]
-mod tree_tests;

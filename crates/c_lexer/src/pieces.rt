@@ -13,7 +13,7 @@ use c_syntax::{Constant, Sign};
 use cbi_base::is_letter;
 
 /// A piece of a text: what stands for no token, a token before defined names are replaced, or a definition.
-#[derive(Debug, Drop)]
+#[derive(Drop)]
 pub(crate) enum Found<'a> {
     Nothing,
     Name { name: &'a [u8] },

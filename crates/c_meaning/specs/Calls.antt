@@ -16,7 +16,7 @@ use Rattle.c_meaning.specs.declared.value_type.Called.{Called}
 use Rattle.c_meaning.specs.declared.value_type.Called.TheVariants as called
 use Rattle.c_meaning.specs.declared.value_type.ValueType.{ValueType}
 use Rattle.c_meaning.specs.declared.value_type.ValueType.TheVariants as type
-use Rattle.c_meaning.specs.Conversions.{decayed}
+use Rattle.c_meaning.specs.Conversions.{as_used}
 use Rattle.c_meaning.specs.Expressions.{Sense, valued, effected}
 use Rattle.c_meaning.specs.Facts.{Setting, Signature}
 use Rattle.c_meaning.specs.Output.{next_byte, put_byte, put_format, put_string}
@@ -111,7 +111,7 @@ module _ (s : Setting) where
   call_library token library.Free n argument print = effected (λ w. bind (argument (as_type (type.Pointer 0)) w) release)
   call_library token library.Exit n argument print = effected (λ w. bind (argument (as_type (type.Number Int)) w) exit)
   call_library token library.Abort n argument print = effected (choose (n == 0) abort stuck)
-  call_library token library.Assert n argument print = effected (λ w. bind (argument decayed w) (λ v u. bind (truth v u) assert))
+  call_library token library.Assert n argument print = effected (λ w. bind (argument as_used w) (λ v u. bind (truth v u) assert))
   call_library token library.Printf n argument print = effected print
 
   -- a call by what it calls, with so many arguments

@@ -20,9 +20,9 @@ use Rattle.c_meaning.specs.declared.value_type.ValueType.TheVariants as type
 use Rattle.c_meaning.specs.World.{World, Out, Go, answered, stuck}
 
 -- An array is a pointer to its first element, where its value is used (C99 6.3.2.1p3).
-abbrev pub decayed : Option ValueType → Option ValueType
-decayed (Some (type.Array size)) = Some (type.Pointer size)
-decayed of = of
+abbrev pub as_used : Option ValueType → Option ValueType
+as_used (Some (type.Array size)) = Some (type.Pointer size)
+as_used of = of
 
 abbrev pub is_pointer : Option ValueType → Bool
 is_pointer (Some (type.Pointer size)) = true
@@ -53,7 +53,7 @@ fitting have wanted = Misfit
 
 -- a value of one type where one of another type is wanted, as by assignment (C99 6.5.16.1)
 abbrev pub conversion : Option ValueType → Option ValueType → Conversion
-conversion have wanted = fitting (decayed have) wanted
+conversion have wanted = fitting (as_used have) wanted
 
 abbrev pub converts : Conversion → Scalar → Result Scalar Trap
 converts Keep v = Ok v

@@ -12,7 +12,7 @@ use Rattle.c_syntax.specs.declared.expr.PrefixOperator.TheVariants as prefix
 use Rattle.c_meaning.specs.declared.operation.Operation.{Operation}
 use Rattle.c_meaning.specs.declared.value_type.ValueType.{ValueType}
 use Rattle.c_meaning.specs.declared.value_type.ValueType.TheVariants as type
-use Rattle.c_meaning.specs.Conversions.{as_wanted, conversion, decayed, handed, load_at}
+use Rattle.c_meaning.specs.Conversions.{as_wanted, conversion, as_used, handed, load_at}
 use Rattle.c_meaning.specs.Facts.{Setting}
 use Rattle.c_meaning.specs.Operation.{flag_value, operation, operate}
 use Rattle.c_meaning.specs.Places.{assigned, changed, pointed, stepped}
@@ -71,7 +71,7 @@ arm_as false have want v w = as_wanted (conversion have want) v w
 -- an arm of `? :` as a value of its type: an undefined one is handed on where the arm has that type, and else it is met (C99 6.5.15p5, p6)
 abbrev pub arm_value : Bool → Option ValueType → Option ValueType → Sense → World → Out Scalar
 arm_value true have want m w = Go Null w
-arm_value false have want m w = bind (m.value w) (arm_as (is_other_pointer (decayed have) want) have want)
+arm_value false have want m w = bind (m.value w) (arm_as (is_other_pointer (as_used have) want) have want)
 
 -- the same where nothing takes the value of the whole, which may be void
 abbrev pub arm_effect : Bool → Option ValueType → Option ValueType → Sense → World → Done

@@ -17,7 +17,7 @@ use Rattle.c_rules.specs.declared.layout.Member.{Member}
 use Rattle.c_rules.specs.declared.layout.StructType.{StructType}
 use Rattle.c_rules.specs.TypeTree as t
 use Rattle.c_rules.specs.TypeTree.{TypeTree}
-use Rattle.c_types.specs.declared.walk.Walk.{Walk}
+use Rattle.c_types_expressions.specs.declared.walk.Walk.{Walk}
 use Rattle.c_types.specs.Answers.{declared_at}
 use Rattle.flow.specs.declared.program.Text.{Text}
 use Rattle.flow.specs.Machine.{text_object}

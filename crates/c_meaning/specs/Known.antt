@@ -13,13 +13,13 @@ use Rattle.c_rules.specs.declared.layout.StructType.{StructType}
 use Rattle.c_rules.specs.Sizes.{cells_of, is_object}
 use Rattle.c_rules.specs.TypeTree as t
 use Rattle.c_rules.specs.TypeTree.{TypeTree}
-use Rattle.c_types.specs.declared.walk.Definition.{Definition}
-use Rattle.c_types.specs.declared.walk.FunctionEntry.{FunctionEntry}
-use Rattle.c_types.specs.declared.walk.Variable.{Variable}
-use Rattle.c_types.specs.declared.walk.Variable.TheVariants as variable
-use Rattle.c_types.specs.declared.walk.Walk.{Walk}
+use Rattle.c_types_expressions.specs.declared.walk.Definition.{Definition}
+use Rattle.c_types_expressions.specs.declared.walk.FunctionEntry.{FunctionEntry}
+use Rattle.c_types_expressions.specs.declared.walk.Variable.{Variable}
+use Rattle.c_types_expressions.specs.declared.walk.Variable.TheVariants as variable
+use Rattle.c_types_expressions.specs.declared.walk.Walk.{Walk}
 use Rattle.c_types.specs.Answers.{declared_at, function_at, offset_at, type_at, variable_at}
-use Rattle.c_types.specs.ExprWalk.{with_stars}
+use Rattle.c_types_expressions.specs.ExprWalk.{with_stars}
 use Rattle.flow.specs.declared.site.Slot.{Slot}
 use Rattle.flow.specs.declared.site.Slot.TheVariants as slot
 use Rattle.c_meaning.specs.declared.value_type.ValueType.{ValueType}

@@ -1,7 +1,7 @@
 -- The operators on two values: what each does, by the types of its operands (C99 6.5.5 to 6.5.12).
 use Rattle.std.specs.Prelude.{ℕ, ℤ, pos, neg_ℤ, nat_le, Bool, true, false, ◌&&◌, if◌then◌else◌, Option, Some, None, Result, Ok, Err}
 use Rattle.cbi_base.specs.declared.scalar.Kind.{Kind}
-use Rattle.cbi_base.specs.declared.scalar.Kind.TheVariants.{Char, Int, Unsigned}
+use Rattle.cbi_base.specs.declared.scalar.Kind.TheVariants.{Int}
 use Rattle.cbi_base.specs.declared.scalar.Scalar.{Scalar}
 use Rattle.cbi_base.specs.declared.scalar.Scalar.TheVariants.{Number}
 use Rattle.cbi_base.specs.declared.operators.Binary.{Binary}
@@ -13,23 +13,13 @@ use Rattle.cbi_base.specs.declared.trap.Trap.TheVariants.{Internal}
 use Rattle.cbi_base.specs.Arithmetic.{flag, kind_given}
 use Rattle.cbi_base.specs.Objects.{Objects, ◌>>=◌, compared, difference}
 use Rattle.cbi_base.specs.Scalars.{applied}
+use Rattle.c_rules.specs.Laws.{common_kind, promoted_kind}
 use Rattle.flow.specs.Rows.{moved_by}
 use Rattle.c_meaning.specs.declared.operation.Operation.{Operation}
 use Rattle.c_meaning.specs.declared.operation.Operation.TheVariants.{Numbers, MoveLeft, MoveRight, Span, Ordered, Wrong}
 use Rattle.c_meaning.specs.declared.value_type.ValueType.{ValueType}
 use Rattle.c_meaning.specs.declared.value_type.ValueType.TheVariants as type
-use Rattle.c_meaning.specs.Conversions.{decayed, between, converts}
-
--- `char` is promoted to `int` (C99 6.3.1.1p2)
-abbrev pub promoted : Kind → Kind
-promoted Char = Int
-promoted kind = kind
-
--- the usual arithmetic conversions (C99 6.3.1.8)
-abbrev pub common : Kind → Kind → Kind
-common Unsigned right = Unsigned
-common left Unsigned = Unsigned
-common left right = Int
+use Rattle.c_meaning.specs.Conversions.{as_used, between, converts}
 
 abbrev pub is_shift : Binary → Bool
 is_shift op.Shl = true
@@ -38,10 +28,10 @@ is_shift o = false
 
 -- The operands of a shift are promoted each for itself (C99 6.5.7p3); those of any other operator get their common type.
 abbrev pub left_kind : Binary → Kind → Kind → Kind
-left_kind o left right = if is_shift o then promoted left else common left right
+left_kind o left right = if is_shift o then promoted_kind left else common_kind left right
 
 abbrev pub right_kind : Binary → Kind → Kind → Kind
-right_kind o left right = if is_shift o then promoted right else common left right
+right_kind o left right = if is_shift o then promoted_kind right else common_kind left right
 
 -- how many cells an element has, where a pointer can be moved along elements
 abbrev pub is_step : ℕ → Bool
@@ -84,7 +74,7 @@ on_values o (Some (type.Pointer size)) (Some (type.Pointer other)) = on_pointers
 on_values o left right = Wrong
 
 abbrev pub operation : Binary → Option ValueType → Option ValueType → Operation
-operation o left right = on_values o (decayed left) (decayed right)
+operation o left right = on_values o (as_used left) (as_used right)
 
 abbrev pub flag_value : Bool → Scalar
 flag_value holds = Number Int (flag holds)

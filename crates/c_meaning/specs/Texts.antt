@@ -3,10 +3,10 @@ use Rattle.std.specs.Prelude.{ℕ, suc, ◌==◌, ◌&&◌, Bool, true, false, L
 use Rattle.std.specs.Option.{unwrap_or}
 use Rattle.std.specs.Str.{bytes_eq}
 use Rattle.c_syntax.specs.ItemTree.{SourceTree}
-use Rattle.c_types.specs.declared.names.Meaning.{Meaning}
-use Rattle.c_types.specs.declared.names.Meaning.TheVariants as name
-use Rattle.c_types.specs.declared.walk.Walk.{Walk}
-use Rattle.c_types.specs.Names.{found}
+use Rattle.c_types_expressions.specs.declared.names.Meaning.{Meaning}
+use Rattle.c_types_expressions.specs.declared.names.Meaning.TheVariants as name
+use Rattle.c_types_expressions.specs.declared.walk.Walk.{Walk}
+use Rattle.c_types_expressions.specs.Names.{found}
 use Rattle.flow.specs.declared.site.Site.{Site}
 use Rattle.flow.specs.declared.site.SiteKind.{SiteKind}
 use Rattle.flow.specs.declared.site.SiteKind.TheVariants.{Branch, Return, Pair}
@@ -38,8 +38,8 @@ first_of [] = None
 first_of (site ∷ more) = Some site
 
 -- the sites of a table, by token
-abbrev pub sites_of : List Site → Sites
-sites_of table = record {
+abbrev pub sites_by_table : List Site → Sites
+sites_by_table table = record {
   branch_at = λ token. first_of (sites_from 0 is_branch token table);
   return_at = λ token. first_of (sites_from 0 is_return token table);
   pairs_at = λ token. sites_from 0 is_pair token table;
@@ -57,7 +57,7 @@ main_of w = unwrap_or (number_defined w (found (codes "main") w.names)) 0
 abbrev pub source_of : SourceTree → Walk → List Site → Source
 source_of tree w table = record {
   facts = facts_of tree w;
-  sites = sites_of table;
+  sites = sites_by_table table;
   body = slice_get (bodies tree);
   main = main_of w;
   objects = first_objects tree w;

@@ -12,7 +12,7 @@ use Rattle.c_syntax.specs.ExprTree as e
 use Rattle.c_syntax.specs.ExprTree.{ExprTree, ExprList, LinkList, PostfixList}
 use Rattle.c_rules.specs.declared.library.Library.{Library}
 use Rattle.c_rules.specs.Library.{library_named}
-use Rattle.c_types.specs.ExprWalk.{binary_of, compound_of}
+use Rattle.c_types_expressions.specs.ExprWalk.{binary_of, compound_of}
 use Rattle.c_meaning.specs.declared.value_type.ValueType.{ValueType}
 use Rattle.c_meaning.specs.declared.value_type.ValueType.TheVariants as type
 use Rattle.c_meaning.specs.declared.value_type.Called.{Called}

@@ -1,7 +1,7 @@
 ghost use Rattle.std.specs.Prelude.{◌≡◌};
 ghost use Rattle.c_meaning.specs.Conversions.{between, conversion};
 
-use crate::value_type::{ValueType, decayed};
+use crate::value_type::{ValueType, as_used};
 use cbi_base::Kind;
 
 /// What becomes of a value where one of another type is wanted: it is kept, it is converted to a kind, or nothing fits.
@@ -28,7 +28,7 @@ pub fn between(have: Kind, want: Kind) -> Conversion
 pub fn conversion_of(have: Option<ValueType>, want: Option<ValueType>) -> Conversion
     ensures { result ≡ conversion have want }
 {
-    match (decayed(have), want) {
+    match (as_used(have), want) {
         (Some(ValueType::Number { kind }), Some(ValueType::Number { kind: other })) => {
             between(kind, other)
         }

@@ -12,4 +12,4 @@ pub use laws::{
     arrays_are_zero_behind_their_lists, declared_variables_hold_nothing,
 };
 pub use operation::{Operation, left_kind, operation_of, right_kind};
-pub use value_type::{Called, ValueType, decayed, is_pointer};
+pub use value_type::{Called, ValueType, as_used, is_pointer};

@@ -1,7 +1,8 @@
 ghost use Rattle.std.specs.Prelude.{◌≡◌};
-ghost use Rattle.c_meaning.specs.Operation.{common, is_shift, is_step, left_kind, moves_left, moves_right, on_pointers, operation, order_of, promoted, right_kind};
+ghost use Rattle.c_rules.specs.Laws.{common_kind, promoted_kind};
+ghost use Rattle.c_meaning.specs.Operation.{is_shift, is_step, left_kind, moves_left, moves_right, on_pointers, operation, order_of, right_kind};
 
-use crate::value_type::{ValueType, decayed};
+use crate::value_type::{ValueType, as_used};
 use cbi_base::{Binary, Kind, Order};
 
 /// What an operator does with two values, by their types.
@@ -91,7 +92,7 @@ fn on_pointers(op: Binary, size: u32) -> Operation
 pub fn operation_of(op: Binary, left: Option<ValueType>, right: Option<ValueType>) -> Operation
     ensures { result ≡ operation op left right }
 {
-    match (decayed(left), decayed(right)) {
+    match (as_used(left), as_used(right)) {
         (Some(ValueType::Number { kind: left }), Some(ValueType::Number { kind: right })) => {
             Operation::Numbers { op, left, right }
         }
@@ -107,8 +108,8 @@ pub fn operation_of(op: Binary, left: Option<ValueType>, right: Option<ValueType
 }
 
 /// `char` is promoted to `int` (C99 6.3.1.1p2).
-fn promoted(kind: Kind) -> Kind
-    ensures { result ≡ promoted kind }
+fn promoted_kind(kind: Kind) -> Kind
+    ensures { result ≡ promoted_kind kind }
 {
     match kind {
         Kind::Char => Kind::Int,
@@ -117,8 +118,8 @@ fn promoted(kind: Kind) -> Kind
 }
 
 /// The usual arithmetic conversions (C99 6.3.1.8).
-fn common(left: Kind, right: Kind) -> Kind
-    ensures { result ≡ common left right }
+fn common_kind(left: Kind, right: Kind) -> Kind
+    ensures { result ≡ common_kind left right }
 {
     match (left, right) {
         (Kind::Unsigned, _) | (_, Kind::Unsigned) => Kind::Unsigned,
@@ -137,9 +138,9 @@ pub fn left_kind(op: Binary, left: Kind, right: Kind) -> Kind
     ensures { result ≡ left_kind op left right }
 {
     if is_shift(op) {
-        promoted(left)
+        promoted_kind(left)
     } else {
-        common(left, right)
+        common_kind(left, right)
     }
 }
 
@@ -148,8 +149,8 @@ pub fn right_kind(op: Binary, left: Kind, right: Kind) -> Kind
     ensures { result ≡ right_kind op left right }
 {
     if is_shift(op) {
-        promoted(right)
+        promoted_kind(right)
     } else {
-        common(left, right)
+        common_kind(left, right)
     }
 }

@@ -1,5 +1,5 @@
 ghost use Rattle.std.specs.Prelude.{◌≡◌};
-ghost use Rattle.c_meaning.specs.Conversions.{decayed, is_pointer};
+ghost use Rattle.c_meaning.specs.Conversions.{as_used, is_pointer};
 
 use c_rules::Library;
 use cbi_base::Kind;
@@ -24,8 +24,8 @@ pub enum Called {
 }
 
 /// The type of a value that is used: an array is a pointer to its first element.
-pub fn decayed(of: Option<ValueType>) -> Option<ValueType>
-    ensures { result ≡ decayed of }
+pub fn as_used(of: Option<ValueType>) -> Option<ValueType>
+    ensures { result ≡ as_used of }
 {
     match of {
         Some(ValueType::Array { size }) => Some(ValueType::Pointer { size }),

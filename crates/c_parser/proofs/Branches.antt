@@ -6,10 +6,10 @@ use Rattle.c_syntax.specs.declared.token.TokenKind.TheVariants as kind
 use Rattle.c_syntax.specs.StatementTree.{StatementTree}
 use Rattle.c_syntax.specs.Spelling.{Kinds, a_word, statement_kinds}
 use Rattle.c_syntax.specs.Shape.{ends_open}
-use Rattle.c_parser.specs.Reading.{Cursor, Same, Found, Fails, after, behind, word_at}
+use Rattle.c_parser_expressions.specs.Reading.{Cursor, Same, Found, Fails, after, behind, word_at}
 use Rattle.c_parser.specs.Statements.{IsInnerStatement, NoElse, EndsStatement, inner_statement, EndsOtherwise, else_kinds, branches}
-use Rattle.c_parser.proofs.Heads.{word-head, same-word, word-same}
-use Rattle.c_parser.proofs.Laws.{Leads, same-rest}
+use Rattle.c_parser_expressions.proofs.Heads.{word-head, same-word, word-same}
+use Rattle.c_parser_expressions.proofs.Laws.{Leads, same-rest}
 
 abbrev Branches : Type 0
 Branches = StatementTree × Option StatementTree

@@ -14,22 +14,22 @@ use Rattle.c_syntax.specs.Spelling.{Kinds, a_sign, optional, base_kinds, expr_ki
 use Rattle.c_syntax.specs.Nesting.{deep, expr_nesting}
 use Rattle.c_syntax.specs.Shape.{ShapedExpr}
 use Rattle.c_syntax.specs.Place.{ExprAt}
-use Rattle.c_parser.specs.Reading.{Cursor, Same, Rule, Outcome, seq, before, sign, word, behind, sign_at, kind_word}
-use Rattle.c_parser.specs.Marks.{sign_mark, stands}
-use Rattle.c_parser.specs.Steps.{◌>>=◌, the_sign, the_word}
-use Rattle.c_parser.specs.Expressions.{sign_binds, IsExpr, expression}
-use Rattle.c_parser.specs.ExpressionParser.{is_base_word, begins_type, closed_by, whole_by, deeper_than}
-use Rattle.c_parser.specs.Declarations.{IsDeclaration, declaration}
-use Rattle.c_parser.specs.DeclarationParser.{declaration_by}
+use Rattle.c_parser_expressions.specs.Reading.{Cursor, Same, Rule, Outcome, seq, before, sign, word, behind, sign_at, kind_word}
+use Rattle.c_parser_expressions.specs.Marks.{sign_mark, stands}
+use Rattle.c_parser_expressions.specs.Steps.{◌>>=◌, the_sign, the_word}
+use Rattle.c_parser_expressions.specs.Expressions.{sign_binds, IsExpr, expression}
+use Rattle.c_parser_expressions.specs.ExpressionParser.{is_base_word, begins_type, closed_by, whole_by, deeper_than}
+use Rattle.c_parser_declarations.specs.Declarations.{IsDeclaration, declaration}
+use Rattle.c_parser_declarations.specs.DeclarationParser.{declaration_by}
 use Rattle.c_parser.specs.Statements.{condition, ended, until, IsForStart, for_start, header}
 use Rattle.c_parser.specs.StatementParser.{optional_by, condition_by, until_by, for_start_by, Header, header_by}
-use Rattle.c_parser.proofs.Heads.{sign-head, same-sign, stands-sign, sign-stands}
-use Rattle.c_parser.proofs.Laws.{Leads, leads-here, leads-outcome, part, finish}
-use Rattle.c_parser.proofs.Tokens.{token-found, sign-parses, word-parses, before-parses}
-use Rattle.c_parser.proofs.Starts.{starts, starts-expr, starts-same, starts-more}
-use Rattle.c_parser.proofs.TypeNames.{base-begins}
-use Rattle.c_parser.proofs.Initials.{ReadsAssignments, ReadsInner}
-use Rattle.c_parser.proofs.Declaring.{declaration-parses}
+use Rattle.c_parser_expressions.proofs.Heads.{sign-head, same-sign, stands-sign, sign-stands}
+use Rattle.c_parser_expressions.proofs.Laws.{Leads, leads-here, leads-outcome, part, finish}
+use Rattle.c_parser_expressions.proofs.Tokens.{token-found, sign-parses, word-parses, before-parses}
+use Rattle.c_parser_expressions.proofs.Starts.{starts, starts-expr, starts-same, starts-more}
+use Rattle.c_parser_expressions.proofs.TypeNames.{base-begins}
+use Rattle.c_parser_declarations.proofs.Initials.{ReadsAssignments, ReadsInner}
+use Rattle.c_parser_declarations.proofs.Declaring.{declaration-parses}
 
 -- what is known of expressions
 abbrev pub ReadsWhole : Type 0

@@ -12,22 +12,22 @@ use Rattle.c_syntax.specs.StatementTree.{DeclarationTree, StatementTree, EntryLi
 use Rattle.c_syntax.specs.Plain.{entry_list}
 use Rattle.c_syntax.specs.Spelling.{Kinds, a_sign, base_kinds, declaration_kinds, with_commas, start_kinds, expr_kinds, statement_kinds, entry_kinds}
 use Rattle.c_syntax.specs.Shape.{ShapedStatement}
-use Rattle.c_parser.specs.Reading.{Cursor, Same, Rule, Read, Outcome, seq, sign, sign_at}
-use Rattle.c_parser.specs.Marks.{stands}
-use Rattle.c_parser.specs.Steps.{◌>>=◌, the_sign}
-use Rattle.c_parser.specs.ExpressionParser.{begins_type}
-use Rattle.c_parser.specs.Declarations.{declaration}
-use Rattle.c_parser.specs.DeclarationParser.{declaration_by}
+use Rattle.c_parser_expressions.specs.Reading.{Cursor, Same, Rule, Read, Outcome, seq, sign, sign_at}
+use Rattle.c_parser_expressions.specs.Marks.{stands}
+use Rattle.c_parser_expressions.specs.Steps.{◌>>=◌, the_sign}
+use Rattle.c_parser_expressions.specs.ExpressionParser.{begins_type}
+use Rattle.c_parser_declarations.specs.Declarations.{declaration}
+use Rattle.c_parser_declarations.specs.DeclarationParser.{declaration_by}
 use Rattle.c_parser.specs.Statements.{inner_statement, NoElse, AreEntries, entries_end}
 use Rattle.c_parser.specs.StatementParser.{entry_by, entry_step, entries_by}
-use Rattle.c_parser.proofs.Heads.{same-sign, stands-sign, sign-stands}
-use Rattle.c_parser.proofs.Laws.{Leads, leads-here, leads-none, leads-trans, leads-fails, seq-leads, seq-fails, finish, found-takes}
-use Rattle.c_parser.proofs.Many.{put}
-use Rattle.c_parser.proofs.Tokens.{sign-parses, fails-here}
-use Rattle.c_parser.proofs.Starts.{StartsAt, starts-expr}
-use Rattle.c_parser.proofs.Lists.{ClosingIs, Closing, list-finish}
-use Rattle.c_parser.proofs.Initials.{ReadsAssignments, ReadsInner}
-use Rattle.c_parser.proofs.Declaring.{declaration-parses}
+use Rattle.c_parser_expressions.proofs.Heads.{same-sign, stands-sign, sign-stands}
+use Rattle.c_parser_expressions.proofs.Laws.{Leads, leads-here, leads-none, leads-trans, leads-fails, seq-leads, seq-fails, finish, found-takes}
+use Rattle.c_parser_expressions.proofs.Many.{put}
+use Rattle.c_parser_expressions.proofs.Tokens.{sign-parses, fails-here}
+use Rattle.c_parser_expressions.proofs.Starts.{StartsAt, starts-expr}
+use Rattle.c_parser_declarations.proofs.Lists.{ClosingIs, Closing, list-finish}
+use Rattle.c_parser_declarations.proofs.Initials.{ReadsAssignments, ReadsInner}
+use Rattle.c_parser_declarations.proofs.Declaring.{declaration-parses}
 use Rattle.c_parser.proofs.Conditions.{declaration-begins, type-no_sign}
 
 -- what a statement can begin with

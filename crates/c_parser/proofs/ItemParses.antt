@@ -17,26 +17,26 @@ use Rattle.c_syntax.specs.Spelling.{Kinds, a_sign, a_name, parenthesized, bound_
 use Rattle.c_syntax.specs.Nesting.{deep, entries_nesting}
 use Rattle.c_syntax.specs.Shape.{ShapedEntries}
 use Rattle.c_syntax.specs.Place.{EachAt, MembersAt, BaseAt, ParamsAt, EntriesAt}
-use Rattle.c_parser.specs.Reading.{Cursor, Same, Rule, Found, Fails, Read, Outcome, seq, sign, name, after, sign_at}
-use Rattle.c_parser.specs.Marks.{stands}
-use Rattle.c_parser.specs.Steps.{◌>>=◌, with_front, all_of, the_sign, the_name}
-use Rattle.c_parser.specs.Expressions.{base, NoInt, stars, EndsType}
-use Rattle.c_parser.specs.ExpressionParser.{the_base, the_stars}
-use Rattle.c_parser.specs.Declarations.{NoBracket, bounds, initialised, start, starts_end, variables}
-use Rattle.c_parser.specs.DeclarationParser.{the_bounds, initialised_by, start_by, start_step, more_starts_by}
+use Rattle.c_parser_expressions.specs.Reading.{Cursor, Same, Rule, Found, Fails, Read, Outcome, seq, sign, name, after, sign_at}
+use Rattle.c_parser_expressions.specs.Marks.{stands}
+use Rattle.c_parser_expressions.specs.Steps.{◌>>=◌, with_front, all_of, the_sign, the_name}
+use Rattle.c_parser_expressions.specs.Expressions.{base, NoInt, stars, EndsType}
+use Rattle.c_parser_expressions.specs.ExpressionParser.{the_base, the_stars}
+use Rattle.c_parser_declarations.specs.Declarations.{NoBracket, bounds, initialised, start, starts_end, variables}
+use Rattle.c_parser_declarations.specs.DeclarationParser.{the_bounds, initialised_by, start_by, start_step, more_starts_by}
 use Rattle.c_parser.specs.Statements.{AreEntries, entries_end}
 use Rattle.c_parser.specs.StatementParser.{entries_by, statements_below}
 use Rattle.c_parser.specs.Items.{IsItem, item}
 use Rattle.c_parser.specs.ItemParts.{AreLines, lines, AreParams, params, body, Ending, Call, More, ending_kinds, EndingIs, ending, Tail, tail}
 use Rattle.c_parser.specs.ItemParser.{lines_by, struct_by, params_by, body_by, Head, first_start, function_by, globals_by, headed_by, head_by, declared_by, item_of, item_by}
-use Rattle.c_parser.proofs.Heads.{sign-head, same-sign, same-name, stands-sign, sign-stands}
-use Rattle.c_parser.proofs.Laws.{Leads, leads-here, leads-trans, leads-wrap, seq-leads, same-rest, bind, part, finish}
-use Rattle.c_parser.proofs.Tokens.{token-found, sign-parses, name-parses}
-use Rattle.c_parser.proofs.TypeNames.{base-parses, stars-found}
-use Rattle.c_parser.proofs.Lists.{commas-follow, commas-closing, list-behind, put-list}
-use Rattle.c_parser.proofs.Declarators.{bounds-parses, length-stars, named, declarator-leads}
-use Rattle.c_parser.proofs.Initials.{ReadsAssignments, ReadsInner, twice, initialised-parses}
-use Rattle.c_parser.proofs.Declaring.{initial-is, starts-each, start-follow, start_tree, start-leads, start-parses, variables-leads, declaration-leads}
+use Rattle.c_parser_expressions.proofs.Heads.{sign-head, same-sign, same-name, stands-sign, sign-stands}
+use Rattle.c_parser_expressions.proofs.Laws.{Leads, leads-here, leads-trans, leads-wrap, seq-leads, same-rest, bind, part, finish}
+use Rattle.c_parser_expressions.proofs.Tokens.{token-found, sign-parses, name-parses}
+use Rattle.c_parser_expressions.proofs.TypeNames.{base-parses, stars-found}
+use Rattle.c_parser_declarations.proofs.Lists.{commas-follow, commas-closing, list-behind, put-list}
+use Rattle.c_parser_declarations.proofs.Declarators.{bounds-parses, length-stars, named, declarator-leads}
+use Rattle.c_parser_declarations.proofs.Initials.{ReadsAssignments, ReadsInner, twice, initialised-parses}
+use Rattle.c_parser_declarations.proofs.Declaring.{initial-is, starts-each, start-follow, start_tree, start-leads, start-parses, variables-leads, declaration-leads}
 use Rattle.c_parser.proofs.Conditions.{ReadsWhole}
 use Rattle.c_parser.proofs.Entries.{entries-parses}
 use Rattle.c_parser.proofs.StatementParses.{below-parse}

@@ -4,18 +4,18 @@ use Rattle.std.proofs.lemmas.Bool.{cases_Bool}
 use Rattle.c_syntax.specs.declared.token.Sign.TheVariants as sign_is
 use Rattle.c_syntax.specs.declared.parts.Members.{Members}
 use Rattle.c_syntax.specs.Spelling.{members_kinds}
-use Rattle.c_parser.specs.Reading.{Cursor, Rule, Found, Read, Outcome, after}
-use Rattle.c_parser.specs.Marks.{stands}
-use Rattle.c_parser.specs.Steps.{Step, Advances}
-use Rattle.c_parser.specs.Declarations.{declarator}
+use Rattle.c_parser_expressions.specs.Reading.{Cursor, Rule, Found, Read, Outcome, after}
+use Rattle.c_parser_expressions.specs.Marks.{stands}
+use Rattle.c_parser_expressions.specs.Steps.{Step, Advances}
+use Rattle.c_parser_declarations.specs.Declarations.{declarator}
 use Rattle.c_parser.specs.ItemParts.{members, param}
-use Rattle.c_parser.specs.DeclarationParser.{the_declarator}
+use Rattle.c_parser_declarations.specs.DeclarationParser.{the_declarator}
 use Rattle.c_parser.specs.ItemParser.{declarator_step, members_by, members_step, param_by, param_step}
-use Rattle.c_parser.proofs.Heads.{stands-sign}
-use Rattle.c_parser.proofs.Laws.{found-shorter, found-takes}
-use Rattle.c_parser.proofs.Primary.{behind-shorter}
+use Rattle.c_parser_expressions.proofs.Heads.{stands-sign}
+use Rattle.c_parser_expressions.proofs.Laws.{found-shorter, found-takes}
+use Rattle.c_parser_expressions.proofs.Primary.{behind-shorter}
 use Rattle.c_parser.proofs.Texts.{base-some, longer}
-use Rattle.c_parser.proofs.Declarators.{declarator-parses}
+use Rattle.c_parser_declarations.proofs.Declarators.{declarator-parses}
 use Rattle.c_parser.proofs.MemberLines.{members-parses}
 use Rattle.c_parser.proofs.Parameters.{param-parses}
 

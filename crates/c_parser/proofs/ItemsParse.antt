@@ -1,9 +1,9 @@
 -- Items are parsed as their rule says.
 use Rattle.std.proofs.Common.{ℕ, ◌≤◌}
-use Rattle.c_parser.specs.Reading.{Cursor, Outcome}
+use Rattle.c_parser_expressions.specs.Reading.{Cursor, Outcome}
 use Rattle.c_parser.specs.Items.{item}
 use Rattle.c_parser.specs.ItemParser.{item_by}
-use Rattle.c_parser.proofs.WholeParses.{parses, deep}
+use Rattle.c_parser_expressions.proofs.WholeParses.{parses, deep}
 use Rattle.c_parser.proofs.ItemParses.{item-reads}
 
 pub item-parses : (d : ℕ) → 1 ≤ d → (c : Cursor) → Outcome (item d) c (item_by d c)

@@ -10,20 +10,20 @@ use Rattle.c_syntax.specs.Spelling.{Kinds, a_sign, bound_kinds, base_kinds, decl
 use Rattle.c_syntax.specs.Nesting.{deepest, declarator_nesting, members_nesting}
 use Rattle.c_syntax.specs.Shape.{ShapedMembers}
 use Rattle.c_syntax.specs.Place.{EachAt, DeclaratorAt, MembersAt}
-use Rattle.c_parser.specs.Reading.{Cursor, Same, Rule, Outcome, seq, sign_at}
-use Rattle.c_parser.specs.Steps.{◌>>=◌, with_front, all_of, the_sign}
-use Rattle.c_parser.specs.Lists.{EachBehindComma, EachInTurn, runs}
-use Rattle.c_parser.specs.Expressions.{base, NoInt}
-use Rattle.c_parser.specs.ExpressionParser.{the_base}
-use Rattle.c_parser.specs.Declarations.{declarator}
-use Rattle.c_parser.specs.DeclarationParser.{the_declarator}
+use Rattle.c_parser_expressions.specs.Reading.{Cursor, Same, Rule, Outcome, seq, sign_at}
+use Rattle.c_parser_expressions.specs.Steps.{◌>>=◌, with_front, all_of, the_sign}
+use Rattle.c_parser_declarations.specs.Lists.{EachBehindComma, EachInTurn, runs}
+use Rattle.c_parser_expressions.specs.Expressions.{base, NoInt}
+use Rattle.c_parser_expressions.specs.ExpressionParser.{the_base}
+use Rattle.c_parser_declarations.specs.Declarations.{declarator}
+use Rattle.c_parser_declarations.specs.DeclarationParser.{the_declarator}
 use Rattle.c_parser.specs.ItemParts.{AreMembers, members, declarators_end, AreLines, lines}
 use Rattle.c_parser.specs.ItemParser.{declarator_step, members_by, members_step, lines_by}
-use Rattle.c_parser.proofs.Laws.{Leads, leads-here, part}
-use Rattle.c_parser.proofs.TypeNames.{base-parses, base-begins}
-use Rattle.c_parser.proofs.Lists.{commas-follow, commas-closing, runs-closing, list-behind, put-list}
-use Rattle.c_parser.proofs.Declarators.{declarator-parses}
-use Rattle.c_parser.proofs.Declaring.{no-int, separates-bracket}
+use Rattle.c_parser_expressions.proofs.Laws.{Leads, leads-here, part}
+use Rattle.c_parser_expressions.proofs.TypeNames.{base-parses, base-begins}
+use Rattle.c_parser_declarations.proofs.Lists.{commas-follow, commas-closing, runs-closing, list-behind, put-list}
+use Rattle.c_parser_declarations.proofs.Declarators.{declarator-parses}
+use Rattle.c_parser_declarations.proofs.Declaring.{no-int, separates-bracket}
 use Rattle.c_parser.proofs.Entries.{base-length, brace-no_type}
 
 pub record AreBehind (d at : ℕ) (xs : List Declarator) : Type 0 where

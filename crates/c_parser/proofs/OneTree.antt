@@ -10,13 +10,13 @@ use Rattle.c_syntax.specs.WellFormed.{IsShaped}
 use Rattle.c_syntax.specs.Plain.{plain_tree}
 use Rattle.c_parser.specs.declared.error.ParseError.{ParseError}
 use Rattle.c_parser.specs.declared.error.ParseError.TheVariants as error
-use Rattle.c_parser.specs.Reading.{Cursor, Same, Read, Outcome}
-use Rattle.c_parser.specs.Steps.{Step, all_of}
+use Rattle.c_parser_expressions.specs.Reading.{Cursor, Same, Read, Outcome}
+use Rattle.c_parser_expressions.specs.Steps.{Step, all_of}
 use Rattle.c_parser.specs.Items.{item, AreItems, items}
 use Rattle.c_parser.specs.ItemParser.{item_by}
 use Rattle.c_parser.specs.Parsed.{IsTreeOf, IsReadAs, IsRefused, IsParsed}
-use Rattle.c_parser.proofs.Laws.{same-all, found-takes}
-use Rattle.c_parser.proofs.Many.{Listing, StepIs, put_all, all-parses}
+use Rattle.c_parser_expressions.proofs.Laws.{same-all, found-takes}
+use Rattle.c_parser_expressions.proofs.Many.{Listing, StepIs, put_all, all-parses}
 use Rattle.c_parser.proofs.Texts.{kinds, item-some, items-end, item-leads, item-fails}
 use Rattle.c_parser.proofs.ItemsParse.{item-parses}
 

@@ -16,19 +16,19 @@ use Rattle.c_syntax.specs.Spelling.{Kinds, a_sign, a_word, base_kinds, star_kind
 use Rattle.c_syntax.specs.Nesting.{deepest, param_nesting}
 use Rattle.c_syntax.specs.Shape.{ShapedParamOf, ShapedParam}
 use Rattle.c_syntax.specs.Place.{EachAt, ParamAt}
-use Rattle.c_parser.specs.Reading.{Cursor, Same, Rule, Found, Fails, Read, Outcome, seq, after, behind, sign_at, word_at}
-use Rattle.c_parser.specs.Marks.{stands}
-use Rattle.c_parser.specs.Steps.{◌>>=◌, with_front, all_of, the_sign}
-use Rattle.c_parser.specs.Lists.{EachBehindComma, commas}
-use Rattle.c_parser.specs.Expressions.{EndsType, type_name}
-use Rattle.c_parser.specs.ExpressionParser.{begins_type, the_type}
+use Rattle.c_parser_expressions.specs.Reading.{Cursor, Same, Rule, Found, Fails, Read, Outcome, seq, after, behind, sign_at, word_at}
+use Rattle.c_parser_expressions.specs.Marks.{stands}
+use Rattle.c_parser_expressions.specs.Steps.{◌>>=◌, with_front, all_of, the_sign}
+use Rattle.c_parser_declarations.specs.Lists.{EachBehindComma, commas}
+use Rattle.c_parser_expressions.specs.Expressions.{EndsType, type_name}
+use Rattle.c_parser_expressions.specs.ExpressionParser.{begins_type, the_type}
 use Rattle.c_parser.specs.ItemParts.{param_name, shaped_name, IsParam, param, AreParams, params}
 use Rattle.c_parser.specs.ItemParser.{is_void, param_name_by, param_of, param_by, param_step, param_list_by, is_void_word, only_void, params_by}
-use Rattle.c_parser.proofs.Heads.{sign-head, word-head, same-sign, same-word, stands-sign, sign-stands}
-use Rattle.c_parser.proofs.Laws.{Leads, leads-here, leads-fails, leads-trans, bind, part}
-use Rattle.c_parser.proofs.Tokens.{token-found, fails-here}
-use Rattle.c_parser.proofs.TypeNames.{base-begins, type-parses}
-use Rattle.c_parser.proofs.Lists.{commas-follow, commas-closing, list-behind, put-list}
+use Rattle.c_parser_expressions.proofs.Heads.{sign-head, word-head, same-sign, same-word, stands-sign, sign-stands}
+use Rattle.c_parser_expressions.proofs.Laws.{Leads, leads-here, leads-fails, leads-trans, bind, part}
+use Rattle.c_parser_expressions.proofs.Tokens.{token-found, fails-here}
+use Rattle.c_parser_expressions.proofs.TypeNames.{base-begins, type-parses}
+use Rattle.c_parser_declarations.proofs.Lists.{commas-follow, commas-closing, list-behind, put-list}
 use Rattle.c_parser.proofs.Entries.{base-length}
 use Rattle.c_parser.proofs.Parameters.{param_tree, param-leads, type-follow, shaped-type, unshaped-type, param_name-parses, param-parses}
 

@@ -17,20 +17,20 @@ use Rattle.c_syntax.specs.Spelling.{Kinds, a_sign, a_name, optional, bound_kinds
 use Rattle.c_syntax.specs.Nesting.{deep, name_nesting}
 use Rattle.c_syntax.specs.Shape.{ShapedParamOf}
 use Rattle.c_syntax.specs.Place.{NameAt}
-use Rattle.c_parser.specs.Reading.{Cursor, Same, Found, Outcome, seq, after, behind, sign_at, word_at, name_at}
-use Rattle.c_parser.specs.Marks.{stands}
-use Rattle.c_parser.specs.Lists.{Separates, comma, closed}
-use Rattle.c_parser.specs.Expressions.{EndsType, type_name}
-use Rattle.c_parser.specs.ExpressionParser.{the_type}
-use Rattle.c_parser.specs.Declarations.{bound_end, NoBracket}
-use Rattle.c_parser.specs.DeclarationParser.{the_bound}
+use Rattle.c_parser_expressions.specs.Reading.{Cursor, Same, Found, Outcome, seq, after, behind, sign_at, word_at, name_at}
+use Rattle.c_parser_expressions.specs.Marks.{stands}
+use Rattle.c_parser_declarations.specs.Lists.{Separates, comma, closed}
+use Rattle.c_parser_expressions.specs.Expressions.{EndsType, type_name}
+use Rattle.c_parser_expressions.specs.ExpressionParser.{the_type}
+use Rattle.c_parser_declarations.specs.Declarations.{bound_end, NoBracket}
+use Rattle.c_parser_declarations.specs.DeclarationParser.{the_bound}
 use Rattle.c_parser.specs.ItemParts.{IsParamName, bound_or_none, param_name, shaped_name, param}
 use Rattle.c_parser.specs.ItemParser.{one_bound, param_name_of, param_name_by, is_void, param_of, param_by}
-use Rattle.c_parser.proofs.Heads.{sign-head, name-head, same-sign, same-name, sign-same, stands-sign, sign-stands}
-use Rattle.c_parser.proofs.Laws.{Leads, leads-here, leads-fails, leads-trans, part, finish}
-use Rattle.c_parser.proofs.Tokens.{fails-here}
-use Rattle.c_parser.proofs.TypeNames.{type-parses}
-use Rattle.c_parser.proofs.Declarators.{bound-parses}
+use Rattle.c_parser_expressions.proofs.Heads.{sign-head, name-head, same-sign, same-name, sign-same, stands-sign, sign-stands}
+use Rattle.c_parser_expressions.proofs.Laws.{Leads, leads-here, leads-fails, leads-trans, part, finish}
+use Rattle.c_parser_expressions.proofs.Tokens.{fails-here}
+use Rattle.c_parser_expressions.proofs.TypeNames.{type-parses}
+use Rattle.c_parser_declarations.proofs.Declarators.{bound-parses}
 
 -- what can stand behind a parameter
 

@@ -14,14 +14,14 @@ use Rattle.c_syntax.specs.Plain.{if_tree}
 use Rattle.c_syntax.specs.Spelling.{Kinds, a_sign, a_word, optional, parenthesized, expr_kinds, for_start_kinds, statement_kinds}
 use Rattle.c_syntax.specs.Shape.{ShapedExpr}
 use Rattle.c_syntax.specs.Place.{ExprAt, ForStartAt, StatementAt}
-use Rattle.c_parser.specs.Reading.{Cursor, Same, Found, seq, before, sign, first, after, behind, sign_at, word_at}
-use Rattle.c_parser.specs.Expressions.{IsExpr, expression}
+use Rattle.c_parser_expressions.specs.Reading.{Cursor, Same, Found, seq, before, sign, first, after, behind, sign_at, word_at}
+use Rattle.c_parser_expressions.specs.Expressions.{IsExpr, expression}
 use Rattle.c_parser.specs.StatementParser.{Header}
 use Rattle.c_parser.specs.Statements.{IsStatement, EndsStatement, statement, inner_statement, EndsOtherwise, else_kinds, branches, condition, ended, until, header_kinds, header, AreEntries, entries_end}
-use Rattle.c_parser.proofs.Heads.{sign-head, word-head}
-use Rattle.c_parser.proofs.Laws.{Leads, leads-here}
-use Rattle.c_parser.proofs.Tokens.{token-found}
-use Rattle.c_parser.proofs.Starts.{starts, starts-expr, starts-same, starts-more}
+use Rattle.c_parser_expressions.proofs.Heads.{sign-head, word-head}
+use Rattle.c_parser_expressions.proofs.Laws.{Leads, leads-here}
+use Rattle.c_parser_expressions.proofs.Tokens.{token-found}
+use Rattle.c_parser_expressions.proofs.Starts.{starts, starts-expr, starts-same, starts-more}
 use Rattle.c_parser.proofs.Conditions.{opt-shaped, opt-nests, opt-placed, opt-is}
 
 -- an expression can't begin like this

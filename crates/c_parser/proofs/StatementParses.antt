@@ -11,17 +11,17 @@ use Rattle.c_syntax.specs.StatementTree.{StatementTree}
 use Rattle.c_syntax.specs.Plain.{if_tree}
 use Rattle.c_syntax.specs.Spelling.{Kinds, statement_kinds}
 use Rattle.c_syntax.specs.Shape.{ends_open}
-use Rattle.c_parser.specs.Reading.{Cursor, Same, Found, Fails, Read, Outcome, before, sign, first, after, behind, sign_at, word_at}
-use Rattle.c_parser.specs.Marks.{says}
-use Rattle.c_parser.specs.Steps.{◌>>=◌, the_sign}
-use Rattle.c_parser.specs.Expressions.{expression}
-use Rattle.c_parser.specs.ExpressionParser.{closed_by, whole_by, deeper_than}
+use Rattle.c_parser_expressions.specs.Reading.{Cursor, Same, Found, Fails, Read, Outcome, before, sign, first, after, behind, sign_at, word_at}
+use Rattle.c_parser_expressions.specs.Marks.{says}
+use Rattle.c_parser_expressions.specs.Steps.{◌>>=◌, the_sign}
+use Rattle.c_parser_expressions.specs.Expressions.{expression}
+use Rattle.c_parser_expressions.specs.ExpressionParser.{closed_by, whole_by, deeper_than}
 use Rattle.c_parser.specs.Statements.{IsStatement, EndsStatement, statement, inner_statement, branches, condition, ended, until, header, entries_end}
 use Rattle.c_parser.specs.StatementParser.{optional_by, condition_by, expression_by, otherwise_by, if_by, while_by, until_by, do_by, header_by, for_by, return_by, jump_by, entries_by, block_by, statement_of, statement_by, statements, statements_below}
-use Rattle.c_parser.proofs.Heads.{word-head, says-word, word-says}
-use Rattle.c_parser.proofs.Laws.{Leads, leads-here, leads-found, leads-fails, leads-trans, leads-outcome, part, finish}
-use Rattle.c_parser.proofs.Tokens.{sign-parses, fails-here}
-use Rattle.c_parser.proofs.Initials.{ReadsAssignments, ReadsInner, twice}
+use Rattle.c_parser_expressions.proofs.Heads.{word-head, says-word, word-says}
+use Rattle.c_parser_expressions.proofs.Laws.{Leads, leads-here, leads-found, leads-fails, leads-trans, leads-outcome, part, finish}
+use Rattle.c_parser_expressions.proofs.Tokens.{sign-parses, fails-here}
+use Rattle.c_parser_declarations.proofs.Initials.{ReadsAssignments, ReadsInner, twice}
 use Rattle.c_parser.proofs.Conditions.{ReadsWhole, closed-parses, condition-parses, ended-parses, until-parses, header-parses}
 use Rattle.c_parser.proofs.Branches.{branch-alone, branch-else, branch-none}
 use Rattle.c_parser.proofs.Entries.{entries-parses}

@@ -10,14 +10,14 @@ use Rattle.c_syntax.specs.StatementTree as s
 use Rattle.c_syntax.specs.StatementTree.{StatementTree, EntryList}
 use Rattle.c_syntax.specs.Plain.{plain_expr, plain_entry, plain_statement, plain_second, if_tree}
 use Rattle.c_syntax.proofs.PlainStatements.{plain_if, plain_if_else, plain_stated}
-use Rattle.c_parser.specs.declared.stop.Stop.{Stop}
-use Rattle.c_parser.specs.declared.stop.Stop.TheVariants as stop
-use Rattle.c_parser.specs.Reading.{Cursor, after}
-use Rattle.c_parser.specs.Marks.{stands}
-use Rattle.c_parser.specs.Steps.{Gives, Step}
-use Rattle.c_parser.specs.ExpressionParser.{begins_type}
+use Rattle.c_parser_expressions.specs.declared.stop.Stop.{Stop}
+use Rattle.c_parser_expressions.specs.declared.stop.Stop.TheVariants as stop
+use Rattle.c_parser_expressions.specs.Reading.{Cursor, after}
+use Rattle.c_parser_expressions.specs.Marks.{stands}
+use Rattle.c_parser_expressions.specs.Steps.{Gives, Step}
+use Rattle.c_parser_expressions.specs.ExpressionParser.{begins_type}
 use Rattle.c_parser.specs.StatementParser.{Header, header_by, for_by, entry_by, entry_step, statement_by, statements, statements_below}
-use Rattle.c_parser.proofs.Heads.{not-zero}
+use Rattle.c_parser_expressions.proofs.Heads.{not-zero}
 
 pub plain_if_either : (token : ℕ) (condition : Expr) (first : Box Statement Global) (second : Option (Box Statement Global)) →
     plain_statement (statement.If token condition first second) ≡ if_tree token (plain_expr condition) (plain_statement first.value) (plain_second second)

@@ -10,9 +10,9 @@ use Rattle.c_syntax.specs.ItemTree as i
 use Rattle.c_syntax.specs.ItemTree.{ItemTree}
 use Rattle.c_syntax.specs.Spelling.{Kinds, item_kinds, base_kinds}
 use Rattle.c_syntax.specs.Place.{EachAt, ItemAt}
-use Rattle.c_parser.specs.Reading.{Cursor, Same, Found, Fails}
+use Rattle.c_parser_expressions.specs.Reading.{Cursor, Same, Found, Fails}
 use Rattle.c_parser.specs.Items.{IsItem, item, AreItems, IsEnd, items}
-use Rattle.c_parser.proofs.Laws.{same-all, Leads, leads-found, leads-fails, leads-trans, leads-wrap, leads-none, found-takes}
+use Rattle.c_parser_expressions.proofs.Laws.{same-all, Leads, leads-found, leads-fails, leads-trans, leads-wrap, leads-none, found-takes}
 
 -- an item has a token
 pub base-some : (b : Base) → 1 ≤ length (base_kinds b)

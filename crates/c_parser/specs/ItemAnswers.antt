@@ -4,7 +4,7 @@ use Rattle.c_syntax.specs.declared.tree.Item.{Item}
 use Rattle.c_syntax.specs.Plain.{plain_item}
 use Rattle.c_parser.specs.declared.error.ParseError.{ParseError}
 use Rattle.c_parser.specs.declared.error.ParseError.TheVariants as error
-use Rattle.c_parser.specs.Reading.{Cursor}
+use Rattle.c_parser_expressions.specs.Reading.{Cursor}
 use Rattle.c_parser.specs.ItemParser.{item_by}
 
 abbrev pub ItemRead : (old new : Cursor) → Result Item ParseError → Type 0

@@ -16,11 +16,11 @@ use Rattle.c_syntax.specs.StatementTree.{InitialTree, StartTree, EntryList}
 use Rattle.c_syntax.specs.ItemTree as i
 use Rattle.c_syntax.specs.ItemTree.{ItemTree}
 use Rattle.c_syntax.specs.Spelling.{Kinds}
-use Rattle.c_parser.specs.Reading.{Cursor, Read, behind, after, word_at, name_at}
-use Rattle.c_parser.specs.Marks.{stands}
-use Rattle.c_parser.specs.Steps.{◌>>=◌, Step, with_front, all_of, the_sign, the_name}
-use Rattle.c_parser.specs.ExpressionParser.{the_base, the_stars, the_type}
-use Rattle.c_parser.specs.DeclarationParser.{the_bound, the_bounds, the_declarator, initialised_by, more_starts_by}
+use Rattle.c_parser_expressions.specs.Reading.{Cursor, Read, behind, after, word_at, name_at}
+use Rattle.c_parser_expressions.specs.Marks.{stands}
+use Rattle.c_parser_expressions.specs.Steps.{◌>>=◌, Step, with_front, all_of, the_sign, the_name}
+use Rattle.c_parser_expressions.specs.ExpressionParser.{the_base, the_stars, the_type}
+use Rattle.c_parser_declarations.specs.DeclarationParser.{the_bound, the_bounds, the_declarator, initialised_by, more_starts_by}
 use Rattle.c_parser.specs.StatementParser.{entries_by, statements_below}
 
 -- the lines of members of a struct

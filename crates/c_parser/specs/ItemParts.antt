@@ -14,10 +14,10 @@ use Rattle.c_syntax.specs.Spelling.{Kinds, a_sign, optional, after_commas, bound
 use Rattle.c_syntax.specs.Nesting.{deepest, deep, members_nesting, name_nesting, param_nesting, params_nesting}
 use Rattle.c_syntax.specs.Shape.{HasOne, ShapedParamOf, ShapedParam, ShapedParams, ShapedMembers}
 use Rattle.c_syntax.specs.Place.{EachAt, MembersAt, NameAt, ParamAt, ParamsAt}
-use Rattle.c_parser.specs.Reading.{Rule, Any, seq, name}
-use Rattle.c_parser.specs.Expressions.{stars}
-use Rattle.c_parser.specs.Lists.{Separates, commas}
-use Rattle.c_parser.specs.Declarations.{NoBracket, declarator, initialised, starts_end}
+use Rattle.c_parser_expressions.specs.Reading.{Rule, Any, seq, name}
+use Rattle.c_parser_expressions.specs.Expressions.{stars}
+use Rattle.c_parser_declarations.specs.Lists.{Separates, commas}
+use Rattle.c_parser_declarations.specs.Declarations.{NoBracket, declarator, initialised, starts_end}
 use Rattle.c_parser.specs.Statements.{AreEntries}
 
 -- one line of members

@@ -6,7 +6,7 @@ use Rattle.c_syntax.specs.Spelling.{Kinds, item_kinds}
 use Rattle.c_syntax.specs.Nesting.{deepest, item_nesting}
 use Rattle.c_syntax.specs.Shape.{ShapedItem}
 use Rattle.c_syntax.specs.Place.{EachAt, ItemAt}
-use Rattle.c_parser.specs.Reading.{Rule, Any}
+use Rattle.c_parser_expressions.specs.Reading.{Rule, Any}
 
 pub record IsItem (d at : ℕ) (x : ItemTree) : Type 0 where
   pub shaped : ShapedItem x

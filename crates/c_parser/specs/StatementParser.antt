@@ -9,11 +9,11 @@ use Rattle.c_syntax.specs.ExprTree.{ExprTree}
 use Rattle.c_syntax.specs.StatementTree as s
 use Rattle.c_syntax.specs.StatementTree.{ForStartTree, StatementTree, EntryList}
 use Rattle.c_syntax.specs.Plain.{entry_list, if_tree}
-use Rattle.c_parser.specs.Reading.{Cursor, Read, first, after}
-use Rattle.c_parser.specs.Marks.{stands, says}
-use Rattle.c_parser.specs.Steps.{◌>>=◌, Step, all_of, the_sign, the_word}
-use Rattle.c_parser.specs.ExpressionParser.{begins_type, closed_by, whole_by, deeper_than}
-use Rattle.c_parser.specs.DeclarationParser.{declaration_by}
+use Rattle.c_parser_expressions.specs.Reading.{Cursor, Read, first, after}
+use Rattle.c_parser_expressions.specs.Marks.{stands, says}
+use Rattle.c_parser_expressions.specs.Steps.{◌>>=◌, Step, all_of, the_sign, the_word}
+use Rattle.c_parser_expressions.specs.ExpressionParser.{begins_type, closed_by, whole_by, deeper_than}
+use Rattle.c_parser_declarations.specs.DeclarationParser.{declaration_by}
 
 -- an expression or none, and the sign behind it
 unfoldable pub optional_by : (depth : ℕ) → Sign → Cursor → Read (Option ExprTree)

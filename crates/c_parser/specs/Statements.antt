@@ -9,8 +9,8 @@ use Rattle.c_syntax.specs.Spelling.{Kinds, a_sign, a_word, optional, parenthesiz
 use Rattle.c_syntax.specs.Nesting.{for_start_nesting, statement_nesting, entries_nesting}
 use Rattle.c_syntax.specs.Shape.{ShapedForStart, ends_open, ShapedStatement, ShapedEntries}
 use Rattle.c_syntax.specs.Place.{ForStartAt, StatementAt, EntriesAt}
-use Rattle.c_parser.specs.Reading.{Rule, Any, word_at}
-use Rattle.c_parser.specs.Expressions.{IsExpr}
+use Rattle.c_parser_expressions.specs.Reading.{Rule, Any, word_at}
+use Rattle.c_parser_expressions.specs.Expressions.{IsExpr}
 use Rattle.c_parser.specs.StatementParser.{Header}
 
 pub record IsStatement (d at : ℕ) (x : StatementTree) : Type 0 where

@@ -1,15 +1,13 @@
 ghost use Rattle.std.specs.Prelude.{◌≡◌, ◌≤◌, ◌∷◌, [], option_map};
 ghost use Rattle.c_syntax.specs.Plain.{plain_entries, plain_item};
-ghost use Rattle.c_parser.specs.Steps.{Gives, with_front, all_of};
-ghost use Rattle.c_parser.specs.Turns.{GivesStep};
+ghost use Rattle.c_parser_expressions.specs.Steps.{Gives, with_front, all_of};
+ghost use Rattle.c_parser_declarations.specs.Turns.{GivesStep};
 ghost use Rattle.c_parser.specs.ItemViews.{plain_head};
 ghost use Rattle.c_parser.specs.ItemParser.{declarator_step, members_by, members_step, struct_by, one_bound, param_name_by, is_void, param_by, param_step, param_list_by, is_void_word, only_void, params_by, body_by, function_by, globals_by, headed_by, declared_by, item_by};
 
-use crate::cursor::Reader;
-use crate::declaration::{bound, bounds, declarator, initialised, more_starts};
 use crate::statement::entries;
-use crate::stop::Stop;
-use crate::types::{base, stars, type_name};
+use c_parser_declarations::{bound, bounds, declarator, initialised, more_starts};
+use c_parser_expressions::{Reader, Stop, base, stars, type_name};
 use c_syntax::{
     Base, Bound, Declaration, Declarator, Entry, Item, Members, Param, ParamName, Params, Sign,
     Start, TokenKind, Word,
@@ -30,7 +28,7 @@ struct Head {
 }
 
 /// A further declarator, where a comma stands.
-#[tactic(auto, using(crate::proofs::Heads::stands_some), unfolding(crate::specs::ItemParser::declarator_step))]
+#[tactic(auto, using(c_parser_expressions::proofs::Heads::stands_some), unfolding(crate::specs::ItemParser::declarator_step))]
 fn next_declarator(
     alloc: Global,
     reader: &mut Reader<'_>,
@@ -132,7 +130,7 @@ fn struct_item(
 }
 
 /// One bound or none, and none where nothing may lie deeper.
-#[tactic(auto, using(crate::proofs::Heads::stands_some), unfolding(crate::specs::ItemParser::one_bound))]
+#[tactic(auto, using(c_parser_expressions::proofs::Heads::stands_some), unfolding(crate::specs::ItemParser::one_bound))]
 fn one_bound(reader: &mut Reader<'_>, most: u32) -> Result<Option<Bound>, Stop>
     ensures { Gives (λ x. x) result reader.new (one_bound most reader.old) }
 {
@@ -188,7 +186,7 @@ fn param(reader: &mut Reader<'_>, depth: u32) -> Result<Param, Stop>
 }
 
 /// A further parameter, where a comma stands.
-#[tactic(auto, using(crate::proofs::Heads::stands_some), unfolding(crate::specs::ItemParser::param_step))]
+#[tactic(auto, using(c_parser_expressions::proofs::Heads::stands_some), unfolding(crate::specs::ItemParser::param_step))]
 fn next_param(reader: &mut Reader<'_>, depth: u32) -> Result<Option<Param>, Stop>
     ensures { GivesStep (λ x. x) result reader.old reader.new (param_step depth reader.old) }
 {
@@ -245,7 +243,7 @@ fn is_void_word(word: Option<Word>) -> bool
 }
 
 /// What stands between the parentheses of a function, behind the first.
-#[tactic(auto, using(crate::proofs::Heads::stands_some), unfolding(crate::specs::ItemParser::params_by))]
+#[tactic(auto, using(c_parser_expressions::proofs::Heads::stands_some), unfolding(crate::specs::ItemParser::params_by))]
 fn params(alloc: Global, reader: &mut Reader<'_>, depth: u32) -> Result<Params, Stop>
     ensures { Gives (λ x. x) result reader.new (params_by depth reader.old) }
 {
@@ -262,7 +260,7 @@ fn params(alloc: Global, reader: &mut Reader<'_>, depth: u32) -> Result<Params, 
 }
 
 /// A body, or a semicolon.
-#[tactic(auto, using(crate::proofs::Heads::stands_some), unfolding(crate::specs::ItemParser::body_by))]
+#[tactic(auto, using(c_parser_expressions::proofs::Heads::stands_some), unfolding(crate::specs::ItemParser::body_by))]
 fn body(alloc: Global, reader: &mut Reader<'_>, depth: u32) -> Result<Option<Seq<Entry>>, Stop>
     ensures { Gives (option_map plain_entries) result reader.new (body_by depth reader.old) }
 {
@@ -323,7 +321,7 @@ fn globals(alloc: Global, reader: &mut Reader<'_>, depth: u32, head: Head) -> Re
 }
 
 /// What stands behind a head.
-#[tactic(auto, using(crate::proofs::Heads::stands_some), unfolding(crate::specs::ItemParser::headed_by))]
+#[tactic(auto, using(c_parser_expressions::proofs::Heads::stands_some), unfolding(crate::specs::ItemParser::headed_by))]
 fn headed(alloc: Global, reader: &mut Reader<'_>, depth: u32, head: Head) -> Result<Item, Stop>
     requires positive { 1 ≤ depth }
     requires few { head.stars ≤ depth }
@@ -364,7 +362,7 @@ fn declared(
 }
 
 /// An item.
-#[tactic(auto, using(crate::proofs::Heads::stands_some), unfolding(crate::specs::ItemParser::item_by))]
+#[tactic(auto, using(c_parser_expressions::proofs::Heads::stands_some), unfolding(crate::specs::ItemParser::item_by))]
 pub(crate) fn item(alloc: Global, reader: &mut Reader<'_>, depth: u32) -> Result<Item, Stop>
     requires { 1 ≤ depth }
     ensures { Gives plain_item result reader.new (item_by depth reader.old) }

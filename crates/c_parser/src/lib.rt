@@ -1,4 +1,4 @@
-//! The parser: tokens to the one tree.
+//! The parser: tokens to the one tree. Statements, items and the whole text.
 #![tactic(auto)]
 
 ghost use Rattle.std.specs.Prelude.{◌≡◌, ℕ, Err, IfOk};
@@ -8,17 +8,10 @@ ghost use Rattle.c_syntax.specs.Spelling.{tree_kinds};
 ghost use Rattle.c_syntax.specs.WellFormed.{IsShaped};
 ghost use Rattle.c_parser.specs.Parsed.{IsTreeOf, Refuses, IsReadAs, IsRefused};
 
-mod cursor;
-mod declaration;
 mod error;
-mod expression;
 mod item;
 mod program;
-mod signs;
 mod statement;
-mod stop;
-mod strings;
-mod types;
 
 use c_syntax::{Tokens, Tree};
 pub use error::ParseError;

@@ -3,10 +3,9 @@ ghost use Rattle.c_syntax.specs.Tokens.{lines_of};
 ghost use Rattle.c_parser.specs.Parsed.{IsParsed, AreRead};
 ghost use Rattle.c_parser.specs.ItemAnswers.{ItemRead};
 
-use crate::cursor::Reader;
 use crate::error::ParseError;
 use crate::item::item;
-use crate::stop::Stop;
+use c_parser_expressions::{Reader, Stop};
 use c_syntax::{Item, Tokens, Tree};
 use cbi_base::Seq;
 use std::alloc::{AllocError, Global};

@@ -3,16 +3,14 @@ ghost use Rattle.std.specs.Option.{IsSome};
 ghost use Rattle.c_syntax.specs.StatementTree as s;
 ghost use Rattle.c_syntax.specs.Plain.{plain_expr, plain_for_start, plain_statement, plain_second, plain_entry};
 ghost use Rattle.c_parser.specs.StatementViews.{plain_header, plain_entry_list, plain_block};
-ghost use Rattle.c_parser.specs.Marks.{sign_mark};
-ghost use Rattle.c_parser.specs.Reading.{first};
-ghost use Rattle.c_parser.specs.Steps.{Gives, all_of};
-ghost use Rattle.c_parser.specs.Turns.{GivesStep};
+ghost use Rattle.c_parser_expressions.specs.Marks.{sign_mark};
+ghost use Rattle.c_parser_expressions.specs.Reading.{first};
+ghost use Rattle.c_parser_expressions.specs.Steps.{Gives, all_of};
+ghost use Rattle.c_parser_declarations.specs.Turns.{GivesStep};
 ghost use Rattle.c_parser.specs.StatementParser.{optional_by, condition_by, otherwise_by, if_by, while_by, until_by, do_by, for_start_by, header_by, for_by, return_by, jump_by, entry_by, entry_step, entries_by, block_by, expression_by, statements, statements_below};
 
-use crate::cursor::Reader;
-use crate::declaration::declaration;
-use crate::expression::closed;
-use crate::stop::Stop;
+use c_parser_declarations::declaration;
+use c_parser_expressions::{Reader, Stop, closed};
 use c_syntax::{Entry, Expr, ForStart, Sign, Statement, TokenKind, Word};
 use std::alloc::Global;
 
@@ -25,7 +23,7 @@ pub(crate) struct ForHeader {
 }
 
 /// An expression or none, and the sign behind it.
-#[tactic(auto, using(crate::proofs::Heads::stands_some), unfolding(crate::specs::StatementParser::optional_by))]
+#[tactic(auto, using(c_parser_expressions::proofs::Heads::stands_some), unfolding(crate::specs::StatementParser::optional_by))]
 fn optional(
     alloc: Global,
     reader: &mut Reader<'_>,
@@ -146,7 +144,7 @@ fn continue_statement(reader: &mut Reader<'_>) -> Result<Statement, Stop>
 
 /// The second branch of an `if`, where one begins.
 #[cycle(statement)]
-#[tactic(auto, using(crate::proofs::Heads::says_some), unfolding(crate::specs::StatementParser::otherwise_by))]
+#[tactic(auto, using(c_parser_expressions::proofs::Heads::says_some), unfolding(crate::specs::StatementParser::otherwise_by))]
 fn otherwise(
     alloc: Global,
     reader: &mut Reader<'_>,

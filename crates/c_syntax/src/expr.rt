@@ -5,7 +5,7 @@ use cbi_base::{Kind, Name, Seq};
 /// An expression. The token is the operator's, the name's for a call, that of the first comma for a comma expression, and
 /// else the first one. A chain's and a postfix's tokens are those of their operators.
 #[cycle(expr)]
-#[derive(Debug, Drop)]
+#[derive(Drop)]
 pub enum Expr {
     Comma {
         token: u32,
@@ -82,7 +82,7 @@ pub enum Expr {
 
 /// An operator of a chain, with the operand after it.
 #[cycle(expr)]
-#[derive(Debug, Drop)]
+#[derive(Drop)]
 pub struct Link {
     pub token: u32,
     pub sign: Sign,
@@ -91,7 +91,7 @@ pub struct Link {
 
 /// An operator behind its operand.
 #[cycle(expr)]
-#[derive(Debug, Drop)]
+#[derive(Drop)]
 pub enum PostfixOperator {
     Index { token: u32, index: Expr },
     Member { token: u32, name: Name },

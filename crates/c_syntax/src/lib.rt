@@ -1,9 +1,6 @@
 //! Tokens and syntax trees of the C dialect, and what they spell.
 #![tactic(auto)]
 
-mod copy;
-mod copy_expr;
-mod copy_statement;
 mod expr;
 mod first_token;
 mod parts;

@@ -1,14 +1,14 @@
 use cbi_base::{Kind, Name, Seq};
 
 /// An integer constant: its kind, `Int` or `Unsigned`, and its value.
-#[derive(Clone, Copy, Debug, PartialEq, Eq)]
+#[derive(Clone, Copy, PartialEq, Eq)]
 pub struct Constant {
     pub kind: Kind,
     pub value: i64,
 }
 
 /// The base of a type. The token is its first.
-#[derive(Debug, Drop)]
+#[derive(Drop)]
 pub enum Base {
     Void { token: u32 },
     Char { token: u32 },
@@ -19,14 +19,14 @@ pub enum Base {
 }
 
 /// `[`, a constant or none, and `]`.
-#[derive(Clone, Copy, Debug, PartialEq, Eq)]
+#[derive(Clone, Copy, PartialEq, Eq)]
 pub struct Bound {
     pub length: Option<Constant>,
 }
 
 /// A declared name with its stars before it and its bounds behind it. The token is the first of these, and the name has
 /// one of its own.
-#[derive(Debug, Drop)]
+#[derive(Drop)]
 pub struct Declarator {
     pub token: u32,
     pub stars: u32,
@@ -36,7 +36,7 @@ pub struct Declarator {
 }
 
 /// One line of members in a struct's definition. The token is that of its base.
-#[derive(Debug, Drop)]
+#[derive(Drop)]
 pub struct Members {
     pub token: u32,
     pub base: Base,
@@ -44,7 +44,7 @@ pub struct Members {
 }
 
 /// A parameter. The token is that of its base.
-#[derive(Debug, Drop)]
+#[derive(Drop)]
 pub struct Param {
     pub token: u32,
     pub base: Base,
@@ -53,7 +53,7 @@ pub struct Param {
 }
 
 /// A parameter's name, and its bound where it is declared as an array. The token is the name's.
-#[derive(Debug, Drop)]
+#[derive(Drop)]
 pub struct ParamName {
     pub token: u32,
     pub name: Name,
@@ -61,7 +61,7 @@ pub struct ParamName {
 }
 
 /// What stands between a function's parentheses.
-#[derive(Debug, Drop)]
+#[derive(Drop)]
 pub enum Params {
     Empty,
     Void,

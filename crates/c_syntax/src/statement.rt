@@ -3,7 +3,7 @@ use crate::parts::{Base, Declarator};
 use cbi_base::Seq;
 
 /// A declaration of variables. The token is that of its base.
-#[derive(Debug, Drop)]
+#[derive(Drop)]
 pub struct Declaration {
     pub token: u32,
     pub base: Base,
@@ -11,7 +11,7 @@ pub struct Declaration {
 }
 
 /// A declared variable, with its initialiser. The token is the declarator's.
-#[derive(Debug, Drop)]
+#[derive(Drop)]
 pub struct Start {
     pub token: u32,
     pub declarator: Declarator,
@@ -19,7 +19,7 @@ pub struct Start {
 }
 
 /// An initialiser: an expression, or a braced list, with or without a comma at its end.
-#[derive(Debug, Drop)]
+#[derive(Drop)]
 pub enum Initial {
     Value {
         value: Expr,
@@ -33,7 +33,7 @@ pub enum Initial {
 
 /// What stands in a block or in a function's body.
 #[cycle(statement)]
-#[derive(Debug, Drop)]
+#[derive(Drop)]
 pub enum Entry {
     Declaration { declaration: Declaration },
     Statement { statement: Statement },
@@ -41,7 +41,7 @@ pub enum Entry {
 
 /// A statement. The token is its first.
 #[cycle(statement)]
-#[derive(Debug, Drop)]
+#[derive(Drop)]
 pub enum Statement {
     Block {
         token: u32,
@@ -90,7 +90,7 @@ pub enum Statement {
 }
 
 /// What a `for` does first.
-#[derive(Debug, Drop)]
+#[derive(Drop)]
 pub enum ForStart {
     Declares { declaration: Declaration },
     Computes { expr: Option<Expr> },

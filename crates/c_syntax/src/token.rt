@@ -74,7 +74,7 @@ pub enum Sign {
 }
 
 /// What a token is. A constant lies in the range of its kind, and the kind is `Int` or `Unsigned`.
-#[derive(Debug, Drop)]
+#[derive(Drop)]
 pub enum TokenKind {
     Word { word: Word },
     Punctuator { sign: Sign },
@@ -84,7 +84,7 @@ pub enum TokenKind {
 }
 
 /// A token with the line of its first byte, from 1.
-#[derive(Debug, Drop)]
+#[derive(Drop)]
 pub struct Token {
     pub kind: TokenKind,
     pub line: u32,

@@ -15,22 +15,23 @@ use Rattle.c_rules.specs.declared.fault.FaultKind.TheVariants as fault
 use Rattle.c_rules.specs.declared.function.FunctionType.{FunctionType}
 use Rattle.c_rules.specs.declared.layout.StructType.{StructType}
 use Rattle.c_rules.specs.Sizes.{empty_struct, most_cells}
-use Rattle.c_types.specs.declared.names.Meaning.{Meaning}
-use Rattle.c_types.specs.declared.names.Meaning.TheVariants as meaning
-use Rattle.c_types.specs.declared.walk.Definition.{Definition}
-use Rattle.c_types.specs.declared.walk.FunctionEntry.{FunctionEntry}
-use Rattle.c_types.specs.declared.walk.Parameter.{Parameter}
-use Rattle.c_types.specs.declared.walk.VariableEntry.{VariableEntry}
-use Rattle.c_types.specs.declared.walk.Walk.{Walk}
+use Rattle.c_types_expressions.specs.declared.names.Meaning.{Meaning}
+use Rattle.c_types_expressions.specs.declared.names.Meaning.TheVariants as meaning
+use Rattle.c_types_expressions.specs.declared.walk.Definition.{Definition}
+use Rattle.c_types_expressions.specs.declared.walk.FunctionEntry.{FunctionEntry}
+use Rattle.c_types_expressions.specs.declared.walk.Parameter.{Parameter}
+use Rattle.c_types_expressions.specs.declared.walk.VariableEntry.{VariableEntry}
+use Rattle.c_types_expressions.specs.declared.walk.Walk.{Walk}
 use Rattle.c_types.specs.Answers.{noted}
-use Rattle.c_types.specs.ExprWalk.{base_type}
-use Rattle.c_types.specs.Fault.{beginning, ends_with, last_fault, walk_tree}
-use Rattle.c_types.specs.ItemWalk.{clashes, declares, entered, has_type, is_defined, known_as, listed, typed_function, walk_body, walk_item, walk_items, walk_params, walk_struct, with_definition, with_function, with_tag, walk_members, defined}
-use Rattle.c_types.specs.Names.{found, is_here}
+use Rattle.c_types_expressions.specs.ExprWalk.{base_type}
+use Rattle.c_types_expressions.specs.Beginning.{beginning}
+use Rattle.c_types.specs.Fault.{ends_with, last_fault, walk_tree}
+use Rattle.c_types_walk.specs.ItemWalk.{clashes, declares, entered, has_type, is_defined, known_as, listed, typed_function, walk_body, walk_item, walk_items, walk_params, walk_struct, with_definition, with_function, with_tag, walk_members, defined}
+use Rattle.c_types_expressions.specs.Names.{found, is_here}
 use Rattle.c_types.specs.Numbers.{IsNumber, frame, frame_of, frames_from, function_of, locals_behind, variables_in}
 use Rattle.c_types.specs.Parts.{Part, Expression, Use, Declared, Begins, declaration_parts, entries_parts, item_parts, params_parts}
-use Rattle.c_types.specs.StatementWalk.{walk_declaration, walk_entries}
-use Rattle.c_types.specs.Walked.{Walked, Fine, Faulty, ◌>>=◌, Done, closing, replaced}
+use Rattle.c_types_walk.specs.StatementWalk.{walk_declaration, walk_entries}
+use Rattle.c_types_expressions.specs.Walked.{Walked, Fine, Faulty, ◌>>=◌, Done, closing, replaced}
 use Rattle.c_types.proofs.Noted.{Functions, length_replaced, Gives, Seen, Step, functions_of, gives_more, gives_then, noting, noting_all, plainly, seen, stage}
 use Rattle.c_types.proofs.NotedExprs.{base_notes}
 use Rattle.c_types.proofs.NotedItems.{AreListed, PlainStep, declares_gives, inner_notes, is_refused, item_notes, members_notes, params_are, parts_from}

@@ -3,10 +3,10 @@ use Rattle.std.proofs.Common.{◌≡◌, ℕ, true, nat_eq, List, [], ◌∷◌,
 use Rattle.std.specs.Str.{bytes_eq}
 use Rattle.std.proofs.lemmas.Bool.{and_from, eq-eqb}
 use Rattle.c_types.specs.Hiding.{declaration_of}
-use Rattle.c_types.specs.Names.{closed, found, or_before}
-use Rattle.c_types.specs.declared.names.Meaning.{Meaning}
-use Rattle.c_types.specs.declared.names.ScopeEntry.{ScopeEntry}
-use Rattle.c_types.specs.declared.names.ScopeEntry.TheVariants.{Opens, Declares}
+use Rattle.c_types_expressions.specs.Names.{closed, found, or_before}
+use Rattle.c_types_expressions.specs.declared.names.Meaning.{Meaning}
+use Rattle.c_types_expressions.specs.declared.names.ScopeEntry.{ScopeEntry}
+use Rattle.c_types_expressions.specs.declared.names.ScopeEntry.TheVariants.{Opens, Declares}
 
 same_bytes : (xs : List ℕ) → bytes_eq xs xs ≡ true
 same_bytes [] = refl

@@ -1,8 +1,8 @@
 -- What is known at the end is what the walk comes to.
 use Rattle.std.proofs.Common.{◌≡◌, Some, ap}
-use Rattle.c_types.specs.declared.walk.Walk.{Walk}
+use Rattle.c_types_expressions.specs.declared.walk.Walk.{Walk}
 use Rattle.c_types.specs.Fault.{known_in}
-use Rattle.c_types.specs.Walked.{Walked, Fine, Faulty, Done}
+use Rattle.c_types_expressions.specs.Walked.{Walked, Fine, Faulty, Done}
 use Rattle.c_types.proofs.Options.{some_is}
 
 pub walked_to : (r : Walked Done) (w : Walk) → known_in r ≡ Some w → r ≡ Fine tt w

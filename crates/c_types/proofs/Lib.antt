@@ -1,7 +1,4 @@
-pub mod Indexes
-pub mod Replicated
 pub mod Hiding
-pub mod Stacks
 pub mod Known
 pub mod Noted
 pub mod NotedExprs

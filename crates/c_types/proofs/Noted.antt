@@ -5,14 +5,14 @@ use Rattle.std.proofs.lemmas.List.{get_or-set_other, get_or-set_same, length-map
 use Rattle.std.proofs.lemmas.Option.{slice_get_within}
 use Rattle.c_rules.specs.declared.layout.StructType.{StructType}
 use Rattle.c_rules.specs.TypeTree.{TypeTree}
-use Rattle.c_types.specs.declared.walk.Definition.{Definition}
-use Rattle.c_types.specs.declared.walk.FunctionEntry.{FunctionEntry}
-use Rattle.c_types.specs.declared.walk.Variable.TheVariants as variable
-use Rattle.c_types.specs.declared.walk.VariableEntry.{VariableEntry}
-use Rattle.c_types.specs.declared.walk.Walk.{Walk}
+use Rattle.c_types_expressions.specs.declared.walk.Definition.{Definition}
+use Rattle.c_types_expressions.specs.declared.walk.FunctionEntry.{FunctionEntry}
+use Rattle.c_types_expressions.specs.declared.walk.Variable.TheVariants as variable
+use Rattle.c_types_expressions.specs.declared.walk.VariableEntry.{VariableEntry}
+use Rattle.c_types_expressions.specs.declared.walk.Walk.{Walk}
 use Rattle.c_types.specs.Parts.{Part, Expression, Use, Declared, Begins}
-use Rattle.c_types.specs.Walked.{Walked, Fine, Faulty, ◌>>=◌, replaced, with_type, with_variable}
-use Rattle.c_types.specs.ExprWalk.{with_use}
+use Rattle.c_types_expressions.specs.Walked.{Walked, Fine, Faulty, ◌>>=◌, replaced, with_type, with_variable}
+use Rattle.c_types_expressions.specs.ExprWalk.{with_use}
 use Rattle.c_types.proofs.Options.{some_is}
 
 -- what the walk has noted: at which tokens a type and a variable, the variables, how many are numbered, and the structs

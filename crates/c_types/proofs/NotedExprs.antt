@@ -13,13 +13,13 @@ use Rattle.c_rules.specs.TypeTree as t
 use Rattle.c_rules.specs.Conversions.{constant_of, enclosed, null_of, place_of, string_of, value_of}
 use Rattle.c_rules.specs.Functions as functions
 use Rattle.c_rules.specs.Library.{library_called}
-use Rattle.c_types.specs.declared.names.Meaning.{Meaning}
-use Rattle.c_types.specs.declared.names.Meaning.TheVariants as meaning
-use Rattle.c_types.specs.declared.walk.FunctionEntry.{FunctionEntry}
-use Rattle.c_types.specs.declared.walk.Walk.{Walk}
-use Rattle.c_types.specs.Names.{found, meaning_of}
-use Rattle.c_types.specs.Walked.{Walked, ◌>>=◌}
-use Rattle.c_types.specs.ExprWalk.{base_type, called, format_of, is_printf, looked, named, of_function, of_variable, selected, string_cells, tagged, walk_expr, walk_exprs, walk_links, walk_postfix, walk_whole, whole_call, with_call, with_offset, with_use}
+use Rattle.c_types_expressions.specs.declared.names.Meaning.{Meaning}
+use Rattle.c_types_expressions.specs.declared.names.Meaning.TheVariants as meaning
+use Rattle.c_types_expressions.specs.declared.walk.FunctionEntry.{FunctionEntry}
+use Rattle.c_types_expressions.specs.declared.walk.Walk.{Walk}
+use Rattle.c_types_expressions.specs.Names.{found, meaning_of}
+use Rattle.c_types_expressions.specs.Walked.{Walked, ◌>>=◌}
+use Rattle.c_types_expressions.specs.ExprWalk.{base_type, called, format_of, is_printf, looked, named, of_function, of_variable, selected, string_cells, tagged, walk_expr, walk_exprs, walk_links, walk_postfix, walk_whole, whole_call, with_call, with_offset, with_use}
 use Rattle.c_types.specs.Parts.{Part, Expression, Use, expr_parts, exprs_parts, links_parts, postfix_parts}
 use Rattle.c_types.proofs.Noted.{Notes, behind, both, either, stage, then_on, typed_one, use_one}
 

@@ -19,15 +19,16 @@ use Rattle.c_rules.specs.TypeTree.{TypeTree}
 use Rattle.c_rules.specs.Conversions.{is_scalar, is_struct}
 use Rattle.c_rules.specs.Selecting.{member_named}
 use Rattle.c_rules.specs.Sizes.{empty_struct, is_object, most_cells, with_member}
-use Rattle.c_types.specs.declared.walk.Parameter.{Parameter}
-use Rattle.c_types.specs.declared.walk.Walk.{Walk}
-use Rattle.c_types.specs.Declarators.{declared_type}
-use Rattle.c_types.specs.Fault.{beginning, ends_with, last_fault, walk_tree}
-use Rattle.c_types.specs.Names.{found, is_here, is_reserved}
-use Rattle.c_types.specs.Walked.{Walked, Fine, Faulty, ◌>>=◌, Done, closing, opened}
-use Rattle.c_types.specs.ExprWalk.{base_type, with_stars}
-use Rattle.c_types.specs.StatementWalk.{walk_declaration, walk_entries}
-use Rattle.c_types.specs.ItemWalk.{clashes, declares, entered, has_length, is_among, is_defined, known_as, listed, looked_param, param_type, scalar_param, typed_function, typed_member, walk_body, walk_declarators, walk_item, walk_items, walk_member, walk_members, walk_param, walk_params, walk_struct, with_function, with_param, with_params, with_tag}
+use Rattle.c_types_expressions.specs.declared.walk.Parameter.{Parameter}
+use Rattle.c_types_expressions.specs.declared.walk.Walk.{Walk}
+use Rattle.c_types_walk.specs.Declarators.{declared_type}
+use Rattle.c_types_expressions.specs.Beginning.{beginning}
+use Rattle.c_types.specs.Fault.{ends_with, last_fault, walk_tree}
+use Rattle.c_types_expressions.specs.Names.{found, is_here, is_reserved}
+use Rattle.c_types_expressions.specs.Walked.{Walked, Fine, Faulty, ◌>>=◌, Done, closing, opened}
+use Rattle.c_types_expressions.specs.ExprWalk.{base_type, with_stars}
+use Rattle.c_types_walk.specs.StatementWalk.{walk_declaration, walk_entries}
+use Rattle.c_types_walk.specs.ItemWalk.{clashes, declares, entered, has_length, is_among, is_defined, known_as, listed, looked_param, param_type, scalar_param, typed_function, typed_member, walk_body, walk_declarators, walk_item, walk_items, walk_member, walk_members, walk_param, walk_params, walk_struct, with_function, with_param, with_params, with_tag}
 use Rattle.c_types.specs.Parts.{Part, Declared, Begins, declaration_parts, entries_parts, item_parts, items_parts, named_parts, params_parts, parts_of}
 use Rattle.c_types.proofs.Noted.{Fits, Gives, Notes, Stage, Step, and_done, behind, declared_one, either, gives_more, gives_then, noting_all, noting_both, plainly, plainly_all, seen, stage, step_done, step_then, then_on}
 use Rattle.c_types.proofs.NotedExprs.{base_notes}

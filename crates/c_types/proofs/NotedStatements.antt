@@ -11,13 +11,13 @@ use Rattle.c_rules.specs.Assigning.{assignable}
 use Rattle.c_rules.specs.Conversions.{is_struct, is_void}
 use Rattle.c_rules.specs.Operators.{is_scalar_value}
 use Rattle.c_rules.specs.Sizes.{cells_of, is_object, most_cells}
-use Rattle.c_types.specs.declared.walk.Walk.{Walk}
-use Rattle.c_types.specs.Names.{is_taken}
-use Rattle.c_types.specs.Walked.{Walked, Fine, Faulty, Done, closing, opened, unless, with_variable}
-use Rattle.c_types.specs.Declarators.{declared_type, is_open}
-use Rattle.c_types.specs.Initialisers.{cells_of_string, completes, listed, valued, walk_initial}
-use Rattle.c_types.specs.ExprWalk.{base_type, walk_expr, walk_exprs, walk_whole}
-use Rattle.c_types.specs.StatementWalk.{counted, looped, sized, walk_closed, walk_declaration, walk_entries, walk_for_start, walk_open, walk_optional, walk_start, walk_starts, walk_statement, walk_typed}
+use Rattle.c_types_expressions.specs.declared.walk.Walk.{Walk}
+use Rattle.c_types_expressions.specs.Names.{is_taken}
+use Rattle.c_types_expressions.specs.Walked.{Walked, Fine, Faulty, Done, closing, opened, unless, with_variable}
+use Rattle.c_types_walk.specs.Declarators.{declared_type, is_open}
+use Rattle.c_types_walk.specs.Initialisers.{cells_of_string, completes, listed, valued, walk_initial}
+use Rattle.c_types_expressions.specs.ExprWalk.{base_type, walk_expr, walk_exprs, walk_whole}
+use Rattle.c_types_walk.specs.StatementWalk.{counted, looped, sized, walk_closed, walk_declaration, walk_entries, walk_for_start, walk_open, walk_optional, walk_start, walk_starts, walk_statement, walk_typed}
 use Rattle.c_types.specs.Parts.{Declared, declaration_parts, entries_parts, expr_parts, exprs_parts, for_start_parts, initial_parts, optional_parts, starts_parts, statement_parts}
 use Rattle.c_types.proofs.Noted.{Notes, and_done, behind, both, declared_one, either, length_replaced, stage, then_on}
 use Rattle.c_types.proofs.NotedExprs.{base_notes, expr_notes, exprs_notes, whole_notes}

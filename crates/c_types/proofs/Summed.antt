@@ -17,16 +17,17 @@ use Rattle.c_rules.specs.TypeTree as t
 use Rattle.c_rules.specs.TypeTree.{TypeTree}
 use Rattle.c_rules.specs.Selecting.{member_named}
 use Rattle.c_rules.specs.Sizes.{cells_of, empty_struct, is_complete, is_object, most_cells, struct_cells, with_member}
-use Rattle.c_types.specs.declared.walk.Walk.{Walk}
-use Rattle.c_types.specs.Declarators.{declared_type}
-use Rattle.c_types.specs.ExprWalk.{base_type}
-use Rattle.c_types.specs.Fault.{beginning, ends_with, last_fault, walk_tree}
-use Rattle.c_types.specs.ItemWalk.{typed_member, walk_declarators, walk_item, walk_items, walk_member, walk_members, walk_struct, with_tag}
+use Rattle.c_types_expressions.specs.declared.walk.Walk.{Walk}
+use Rattle.c_types_walk.specs.Declarators.{declared_type}
+use Rattle.c_types_expressions.specs.ExprWalk.{base_type}
+use Rattle.c_types_expressions.specs.Beginning.{beginning}
+use Rattle.c_types.specs.Fault.{ends_with, last_fault, walk_tree}
+use Rattle.c_types_walk.specs.ItemWalk.{typed_member, walk_declarators, walk_item, walk_items, walk_member, walk_members, walk_struct, with_tag}
 use Rattle.c_types.specs.Laid.{AreLaid, IsKnown, IsSummed, member_cells}
-use Rattle.c_types.specs.Names.{is_here}
+use Rattle.c_types_expressions.specs.Names.{is_here}
 use Rattle.c_types.specs.Parts.{Part, declaration_parts, item_parts}
-use Rattle.c_types.specs.StatementWalk.{walk_declaration}
-use Rattle.c_types.specs.Walked.{Walked, Fine, Faulty, Done}
+use Rattle.c_types_walk.specs.StatementWalk.{walk_declaration}
+use Rattle.c_types_expressions.specs.Walked.{Walked, Fine, Faulty, Done}
 use Rattle.c_types.proofs.Noted.{Gives, Seen, Step, gives_more, gives_then, seen, stage, structs_stay}
 use Rattle.c_types.proofs.NotedExprs.{base_notes}
 use Rattle.c_types.proofs.NotedItems.{Outer, declaration_outer, function_notes}

@@ -7,12 +7,13 @@ use Rattle.std.proofs.Math.ListN.{get_or-map}
 use Rattle.std.proofs.lemmas.Option.{slice_get-get_or, unwrap_or-slice_get}
 use Rattle.c_syntax.specs.ItemTree.{SourceTree}
 use Rattle.c_rules.specs.TypeTree.{TypeTree}
-use Rattle.c_types.specs.declared.walk.VariableEntry.{VariableEntry}
-use Rattle.c_types.specs.declared.walk.Walk.{Walk}
+use Rattle.c_types_expressions.specs.declared.walk.VariableEntry.{VariableEntry}
+use Rattle.c_types_expressions.specs.declared.walk.Walk.{Walk}
 use Rattle.c_types.specs.Answers.{noted, place_at, type_at, variable_at, variable_of}
-use Rattle.c_types.specs.Fault.{beginning, walk_tree}
+use Rattle.c_types_expressions.specs.Beginning.{beginning}
+use Rattle.c_types.specs.Fault.{walk_tree}
 use Rattle.c_types.specs.Parts.{Part, Expression, Use, Declared, Begins, has_expression, has_variable, is_expression_at, is_variable_at, parts_of}
-use Rattle.c_types.specs.Walked.{Fine, replaced}
+use Rattle.c_types_expressions.specs.Walked.{Fine, replaced}
 use Rattle.c_types.proofs.Noted.{Seen, length_replaced, noting, noting_all, plainly, seen}
 use Rattle.c_types.proofs.NotedItems.{text_notes}
 use Rattle.c_types.proofs.Options.{is_none_of}

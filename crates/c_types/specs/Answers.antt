@@ -6,11 +6,11 @@ use Rattle.c_rules.specs.TypeTree.{TypeTree}
 use Rattle.c_types.specs.declared.checked.Checked.{Checked}
 use Rattle.c_types.specs.declared.checked.TypeFault.{TypeFault}
 use Rattle.c_types.specs.declared.checked.TypeFault.TheVariants as types
-use Rattle.c_types.specs.declared.walk.Variable.{Variable}
-use Rattle.c_types.specs.declared.walk.VariableEntry.{VariableEntry}
-use Rattle.c_types.specs.declared.walk.Walk.{Walk}
+use Rattle.c_types_expressions.specs.declared.walk.Variable.{Variable}
+use Rattle.c_types_expressions.specs.declared.walk.VariableEntry.{VariableEntry}
+use Rattle.c_types_expressions.specs.declared.walk.Walk.{Walk}
 use Rattle.c_types.specs.Fault.{walk_tree}
-use Rattle.c_types.specs.Walked.{Fine}
+use Rattle.c_types_expressions.specs.Walked.{Fine}
 
 -- the tree that was checked
 abbrev pub tree_of : Checked → SourceTree

@@ -1,39 +1,18 @@
 -- The first fault of a text, and what is known of a text without one.
-use Rattle.std.specs.Prelude.{ℕ, ◌+◌, Bool, true, false, ◌&&◌, ◌==◌, if◌then◌else◌, List, [], ◌∷◌, length, replicate, Option, Some, None, slice_get, codes}
+use Rattle.std.specs.Prelude.{ℕ, ◌+◌, Bool, true, false, ◌&&◌, ◌==◌, if◌then◌else◌, List, [], ◌∷◌, length, Option, Some, None, slice_get, codes}
 use Rattle.c_syntax.specs.ItemTree.{SourceTree}
 use Rattle.c_rules.specs.declared.fault.FaultKind.{FaultKind}
 use Rattle.c_rules.specs.declared.fault.FaultKind.TheVariants as fault
 use Rattle.c_rules.specs.TypeTree.{Int, same_type}
 use Rattle.c_rules.specs.Faults.{number_of}
-use Rattle.c_types.specs.declared.names.Meaning.{Meaning}
-use Rattle.c_types.specs.declared.names.Meaning.TheVariants as meaning
-use Rattle.c_types.specs.declared.walk.FunctionEntry.{FunctionEntry}
-use Rattle.c_types.specs.declared.walk.Walk.{Walk}
-use Rattle.c_types.specs.Names.{found}
-use Rattle.c_types.specs.Walked.{Walked, Fine, Faulty, ◌>>=◌, Done}
-use Rattle.c_types.specs.ItemWalk.{walk_items, is_defined}
-
--- what is known before a text of so many tokens
-abbrev pub beginning : ℕ → Walk
-beginning count = record {
-  names = [];
-  tags = [];
-  structs = [];
-  variables = [];
-  declared_types = [];
-  ends = [];
-  functions = [];
-  defined_as = [];
-  definitions = [];
-  globals = 0;
-  locals = 0;
-  global_cells = 0;
-  latest = 0;
-  types = replicate count None;
-  variables_at = replicate count None;
-  offsets_at = replicate count None;
-  functions_at = replicate count None;
-}
+use Rattle.c_types_expressions.specs.declared.names.Meaning.{Meaning}
+use Rattle.c_types_expressions.specs.declared.names.Meaning.TheVariants as meaning
+use Rattle.c_types_expressions.specs.declared.walk.FunctionEntry.{FunctionEntry}
+use Rattle.c_types_expressions.specs.declared.walk.Walk.{Walk}
+use Rattle.c_types_expressions.specs.Beginning.{beginning}
+use Rattle.c_types_expressions.specs.Names.{found}
+use Rattle.c_types_expressions.specs.Walked.{Walked, Fine, Faulty, ◌>>=◌, Done}
+use Rattle.c_types_walk.specs.ItemWalk.{walk_items, is_defined}
 
 -- `int main` without parameters (C99 5.1.2.2.1)
 abbrev pub begins_program : Option FunctionEntry → Bool

@@ -1,14 +1,6 @@
-pub mod Names
-pub mod Walked
-pub mod ExprWalk
-pub mod Declarators
-pub mod Initialisers
-pub mod StatementWalk
-pub mod ItemWalk
 pub mod Fault
 pub mod Answers
 pub mod Hiding
-pub mod Indexed
 pub mod Parts
 pub mod Laid
 pub mod Numbers

@@ -2,10 +2,10 @@
 use Rattle.std.specs.Prelude.{◌≡◌, ◌↔◌, ℕ, ◌+◌, true, false, List, [], ◌∷◌, ◌++◌, Some, None, option_map, slice_get}
 use Rattle.c_syntax.specs.ItemTree as i
 use Rattle.c_syntax.specs.ItemTree.{ItemTree, SourceTree}
-use Rattle.c_types.specs.declared.walk.Definition.{Definition}
-use Rattle.c_types.specs.declared.walk.Variable.TheVariants as variable
-use Rattle.c_types.specs.declared.walk.VariableEntry.{VariableEntry}
-use Rattle.c_types.specs.declared.walk.Walk.{Walk}
+use Rattle.c_types_expressions.specs.declared.walk.Definition.{Definition}
+use Rattle.c_types_expressions.specs.declared.walk.Variable.TheVariants as variable
+use Rattle.c_types_expressions.specs.declared.walk.VariableEntry.{VariableEntry}
+use Rattle.c_types_expressions.specs.declared.walk.Walk.{Walk}
 use Rattle.c_types.specs.Answers.{noted}
 use Rattle.c_types.specs.Parts.{Part, Expression, Use, Declared, Begins, item_parts, parts_of}
 

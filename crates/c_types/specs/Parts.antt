@@ -10,7 +10,7 @@ use Rattle.c_syntax.specs.StatementTree as s
 use Rattle.c_syntax.specs.StatementTree.{InitialTree, StartTree, DeclarationTree, ForStartTree, StatementTree, EntryList}
 use Rattle.c_syntax.specs.ItemTree as i
 use Rattle.c_syntax.specs.ItemTree.{ItemTree, SourceTree}
-use Rattle.c_types.specs.ItemWalk.{listed}
+use Rattle.c_types_walk.specs.ItemWalk.{listed}
 
 pub data Part : Type 0 where
   -- an expression, at its own token

@@ -3,10 +3,9 @@ ghost use Rattle.c_syntax.specs.Plain.{plain_tree};
 ghost use Rattle.c_types.specs.Fault.{known_in, walk_tree};
 
 use crate::answers::{ends_behind, note_at};
-use crate::names::Meaning;
-use crate::walk::{Definition, FunctionEntry, Variable, VariableEntry, Walk};
 use c_rules::{CType, StructType, Type, cells_of};
 use c_syntax::Tree;
+use c_types_expressions::{Definition, FunctionEntry, Meaning, Variable, VariableEntry, Walk};
 use cbi_base::Name;
 
 /// A tree without a fault, with what is known of it.
@@ -33,8 +32,8 @@ impl Checked {
     ghost use Rattle.c_rules.specs.Sizes.{cells_of, is_complete, most_cells};
     ghost use Rattle.c_types.specs.Answers.{IsChecked, declared_at, function_at, known_of, offset_at, place_at, scope_holds, tree_of, type_at, variable_at};
     ghost use Rattle.c_types.specs.Fault.{walk_tree};
-    ghost use Rattle.c_types.specs.Names.{found};
-    ghost use Rattle.c_types.specs.Walked.{Fine};
+    ghost use Rattle.c_types_expressions.specs.Names.{found};
+    ghost use Rattle.c_types_expressions.specs.Walked.{Fine};
 
     /// A tree through which the walk came, with what it came to know.
     pub(crate) fn new(tree: Tree, walk: Walk) -> Checked

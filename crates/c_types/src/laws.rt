@@ -8,14 +8,14 @@ ghost use Rattle.c_types.specs.Answers.{type_at, variable_at};
 ghost use Rattle.c_types.specs.Fault.{walk_tree};
 ghost use Rattle.c_types.specs.Hiding.{declaration_of};
 ghost use Rattle.c_types.specs.Laid.{IsSummed};
-ghost use Rattle.c_types.specs.Names.{closed, found};
+ghost use Rattle.c_types_expressions.specs.Names.{closed, found};
 ghost use Rattle.c_types.specs.Numbers.{IsNumber, frame, frames_from, variables_of};
 ghost use Rattle.c_types.specs.Parts.{has_expression, has_variable};
-ghost use Rattle.c_types.specs.Walked.{Fine};
-ghost use Rattle.c_types.specs.declared.names.Meaning.{Meaning};
-ghost use Rattle.c_types.specs.declared.names.ScopeEntry.{ScopeEntry};
-ghost use Rattle.c_types.specs.declared.names.ScopeEntry.TheVariants.{Opens, Declares};
-ghost use Rattle.c_types.specs.declared.walk.Walk.{Walk};
+ghost use Rattle.c_types_expressions.specs.Walked.{Fine};
+ghost use Rattle.c_types_expressions.specs.declared.names.Meaning.{Meaning};
+ghost use Rattle.c_types_expressions.specs.declared.names.ScopeEntry.{ScopeEntry};
+ghost use Rattle.c_types_expressions.specs.declared.names.ScopeEntry.TheVariants.{Opens, Declares};
+ghost use Rattle.c_types_expressions.specs.declared.walk.Walk.{Walk};
 
 /// A name means its latest declaration, whatever stands before that; and at the end of a scope, whatever was declared in
 /// it, each name means again what it meant before.

@@ -11,7 +11,7 @@ use Rattle.cbi_base.specs.declared.operators.Unary.TheVariants.{Neg, Com, Not}
 use Rattle.cbi_base.specs.declared.trap.Trap.{Trap}
 use Rattle.cbi_base.specs.declared.trap.Trap.TheVariants as trap
 use Rattle.cbi_base.specs.Arithmetic.{fitted, left_shift, binary_value, kind_given, complement}
-use Rattle.cbi_base.specs.Scalars.{as_number, promoted, takes, applied, applied_to_one, converted, truth_of}
+use Rattle.cbi_base.specs.Scalars.{as_number, as_promoted, takes, applied, applied_to_one, converted, truth_of}
 
 -- a value, or another trap
 abbrev IsOther : Result ℤ Trap → Type 0
@@ -90,7 +90,7 @@ applied-Undefined op left right =
     λ h. elim h [ inl e ↦ undefined_left op left right e | inr e ↦ undefined_right op left right e ] in
     (only op left right, back)
 
-promoted_other : (kind : Kind) (value : Result ℤ Trap) → IsOther value → ¬ (promoted kind value ≡ Err trap.Undefined)
+promoted_other : (kind : Kind) (value : Result ℤ Trap) → IsOther value → ¬ (as_promoted kind value ≡ Err trap.Undefined)
 promoted_other Char value h e = cc
 promoted_other Int value h e = numbered_other Int value h e
 promoted_other Unsigned value h e = numbered_other Unsigned value h e

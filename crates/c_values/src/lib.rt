@@ -16,6 +16,3 @@ pub use laws::{bit_laws, conversion_laws, division_laws, result_laws, shift_laws
 pub use relation::{Relation, relate};
 pub use scalars::{convert, sign, truth};
 pub use unary::apply_unary;
-
-#[cfg(test)]
-mod tests;

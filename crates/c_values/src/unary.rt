@@ -1,7 +1,7 @@
 ghost use Rattle.std.specs.Prelude.{◌≡◌, neg_ℤ, IfOk};
 ghost use Rattle.cbi_base.specs.Kind.{LiesIn};
 ghost use Rattle.cbi_base.specs.Arithmetic.{fitted, complement};
-ghost use Rattle.cbi_base.specs.Scalars.{IsInRange, applied_to_one, opposite, promoted, truth_of};
+ghost use Rattle.cbi_base.specs.Scalars.{IsInRange, applied_to_one, opposite, as_promoted, truth_of};
 
 use crate::bits::complement;
 use crate::range::{fit, flag};
@@ -23,7 +23,7 @@ fn negate_truth(value: Scalar) -> Result<Scalar, Trap>
 /// The number with its sign turned round. The least `int` is trap Overflow, a `char` trap Internal.
 fn negate(kind: Kind, value: i64) -> Result<Scalar, Trap>
     requires { LiesIn kind value }
-    ensures value { result ≡ promoted kind (fitted kind (neg_ℤ value)) }
+    ensures value { result ≡ as_promoted kind (fitted kind (neg_ℤ value)) }
     ensures in_range { IfOk result IsInRange }
 {
     if kind == Kind::Char {
@@ -37,7 +37,7 @@ fn negate(kind: Kind, value: i64) -> Result<Scalar, Trap>
 
 /// The number with each of its bits turned round. A `char` is trap Internal.
 fn invert(kind: Kind, value: i64) -> Result<Scalar, Trap>
-    ensures value { result ≡ promoted kind (Ok (complement kind value)) }
+    ensures value { result ≡ as_promoted kind (Ok (complement kind value)) }
     ensures in_range { IfOk result IsInRange }
 {
     if kind == Kind::Char {

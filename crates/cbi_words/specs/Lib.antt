@@ -4,5 +4,4 @@ pub mod Schemes
 pub mod Within
 pub mod Reading
 pub mod BadValue
-pub mod UsageText
 pub mod Answers

@@ -8,7 +8,6 @@ mod numbers;
 mod policies;
 mod read;
 mod schemes;
-mod usage;
 mod word;
 
 pub use command::Command;

@@ -1,8 +1,8 @@
 ghost use Rattle.std.specs.Prelude.{◌≡◌, None, Some, IfOk, map};
+ghost use Rattle.cbi_usage.specs.UsageText.{IsUsageText};
 ghost use Rattle.cbi_words.specs.Answers.{ReadAs, OnUsage};
 ghost use Rattle.cbi_words.specs.BadValue.{bad_bank, bad_in, bad_rank, bad_run, bad_study, bad_transform, bad_value};
 ghost use Rattle.cbi_words.specs.Reading.{asked, bank_of, collect_of, command_in, rank_of, reads, run_of, study_of, transform_of};
-ghost use Rattle.cbi_words.specs.UsageText.{IsUsageText};
 ghost use Rattle.cbi_words.specs.Within.{IsWithin};
 ghost use Rattle.cbi_words.specs.WordRule.{texts_of};
 
@@ -12,8 +12,8 @@ use crate::given::{Given, cut};
 use crate::numbers::{Bounds, number_in, number_or};
 use crate::policies::policy_or;
 use crate::schemes::{mode_in, schemes_or};
-use crate::usage::{bad_value_line, usage};
 use cbi_base::Policy;
+use cbi_usage::{bad_value_line, usage};
 use std::alloc::Global;
 
 /// The bound of turns, where the words give none.

@@ -12,11 +12,11 @@ use Rattle.flow.specs.Limits.{node_limit}
 use Rattle.flow.specs.Nodes.{is_again, is_own, led_to, leads_rightly, names_fit}
 use Rattle.flow.specs.View.{view}
 use Rattle.weights.specs.Paths.{mark_count}
-use Rattle.clone_paths.specs.declared.label.Label.{Label}
-use Rattle.clone_paths.specs.declared.label.Label.TheVariants.{Enter, Gate, Back, In, Out}
+use Rattle.clone_paths.specs.declared.label.CopyLabel.{CopyLabel}
+use Rattle.clone_paths.specs.declared.label.CopyLabel.TheVariants.{Enter, Gate, Back, In, Out}
 use Rattle.clone_paths.specs.declared.label.Side.{Side}
 use Rattle.clone_paths.specs.declared.label.Side.TheVariants.{Fast, Slow}
-use Rattle.clone_paths.specs.Cloned.{IsPlain}
+use Rattle.flow.specs.Ready.{IsPlain}
 use Rattle.clone_paths.specs.Form.{is_last, is_outlet}
 use Rattle.clone_paths.specs.Layout.{place_of}
 use Rattle.clone_paths.specs.Made.{Tables, made, made_free, made_in, made_out, made_same, made_visit}
@@ -112,7 +112,7 @@ out_names names bounds place (Calls function next) h = h
 out_names names bounds place other h = h
 
 -- the node with a label names what exists
-pub made_names : (names : Names) (bounds : Bounds) (t : Tables) (place : ℕ) (l : Label) → ((i : ℕ) → view_names names bounds (t.at i) ≡ true) → ((i : ℕ) → t.weight i ≤ node_limit) →
+pub made_names : (names : Names) (bounds : Bounds) (t : Tables) (place : ℕ) (l : CopyLabel) → ((i : ℕ) → view_names names bounds (t.at i) ≡ true) → ((i : ℕ) → t.weight i ≤ node_limit) →
     ((side : Side) (i owed : ℕ) → l ≡ In side i owed → owed < node_limit) → view_names names bounds (made t place l) ≡ true
 made_names names bounds t place Enter orig weights few = refl
 made_names names bounds t place (Gate i) orig weights few = most_ok (t.weight i) (weights i)

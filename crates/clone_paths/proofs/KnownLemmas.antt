@@ -10,6 +10,7 @@ use Rattle.flow.specs.declared.node.View.TheVariants.{Row, Halts, Forks, Turns, 
 use Rattle.flow.specs.Code.{view_at}
 use Rattle.flow.specs.Nodes.{led_to}
 use Rattle.flow.specs.View.{view}
+use Rattle.flow.specs.Ready.{ArePlain, IsPlain}
 use Rattle.regions.specs.Blocks.{IsStart, LeadsTo, ends_block}
 use Rattle.regions.specs.Blocks as block
 use Rattle.regions.specs.Flags.{AreFlags, is_in}
@@ -21,12 +22,12 @@ use Rattle.regions.proofs.HeaderLemmas.{begun_leads}
 use Rattle.regions.proofs.Within.{no_node}
 use Rattle.weights.specs.Paths.{mark_count}
 use Rattle.weights.specs.Weight.{AreWeights}
-use Rattle.clone_paths.specs.declared.label.Label.{Label}
-use Rattle.clone_paths.specs.declared.label.Label.TheVariants.{Enter, Gate, In}
+use Rattle.clone_paths.specs.declared.label.CopyLabel.{CopyLabel}
+use Rattle.clone_paths.specs.declared.label.CopyLabel.TheVariants.{Enter, Gate, In}
 use Rattle.clone_paths.specs.declared.label.Side.TheVariants.{Fast, Slow}
 use Rattle.clone_paths.specs.declared.parts.Outlet.{Outlet}
 use Rattle.clone_paths.specs.declared.parts.Part.{Part}
-use Rattle.clone_paths.specs.Cloned.{ArePlain, IsPlain, NodesCloned}
+use Rattle.clone_paths.specs.Cloned.{NodesCloned}
 use Rattle.clone_paths.specs.Form.{Labelled, Here, IsRight, Owed}
 use Rattle.clone_paths.specs.Layout.{Sheet, copy_labels, fast_labels, gate_labels}
 use Rattle.clone_paths.specs.Made.{IsMade, Resolved, made, Tables, parts_from, sheet_at, tables_of}
@@ -122,7 +123,7 @@ sheet_with weighty nodes starts debts headers fast = record (sheet_at (is_in hea
 abbrev pub tables_with : List Bool → List Node → List Bool → List ℕ → List ℕ → List Bool → List ℕ → Tables
 tables_with weighty nodes starts weights debts headers fast = tables_of weighty nodes starts weights (sheet_with weighty nodes starts debts headers fast)
 
-abbrev pub all_labels : List Bool → List Node → List Bool → List ℕ → List Bool → List Label
+abbrev pub all_labels : List Bool → List Node → List Bool → List ℕ → List Bool → List CopyLabel
 all_labels weighty nodes starts debts headers = labels_at (is_in headers) (parts_from weighty nodes starts debts) (length nodes)
 
 abbrev pub InsideCases : (ℕ → Bool) → View → Type 0
@@ -208,7 +209,7 @@ labels_small weighty nodes starts debts headers entry debts_are =
     by_length (is_in headers) part (length nodes) unpaid entry
 
 -- the node with a label is there
-made_view : (t : Tables) (labels : List Label) (nodes : List Node) (place : ℕ) (l : Label) (d : Node) → EachFits (IsMade t) labels nodes → slice_get labels place ≡ Some l →
+made_view : (t : Tables) (labels : List CopyLabel) (nodes : List Node) (place : ℕ) (l : CopyLabel) (d : Node) → EachFits (IsMade t) labels nodes → slice_get labels place ≡ Some l →
     views_of nodes place ≡ made t place l
 made_view t labels nodes place l d fits e =
     let inside : place < length nodes = omega (arith, fits.few, slice_get_within labels place l e) in

@@ -12,17 +12,18 @@ use Rattle.flow.specs.Code.{view_at}
 use Rattle.flow.specs.Limits.{node_limit}
 use Rattle.flow.specs.Nodes.{NodesFit, is_again, led_to, leads_rightly, names_fit, node_fits}
 use Rattle.flow.specs.View.{view}
+use Rattle.flow.specs.Ready.{IsPlain}
 use Rattle.regions.specs.Blocks.{LeadsTo}
 use Rattle.regions.specs.Flags.{is_in}
 use Rattle.regions.specs.Rows.{EachFits}
 use Rattle.regions.specs.Weighty.{views_of}
-use Rattle.clone_paths.specs.declared.label.Label.{Label}
-use Rattle.clone_paths.specs.declared.label.Label.TheVariants.{Enter, Back, In, Out}
+use Rattle.clone_paths.specs.declared.label.CopyLabel.{CopyLabel}
+use Rattle.clone_paths.specs.declared.label.CopyLabel.TheVariants.{Enter, Back, In, Out}
 use Rattle.clone_paths.specs.declared.label.Side.{Side}
 use Rattle.clone_paths.specs.declared.label.Side.TheVariants.{Fast, Slow}
 use Rattle.clone_paths.specs.declared.parts.Outlet.{Outlet}
 use Rattle.clone_paths.specs.declared.parts.Part.{Part}
-use Rattle.clone_paths.specs.Cloned.{FitsLike, IsPlain, cloned_limit}
+use Rattle.clone_paths.specs.Cloned.{FitsLike, cloned_limit}
 use Rattle.clone_paths.specs.Layout.{copy_labels, fast_labels, gate_labels, out_labels, place_of}
 use Rattle.clone_paths.specs.Made.{IsMade, IsOf, Tables, made, made_in, parts_from}
 use Rattle.clone_paths.specs.Parts.{HasOrder, is_inside, outlet_of, pays}
@@ -58,18 +59,18 @@ one_in a x (suc k, l, e) = absurd (omega arith)
 
 -- the labels of an outlet
 outs_go : (t : Tables) (nodes : List Node) (n total : ℕ) (start : ℕ → ℕ) → Places t n total start → n ≡ length nodes → HasOrder nodes → (side : Side) (i base : ℕ) → i < n →
-    t.at i ≡ views_of nodes i → base + length (out_labels side i (outlet_of t.weighty (t.at i))) ≤ start (suc i) → (m : ℕ) (l : Label) →
+    t.at i ≡ views_of nodes i → base + length (out_labels side i (outlet_of t.weighty (t.at i))) ≤ start (suc i) → (m : ℕ) (l : CopyLabel) →
     slice_get (out_labels side i (outlet_of t.weighty (t.at i))) m ≡ Some l → Goes (base + m) total (made t (base + m) l)
 outs_go t nodes n total start ps e order side i base lt at end m l f =
     let r = out_cases t.weighty side i (t.at i) m l f in
     let inside = slice_get_within (out_labels side i (outlet_of t.weighty (t.at i))) m l f in
     let last = ps.mono (suc i) n (omega arith) in
     elim r.1 [
-      | inl z ↦ subst (λ (y : Label). Goes (base + m) total (made t (base + m) y)) (sym z.1) (λ x c.
+      | inl z ↦ subst (λ (y : CopyLabel). Goes (base + m) total (made t (base + m) y)) (sym z.1) (λ x c.
           let o = out_on t.weighty (base + m) (t.at i) x r.0 c in
           let two = slice_get_within (out_labels side i (outlet_of t.weighty (t.at i))) 1 (Back (o.1).1) (out_back t.weighty side i (o.1).0 (o.1).1 (t.at i) (o.1).2 (o.1).3) in
           (omega (arith, o.0, z.0, two, end, last, ps.whole), inr (omega (arith, o.0))))
-      | inr z ↦ subst (λ (y : Label). Goes (base + m) total (made t (base + m) y)) (sym z.5) (λ x c.
+      | inr z ↦ subst (λ (y : CopyLabel). Goes (base + m) total (made t (base + m) y)) (sym z.5) (λ x c.
           let lead : Contains (led_to (t.at i)) z.1 = subst (λ (w : View). Contains (led_to w) z.1) (sym z.2) (0, omega arith, refl) in
           let only : x ≡ slice_index t.sheet.gates z.1 = one_in (slice_index t.sheet.gates z.1) x c in
           let o : Onward t (t.at i) (Imports (slice_index t.sheet.gates z.1)) x =
@@ -81,13 +82,13 @@ outs_go t nodes n total start ps e order side i base lt at end m l f =
 -- the labels of a copy
 copy_go : (t : Tables) (nodes : List Node) (n total : ℕ) (start : ℕ → ℕ) → Places t n total start → n ≡ length nodes → HasOrder nodes → (side : Side) (i owed base : ℕ) (p : Bool) → i < n →
     t.at i ≡ views_of nodes i → IsPlain (t.at i) → pays t.starts owed (t.at i) ≡ p → base + length (copy_labels side i owed p (outlet_of t.weighty (t.at i))) ≤ start (suc i) →
-    (m : ℕ) (l : Label) → slice_get (copy_labels side i owed p (outlet_of t.weighty (t.at i))) m ≡ Some l → Goes (base + m) total (made t (base + m) l)
+    (m : ℕ) (l : CopyLabel) → slice_get (copy_labels side i owed p (outlet_of t.weighty (t.at i))) m ≡ Some l → Goes (base + m) total (made t (base + m) l)
 copy_go t nodes n total start ps e order side i owed base false lt at plain paid end zero l f =
     let outs = out_labels side i (outlet_of t.weighty (t.at i)) in
     let size : length (In side i owed ∷ outs) ≡ suc (length outs) = refl in
     let last = ps.mono (suc i) n (omega arith) in
     let same : In side i owed ≡ l = cc in
-    subst (λ (y : Label). Goes (base + 0) total (made t (base + 0) y)) same (λ x c.
+    subst (λ (y : CopyLabel). Goes (base + 0) total (made t (base + 0) y)) same (λ x c.
     elim (in_on t side owed (base + 0) (t.at i) x plain c) [
       | inl (next, inl pay) ↦ cc
       | inl (next, inr (none, o)) ↦
@@ -105,7 +106,7 @@ copy_go t nodes n total start ps e order side i owed base true lt at plain paid 
     let size : length (In side i owed ∷ In side i 0 ∷ outs) ≡ suc (suc (length outs)) = refl in
     let last = ps.mono (suc i) n (omega arith) in
     let same : In side i owed ≡ l = cc in
-    subst (λ (y : Label). Goes (base + 0) total (made t (base + 0) y)) same (λ x c.
+    subst (λ (y : CopyLabel). Goes (base + 0) total (made t (base + 0) y)) same (λ x c.
     elim (in_on t side owed (base + 0) (t.at i) x plain c) [
       | inl (next, cause) ↦ (omega (arith, next, size, end, last, ps.whole), inr (omega (arith, next)))
       | inr o ↦ goes_onward t nodes n total start ps e order i (base + 0) (t.at i) (made_in t side owed (base + 0) (t.at i)) x (sym at) (omega (arith, size, end)) o
@@ -116,7 +117,7 @@ copy_go t nodes n total start ps e order side i owed base true lt at plain paid 
     let last = ps.mono (suc i) n (omega arith) in
     let none = pays_zero t.starts (t.at i) in
     let same : In side i 0 ≡ l = cc in
-    subst (λ (y : Label). Goes (base + 1) total (made t (base + 1) y)) same (λ x c.
+    subst (λ (y : CopyLabel). Goes (base + 1) total (made t (base + 1) y)) same (λ x c.
     elim (in_on t side 0 (base + 1) (t.at i) x plain c) [
       | inl (next, inl pay) ↦ cc
       | inl (next, inr (unpaid, o)) ↦
@@ -159,7 +160,7 @@ some_copy : (side : Side) (i owed : ℕ) (p : Bool) (o : Outlet) → 1 ≤ lengt
 some_copy side i owed true o = omega arith
 some_copy side i owed false o = omega arith
 
-some_fast : (i : ℕ) (inside : Bool) (owed : ℕ) (p : Bool) (o : Outlet) → inside ≡ false → let none : List Label = [] in 1 ≤ length (if inside then none else copy_labels Fast i owed p o)
+some_fast : (i : ℕ) (inside : Bool) (owed : ℕ) (p : Bool) (o : Outlet) → inside ≡ false → let none : List CopyLabel = [] in 1 ≤ length (if inside then none else copy_labels Fast i owed p o)
 some_fast i true owed p o e = cc
 some_fast i false owed p o e = some_copy Fast i owed p o
 
@@ -219,7 +220,7 @@ two_in a b x (suc k, l, e) = inr (one_in b x (k, omega arith, e))
 fast_go : (t : Tables) (nodes : List Node) (n total : ℕ) (start : ℕ → ℕ) → Places t n total start → n ≡ length nodes → HasOrder nodes → (debt : ℕ → ℕ) (i base : ℕ) (inside : Bool) → i < n →
     t.at i ≡ views_of nodes i → IsPlain (t.at i) →
     base + length (if inside then [] else copy_labels Fast i (debt i) (pays t.starts (debt i) (t.at i)) (outlet_of t.weighty (t.at i))) ≤ start (suc i) →
-    (m : ℕ) (l : Label) → slice_get (if inside then [] else copy_labels Fast i (debt i) (pays t.starts (debt i) (t.at i)) (outlet_of t.weighty (t.at i))) m ≡ Some l →
+    (m : ℕ) (l : CopyLabel) → slice_get (if inside then [] else copy_labels Fast i (debt i) (pays t.starts (debt i) (t.at i)) (outlet_of t.weighty (t.at i))) m ≡ Some l →
     Goes (base + m) total (made t (base + m) l)
 fast_go t nodes n total start ps e order debt i base true lt at plain end m l f = cc
 fast_go t nodes n total start ps e order debt i base false lt at plain end m l f =
@@ -227,7 +228,7 @@ fast_go t nodes n total start ps e order debt i base false lt at plain end m l f
 
 -- each node leads to nodes, to later ones but by a turn
 each_goes : (weighty : List Bool) (nodes : List Node) (starts : List Bool) (weights debts : List ℕ) (headers : List Bool) (fast : List ℕ) →
-    Laid weighty nodes starts weights debts headers fast → (place : ℕ) (l : Label) → slice_get (all_labels weighty nodes starts debts headers) place ≡ Some l →
+    Laid weighty nodes starts weights debts headers fast → (place : ℕ) (l : CopyLabel) → slice_get (all_labels weighty nodes starts debts headers) place ≡ Some l →
     Goes place (length (all_labels weighty nodes starts debts headers)) (made (tables_with weighty nodes starts weights debts headers fast) place l)
 each_goes weighty nodes starts weights debts headers fast laid place l e =
     let t = tables_with weighty nodes starts weights debts headers fast in
@@ -239,7 +240,7 @@ each_goes weighty nodes starts weights debts headers fast laid place l e =
     let ps = places_all weighty nodes starts weights debts headers fast laid in
     let debt : ℕ → ℕ = λ i. slice_index debts i in
     elim (owner head part n place l e) [
-      | inl z ↦ subst (λ (y : Label). Goes place total (made t place y)) (sym z.1) (λ x c.
+      | inl z ↦ subst (λ (y : CopyLabel). Goes place total (made t place y)) (sym z.1) (λ x c.
           let r = ps.from 0 x laid.entry (inr (inr (one_in (slice_index t.sheet.gates 0) x c))) in
           let first : start_of head part 0 ≡ 1 = refl in
           (r.1, inr (omega (arith, r.0, first, z.0))))
@@ -254,7 +255,7 @@ each_goes weighty nodes starts weights debts headers fast laid place l e =
               | inl h ↦
                   let r = gate_cases (head i) i k l h in
                   let near = slice_get_within gate k l h in
-                  subst (λ (y : Label). Goes place total (made t place y)) (sym r.1) (λ x c.
+                  subst (λ (y : CopyLabel). Goes place total (made t place y)) (sym r.1) (λ x c.
                   elim (two_in (place_of t.sheet Fast i) (place_of t.sheet Slow i) x c) [
                     | inl a ↦
                         let b = fast_after weighty nodes starts weights debts headers fast laid n i (omega arith) lt in
@@ -317,13 +318,13 @@ fits_all weighty nodes starts weights debts headers fast cloned laid few fits =
       each = λ names bounds e fit. record {
         each = λ place node at.
             let inside : place < length labels = omega (arith, fits.few, slice_get_within cloned place node at) in
-            let l : Label = get_or labels place Enter in
+            let l : CopyLabel = get_or labels place Enter in
             let there : slice_get labels place ≡ Some (get_or labels place Enter) = slice_get-get_or labels place Enter inside in
             let is = fits.each place (get_or labels place Enter) node there at in
             let of = each_of (is_in headers) (parts_from weighty nodes starts debts) n place (get_or labels place Enter) small there in
             let orig : (i : ℕ) → view_names names bounds (t.at i) ≡ true = λ i. old_names names bounds nodes i (slice_get nodes i) fit refl in
             let named = names_bounds names bounds (length cloned) node ∙ names_view names bounds node ∙ ap (view_names names bounds) is ∙
-            made_names names bounds t place (get_or labels place Enter) orig light (λ side i owed same. (subst (λ (y : Label). IsOf n y) same of).1) in
+            made_names names bounds t place (get_or labels place Enter) orig light (λ side i owed same. (subst (λ (y : CopyLabel). IsOf n y) same of).1) in
             let goes = each_goes weighty nodes starts weights debts headers fast laid place (get_or labels place Enter) there in
             let goes' = subst (λ (m : ℕ). Goes place m (made t place (get_or labels place Enter))) (sym fits.few) goes in
             let led = ap (leads_rightly (record bounds { nodes = length cloned }) place) is ∙ goes_rightly (record bounds { nodes = length cloned }) place (made t place (get_or labels place Enter)) goes' in

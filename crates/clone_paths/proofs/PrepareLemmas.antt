@@ -13,13 +13,14 @@ use Rattle.flow.specs.Code.{code_of, node_of}
 use Rattle.flow.specs.Fits.{LeadsOn}
 use Rattle.flow.specs.Nodes.{led_to}
 use Rattle.flow.specs.Program.{IsProgram}
+use Rattle.flow.specs.Ready.{ArePlain}
 use Rattle.flow.proofs.Programs.{code_fits}
 use Rattle.regions.specs.Flags.{AreFlags, is_in}
 use Rattle.regions.specs.Headers.{HeadersFit, IsHeader}
 use Rattle.regions.specs.Weighty.{views_of}
 use Rattle.regions.proofs.Within.{leads_within}
 use Rattle.weights.proofs.PathLemmas.{path_later}
-use Rattle.clone_paths.specs.Cloned.{ArePlain, MayClone, cloned_limit}
+use Rattle.clone_paths.specs.Cloned.{MayClone, cloned_limit}
 use Rattle.clone_paths.specs.Parts.{HasOrder}
 
 later_view : (place : ℕ) (v : View) (x : ℕ) → LeadsOn place v → Contains (led_to v) x → place < x ⊎ ((again : ℕ) × (v ≡ Turns again))

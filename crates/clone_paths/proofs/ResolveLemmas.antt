@@ -11,8 +11,8 @@ use Rattle.flow.specs.Nodes.{led_to}
 use Rattle.regions.specs.Blocks.{LeadsTo}
 use Rattle.regions.specs.Flags.{is_in}
 use Rattle.regions.specs.Weighty.{views_of}
-use Rattle.clone_paths.specs.declared.label.Label.{Label}
-use Rattle.clone_paths.specs.declared.label.Label.TheVariants.{Gate, Back, In, Out}
+use Rattle.clone_paths.specs.declared.label.CopyLabel.{CopyLabel}
+use Rattle.clone_paths.specs.declared.label.CopyLabel.TheVariants.{Gate, Back, In, Out}
 use Rattle.clone_paths.specs.declared.label.Side.{Side}
 use Rattle.clone_paths.specs.declared.label.Side.TheVariants.{Fast, Slow}
 use Rattle.clone_paths.specs.declared.parts.Outlet.{Outlet}
@@ -117,35 +117,35 @@ resolved_all starts nodes old new e r = record {
 }
 
 -- each label is that of a node
-out_of : (n : ℕ) (side : Side) (i : ℕ) (o : Outlet) (m : ℕ) (l : Label) → i < n → slice_get (out_labels side i o) m ≡ Some l → IsOf n l
+out_of : (n : ℕ) (side : Side) (i : ℕ) (o : Outlet) (m : ℕ) (l : CopyLabel) → i < n → slice_get (out_labels side i o) m ≡ Some l → IsOf n l
 out_of n side i outlet.None m l lt e = cc
-out_of n side i outlet.Leaves zero l lt e = let same : Out side i ≡ l = cc in subst (λ (y : Label). IsOf n y) same lt
+out_of n side i outlet.Leaves zero l lt e = let same : Out side i ≡ l = cc in subst (λ (y : CopyLabel). IsOf n y) same lt
 out_of n side i outlet.Leaves (suc m) l lt e = cc
-out_of n side i (outlet.Calls next) zero l lt e = let same : Out side i ≡ l = cc in subst (λ (y : Label). IsOf n y) same lt
-out_of n side i (outlet.Calls next) (suc zero) l lt e = let same : Back next ≡ l = cc in subst (λ (y : Label). IsOf n y) same tt
+out_of n side i (outlet.Calls next) zero l lt e = let same : Out side i ≡ l = cc in subst (λ (y : CopyLabel). IsOf n y) same lt
+out_of n side i (outlet.Calls next) (suc zero) l lt e = let same : Back next ≡ l = cc in subst (λ (y : CopyLabel). IsOf n y) same tt
 out_of n side i (outlet.Calls next) (suc (suc m)) l lt e = cc
 
-copy_of : (n : ℕ) (side : Side) (i owed : ℕ) (p : Bool) (o : Outlet) (m : ℕ) (l : Label) → i < n → owed < node_limit → slice_get (copy_labels side i owed p o) m ≡ Some l → IsOf n l
-copy_of n side i owed true o zero l lt small e = let same : In side i owed ≡ l = cc in subst (λ (y : Label). IsOf n y) same (lt, small)
-copy_of n side i owed true o (suc zero) l lt small e = let same : In side i 0 ≡ l = cc in subst (λ (y : Label). IsOf n y) same (lt, omega arith)
+copy_of : (n : ℕ) (side : Side) (i owed : ℕ) (p : Bool) (o : Outlet) (m : ℕ) (l : CopyLabel) → i < n → owed < node_limit → slice_get (copy_labels side i owed p o) m ≡ Some l → IsOf n l
+copy_of n side i owed true o zero l lt small e = let same : In side i owed ≡ l = cc in subst (λ (y : CopyLabel). IsOf n y) same (lt, small)
+copy_of n side i owed true o (suc zero) l lt small e = let same : In side i 0 ≡ l = cc in subst (λ (y : CopyLabel). IsOf n y) same (lt, omega arith)
 copy_of n side i owed true o (suc (suc m)) l lt small e = out_of n side i o m l lt e
-copy_of n side i owed false o zero l lt small e = let same : In side i owed ≡ l = cc in subst (λ (y : Label). IsOf n y) same (lt, small)
+copy_of n side i owed false o zero l lt small e = let same : In side i owed ≡ l = cc in subst (λ (y : CopyLabel). IsOf n y) same (lt, small)
 copy_of n side i owed false o (suc m) l lt small e = out_of n side i o m l lt e
 
-gate_of : (n : ℕ) (b : Bool) (i m : ℕ) (l : Label) → slice_get (gate_labels b i) m ≡ Some l → IsOf n l
-gate_of n true i zero l e = let same : Gate i ≡ l = cc in subst (λ (y : Label). IsOf n y) same tt
+gate_of : (n : ℕ) (b : Bool) (i m : ℕ) (l : CopyLabel) → slice_get (gate_labels b i) m ≡ Some l → IsOf n l
+gate_of n true i zero l e = let same : Gate i ≡ l = cc in subst (λ (y : CopyLabel). IsOf n y) same tt
 gate_of n true i (suc m) l e = cc
 gate_of n false i m l e = cc
 
-fast_of : (n i : ℕ) (inside : Bool) (owed : ℕ) (p : Bool) (o : Outlet) (m : ℕ) (l : Label) → i < n → owed < node_limit →
+fast_of : (n i : ℕ) (inside : Bool) (owed : ℕ) (p : Bool) (o : Outlet) (m : ℕ) (l : CopyLabel) → i < n → owed < node_limit →
     slice_get (if inside then [] else copy_labels Fast i owed p o) m ≡ Some l → IsOf n l
 fast_of n i true owed p o m l lt small e = cc
 fast_of n i false owed p o m l lt small e = copy_of n Fast i owed p o m l lt small e
 
-pub each_of : (head : ℕ → Bool) (part : ℕ → Part) (n place : ℕ) (l : Label) → ((i : ℕ) → i < n → (part i).owed < node_limit) → slice_get (labels_at head part n) place ≡ Some l → IsOf n l
+pub each_of : (head : ℕ → Bool) (part : ℕ → Part) (n place : ℕ) (l : CopyLabel) → ((i : ℕ) → i < n → (part i).owed < node_limit) → slice_get (labels_at head part n) place ≡ Some l → IsOf n l
 each_of head part n place l small e =
     elim (owner head part n place l e) [
-      | inl x ↦ subst (λ (y : Label). IsOf n y) (sym x.1) tt
+      | inl x ↦ subst (λ (y : CopyLabel). IsOf n y) (sym x.1) tt
       | inr r ↦
           let i = r.0 in
           let gate = gate_labels (head i) i in

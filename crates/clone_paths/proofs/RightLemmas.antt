@@ -11,21 +11,21 @@ use Rattle.regions.specs.Headers.{IsHeader, begun_after}
 use Rattle.regions.specs.Headers as region
 use Rattle.weights.specs.Paths.{mark_count}
 use Rattle.weights.specs.Weight.{IsWeight}
-use Rattle.clone_paths.specs.declared.label.Label.{Label}
-use Rattle.clone_paths.specs.declared.label.Label.TheVariants.{Gate, In, Out}
+use Rattle.clone_paths.specs.declared.label.CopyLabel.{CopyLabel}
+use Rattle.clone_paths.specs.declared.label.CopyLabel.TheVariants.{Gate, In, Out}
 use Rattle.clone_paths.specs.declared.label.Side.{Side}
 use Rattle.clone_paths.specs.declared.label.Side.TheVariants.{Fast, Slow}
-use Rattle.clone_paths.specs.Cloned.{IsPlain}
+use Rattle.flow.specs.Ready.{IsPlain}
 use Rattle.clone_paths.specs.Form.{Cloning, Labelled, Here, IsFree, IsIn, IsOwing, IsSame, is_last, is_outlet}
 use Rattle.clone_paths.specs.Layout.{place_of}
 use Rattle.clone_paths.specs.Made.{Tables, made_free, made_in, made_paid, made_same}
 use Rattle.clone_paths.specs.Parts.{is_inside, pays}
 
-abbrev pub cloning : Tables → (ℕ → Option Label) → Cloning
+abbrev pub cloning : Tables → (ℕ → Option CopyLabel) → Cloning
 cloning t label = record { weighty = t.weighty; at = t.at; starts = t.starts; label = label }
 
 -- what is known of a function, and of where its labels stand
-pub record Known (t : Tables) (n : ℕ) (debt : ℕ → ℕ) (header : ℕ → Bool) (label : ℕ → Option Label) : Type 0 where
+pub record Known (t : Tables) (n : ℕ) (debt : ℕ → ℕ) (header : ℕ → Bool) (label : ℕ → Option CopyLabel) : Type 0 where
   pub plain : (i : ℕ) → IsPlain (t.at i)
   pub there : (i : ℕ) → i < n → t.at i ≡ Nowhere → ⊥
   pub begins : (x : ℕ) → IsStart t.at x → t.starts x ≡ true
@@ -45,7 +45,7 @@ abbrev pub owed_by : (ℕ → ℕ) → Side → ℕ → ℕ
 owed_by debt Fast i = debt i
 owed_by debt Slow i = 0
 
-labelled : (t : Tables) (n : ℕ) (debt : ℕ → ℕ) (header : ℕ → Bool) (label : ℕ → Option Label) → Known t n debt header label → (side : Side) (i : ℕ) → i < n →
+labelled : (t : Tables) (n : ℕ) (debt : ℕ → ℕ) (header : ℕ → Bool) (label : ℕ → Option CopyLabel) → Known t n debt header label → (side : Side) (i : ℕ) → i < n →
     Labelled (cloning t label) side (place_of t.sheet side i) i (owed_by debt side i)
 labelled t n debt header label k Fast i l = k.fast i l
 labelled t n debt header label k Slow i l = Here (k.slow i l)
@@ -60,12 +60,12 @@ first_in a xs = (0, omega arith, refl)
 second_in : (a b : ℕ) (xs : List ℕ) → Contains (a ∷ b ∷ xs) b
 second_in a b xs = (1, omega arith, refl)
 
-one_leads : (t : Tables) (n : ℕ) (debt : ℕ → ℕ) (header : ℕ → Bool) (label : ℕ → Option Label) → Known t n debt header label → (side : Side) (owed node x : ℕ) →
+one_leads : (t : Tables) (n : ℕ) (debt : ℕ → ℕ) (header : ℕ → Bool) (label : ℕ → Option CopyLabel) → Known t n debt header label → (side : Side) (owed node x : ℕ) →
     ((y : ℕ) → LeadsTo t.at node y → owed_by debt side y ≡ owed) → LeadsTo t.at node x → Labelled (cloning t label) side (place_of t.sheet side x) x owed
 one_leads t n debt header label k side owed node x flow lead =
     subst (λ (d : ℕ). Labelled (cloning t label) side (place_of t.sheet side x) x d) (flow x lead) (labelled t n debt header label k side x (k.within node x lead))
 
-same_right : (t : Tables) (n : ℕ) (debt : ℕ → ℕ) (header : ℕ → Bool) (label : ℕ → Option Label) → Known t n debt header label → (side : Side) (owed node : ℕ) (v : View) →
+same_right : (t : Tables) (n : ℕ) (debt : ℕ → ℕ) (header : ℕ → Bool) (label : ℕ → Option CopyLabel) → Known t n debt header label → (side : Side) (owed node : ℕ) (v : View) →
     t.at node ≡ v → node < n → ((y : ℕ) → LeadsTo t.at node y → owed_by debt side y ≡ owed) → is_outlet t.weighty v ≡ false → mark_count v ≡ 0 →
     IsSame (cloning t label) side owed v (made_same t side v)
 same_right t n debt header label k side owed node (Row op next) e l flow o m =
@@ -94,7 +94,7 @@ same_right t n debt header label k side owed node (Exports next) e l flow o m = 
 same_right t n debt header label k side owed node Nowhere e l flow o m = absurd (k.there node l e)
 
 -- where nothing is owed
-free_by : (t : Tables) (label : ℕ → Option Label) (side : Side) (node place : ℕ) (v : View) (b : Bool) → (b ≡ true → label (place + 1) ≡ Some (Out side node)) →
+free_by : (t : Tables) (label : ℕ → Option CopyLabel) (side : Side) (node place : ℕ) (v : View) (b : Bool) → (b ≡ true → label (place + 1) ≡ Some (Out side node)) →
     (b ≡ false → IsSame (cloning t label) side 0 v (made_same t side v)) →
     MatchBool b ((m : ℕ) × ((if b then Exports (place + 1) else made_same t side v) ≡ Exports m) × (label m ≡ Some (Out side node)))
     (IsSame (cloning t label) side 0 v (if b then Exports (place + 1) else made_same t side v))
@@ -102,7 +102,7 @@ free_by t label side node place v true out same = (place + 1, refl, out refl)
 free_by t label side node place v false out same = same refl
 
 -- where something is owed
-owing_by : (t : Tables) (label : ℕ → Option Label) (side : Side) (node owed place : ℕ) (v : View) (b : Bool) → (b ≡ true → label (place + 1) ≡ Some (In side node 0)) →
+owing_by : (t : Tables) (label : ℕ → Option CopyLabel) (side : Side) (node owed place : ℕ) (v : View) (b : Bool) → (b ≡ true → label (place + 1) ≡ Some (In side node 0)) →
     (b ≡ false → IsSame (cloning t label) side (suc owed) v (made_free t side place v)) →
     MatchBool b ((m : ℕ) × ((if b then Skips (suc owed) (place + 1) else made_free t side place v) ≡ Skips (suc owed) m) × Labelled (cloning t label) side m node 0)
     (IsSame (cloning t label) side (suc owed) v (if b then Skips (suc owed) (place + 1) else made_free t side place v))
@@ -148,7 +148,7 @@ pays_zero starts (Exports next) = refl
 pays_zero starts Nowhere = refl
 
 -- an outlet is the last node of its block
-not_outlet : (t : Tables) (n : ℕ) (debt : ℕ → ℕ) (header : ℕ → Bool) (label : ℕ → Option Label) → Known t n debt header label → (node : ℕ) (v : View) → t.at node ≡ v →
+not_outlet : (t : Tables) (n : ℕ) (debt : ℕ → ℕ) (header : ℕ → Bool) (label : ℕ → Option CopyLabel) → Known t n debt header label → (node : ℕ) (v : View) → t.at node ≡ v →
     is_last t.starts (led_to v) ≡ false → is_outlet t.weighty v ≡ false
 not_outlet t n debt header label k node Gives e last = cc
 not_outlet t n debt header label k node Quits e last = cc
@@ -167,13 +167,13 @@ not_outlet t n debt header label k node (Exports next) e last = refl
 not_outlet t n debt header label k node Nowhere e last = refl
 
 -- what a copy owes at a node and after it agree: what it owes is what its block owes, or it was paid at the end of the block
-pub record Agrees (t : Tables) (debt : ℕ → ℕ) (label : ℕ → Option Label) (side : Side) (node owed place : ℕ) : Type 0 where
+pub record Agrees (t : Tables) (debt : ℕ → ℕ) (label : ℕ → Option CopyLabel) (side : Side) (node owed place : ℕ) : Type 0 where
   pub flow : (owed ≡ 0) ⊎ (is_last t.starts (led_to (t.at node)) ≡ false) → mark_count (t.at node) ≡ 0 → (y : ℕ) → LeadsTo t.at node y → owed_by debt side y ≡ owed
   pub pay : pays t.starts owed (t.at node) ≡ true → label (place + 1) ≡ Some (In side node 0)
   pub out : owed ≡ 0 → is_outlet t.weighty (t.at node) ≡ true → label (place + 1) ≡ Some (Out side node)
   pub last : side ≡ Fast → is_inside t.starts (t.at node) ≡ false
 
-owing_right : (t : Tables) (n : ℕ) (debt : ℕ → ℕ) (header : ℕ → Bool) (label : ℕ → Option Label) → Known t n debt header label → (side : Side) (node owed place : ℕ) (v : View) →
+owing_right : (t : Tables) (n : ℕ) (debt : ℕ → ℕ) (header : ℕ → Bool) (label : ℕ → Option CopyLabel) → Known t n debt header label → (side : Side) (node owed place : ℕ) (v : View) →
     t.at node ≡ v → node < n → mark_count v ≡ 0 → Agrees t debt label side node owed place → IsOwing (cloning t label) side node owed v (made_paid t side owed place v)
 owing_right t n debt header label k side node zero place v e l m a =
     let none : pays t.starts 0 v ≡ false = pays_is t.starts 0 v m ∙ no_debt (is_last t.starts (led_to v)) in
@@ -203,7 +203,7 @@ not_not : (b : Bool) → not b ≡ false → b ≡ true
 not_not true e = refl
 not_not false e = cc
 
-visit_right : (t : Tables) (n : ℕ) (debt : ℕ → ℕ) (header : ℕ → Bool) (label : ℕ → Option Label) → Known t n debt header label → (side : Side) (node owed place site next : ℕ) →
+visit_right : (t : Tables) (n : ℕ) (debt : ℕ → ℕ) (header : ℕ → Bool) (label : ℕ → Option CopyLabel) → Known t n debt header label → (side : Side) (node owed place site next : ℕ) →
     t.at node ≡ Marks site next → node < n → Agrees t debt label side node owed place → IsIn (cloning t label) side node owed (Marks site next) (made_in t side owed place (Marks site next))
 visit_right t n debt header label k Slow node owed place site next e l a =
     let inside = k.within node next (leads t node next (Marks site next) e (first_in next [])) in
@@ -217,7 +217,7 @@ visit_right t n debt header label k Fast node owed place site next e l a =
       subst (λ (d : ℕ). Labelled (cloning t label) Fast (place_of t.sheet Fast next) next d) (k.none next begins) (k.fast next inside),
     )
 
-pub in_right : (t : Tables) (n : ℕ) (debt : ℕ → ℕ) (header : ℕ → Bool) (label : ℕ → Option Label) → Known t n debt header label → (side : Side) (node owed place : ℕ) (v : View) →
+pub in_right : (t : Tables) (n : ℕ) (debt : ℕ → ℕ) (header : ℕ → Bool) (label : ℕ → Option CopyLabel) → Known t n debt header label → (side : Side) (node owed place : ℕ) (v : View) →
     t.at node ≡ v → node < n → Agrees t debt label side node owed place → IsIn (cloning t label) side node owed v (made_in t side owed place v)
 in_right t n debt header label k side node owed place (Marks site next) e l a = visit_right t n debt header label k side node owed place site next e l a
 in_right t n debt header label k side node owed place (Row op next) e l a = owing_right t n debt header label k side node owed place (Row op next) e l refl a

@@ -3,8 +3,8 @@ use Rattle.std.proofs.Common.{◌≡◌, ◌⊎◌, inl, inr, ℕ, zero, suc, �
 use Rattle.std.proofs.Math.ListN.{get_or-append}
 use Rattle.std.proofs.Math.Seq.{get_or-append_seam}
 use Rattle.std.proofs.lemmas.Bool.{cases_eq, cases_lt}
-use Rattle.clone_paths.specs.declared.label.Label.{Label}
-use Rattle.clone_paths.specs.declared.label.Label.TheVariants.{Enter}
+use Rattle.clone_paths.specs.declared.label.CopyLabel.{CopyLabel}
+use Rattle.clone_paths.specs.declared.label.CopyLabel.TheVariants.{Enter}
 use Rattle.clone_paths.specs.declared.label.Side.{Side}
 use Rattle.clone_paths.specs.declared.label.Side.TheVariants.{Fast, Slow}
 use Rattle.clone_paths.specs.declared.parts.Outlet.{Outlet}
@@ -45,14 +45,14 @@ column f g e step (suc n) =
       ],
     )
 
-abbrev pub labels_at : (ℕ → Bool) → (ℕ → Part) → ℕ → List Label
+abbrev pub labels_at : (ℕ → Bool) → (ℕ → Part) → ℕ → List CopyLabel
 labels_at header part n = (sheet_at header part n).labels
 
 -- where the labels for a node begin
 abbrev pub start_of : (ℕ → Bool) → (ℕ → Part) → ℕ → ℕ
 start_of header part n = length (labels_at header part n)
 
-abbrev pub chunk : (ℕ → Bool) → (ℕ → Part) → ℕ → List Label
+abbrev pub chunk : (ℕ → Bool) → (ℕ → Part) → ℕ → List CopyLabel
 chunk header part i = labels_for (header i) i (part i)
 
 -- where its slow copy and its fast copy stand
@@ -73,7 +73,7 @@ pub fast_are : (header : ℕ → Bool) (part : ℕ → Part) (n : ℕ) →
 fast_are header part n = column (λ k. (sheet_at header part k).fast) (fast_at header part) refl (λ k. refl) n
 
 -- labels stay
-pub kept : (header : ℕ → Bool) (part : ℕ → Part) (n i j : ℕ) (l : Label) → i ≤ n → slice_get (labels_at header part i) j ≡ Some l → slice_get (labels_at header part n) j ≡ Some l
+pub kept : (header : ℕ → Bool) (part : ℕ → Part) (n i j : ℕ) (l : CopyLabel) → i ≤ n → slice_get (labels_at header part i) j ≡ Some l → slice_get (labels_at header part n) j ≡ Some l
 kept header part zero i j l le e = let z : i ≡ 0 = omega arith in ap (λ (k : ℕ). slice_get (labels_at header part k) j) (sym z) ∙ e
 kept header part (suc n) i j l le e =
     elim (cases_eq i (suc n)) [
@@ -82,13 +82,13 @@ kept header part (suc n) i j l le e =
     ]
 
 -- the labels for a node stand from its place on
-pub placed : (header : ℕ → Bool) (part : ℕ → Part) (n i k : ℕ) (l : Label) → i < n → slice_get (chunk header part i) k ≡ Some l →
+pub placed : (header : ℕ → Bool) (part : ℕ → Part) (n i k : ℕ) (l : CopyLabel) → i < n → slice_get (chunk header part i) k ≡ Some l →
     slice_get (labels_at header part n) (start_of header part i + k) ≡ Some l
 placed header part n i k l lt e =
     kept header part n (suc i) (start_of header part i + k) l (omega arith) (in_second (labels_at header part i) (chunk header part i) k l e)
 
 -- each label is the entry's, or that of a node
-pub owner : (header : ℕ → Bool) (part : ℕ → Part) (n j : ℕ) (l : Label) → slice_get (labels_at header part n) j ≡ Some l →
+pub owner : (header : ℕ → Bool) (part : ℕ → Part) (n j : ℕ) (l : CopyLabel) → slice_get (labels_at header part n) j ≡ Some l →
     ((j ≡ 0) × (l ≡ Enter)) ⊎ ((i k : ℕ) × (i < n) × (j ≡ start_of header part i + k) × (slice_get (chunk header part i) k ≡ Some l))
 owner header part zero zero l e = inl (refl, cc)
 owner header part zero (suc j) l e = cc
@@ -115,11 +115,11 @@ copy_most : (side : Side) (i owed : ℕ) (p : Bool) (o : Outlet) → length (cop
 copy_most side i owed true o = let l = out_few side i o in omega (arith, l)
 copy_most side i owed false o = let l = out_few side i o in omega (arith, l)
 
-fast_most : (i : ℕ) (inside : Bool) (owed : ℕ) (p : Bool) (o : Outlet) → let none : List Label = [] in length (if inside then none else copy_labels Fast i owed p o) ≤ 4
+fast_most : (i : ℕ) (inside : Bool) (owed : ℕ) (p : Bool) (o : Outlet) → let none : List CopyLabel = [] in length (if inside then none else copy_labels Fast i owed p o) ≤ 4
 fast_most i true owed p o = omega arith
 fast_most i false owed p o = copy_most Fast i owed p o
 
-fast_few : (i : ℕ) (inside : Bool) (owed : ℕ) (o : Outlet) → let none : List Label = [] in length (if inside then none else copy_labels Fast i owed false o) ≤ 3
+fast_few : (i : ℕ) (inside : Bool) (owed : ℕ) (o : Outlet) → let none : List CopyLabel = [] in length (if inside then none else copy_labels Fast i owed false o) ≤ 3
 fast_few i true owed o = omega arith
 fast_few i false owed o = copy_few Fast i owed o
 
@@ -136,7 +136,7 @@ chunk_most h i part =
 
 chunk_few : (h : Bool) (i : ℕ) (part : Part) → part.pays ≡ false → length (labels_for h i part) ≤ 7
 chunk_few h i part p =
-    let fast : length (fast_labels i part) ≤ 3 = subst (λ (b : Bool). let none : List Label = [] in length (if part.inside then none else copy_labels Fast i part.owed b part.outlet) ≤ 3) (sym p) (fast_few i part.inside part.owed part.outlet) in
+    let fast : length (fast_labels i part) ≤ 3 = subst (λ (b : Bool). let none : List CopyLabel = [] in length (if part.inside then none else copy_labels Fast i part.owed b part.outlet) ≤ 3) (sym p) (fast_few i part.inside part.owed part.outlet) in
     omega (arith, chunk_length h i part, gate_few h i, copy_few Slow i 0 part.outlet, fast)
 
 -- eight labels a node, and the entry

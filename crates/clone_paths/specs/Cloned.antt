@@ -10,25 +10,14 @@ use Rattle.flow.specs.declared.scope.Bounds.{Bounds}
 use Rattle.flow.specs.declared.scope.Names.{Names}
 use Rattle.flow.specs.Nodes.{NodesFit}
 use Rattle.flow.specs.View.{view}
+use Rattle.flow.specs.Ready.{ArePlain}
 use Rattle.regions.specs.Blocks.{IsStart}
 use Rattle.regions.specs.Flags.{AreFlags, is_in}
 use Rattle.regions.specs.Rows.{EachFits}
 use Rattle.regions.specs.Weighty.{IsWeighty, views_of}
-use Rattle.clone_paths.specs.declared.label.Label.{Label}
-use Rattle.clone_paths.specs.declared.label.Label.TheVariants.{Enter}
+use Rattle.clone_paths.specs.declared.label.CopyLabel.{CopyLabel}
+use Rattle.clone_paths.specs.declared.label.CopyLabel.TheVariants.{Enter}
 use Rattle.clone_paths.specs.Form.{Cloning, IsRight}
-
--- a node of a program as it is before it is sampled
-abbrev pub IsPlain : View → Type 0
-IsPlain (Skips by next) = ⊥
-IsPlain (Tests site next) = ⊥
-IsPlain (Picks weight fast slow) = ⊥
-IsPlain (Imports next) = ⊥
-IsPlain (Exports next) = ⊥
-IsPlain other = Unit {0}
-
-abbrev pub ArePlain : List Node → Type 0
-ArePlain nodes = All (λ n. IsPlain (view n)) nodes
 
 -- the most nodes of a program that is cloned
 abbrev pub cloned_limit : ℕ
@@ -39,7 +28,7 @@ pub record MayClone (p : ProgramParts) : Type 0 where
   pub plain : All (λ f. ArePlain f.nodes) p.functions
   pub few : sum_by (λ f. length f.nodes) p.functions ≤ cloned_limit
 
-abbrev pub cloning_of : (ℕ → Bool) → List Node → List Bool → List Label → Cloning
+abbrev pub cloning_of : (ℕ → Bool) → List Node → List Bool → List CopyLabel → Cloning
 cloning_of weighty nodes starts labels =
     record { weighty = weighty; at = views_of nodes; starts = is_in starts; label = slice_get labels }
 
@@ -47,10 +36,10 @@ cloning_of weighty nodes starts labels =
 pub record NodesCloned (weighty : ℕ → Bool) (nodes cloned : List Node) : Type 0 where
   pub starts : List Bool
   pub are_starts : AreFlags (length nodes) (IsStart (views_of nodes)) starts
-  pub labels : List Label
+  pub labels : List CopyLabel
   pub few : length labels ≡ length cloned
   pub entry : slice_get labels 0 ≡ Some Enter
-  pub each : (place : ℕ) (l : Label) → slice_get labels place ≡ Some l → IsRight (cloning_of weighty nodes starts labels) l (views_of cloned place)
+  pub each : (place : ℕ) (l : CopyLabel) → slice_get labels place ≡ Some l → IsRight (cloning_of weighty nodes starts labels) l (views_of cloned place)
 
 -- a function keeps all but its nodes; a weightless one keeps these too
 pub record FunctionCloned (weighty : ℕ → Bool) (number : ℕ) (f g : Function) : Type 0 where

@@ -7,8 +7,8 @@ use Rattle.flow.specs.declared.node.View.{View}
 use Rattle.flow.specs.declared.node.View.TheVariants.{Row, Halts, Forks, Turns, Calls, Gives, Quits, Marks, Skips, Tests, Picks, Imports, Exports}
 use Rattle.flow.specs.Nodes.{led_to}
 use Rattle.weights.specs.Weight.{IsWeight}
-use Rattle.clone_paths.specs.declared.label.Label.{Label}
-use Rattle.clone_paths.specs.declared.label.Label.TheVariants.{Enter, Gate, Back, In, Out}
+use Rattle.clone_paths.specs.declared.label.CopyLabel.{CopyLabel}
+use Rattle.clone_paths.specs.declared.label.CopyLabel.TheVariants.{Enter, Gate, Back, In, Out}
 use Rattle.clone_paths.specs.declared.label.Side.{Side}
 use Rattle.clone_paths.specs.declared.label.Side.TheVariants.{Fast, Slow}
 
@@ -18,7 +18,7 @@ pub record Cloning : Type 0 where
   pub weighty : ℕ → Bool
   pub at : ℕ → View
   pub starts : ℕ → Bool
-  pub label : ℕ → Option Label
+  pub label : ℕ → Option CopyLabel
 
 -- the node at the place stands for the node in a copy, owing so much. A visit within a block has no node in the fast copy: what stands for the
 -- node after it owes one more.
@@ -79,7 +79,7 @@ IsOut t (Calls function next) q = (m : ℕ) × (q ≡ Calls function m) × (t.la
 IsOut t v q = q ≡ v
 
 -- what a node is by its label
-abbrev pub IsRight : Cloning → Label → View → Type 0
+abbrev pub IsRight : Cloning → CopyLabel → View → Type 0
 IsRight t Enter q = (m : ℕ) × (q ≡ Imports m) × (t.label m ≡ Some (Gate 0))
 IsRight t (Gate node) q =
     (weight fast slow : ℕ) × (q ≡ Picks weight fast slow) × IsWeight t.weighty t.at node weight × Labelled t Fast fast node 0 × Labelled t Slow slow node 0

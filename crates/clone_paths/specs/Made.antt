@@ -6,8 +6,8 @@ use Rattle.flow.specs.declared.node.View.TheVariants.{Row, Forks, Turns, Calls, 
 use Rattle.flow.specs.Limits.{node_limit}
 use Rattle.regions.specs.Flags.{is_in}
 use Rattle.regions.specs.Weighty.{views_of}
-use Rattle.clone_paths.specs.declared.label.Label.{Label}
-use Rattle.clone_paths.specs.declared.label.Label.TheVariants.{Enter, Gate, Back, In, Out}
+use Rattle.clone_paths.specs.declared.label.CopyLabel.{CopyLabel}
+use Rattle.clone_paths.specs.declared.label.CopyLabel.TheVariants.{Enter, Gate, Back, In, Out}
 use Rattle.clone_paths.specs.declared.label.Side.{Side}
 use Rattle.clone_paths.specs.declared.label.Side.TheVariants.{Fast, Slow}
 use Rattle.flow.specs.View.{view}
@@ -61,7 +61,7 @@ made_out place (Calls function next) = Calls function (place + 1)
 made_out place v = v
 
 -- the node with this label at the place
-abbrev pub made : Tables → ℕ → Label → View
+abbrev pub made : Tables → ℕ → CopyLabel → View
 made t place Enter = Imports (slice_index t.sheet.gates 0)
 made t place (Gate node) = Picks (t.weight node) (place_of t.sheet Fast node) (place_of t.sheet Slow node)
 made t place (Back node) = Imports (slice_index t.sheet.gates node)
@@ -69,7 +69,7 @@ made t place (In side node owed) = made_in t side owed place (t.at node)
 made t place (Out side node) = made_out place (t.at node)
 
 -- the label is that of one of so many nodes
-abbrev pub IsOf : ℕ → Label → Type 0
+abbrev pub IsOf : ℕ → CopyLabel → Type 0
 IsOf nodes (In side node owed) = (node < nodes) × (owed < node_limit)
 IsOf nodes (Out side node) = node < nodes
 IsOf nodes other = Unit {0}
@@ -96,5 +96,5 @@ abbrev pub parts_from : List Bool → List Node → List Bool → List ℕ → �
 parts_from weighty nodes starts debts place = part_of (is_in weighty) (is_in starts) (slice_index debts place) (views_of nodes place)
 
 -- a node with its label
-abbrev pub IsMade : Tables → ℕ → Label → Node → Type 0
+abbrev pub IsMade : Tables → ℕ → CopyLabel → Node → Type 0
 IsMade t place label node = view node ≡ made t place label

@@ -6,10 +6,11 @@ use Rattle.regions.specs.Headers.{IsHeader}
 use Rattle.regions.specs.Weighty.{views_of}
 use Rattle.weights.specs.Weight.{AreWeights}
 use Rattle.clone_paths.specs.declared.nodes.Source.{Source}
-use Rattle.clone_paths.specs.Cloned.{ArePlain, cloned_limit}
+use Rattle.clone_paths.specs.Cloned.{cloned_limit}
 use Rattle.clone_paths.specs.Layout.{Sheet}
 use Rattle.clone_paths.specs.Made.{Tables, tables_of}
 use Rattle.clone_paths.specs.Parts.{HasOrder}
+use Rattle.flow.specs.Ready.{ArePlain}
 
 abbrev pub tables : Source → Sheet → Tables
 tables s sheet = tables_of s.weighty.now s.nodes.now s.starts.now s.weights.now sheet

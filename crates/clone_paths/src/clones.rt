@@ -5,11 +5,10 @@ ghost use Rattle.regions.specs.Rows.{EachFits};
 ghost use Rattle.regions.specs.Weighty.{IsWeighty};
 ghost use Rattle.clone_paths.specs.Cloned.{Cloned, FunctionCloned, IsSmall, MayClone, StillFits};
 
-use crate::copies::{copy_globals, copy_sites, copy_texts};
 use crate::function::clone_function;
 use crate::nodes::Source;
 use cbi_base::{Memory, Seq};
-use flow::{Function, Program, ProgramParts};
+use flow::{Function, Program, ProgramParts, copy_globals, copy_sites, copy_texts};
 use regions::{blocks, headers, weighty};
 use std::alloc::Global;
 use weights::weights;

@@ -3,20 +3,19 @@ ghost use Rattle.flow.specs.Limits.{node_limit};
 ghost use Rattle.flow.specs.View.{view};
 ghost use Rattle.regions.specs.Flags.{is_in};
 ghost use Rattle.regions.specs.Rows.{EachFits};
-ghost use Rattle.clone_paths.specs.declared.label.Label.{Label};
+ghost use Rattle.clone_paths.specs.declared.label.CopyLabel.{CopyLabel};
 ghost use Rattle.clone_paths.specs.Cloned.{FitsLike, FunctionCloned, NodesCloned, cloned_limit};
 ghost use Rattle.clone_paths.specs.Layout.{sheet_of};
 ghost use Rattle.clone_paths.specs.Made.{IsMade, IsOf, Resolved, next_visited, parts_from, sheet_at};
 ghost use Rattle.clone_paths.specs.Parts.{HasOrder};
 ghost use Rattle.clone_paths.specs.Sources.{IsPrepared, tables};
 
-use crate::copies::copy_of;
 use crate::debts::debts_of;
 use crate::layout::Layout;
 use crate::nodes::{Source, at, node_for};
 use crate::parts::part_of;
 use cbi_base::{Memory, Seq};
-use flow::{Function, Node, View, view_of};
+use flow::{Function, Node, View, copy_of, view_of};
 use regions::is_in;
 use std::alloc::Global;
 
@@ -66,7 +65,7 @@ fn resolve(fast: &mut [u32], nodes: &[Node], starts: &[bool])
 /// The nodes with these labels.
 fn nodes_for(alloc: Global, source: &Source, layout: &Layout) -> Result<Vec<Node>, Memory>
     requires few { length layout.now.labels.items ≤ node_limit }
-    requires of { (place : ℕ) (l : Label) → slice_get layout.now.labels.items place ≡ Some l → IsOf (length source.now.nodes.now) l }
+    requires of { (place : ℕ) (l : CopyLabel) → slice_get layout.now.labels.items place ≡ Some l → IsOf (length source.now.nodes.now) l }
     ensures { IfOk result (λ nodes. EachFits (IsMade (tables source.now (sheet_of layout.now))) layout.now.labels.items nodes.items) }
 {
     let mut nodes = Vec::with_capacity(alloc, layout.labels.len())?;

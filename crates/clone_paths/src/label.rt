@@ -9,7 +9,7 @@ pub enum Side {
 
 /// What a node of a sampled function stands for, by a node of the original one.
 #[derive(Clone, Copy, Debug)]
-pub enum Label {
+pub enum CopyLabel {
     /// The entry, which takes a copy of the countdown.
     Enter,
     /// The choice of a copy before the node.

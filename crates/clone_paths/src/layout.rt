@@ -1,7 +1,7 @@
 ghost use Rattle.std.specs.Prelude.{◌≡◌, ◌++◌, ◌≤◌, ◌<◌, ◌^◌, IfOk, OnOk, length};
 ghost use Rattle.clone_paths.specs.Layout.{at_entry, copy_labels, fast_labels, gate_labels, laid, out_labels, sheet_of};
 
-use crate::label::{Label, Side};
+use crate::label::{CopyLabel, Side};
 use crate::parts::{Outlet, Part};
 use cbi_base::Memory;
 use std::alloc::Global;
@@ -10,22 +10,27 @@ use std::alloc::Global;
 /// its slow copy and of its fast copy.
 #[derive(Drop)]
 pub(crate) struct Layout {
-    pub labels: Vec<Label>,
+    pub labels: Vec<CopyLabel>,
     pub gates: Vec<u32>,
     pub slow: Vec<u32>,
     pub fast: Vec<u32>,
 }
 
 /// Adds the outlet itself, and the return from a call.
-fn push_out(labels: &mut Vec<Label>, side: Side, node: u32, outlet: Outlet) -> Result<(), Memory>
+fn push_out(
+    labels: &mut Vec<CopyLabel>,
+    side: Side,
+    node: u32,
+    outlet: Outlet,
+) -> Result<(), Memory>
     ensures { OnOk result (labels.new.items ≡ labels.old.items ++ out_labels side node outlet) }
 {
     match outlet {
         Outlet::None => {}
-        Outlet::Leaves => labels.push(Label::Out { side, node })?,
+        Outlet::Leaves => labels.push(CopyLabel::Out { side, node })?,
         Outlet::Calls { next } => {
-            labels.push(Label::Out { side, node })?;
-            labels.push(Label::Back { node: next })?;
+            labels.push(CopyLabel::Out { side, node })?;
+            labels.push(CopyLabel::Back { node: next })?;
         }
     }
     Ok(())
@@ -33,7 +38,7 @@ fn push_out(labels: &mut Vec<Label>, side: Side, node: u32, outlet: Outlet) -> R
 
 /// Adds a node in a copy, twice where what is owed is paid before it.
 fn push_copy(
-    labels: &mut Vec<Label>,
+    labels: &mut Vec<CopyLabel>,
     side: Side,
     node: u32,
     owed: u32,
@@ -42,26 +47,26 @@ fn push_copy(
 ) -> Result<(), Memory>
     ensures { OnOk result (labels.new.items ≡ labels.old.items ++ copy_labels side node owed pays outlet) }
 {
-    labels.push(Label::In { side, node, owed })?;
+    labels.push(CopyLabel::In { side, node, owed })?;
     if pays {
         let owed = 0;
-        labels.push(Label::In { side, node, owed })?;
+        labels.push(CopyLabel::In { side, node, owed })?;
     }
     push_out(labels, side, node, outlet)
 }
 
 /// Adds the choice before a node, where a region begins there.
-fn push_gate(labels: &mut Vec<Label>, header: bool, node: u32) -> Result<(), Memory>
+fn push_gate(labels: &mut Vec<CopyLabel>, header: bool, node: u32) -> Result<(), Memory>
     ensures { OnOk result (labels.new.items ≡ labels.old.items ++ gate_labels header node) }
 {
     if header {
-        labels.push(Label::Gate { node })?;
+        labels.push(CopyLabel::Gate { node })?;
     }
     Ok(())
 }
 
 /// Adds the fast copy of a node.
-fn push_fast(labels: &mut Vec<Label>, node: u32, part: Part) -> Result<(), Memory>
+fn push_fast(labels: &mut Vec<CopyLabel>, node: u32, part: Part) -> Result<(), Memory>
     ensures { OnOk result (labels.new.items ≡ labels.old.items ++ fast_labels node part) }
 {
     if !part.inside {
@@ -75,7 +80,7 @@ impl Layout {
     pub(crate) fn entry(alloc: Global) -> Result<Layout, Memory>
         ensures { IfOk result (λ l. sheet_of l ≡ at_entry) }
     {
-        let labels = vec![in alloc; Label::Enter]?;
+        let labels = vec![in alloc; CopyLabel::Enter]?;
         Ok(Layout {
             labels,
             gates: Vec::new(alloc),

@@ -2,7 +2,6 @@
 #![tactic(auto)]
 
 mod clones;
-mod copies;
 mod debts;
 mod function;
 mod label;
@@ -11,5 +10,4 @@ mod nodes;
 mod parts;
 
 pub use clones::clone_program;
-pub use copies::{copy_of, copy_sites, copy_texts};
-pub use label::{Label, Side};
+pub use label::{CopyLabel, Side};

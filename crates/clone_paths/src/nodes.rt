@@ -7,7 +7,7 @@ ghost use Rattle.clone_paths.specs.Layout.{place_of, sheet_of};
 ghost use Rattle.clone_paths.specs.Made.{IsOf, made, made_in, made_out, made_paid, made_same, made_visit};
 ghost use Rattle.clone_paths.specs.Sources.{tables};
 
-use crate::label::{Label, Side};
+use crate::label::{CopyLabel, Side};
 use crate::layout::Layout;
 use crate::parts::{is_outlet, pays};
 use flow::{Node, View, view_of, with_next};
@@ -122,24 +122,24 @@ fn out_node(place: u32, node: Node) -> Node
 }
 
 /// The node with this label at the place.
-pub(crate) fn node_for(source: &Source, layout: &Layout, place: u32, label: Label) -> Node
+pub(crate) fn node_for(source: &Source, layout: &Layout, place: u32, label: CopyLabel) -> Node
     requires place { place < node_limit }
     requires of { IsOf (length source.now.nodes.now) label }
     ensures { view result ≡ made (tables source.now (sheet_of layout.now)) place label }
 {
     match label {
-        Label::Enter => Node::Import {
+        CopyLabel::Enter => Node::Import {
             next: at(&layout.gates, 0),
         },
-        Label::Gate { node } => Node::Choose {
+        CopyLabel::Gate { node } => Node::Choose {
             weight: at(source.weights, node),
             fast: at(&layout.fast, node),
             slow: at(&layout.slow, node),
         },
-        Label::Back { node } => Node::Import {
+        CopyLabel::Back { node } => Node::Import {
             next: at(&layout.gates, node),
         },
-        Label::In { side, node, owed } => {
+        CopyLabel::In { side, node, owed } => {
             copied_node(
                 source,
                 layout,
@@ -149,6 +149,6 @@ pub(crate) fn node_for(source: &Source, layout: &Layout, place: u32, label: Labe
                 source.nodes[node as usize],
             )
         }
-        Label::Out { node, .. } => out_node(place, source.nodes[node as usize]),
+        CopyLabel::Out { node, .. } => out_node(place, source.nodes[node as usize]),
     }
 }

@@ -51,17 +51,17 @@ pub record IsOurs (c : Held) (r : Report) : Type 0 where
   pub sites : first_bad c.branches r.entries ≡ None
 
 -- What an addition answers. A report of another program is refused first, then one with a site that isn't there, then one whose run is held with
--- another report, and last one that passes a limit.
+-- another report, and last one that passes a limit. A refused one changes nothing.
 abbrev pub Adds : Held → Report → Result Added AddFault → Held → Type 0
 Adds c r (Ok New) after =
     IsOurs c r × (report_at r.run c.reports ≡ None) × (length c.reports < report_limit) × (marks_of c.reports + length r.entries ≤ mark_limit)
     × (after ≡ record c { reports = with_report r c.reports })
 Adds c r (Ok Repeated) after = IsOurs c r × (report_at r.run c.reports ≡ Some r) × (after ≡ c)
-Adds c r (Err (Foreign ours theirs)) after = (ours ≡ c.program) × (theirs ≡ r.program) × (ours ≢ theirs)
-Adds c r (Err (NoSite run site)) after = (r.program ≡ c.program) × (run ≡ r.run) × (first_bad c.branches r.entries ≡ Some site)
-Adds c r (Err (Conflict run)) after = IsOurs c r × (run ≡ r.run) × ((held : Report) × (report_at run c.reports ≡ Some held) × (held ≢ r))
-Adds c r (Err (TooManyReports run)) after = IsOurs c r × (run ≡ r.run) × (report_at run c.reports ≡ None) × (report_limit ≤ length c.reports)
+Adds c r (Err (Foreign ours theirs)) after = (ours ≡ c.program) × (theirs ≡ r.program) × (ours ≢ theirs) × (after ≡ c)
+Adds c r (Err (NoSite run site)) after = (r.program ≡ c.program) × (run ≡ r.run) × (first_bad c.branches r.entries ≡ Some site) × (after ≡ c)
+Adds c r (Err (Conflict run)) after = IsOurs c r × (run ≡ r.run) × ((held : Report) × (report_at run c.reports ≡ Some held) × (held ≢ r)) × (after ≡ c)
+Adds c r (Err (TooManyReports run)) after = IsOurs c r × (run ≡ r.run) × (report_at run c.reports ≡ None) × (report_limit ≤ length c.reports) × (after ≡ c)
 Adds c r (Err (TooManyMarks run)) after =
-    IsOurs c r × (run ≡ r.run) × (report_at run c.reports ≡ None) × (length c.reports < report_limit) × (mark_limit < marks_of c.reports + length r.entries)
+    IsOurs c r × (run ≡ r.run) × (report_at run c.reports ≡ None) × (length c.reports < report_limit) × (mark_limit < marks_of c.reports + length r.entries) × (after ≡ c)
 Adds c r (Err Memory) after =
-    IsOurs c r × (report_at r.run c.reports ≡ None) × (length c.reports < report_limit) × (marks_of c.reports + length r.entries ≤ mark_limit)
+    IsOurs c r × (report_at r.run c.reports ≡ None) × (length c.reports < report_limit) × (marks_of c.reports + length r.entries ≤ mark_limit) × (after ≡ c)

@@ -17,3 +17,4 @@ pub use laws::{
 };
 pub use reading::{CollectionError, read_collection};
 pub use run_text::{RunText, read_run};
+pub use sites::branches_of;

@@ -13,7 +13,7 @@ use Rattle.collector.specs.declared.collection.Bundle.{Bundle}
 use Rattle.collector.specs.declared.collection.Held.{Held}
 use Rattle.collector.specs.Collected.{Adds, report_at}
 use Rattle.collector.specs.Merging.{AddsAll, Merges, OfAnother, OfThis}
-use Rattle.commands.specs.Collect.{StopsAt, TakesAll}
+use Rattle.commands.specs.Collect.{MeetsFault, TakesAll}
 
 some-same : {A : Type 0} (x y : A) → Some x ≡ Some y → x ≡ y
 some-same x y e = ap (λ o. unwrap_or o x) e
@@ -94,8 +94,8 @@ merges-once c bundle m l x y (OfThis of took) (OfAnother f) = absurd (ok-err _ _
 merges-once c bundle m l x y (OfThis of took) (OfThis too again) = all-once c bundle.reports 0 0 0 0 m l x y took again
 
 -- bundles that are all taken stop for want of memory alone
-pub taken-stops : (c : Held) (bundles : List Bundle) (after : Held) (fault : AddFault) → TakesAll c bundles after → StopsAt c bundles fault → fault ≡ Memory
+pub taken-stops : (c : Held) (bundles : List Bundle) (after : Held) (fault : AddFault) → TakesAll c bundles after → MeetsFault c bundles fault → fault ≡ Memory
 taken-stops c [] after fault takes stops = absurd stops
 taken-stops c (bundle ∷ more) after fault (m, next, merges, rest) (inl (other, stops)) = merges-fault c bundle m fault next other merges stops
 taken-stops c (bundle ∷ more) after fault (m, next, merges, rest) (inr (l, other, again, stops)) =
-    taken-stops next more after fault rest (subst (λ h. StopsAt h more fault) (sym (merges-once c bundle m l next other merges again)) stops)
+    taken-stops next more after fault rest (subst (λ h. MeetsFault h more fault) (sym (merges-once c bundle m l next other merges again)) stops)

@@ -13,7 +13,7 @@ use Rattle.collector.specs.declared.collection.Held.{Held as Collected}
 use Rattle.commands.specs.declared.words.CollectWords.{CollectWords}
 use Rattle.commands.specs.declared.reports.CollectTexts.{CollectTexts}
 use Rattle.commands.specs.Files.{program_limit}
-use Rattle.commands.specs.Collect.{AreReadOf, AreRefusedTexts, AreSpelled, AreTexts, CollectRefused, HasNoFile, RefusesFiles, RefusesTexts, StopsAt, TakesAll, fault_of, file_limit, nothing_of}
+use Rattle.commands.specs.Collect.{AreReadOf, AreRefusedTexts, AreSpelled, AreTexts, CollectRefused, HasNoFile, RefusesFiles, RefusesTexts, MeetsFault, TakesAll, fault_of, file_limit, nothing_of}
 use Rattle.commands.proofs.Adding.{taken-stops}
 use Rattle.commands.proofs.RunLemmas.{read-once}
 
@@ -76,8 +76,8 @@ gathered-never-refused texts parts bundles after spells are takes one_program on
 gathered-never-refused texts parts bundles after spells are takes one_program one_list (inr (inl bad)) = no-bad-file texts.files bundles are bad
 gathered-never-refused texts parts bundles after spells are takes one_program one_list (inr (inr not)) =
     let r = not.refused in
-    let stops = subst (λ (p : ProgramParts). StopsAt (nothing_of texts.program p.sites) r.bundles r.stops.fault) (one_program r.parts r.spells) r.stops.stops in
-    let here = subst (λ bs. StopsAt (nothing_of texts.program parts.sites) bs r.stops.fault) (one_list r.bundles r.are_spelled) stops in
+    let stops = subst (λ (p : ProgramParts). MeetsFault (nothing_of texts.program p.sites) r.bundles r.stops.fault) (one_program r.parts r.spells) r.stops.stops in
+    let here = subst (λ bs. MeetsFault (nothing_of texts.program parts.sites) bs r.stops.fault) (one_list r.bundles r.are_spelled) stops in
     let is = taken-stops (nothing_of texts.program parts.sites) bundles after r.stops.fault takes here in
     never-memory not.refusal (r.stops.tells ∙ ap Some is)
 

@@ -5,8 +5,8 @@ use Rattle.cbi_base.specs.declared.refusal.Refusal.{Refusal}
 use Rattle.cbi_base.specs.declared.refusal.Refusal.TheVariants.{BadByte, BadToken, Syntax, BadType, TooLarge, TooManySites, BadProgram, BadBank, BadReport, Foreign, Conflict, TooManyReports, TooManyMarks, BadCollection, InputTooLarge, NoSite, BadEdits, Absent, NotPart}
 use Rattle.cbi_words.specs.declared.command.Command.{Command}
 use Rattle.cbi_words.specs.declared.command.Command.TheVariants.{Transform, Run, Bank, Collect, Rank, Study}
-use Rattle.study.specs.declared.plan.Plan.{Plan}
-use Rattle.study.specs.Refused.{IsRefusedText, RefusesText}
+use Rattle.compiler.specs.declared.plan.Plan.{Plan}
+use Rattle.compiler.specs.Refused.{IsRefusedText, RefusesText}
 use Rattle.study.specs.Studied.{IsRefusedStudy, RefusesStudy, study_form}
 use Rattle.study_runs.specs.declared.plan.StudyPlan.{StudyPlan}
 use Rattle.commands.specs.declared.fault.Fault.{Fault}

@@ -2,7 +2,7 @@
 use Rattle.std.proofs.Common.{◌≡◌, ℕ, List, Option, IsSome, sym, subst}
 use Rattle.cbi_base.specs.Sink.{TakesPrefix}
 use Rattle.cbi_base.specs.Store.{Held, IsReadOf}
-use Rattle.study.specs.Refused.{IsRefusedText}
+use Rattle.compiler.specs.Refused.{IsRefusedText}
 use Rattle.commands.specs.declared.words.TransformWords.{TransformWords}
 use Rattle.commands.specs.Outside.{TookWithin}
 use Rattle.commands.specs.Transform.{IsFileOf, IsTransformed, TransformRefused, plan_of, text_limit}

@@ -113,11 +113,11 @@ TakesAll c [] after = after ≡ c
 TakesAll c (bundle ∷ more) after = (m : Merged) × (next : Collected) × Merges c bundle (Ok m) next × TakesAll next more after
 
 -- the bundles are added in their order, and this fault comes first
-abbrev pub StopsAt : Collected → List Bundle → AddFault → Type 0
-StopsAt c [] fault = ⊥
-StopsAt c (bundle ∷ more) fault =
+abbrev pub MeetsFault : Collected → List Bundle → AddFault → Type 0
+MeetsFault c [] fault = ⊥
+MeetsFault c (bundle ∷ more) fault =
     ((after : Collected) × Merges c bundle (Err fault) after)
-    ⊎ ((m : Merged) × (next : Collected) × Merges c bundle (Ok m) next × StopsAt next more fault)
+    ⊎ ((m : Merged) × (next : Collected) × Merges c bundle (Ok m) next × MeetsFault next more fault)
 
 -- the fault that a refusal tells of
 abbrev pub fault_of : Refusal → Option AddFault
@@ -163,7 +163,7 @@ RefusesFiles number (text ∷ more) refusal = RefusesFile number text refusal �
 pub record StopsWith (c : Collected) (bundles : List Bundle) (refusal : Refusal) : Type 0 where
   pub fault : AddFault
   pub tells : fault_of refusal ≡ Some fault
-  pub stops : StopsAt c bundles fault
+  pub stops : MeetsFault c bundles fault
 
 -- so it is where they are added to a collection that holds nothing
 pub record RefusesReports (texts : CollectTexts) (refusal : Refusal) : Type 0 where

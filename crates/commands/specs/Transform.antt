@@ -8,10 +8,10 @@ use Rattle.cbi_words.specs.declared.schemes.Schemes.{Schemes as Named}
 use Rattle.flow.specs.declared.program.ProgramParts.{ProgramParts}
 use Rattle.flow.specs.Spelling.{SpellsProgram}
 use Rattle.sites.specs.declared.schemes.Schemes.{Schemes}
-use Rattle.study.specs.declared.plan.Plan.{Plan}
-use Rattle.study.specs.declared.plan.Plan.TheVariants as plan
-use Rattle.study.specs.Compiled.{IsCompiled}
-use Rattle.study.specs.Refused.{IsRefusedText, RefusesText}
+use Rattle.compiler.specs.declared.plan.Plan.{Plan}
+use Rattle.compiler.specs.declared.plan.Plan.TheVariants as plan
+use Rattle.compiler.specs.Compiled.{IsCompiled}
+use Rattle.compiler.specs.Refused.{IsRefusedText, RefusesText}
 use Rattle.commands.specs.declared.words.TransformWords.{TransformWords}
 
 -- the most bytes that a text has

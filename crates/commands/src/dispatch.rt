@@ -17,9 +17,9 @@ use crate::transform_text::transform_text;
 use crate::words::{BankWords, CollectWords, RankWords, RunWords, StudyWords, TransformWords};
 use cbi_base::{Sink, Store};
 use cbi_words::Command;
+use compiler::refused_texts_are_not_compiled;
 use probes::Probe;
 use std::alloc::Global;
-use study::refused_texts_are_not_compiled;
 use study_runs::StudyPlan;
 
 /// Does the command.

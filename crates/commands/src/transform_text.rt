@@ -5,7 +5,7 @@ ghost use Rattle.commands.specs.Names.{IsOneOf, IsFirstMissing, AreHeld};
 ghost use Rattle.commands.specs.Outside.{TookDue, TookWithin};
 ghost use Rattle.commands.specs.Transform.{IsFileOf, IsTransformed, TransformRefused, TransformRefusedBy, plan_of, transform_names};
 ghost use Rattle.commands.specs.declared.done.Done.TheVariants.{Nothing};
-ghost use Rattle.study.specs.Refused.{IsRefusedText, RefusesText};
+ghost use Rattle.compiler.specs.Refused.{IsRefusedText, RefusesText};
 
 use crate::devices::{put, read_file};
 use crate::done::Done;
@@ -13,10 +13,10 @@ use crate::fault::Fault;
 use crate::words::TransformWords;
 use cbi_base::{Memory, Sink, Store};
 use cbi_words::Mode;
+use compiler::{CompileError, Plan, compile};
 use program_file::write_program;
 use sites::Schemes;
 use std::alloc::Global;
-use study::{CompileError, Plan, compile};
 
 /// The most bytes that are read of a text.
 pub const TEXT_LIMIT: u64 = 1048576;

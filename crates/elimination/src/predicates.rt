@@ -1,10 +1,7 @@
-ghost use Rattle.std.specs.Prelude.{◌≡◌, ◌<◌, ◌≤◌, length, IfOk};
-ghost use Rattle.collector.specs.Sites.{branches_of, is_branch};
+ghost use Rattle.std.specs.Prelude.{◌≡◌, ◌<◌, ◌≤◌};
 ghost use Rattle.elimination.specs.Predicates.{makes_true, width_of};
 
-use cbi_base::{Counts, Memory, Seq};
-use flow::{Site, SiteKind};
-use std::alloc::Global;
+use cbi_base::Counts;
 
 /// How many predicates a site has.
 pub fn width_of(branch: bool) -> u32
@@ -33,26 +30,4 @@ pub fn makes_true(branch: bool, number: u32, counts: Counts) -> bool
         4 => second,
         _ => first || third,
     }
-}
-
-fn is_branch(site: &Site) -> bool
-    ensures { result ≡ is_branch site.now }
-{
-    match site.kind {
-        SiteKind::Branch { .. } => true,
-        SiteKind::Return { .. } | SiteKind::Pair { .. } => false,
-    }
-}
-
-/// Which of the sites are branches.
-pub fn branches_of(alloc: Global, sites: &[Site]) -> Result<Seq<bool>, Memory>
-    ensures { IfOk result (λ branches. branches ≡ branches_of sites.now) }
-{
-    let mut branches = Seq::new(alloc);
-    let mut rest = sites;
-    while let [site, after @ ..] = rest {
-        branches.push(is_branch(site))?;
-        rest = after;
-    }
-    Ok(branches)
 }

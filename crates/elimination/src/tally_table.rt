@@ -8,11 +8,11 @@ ghost use Rattle.elimination.specs.Runs.{AreEntriesOf};
 ghost use Rattle.elimination.specs.Tallies.{Allows, AllowsEntries, AllowsEntry, AreRecounts, ChangedBy, ChangedByAll, changed, counted_as, one_if};
 ghost use Rattle.elimination.specs.Table.{AreStarts};
 
-use crate::predicates::{branches_of, makes_true, width_of};
+use crate::predicates::{makes_true, width_of};
 use crate::runs::report_after;
 use crate::steps::Steps;
 use cbi_base::{Counts, Memory, Seq};
-use collector::Collection;
+use collector::{Collection, branches_of};
 use flow::SiteTable;
 use fractions::Tally;
 use report_file::{Entry, Label};

@@ -1,6 +1,6 @@
 -- The predicates of a site table (PLDI 2005 section 2): a branch site has two, that its condition is true and that it is false; another site
 -- has six, how its value stands to 0 or to its partner. They are numbered from 0 through all sites in order.
-use Rattle.std.specs.Prelude.{◌≡◌, ℕ, zero, suc, ◌+◌, ◌-◌, ◌<◌, nat_lt, if◌then◌else◌, List, [], ◌∷◌, take, slice_get, Some, sum_by, codes}
+use Rattle.std.specs.Prelude.{◌≡◌, ℕ, zero, suc, ◌+◌, ◌-◌, ◌<◌, nat_lt, if◌then◌else◌, List, [], ◌∷◌, take, slice_get, Option, None, Some, sum_by, codes}
 use Rattle.std.specs.Fmt.{signed_decimal}
 use Rattle.cbi_base.specs.Text.{spaced}
 use Rattle.flow.specs.declared.site.BranchWord.{BranchWord}
@@ -33,6 +33,11 @@ pub record IsPlaced (sites : List Site) (predicate : ℕ) : Type 0 where
   pub number : ℕ
   pub site : Site
   pub is : IsPredicate sites predicate place site number
+
+-- the site of a predicate, by its number among all
+abbrev pub site_at : List Site → ℕ → Option Site
+site_at [] predicate = None
+site_at (s ∷ sites) predicate = if nat_lt predicate (predicates_of s.kind) then Some s else site_at sites (predicate - predicates_of s.kind)
 
 abbrev pub branch_word : BranchWord → List ℕ
 branch_word If = codes "if"

@@ -1,7 +1,7 @@
-ghost use Rattle.std.specs.Prelude.{◌≡◌, ◌≤◌, ◌<◌, [], ◌∷◌, ℕ, List, IfOk};
+ghost use Rattle.std.specs.Prelude.{◌≡◌, ◌≤◌, ◌<◌, [], ◌∷◌, ℕ, List, All, IfOk, Some, length};
 ghost use Rattle.cbi_base.specs.Text.{spaced};
 ghost use Rattle.flow.specs.declared.site.Site.{Site};
-ghost use Rattle.flow.specs.Predicates.{IsPlaced, IsPredicate, branch_word, partner_text, predicate_count, predicate_text, predicates_of, relation_sign, text_of_kind, truth_word};
+ghost use Rattle.flow.specs.Predicates.{IsPlaced, IsPredicate, branch_word, partner_text, predicate_count, predicate_text, predicates_of, relation_sign, site_at, text_of_kind, truth_word};
 
 use crate::site::{BranchWord, Partner, Site, SiteKind, SiteTable};
 use cbi_base::{Memory, Name};
@@ -123,10 +123,14 @@ fn text_of_kind(alloc: Global, kind: &SiteKind, number: u32) -> Result<Vec<u8>, 
     }
 }
 
-/// The site of a predicate, and the predicate's number among those of that site.
-fn site_of(sites: &[Site], predicate: u32) -> (&Site, u32)
-    requires { predicate < predicate_count sites.now }
-    ensures { predicate_text sites.now predicate ≡ text_of_kind result.0.now.kind result.1 }
+/// The site of a predicate among these, which stand in so many functions, and the predicate's number among those of that site.
+fn site_of(sites: &[Site], functions: usize, predicate: u32) -> (&Site, u32)
+    requires predicate { predicate < predicate_count sites.now }
+    requires functions { All (λ (s : Site). s.function < functions) sites.now }
+    ensures site { site_at sites.now predicate ≡ Some result.0.now }
+    ensures function { result.0.now.function < functions }
+    ensures text { predicate_text sites.now predicate ≡ text_of_kind result.0.now.kind result.1 }
+    ensures own { result.1 < predicates_of result.0.now.kind }
 {
     let mut number = predicate;
     for site in sites {
@@ -139,12 +143,24 @@ fn site_of(sites: &[Site], predicate: u32) -> (&Site, u32)
     unreachable!()
 }
 
+/// The site of a predicate of the table, which stands in one of its functions, and the predicate's number among those of that site.
+pub fn predicate_site(table: &SiteTable, predicate: u32) -> (&Site, u32)
+    requires { predicate < predicate_count table.now.sites }
+    ensures site { site_at table.now.sites predicate ≡ Some result.0.now }
+    ensures function { result.0.now.function < length table.now.functions }
+    ensures text { predicate_text table.now.sites predicate ≡ text_of_kind result.0.now.kind result.1 }
+    ensures own { result.1 < predicates_of result.0.now.kind }
+{
+    let functions = table.functions().len();
+    site_of(table.sites(), functions, predicate)
+}
+
 /// The text of a predicate of the table.
 pub fn predicate_name(alloc: Global, table: &SiteTable, predicate: u32) -> Result<Vec<u8>, Memory>
     requires { predicate < predicate_count table.now.sites }
     ensures { IfOk result (λ text. text.items ≡ predicate_text table.now.sites predicate) }
 {
-    let (site, number) = site_of(table.sites(), predicate);
+    let (site, number) = predicate_site(table, predicate);
     let text = text_of_kind(alloc, &site.kind, number)?;
     Ok(text)
 }

@@ -71,8 +71,8 @@ pub(crate) fn are_texts(texts: &[Text]) -> bool
     all_bytes(texts) <= BYTE_LIMIT
 }
 
-/// The number of each text's conversions.
-pub(crate) fn conversions(alloc: Heap, texts: &[Text]) -> Result<Seq<Option<u32>>, Memory>
+/// The number of each text's conversions as a format, and none for one that is no format.
+pub fn conversions(alloc: Heap, texts: &[Text]) -> Result<Seq<Option<u32>>, Memory>
     requires { AreTexts texts.now }
     ensures { IfOk result (λ counts. counts ≡ map (λ t. conversions_of t.bytes) texts.now) }
 {

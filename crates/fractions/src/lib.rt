@@ -5,8 +5,6 @@
 mod fraction;
 mod logarithm;
 mod tally;
-#[cfg(test)]
-mod tests;
 
 pub use fraction::{Fraction, compare, millionths, order_is_transitive};
 pub use logarithm::{log_fixed, number_is_power_times_mantissa};

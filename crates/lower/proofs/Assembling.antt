@@ -5,8 +5,8 @@ use Rattle.std.specs.List.{All}
 use Rattle.std.proofs.lemmas.Bool.{false≢true}
 use Rattle.c_syntax.specs.ItemTree.{SourceTree}
 use Rattle.c_syntax.specs.Spelling.{tree_kinds}
-use Rattle.c_types.specs.declared.walk.Walk.{Walk}
-use Rattle.clone_paths.specs.Cloned.{ArePlain}
+use Rattle.c_types_expressions.specs.declared.walk.Walk.{Walk}
+use Rattle.flow.specs.Ready.{ArePlain, IsReady}
 use Rattle.flow.specs.declared.program.Function.{Function}
 use Rattle.flow.specs.declared.program.Global.{Global}
 use Rattle.flow.specs.declared.program.ProgramParts.{ProgramParts}
@@ -17,17 +17,16 @@ use Rattle.flow.specs.declared.site.TableParts.{TableParts}
 use Rattle.flow.specs.Code.{Callee}
 use Rattle.flow.specs.Program.{AreTexts, IsProgram, parts_of}
 use Rattle.c_meaning.specs.Texts.{source_of}
-use Rattle.fitting_facts.specs.TextNames.{names_of_text}
-use Rattle.graphs.specs.Functions.{IsGraphOf}
-use Rattle.program_globals.proofs.Counting.{objects_there}
-use Rattle.program_parts.proofs.Counting.{as_many}
-use Rattle.program_parts.proofs.Texts.{texts_fit}
-use Rattle.sampling.specs.Runs.{IsReady}
-use Rattle.text_programs.specs.Parts.{ArePartsOf, FitsAsFunction}
-use Rattle.text_programs.specs.Ready.{IsReadyText}
-use Rattle.tree_facts.specs.declared.facts.TreeFacts.{TreeFacts}
-use Rattle.tree_facts.specs.Facts.{facts_in, known_in, source_in, table_in, tree_in}
-use Rattle.tree_facts.specs.Objects.{begun_with}
+use Rattle.lower_nodes_fit.specs.TextNames.{names_of_text}
+use Rattle.lower_relation.specs.Functions.{IsGraphOf}
+use Rattle.lower_parts_fit.proofs.BegunGlobals.{objects_there}
+use Rattle.lower_parts_fit.proofs.DefinedFunctions.{as_many}
+use Rattle.lower_parts_fit.proofs.Texts.{texts_fit}
+use Rattle.lower_parts_fit.specs.Parts.{ArePartsOf, FitsAsFunction}
+use Rattle.lower_parts_fit.specs.Ready.{IsReadyText}
+use Rattle.lower_facts.specs.declared.facts.TreeFacts.{TreeFacts}
+use Rattle.lower_facts.specs.Facts.{facts_in, known_in, source_in, table_in, tree_in}
+use Rattle.lower_facts.specs.Objects.{begun_with}
 use Rattle.lower.specs.Fits.{AreFitting, NodesStand}
 use Rattle.lower.specs.Programs.{AreFunctionsOf, HasNoMore, IsFunctionOf, node_count}
 use Rattle.lower.proofs.Graphing.{graph_of}

@@ -9,13 +9,13 @@ use Rattle.flow.specs.declared.node.View.TheVariants as view
 use Rattle.c_meaning.specs.declared.value_type.ValueType.{ValueType}
 use Rattle.c_meaning.specs.Facts.{Facts, Sites}
 use Rattle.c_meaning.specs.Trees.{has_value}
-use Rattle.graphs.specs.Functions.{BodyDoes, EndsAt, Leaves, Stays, Passes, standing}
-use Rattle.graphs.specs.Paths.{Exits, Graph, Stuck, Does}
+use Rattle.lower_relation.specs.Functions.{BodyDoes, EndsAt, Leaves, Stays, Passes, standing}
+use Rattle.lower_relation.specs.Paths.{Exits, Graph, Stuck, Does}
 use Rattle.lower.specs.Bodies.{BodyNodes, ComesPart, EndPart, GivesPart, LeavesPart}
-use Rattle.graph_parts.specs.Finished.{Finished, turned}
-use Rattle.graph_parts.specs.Ends.{AllBelow, all_ends}
-use Rattle.graph_parts.specs.Made.{Later, LeadBack, Made, MadeAlone, MadeExits, Stands}
-use Rattle.graph_parts.proofs.Building.{back_both, later_self, later_trans, one_made, stays_put, view_made}
+use Rattle.lower_nodes.specs.Finished.{Finished, turned}
+use Rattle.lower_nodes.specs.Ends.{AllBelow, all_ends}
+use Rattle.lower_nodes.specs.Made.{Later, LeadBack, Made, MadeAlone, MadeExits, CameOut}
+use Rattle.lower_nodes.proofs.Building.{back_both, later_self, later_trans, one_made, stays_put, view_made}
 
 pub gives_made : (b : Bool) (n0 n1 : List Node) (i : ℕ) → b ≡ true → i ≡ length n0 → n1 ≡ n0 ++ node.Return ∷ [] → MadeAlone (GivesPart b) n0 n1 i 0
 gives_made b n0 n1 i e at is =
@@ -48,11 +48,11 @@ module _ (is_main value : Bool) (n0 n1 n2 n3 n4 : List Node) (stuck leaves gives
   leave_made : MadeAlone {K = ℕ} (λ G i k. G i view.Quits) n1 n2 leaves 0
   leave_made = view_made {K = ℕ} (λ k. view.Quits) node.Leave n1 n2 leaves 0 refl at is (λ all b. tt)
 
-  end_stands : Stands (length n3) n4 next
+  end_stands : CameOut (length n3) n4 next
   end_stands =
-      let first : Stands (length n0) n1 stuck = halted.leads tt in
-      let second : Stands (length n1) n2 leaves = leave_made.leads tt in
-      let third : Stands (length n2) n3 gives = given.leads tt in
+      let first : CameOut (length n0) n1 stuck = halted.leads tt in
+      let second : CameOut (length n1) n2 leaves = leave_made.leads tt in
+      let third : CameOut (length n2) n3 gives = given.leads tt in
       let low : stuck < length n3 = omega (arith, first.inside, leave_made.keeps.longer, given.keeps.longer) in
       let last : leaves < length n3 = omega (arith, second.inside, given.keeps.longer) in
       ended.leads (last, (low, (low, (third.inside, (last, tt)))))
@@ -60,18 +60,18 @@ module _ (is_main value : Bool) (n0 n1 n2 n3 n4 : List Node) (stuck leaves gives
   -- all of them are there
   pub exits_below : AllBelow (length n4) (all_ends (exits_with stuck leaves gives next))
   exits_below =
-      let first : Stands (length n0) n1 stuck = halted.leads tt in
-      let second : Stands (length n1) n2 leaves = leave_made.leads tt in
-      let third : Stands (length n2) n3 gives = given.leads tt in
+      let first : CameOut (length n0) n1 stuck = halted.leads tt in
+      let second : CameOut (length n1) n2 leaves = leave_made.leads tt in
+      let third : CameOut (length n2) n3 gives = given.leads tt in
       let low : stuck < length n4 = omega (arith, first.inside, leave_made.keeps.longer, given.keeps.longer, ended.keeps.longer) in
       let last : leaves < length n4 = omega (arith, second.inside, given.keeps.longer, ended.keeps.longer) in
       (end_stands.inside, (low, (low, (omega (arith, third.inside, ended.keeps.longer), (last, tt)))))
 
-  exits_stand : Stands (length n0) n4 0
+  exits_stand : CameOut (length n0) n4 0
   exits_stand =
-      let first : Stands (length n0) n1 stuck = halted.leads tt in
-      let second : Stands (length n1) n2 leaves = leave_made.leads tt in
-      let third : Stands (length n2) n3 gives = given.leads tt in
+      let first : CameOut (length n0) n1 stuck = halted.leads tt in
+      let second : CameOut (length n1) n2 leaves = leave_made.leads tt in
+      let third : CameOut (length n2) n3 gives = given.leads tt in
       record {
         inside = omega (arith, end_stands.inside);
         back = back_both (length n0) n3 n4 (back_both (length n0) n2 n3 (back_both (length n0) n1 n2 first.back leave_made.keeps second.back) given.keeps third.back)
@@ -137,9 +137,9 @@ pub function_back : (facts : Facts) (sites : Sites) (is_main value : Bool) (give
     n0 ≡ [] → MadeAlone (LeavesPart is_main value) n0 n1 0 x → AllBelow (length n1) (all_ends x) → MadeExits (λ G. BodyDoes G facts sites gives body) n1 n2 entry x →
     Made ComesPart n2 n3 start entry → LeadBack 0 n3
 function_back facts sites is_main value gives body n0 n1 n2 n3 entry start x none left below runs begins =
-    let first : Stands (length n0) n1 0 = left.leads tt in
-    let second : Stands (length n1) n2 entry = runs.leads below in
-    let third : Stands (length n2) n3 start = begins.leads (second.inside, tt) in
+    let first : CameOut (length n0) n1 0 = left.leads tt in
+    let second : CameOut (length n1) n2 entry = runs.leads below in
+    let third : CameOut (length n2) n3 start = begins.leads (second.inside, tt) in
     subst (λ l. LeadBack (length l) n3) none
     (back_both (length n0) n2 n3 (back_both (length n0) n1 n2 first.back runs.keeps second.back) begins.keeps third.back)
 

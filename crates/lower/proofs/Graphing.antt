@@ -9,13 +9,13 @@ use Rattle.flow.specs.Code.{callee_of, code_of, node_of, statics_of, view_at}
 use Rattle.c_meaning.specs.Facts.{Signature}
 use Rattle.c_meaning.specs.Runs.{Source}
 use Rattle.c_meaning.specs.Trees.{has_value}
-use Rattle.graphs.specs.Functions.{BodyIn, Lowered, callee_with, standing}
-use Rattle.graphs.specs.Stands.{Stands, renamed}
+use Rattle.lower_relation.specs.Functions.{BodyIn, Lowered, callee_with, standing}
+use Rattle.lower_relation.specs.Stands.{Stands, renamed}
 use Rattle.lower.specs.Bodies.{BodyNodes}
 use Rattle.lower.specs.Ready.{AllMayStand}
-use Rattle.graph_parts.specs.Finished.{Finished}
+use Rattle.lower_nodes.specs.Finished.{Finished}
 use Rattle.lower.specs.Means.{MeansText}
-use Rattle.tree_facts.specs.Objects.{begun_with}
+use Rattle.lower_facts.specs.Objects.{begun_with}
 use Rattle.lower.specs.Programs.{AreFunctionsOf, HasNoMore, IsFunctionOf}
 use Rattle.std.proofs.Common.{◌++◌, ⊎_elim, add-one, get_or, length-append, map, take}
 use Rattle.std.proofs.Math.Seq.{take-suc}
@@ -24,16 +24,16 @@ use Rattle.std.proofs.lemmas.Bool.{cases_lt}
 use Rattle.std.proofs.lemmas.Option.{slice_get_past, slice_get_within}
 use Rattle.c_syntax.specs.ItemTree.{SourceTree}
 use Rattle.c_syntax.specs.StatementTree.{EntryList}
-use Rattle.c_types.specs.declared.walk.Walk.{Walk}
+use Rattle.c_types_expressions.specs.declared.walk.Walk.{Walk}
 use Rattle.c_meaning.specs.Known.{signature_of}
 use Rattle.c_meaning.specs.Texts.{source_of}
 use Rattle.flow.specs.declared.program.Text.{Text}
 use Rattle.flow.specs.declared.site.Site.{Site}
 use Rattle.flow.specs.Rows.{Statics}
-use Rattle.graphs.specs.Functions.{IsGraphOf}
-use Rattle.graphs.proofs.WholeRuns.{only_ending, run_ok}
-use Rattle.tree_facts.specs.declared.facts.TreeFacts.{TreeFacts}
-use Rattle.tree_facts.specs.Facts.{known_in, source_in, table_in, tree_in}
+use Rattle.lower_relation.specs.Functions.{IsGraphOf}
+use Rattle.lower_relation.proofs.WholeRuns.{only_ending, run_ok}
+use Rattle.lower_facts.specs.declared.facts.TreeFacts.{TreeFacts}
+use Rattle.lower_facts.specs.Facts.{known_in, source_in, table_in, tree_in}
 
 found : (new : Option Node) (v : View) → option_map view_of new ≡ Some v → view_at new ≡ v
 found None v e = cc

@@ -14,14 +14,14 @@ use Rattle.c_meaning.specs.Conversions.{is_null_as}
 use Rattle.c_meaning.specs.Facts.{Facts, Sites}
 use Rattle.c_meaning.specs.Initialisers.{equals_token}
 use Rattle.c_meaning.specs.Trees.{type_of}
-use Rattle.graphs.specs.Expressions.{emitted}
-use Rattle.graphs.specs.Initialisers.{AllStart, Clears, ElementSet, ElementsSet, Initialised, OnLocal, ScalarSet, Starts}
-use Rattle.graphs.specs.Operators.{Assigned, Member, Variable}
-use Rattle.graphs.specs.Paths.{Graph, Path, ◌then◌, Does}
-use Rattle.graphs.specs.Values.{Dropped, WantedValue}
-use Rattle.graph_parts.specs.Made.{Made}
-use Rattle.graph_parts.proofs.Building.{nothing_made, one_made, then_made}
-use Rattle.graph_parts.proofs.Lists.{list_step}
+use Rattle.lower_relation.specs.Expressions.{emitted}
+use Rattle.lower_relation.specs.Initialisers.{AllStart, Clears, ElementSet, ElementsSet, Initialised, OnLocal, ScalarSet, Starts}
+use Rattle.lower_relation.specs.Operators.{Assigned, Member, Variable}
+use Rattle.lower_relation.specs.Paths.{Graph, Path, ◌then◌, Does}
+use Rattle.lower_relation.specs.Values.{Dropped, WantedValue}
+use Rattle.lower_nodes.specs.Made.{Made}
+use Rattle.lower_nodes.proofs.Building.{nothing_made, one_made, then_made}
+use Rattle.lower_nodes.proofs.Lists.{list_step}
 
 -- the value as one of this type
 abbrev Wanted : Graph → Facts → Sites → ExprTree → Option ValueType → Path ℕ

@@ -15,7 +15,7 @@ use Rattle.c_syntax.specs.StatementTree as tree
 use Rattle.c_syntax.specs.StatementTree.{InitialTree, StartTree, DeclarationTree, ForStartTree, StatementTree, EntryList}
 use Rattle.c_rules.specs.declared.library.Library.{Library}
 use Rattle.c_rules.specs.declared.library.Library.TheVariants as library
-use Rattle.c_types.specs.ExprWalk.{binary_of}
+use Rattle.c_types_expressions.specs.ExprWalk.{binary_of}
 use Rattle.flow.specs.declared.node.Node.{Node}
 use Rattle.flow.specs.declared.node.Node.TheVariants as node
 use Rattle.flow.specs.declared.node.View.TheVariants as view
@@ -32,7 +32,7 @@ use Rattle.c_meaning.specs.declared.value_type.Called.TheVariants as called
 use Rattle.c_meaning.specs.declared.value_type.ValueType.{ValueType}
 use Rattle.c_meaning.specs.declared.value_type.ValueType.TheVariants as type
 use Rattle.c_meaning.specs.Calls.{as_type, types_taken}
-use Rattle.c_meaning.specs.Conversions.{between, conversion, decayed, is_null_as}
+use Rattle.c_meaning.specs.Conversions.{between, conversion, as_used, is_null_as}
 use Rattle.c_meaning.specs.Expressions.{is_other_pointer, is_struct}
 use Rattle.c_meaning.specs.Facts.{Facts, Signature, Sites}
 use Rattle.c_meaning.specs.Initialisers.{equals_token, want_of}
@@ -41,17 +41,17 @@ use Rattle.c_meaning.specs.Operation.{left_kind, operation, right_kind, type_giv
 use Rattle.c_meaning.specs.Trees as meaning
 use Rattle.c_meaning.specs.Trees.{Assignment, Plain, By, Joint, Both, Computes, Unjoined, assignment, begins_null, called_as, count, ends_as_place, first_type, has_value, is_null_beside, is_place, joint, one_kind, operand_type, other_types, token_of, type_of}
 use Rattle.c_meaning.specs.Visits.{listed}
-use Rattle.graphs.specs.Calls as c
-use Rattle.graphs.specs.Expressions as x
-use Rattle.graphs.specs.Expressions.{has_more, number_of_text}
-use Rattle.graphs.specs.Functions as f
-use Rattle.graphs.specs.Initialisers as i
-use Rattle.graphs.specs.Operators as o
-use Rattle.graphs.specs.Operators.{step}
-use Rattle.graphs.specs.Paths.{Graph, Path, ◌then◌, Ways, Exits, Emitted, Either, OneOf, Turned, Does, HaltsAt, Stuck, MarksAll, ForkTo, Tests, Only}
-use Rattle.graphs.specs.Statements as s
-use Rattle.graphs.specs.Statements.{Before, GoesOn, within_loop}
-use Rattle.graphs.specs.Values as v
+use Rattle.lower_relation.specs.Calls as c
+use Rattle.lower_relation.specs.Expressions as x
+use Rattle.lower_relation.specs.Expressions.{has_more, number_of_text}
+use Rattle.lower_relation.specs.Functions as f
+use Rattle.lower_relation.specs.Initialisers as i
+use Rattle.lower_relation.specs.Operators as o
+use Rattle.lower_relation.specs.Operators.{step}
+use Rattle.lower_relation.specs.Paths.{Graph, Path, ◌then◌, Ways, Exits, Emitted, Either, OneOf, Turned, Does, HaltsAt, Stuck, MarksAll, ForkTo, Tests, Only}
+use Rattle.lower_relation.specs.Statements as s
+use Rattle.lower_relation.specs.Statements.{Before, GoesOn, within_loop}
+use Rattle.lower_relation.specs.Values as v
 use Rattle.lower.specs.Keeps.{AllFree, Apart, Keeps}
 
 -- each way of the one path is one of the other
@@ -182,7 +182,7 @@ module _ (G H : Graph) (free : ℕ → Type 0) (keeps : Keeps G H free) where
 
   arm : (is_null : Bool) (have want : Option ValueType) {m n : Emitted} → EmittedInto m n → Into (v.ArmValue G is_null have want m) (v.ArmValue H is_null have want n)
   arm true have want a = does (node.Null 0)
-  arm false have want a = then_into a.value (arm_as (is_other_pointer (decayed have) want) have want)
+  arm false have want a = then_into a.value (arm_as (is_other_pointer (as_used have) want) have want)
 
   arm_effect : (is_null : Bool) (have want : Option ValueType) {m n : Emitted} → EmittedInto m n → Into (v.ArmEffect G is_null have want m) (v.ArmEffect H is_null have want n)
   arm_effect is_null have None a = dropped (arm is_null have None a)
@@ -386,7 +386,7 @@ module _ (G H : Graph) (free : ℕ → Type 0) (keeps : Keeps G H free) where
     call_library token library.Free n a p = effected (then_into (a (as_type (type.Pointer 0))) (does (node.Free 0)))
     call_library token library.Exit n a p = effected (then_into (a (as_type (type.Number Int))) (halts node.Exit))
     call_library token library.Abort n a p = effected (only (n == 0) (halts node.Abort))
-    call_library token library.Assert n a p = effected (then_into (a decayed) (does (node.Check 0)))
+    call_library token library.Assert n a p = effected (then_into (a as_used) (does (node.Check 0)))
     call_library token library.Printf n a p = effected p
 
     call_does : (token : ℕ) (callee : Called) (n : ℕ) {R R' : c.Arguments} {A A' : c.Argument} {P P' : Path ℕ} →

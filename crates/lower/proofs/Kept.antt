@@ -1,5 +1,5 @@
 -- The nodes of a function that name what is there and may stand do what all of them do.
-use Rattle.graphs.specs.Functions.{standing}
+use Rattle.lower_relation.specs.Functions.{standing}
 use Rattle.std.proofs.Common.{◌≡◌, ℕ, zero, suc, refl, ap, sym, ◌∙◌, subst, List, [], ◌∷◌, Option, Some, None, Bool, true, false, slice_get, option_map}
 use Rattle.std.specs.Prelude.{not, ◌&&◌, ◌||◌, IsTrue, if◌then◌else◌}
 use Rattle.std.proofs.lemmas.Option.{slice_get-map}
@@ -16,14 +16,14 @@ use Rattle.flow.specs.View.{view as view_of}
 use Rattle.flow.specs.Nodes.{names_fit}
 use Rattle.c_meaning.specs.Facts.{Facts, Signature, Sites}
 use Rattle.c_meaning.specs.Trees.{has_value}
-use Rattle.graphs.specs.Paths.{Graph}
-use Rattle.graphs.specs.Stands.{renamed}
-use Rattle.graph_parts.specs.Finished.{Finished}
+use Rattle.lower_relation.specs.Paths.{Graph}
+use Rattle.lower_relation.specs.Stands.{renamed}
+use Rattle.lower_nodes.specs.Finished.{Finished}
 use Rattle.lower.specs.Bodies.{BodyNodes}
 use Rattle.lower.specs.Keeps.{Apart, IsKept, Keeps}
-use Rattle.fitting_nodes.specs.Fitting.{BodyFits, fits_view, fitting}
-use Rattle.fitting_nodes.proofs.Nodes.{view_fits}
-use Rattle.fitting_nodes.proofs.Statements as fits
+use Rattle.lower_nodes_fit.specs.Fitting.{FitsAsBody, fits_view, fitting}
+use Rattle.lower_nodes_fit.proofs.FittingNodes.{view_fits}
+use Rattle.lower_nodes_fit.proofs.NodesOfStatements as fits
 use Rattle.lower.specs.Ready.{AllMayStand, IsFree, forks, is_condition, kept_node, kept_nodes, may_stand, stays}
 use Rattle.lower.proofs.Keeping.{body_into, comes_into, leaves_into}
 use Rattle.lower.proofs.Readying.{fork_is}
@@ -220,7 +220,7 @@ module _ (names : Names) (bounds : Bounds) (site_of : ℕ → Option Site) (old 
 
 module _ (facts : Facts) (sites : Sites) (names : Names) (bounds : Bounds) (apart : Apart (IsFree sites.site) sites) (is_main : Bool) (f : Signature) where
   -- what is kept of the nodes does the body, where it fits
-  pub body_kept : (lo : ℕ) (body : EntryList) (nodes kept : List Node) → BodyFits facts sites names bounds f lo body →
+  pub body_kept : (lo : ℕ) (body : EntryList) (nodes kept : List Node) → FitsAsBody facts sites names bounds f lo body →
       BodyNodes facts sites is_main f.result (Some body) nodes → kept ≡ kept_nodes names bounds sites.site nodes → BodyNodes facts sites is_main f.result (Some body) kept
   body_kept lo body nodes kept fit b is =
       let G : Graph = fitting names bounds (standing b.graph) in

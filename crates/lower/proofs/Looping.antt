@@ -19,16 +19,16 @@ use Rattle.flow.specs.declared.node.View.TheVariants as view
 use Rattle.flow.specs.View.{view as view_of}
 use Rattle.c_meaning.specs.declared.value_type.ValueType.{ValueType}
 use Rattle.c_meaning.specs.Facts.{Facts, Sites}
-use Rattle.graphs.specs.Expressions.{Condition}
-use Rattle.graphs.specs.Initialisers.{Declares}
-use Rattle.graphs.specs.Paths.{Graph, Exits, Ways}
-use Rattle.graphs.specs.Statements.{DoDo, ForLoop, GoesOn, Runs, RunsAll, WhileDo, within_loop}
+use Rattle.lower_relation.specs.Expressions.{Condition}
+use Rattle.lower_relation.specs.Initialisers.{Declares}
+use Rattle.lower_relation.specs.Paths.{Graph, Exits, Ways}
+use Rattle.lower_relation.specs.Statements.{DoDo, ForLoop, GoesOn, Runs, RunsAll, WhileDo, within_loop}
 use Rattle.lower.specs.Exits.{SecondRuns}
-use Rattle.graphs.specs.Functions.{standing}
-use Rattle.graph_parts.specs.Ends.{AllBelow, all_ends}
-use Rattle.graph_parts.specs.Made.{Later, LeadBack, LeadsBack, Made, MadeExits, MadeTo, MadeWays, Part, Stands}
-use Rattle.graph_parts.specs.Purposes.{ways}
-use Rattle.graph_parts.proofs.Building.{back_both, below_more, either_made, later_self, later_trans, slice_append, stays_put}
+use Rattle.lower_relation.specs.Functions.{standing}
+use Rattle.lower_nodes.specs.Ends.{AllBelow, all_ends}
+use Rattle.lower_nodes.specs.Made.{Later, LeadBack, LeadsBack, Made, MadeExits, MadeTo, MadeWays, Part, CameOut}
+use Rattle.lower_nodes.specs.Purposes.{ways}
+use Rattle.lower_nodes.proofs.Building.{back_both, below_more, either_made, later_self, later_trans, slice_append, stays_put}
 
 -- Two parts of which one was put before the other make a third one. They go on where that one does, or the first at the entry of the second.
 pub both_made : {K L M : Type 0} → {f : K → List ℕ} → {g : L → List ℕ} → {h : M → List ℕ} → (R : Part K) (S : Part L) (T : Part M) (n0 n1 n2 : List Node) (i : ℕ) (k : K) (m : ℕ)
@@ -39,8 +39,8 @@ both_made {h = h} R S T n0 n1 n2 i k m l j t into behind before first s r = reco
       (s.does fin (later_trans (length n0) (length n0) n1 n2 fin (omega arith) r.keeps later));
   keeps = later_trans 0 0 n0 n1 n2 (omega arith) s.keeps r.keeps;
   leads = λ below.
-      let second : Stands (length n0) n1 m = s.leads (behind (length n0) below) in
-      let last : Stands (length n1) n2 i = r.leads (before (length n1) (below_more (length n0) (length n1) (h t) s.keeps.longer below) second.inside) in
+      let second : CameOut (length n0) n1 m = s.leads (behind (length n0) below) in
+      let last : CameOut (length n1) n2 i = r.leads (before (length n1) (below_more (length n0) (length n1) (h t) s.keeps.longer below) second.inside) in
       record {
         inside = first (length n2) (omega (arith, second.inside, r.keeps.longer)) last.inside;
         back = back_both (length n0) n1 n2 second.back r.keeps last.back;
@@ -107,7 +107,7 @@ aimed_made {g = g} R S n0 n1 n2 n3 again head i k into between same_head at is r
             ∙ r.keeps.same j low (omega (arith, high, one)) ∙ rw is (slice_append n0 (node.Again 0 ∷ []) j high);
       };
       leads = λ below.
-          let inner : Stands (length n1) n2 i = r.leads (between (length n1) (below_more (length n0) (length n1) (g k) (omega (arith, one)) below) (omega (arith, one, at))) in
+          let inner : CameOut (length n1) n2 i = r.leads (between (length n1) (below_more (length n0) (length n1) (g k) (omega (arith, one)) below) (omega (arith, one, at))) in
           let low : length n1 ≡ suc again = omega (arith, one, at) in
           record {
             inside = omega (arith, inner.inside, same);

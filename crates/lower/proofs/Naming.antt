@@ -14,10 +14,10 @@ use Rattle.flow.specs.declared.site.Site.{Site}
 use Rattle.flow.specs.Nodes.{NodesFit, is_again, leads_rightly, led_to, names_fit, node_fits}
 use Rattle.flow.specs.View.{view}
 use Rattle.c_meaning.specs.Facts.{Signature}
-use Rattle.graph_parts.specs.Reach.{LeadOn, among}
-use Rattle.fitting_nodes.proofs.Nodes.{free_fits}
-use Rattle.tree_facts.specs.declared.facts.TreeFacts.{TreeFacts}
-use Rattle.tree_facts.specs.Facts.{facts_in, sites_in, source_in, table_in}
+use Rattle.lower_nodes.specs.Reach.{LeadOn, among}
+use Rattle.lower_nodes_fit.proofs.FittingNodes.{free_fits}
+use Rattle.lower_facts.specs.declared.facts.TreeFacts.{TreeFacts}
+use Rattle.lower_facts.specs.Facts.{facts_in, sites_in, source_in, table_in}
 use Rattle.lower.specs.Bodies.{BodyNodes}
 use Rattle.lower.specs.Fits.{HasFitting, bounds_with}
 use Rattle.lower.specs.Ready.{AllMayStand, kept_node, kept_nodes, may_stand, stays}

@@ -16,9 +16,7 @@ use Rattle.flow.specs.Code.{node_of, view_at}
 use Rattle.flow.specs.View.{view as view_of}
 use Rattle.c_meaning.specs.Runs.{Source}
 use Rattle.c_meaning.specs.Texts.{is_branch}
-use Rattle.clone_paths.specs.Cloned.{ArePlain, IsPlain}
-use Rattle.sampling.specs.Copies.{IsBranch, IsBranchKind}
-use Rattle.sampling.specs.Runs.{IsReady}
+use Rattle.flow.specs.Ready.{ArePlain, IsBranch, IsBranchKind, IsPlain, IsReady}
 use Rattle.lower.specs.Programs.{AreFunctionsOf}
 use Rattle.lower.specs.Ready.{AllMayStand, forks, is_condition, may_stand}
 

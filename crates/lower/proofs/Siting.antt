@@ -5,7 +5,7 @@ use Rattle.std.proofs.lemmas.Bool.{false≢true}
 use Rattle.flow.specs.declared.site.Site.{Site}
 use Rattle.flow.specs.declared.site.SiteKind.{SiteKind}
 use Rattle.flow.specs.declared.site.SiteKind.TheVariants as kind
-use Rattle.c_meaning.specs.Texts.{first_of, is_branch, is_pair, is_return, sites_from, sites_of}
+use Rattle.c_meaning.specs.Texts.{first_of, is_branch, is_pair, is_return, sites_from, sites_by_table}
 use Rattle.c_meaning.specs.Visits.{listed}
 use Rattle.lower.specs.Keeps.{AllFree, Apart}
 use Rattle.lower.specs.Ready.{IsFree, is_condition}
@@ -46,7 +46,7 @@ first_free : (free : ℕ → Type 0) (sites : List ℕ) → AllFree free sites �
 first_free free [] are = tt
 first_free free (site ∷ sites) are = (are.0, tt)
 
-pub sites_apart : (table : List Site) → Apart (IsFree (slice_get table)) (sites_of table)
+pub sites_apart : (table : List Site) → Apart (IsFree (slice_get table)) (sites_by_table table)
 sites_apart table = record {
   returns = λ token. first_free (IsFree (slice_get table)) (sites_from 0 is_return token table) (all_free table is_return no_return token 0 table refl);
   pairs = λ token. all_free table is_pair no_pair token 0 table refl;

@@ -4,7 +4,7 @@ use Rattle.c_syntax.specs.ExprTree as e
 use Rattle.c_syntax.specs.ExprTree.{ExprTree}
 use Rattle.c_meaning.specs.Facts.{Facts}
 use Rattle.c_meaning.specs.Meaning.{text_of}
-use Rattle.graphs.specs.Expressions.{number_of_text}
+use Rattle.lower_relation.specs.Expressions.{number_of_text}
 use Rattle.lower.specs.Strings.{text_with}
 
 pub text_numbered : (facts : Facts) (x : ExprTree) → text_with facts (number_of_text facts x) ≡ text_of facts x

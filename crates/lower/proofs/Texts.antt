@@ -2,31 +2,31 @@
 use Rattle.std.proofs.Common.{◌≡◌, ℕ, zero, suc, ◌<◌, inl, inr, refl, sym, subst, arith, List, [], ◌∷◌, Option, Some, None, length, slice_get}
 use Rattle.c_syntax.specs.ItemTree.{SourceTree}
 use Rattle.c_syntax.specs.StatementTree.{EntryList}
-use Rattle.c_types.specs.declared.walk.Definition.{Definition}
-use Rattle.c_types.specs.declared.walk.Walk.{Walk}
+use Rattle.c_types_expressions.specs.declared.walk.Definition.{Definition}
+use Rattle.c_types_expressions.specs.declared.walk.Walk.{Walk}
 use Rattle.flow.specs.declared.scope.Names.{Names}
 use Rattle.flow.specs.declared.site.Site.{Site}
 use Rattle.flow.specs.declared.site.TableParts.{TableParts}
 use Rattle.c_meaning.specs.Facts.{Signature}
 use Rattle.c_meaning.specs.Known.{bodies, facts_of}
 use Rattle.c_meaning.specs.Runs.{Source}
-use Rattle.c_meaning.specs.Texts.{source_of, sites_of as sites_by_token}
+use Rattle.c_meaning.specs.Texts.{source_of, sites_by_table}
 use Rattle.sites.specs.Wanted.{no_schemes}
-use Rattle.typed.specs.TypedSource.{TypedBody}
-use Rattle.typed.specs.TypedText.{TextFits}
-use Rattle.typed_texts.specs.Accepted.{IsAccepted}
-use Rattle.typed_texts.proofs.Whole.{none_fits, table_fits}
-use Rattle.fitting_facts.specs.Owned.{BodyOwns}
-use Rattle.fitting_facts.specs.TextNames.{names_of_text}
-use Rattle.fitting_facts.proofs.Fitting.{facts_fit}
-use Rattle.fitting_facts.proofs.Items.{offsets_near}
-use Rattle.fitting_facts.proofs.Owning.{none_owned, table_owned}
-use Rattle.fitting_nodes.specs.Fitting.{BodyStands}
-use Rattle.fitting_nodes.proofs.Bodies.{body_stands}
-use Rattle.program_parts.specs.Parts.{IsSigned}
-use Rattle.program_parts.proofs.Sizes.{definition_signed}
-use Rattle.text_formats.proofs.Formatting.{body_formatted}
-use Rattle.text_programs.specs.Ready.{AreSitesOf, IsReadyText}
+use Rattle.c_types_never_stuck.specs.TypedSource.{TypedBody}
+use Rattle.c_types_never_stuck.specs.TypedText.{TypedText}
+use Rattle.c_types_sound.specs.Accepted.{IsAcceptedTree}
+use Rattle.c_types_sound.proofs.Whole.{none_fits, table_fits}
+use Rattle.lower_nodes_fit.specs.Owned.{BodyOwns}
+use Rattle.lower_nodes_fit.specs.TextNames.{names_of_text}
+use Rattle.lower_nodes_fit.proofs.FactsFitting.{facts_fit}
+use Rattle.lower_nodes_fit.proofs.NotesOfItems.{offsets_near}
+use Rattle.lower_nodes_fit.proofs.Owning.{none_owned, table_owned}
+use Rattle.lower_nodes_fit.specs.Fitting.{BodyStands}
+use Rattle.lower_nodes_fit.proofs.Bodies.{body_stands}
+use Rattle.lower_parts_fit.specs.Brought.{IsSigned}
+use Rattle.lower_parts_fit.proofs.LocalSizes.{definition_signed}
+use Rattle.lower_nodes_fit.proofs.Formatting.{body_formatted}
+use Rattle.lower_parts_fit.specs.Ready.{AreSitesOf, IsReadyText}
 use Rattle.lower.specs.Fits.{AreFitting, HasFitting, IsFitting}
 
 -- a place before the end of a list has something
@@ -35,11 +35,11 @@ thing_there [] place low = absurd (omega (arith, low))
 thing_there (x ∷ xs) zero low = (x, refl)
 thing_there (x ∷ xs) (suc place) low = thing_there xs place (omega (arith, low))
 
-module _ (tree : SourceTree) (walk : Walk) (accepted : IsAccepted tree walk) where
+module _ (tree : SourceTree) (walk : Walk) (accepted : IsAcceptedTree tree walk) where
   -- the types of the text fit with these sites
-  types_fit : (sites : List Site) → AreSitesOf tree walk sites → TextFits tree walk sites
-  types_fit sites (inl e) = subst (TextFits tree walk) (sym e) (none_fits tree walk accepted)
-  types_fit sites (inr h) = subst (TextFits tree walk) (sym h.1) (table_fits tree walk h.0 accepted)
+  types_fit : (sites : List Site) → AreSitesOf tree walk sites → TypedText tree walk sites
+  types_fit sites (inl e) = subst (TypedText tree walk) (sym e) (none_fits tree walk accepted)
+  types_fit sites (inr h) = subst (TypedText tree walk) (sym h.1) (table_fits tree walk h.0 accepted)
 
   -- each body owns the sites that stand within it
   sites_owned : (sites : List Site) (number : ℕ) (body : EntryList) → AreSitesOf tree walk sites → slice_get (bodies tree) number ≡ Some body →
@@ -58,7 +58,7 @@ module _ (tree : SourceTree) (walk : Walk) (table : TableParts) (ready : IsReady
 
   -- a body whose types fit
   body_fits : (number : ℕ) (f : Signature) (body : Option EntryList) → slice_get (bodies tree) number ≡ body →
-      TypedBody (facts_of tree walk) (sites_by_token table.sites) f body → HasFitting src names number f body
+      TypedBody (facts_of tree walk) (sites_by_table table.sites) f body → HasFitting src names number f body
   body_fits number f None at typed = typed
   body_fits number f (Some body) at typed =
       let owns : BodyOwns table.sites number body = sites_owned tree walk ready.whole.accepted table.sites number body ready.sites at in

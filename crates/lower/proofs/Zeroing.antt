@@ -10,11 +10,11 @@ use Rattle.c_meaning.specs.declared.value_type.ValueType.TheVariants as type
 use Rattle.c_meaning.specs.Facts.{Facts, Sites}
 use Rattle.c_meaning.specs.Initialisers.{want_of}
 use Rattle.c_meaning.specs.Meaning.{text_of}
-use Rattle.graphs.specs.Expressions.{number_of_text}
-use Rattle.graphs.specs.Initialisers.{ArrayZeroed, ElementsSet, Initialised, OnLocal, ScalarSet, Spells, ValueSet, Zeroes}
-use Rattle.graphs.specs.Paths.{◌then◌}
-use Rattle.graph_parts.specs.Made.{Made, Part}
-use Rattle.graph_parts.proofs.Building.{then_made}
+use Rattle.lower_relation.specs.Expressions.{number_of_text}
+use Rattle.lower_relation.specs.Initialisers.{ArrayZeroed, ElementsSet, Initialised, OnLocal, ScalarSet, Spells, ValueSet, Zeroes}
+use Rattle.lower_relation.specs.Paths.{◌then◌}
+use Rattle.lower_nodes.specs.Made.{Made, Part}
+use Rattle.lower_nodes.proofs.Building.{then_made}
 use Rattle.lower.specs.Strings.{StringSet, is_array}
 
 -- an array is zero, and then comes this part

@@ -5,10 +5,10 @@ use Rattle.flow.specs.declared.node.Node.{Node}
 use Rattle.c_meaning.specs.declared.value_type.ValueType.{ValueType}
 use Rattle.c_meaning.specs.Facts.{Facts, Sites}
 use Rattle.c_meaning.specs.Trees.{has_value}
-use Rattle.graphs.specs.Functions.{BodyDoes, ComesTo, EndsAt, GivesAt, Leaves, standing}
-use Rattle.graphs.specs.Paths.{Exits}
-use Rattle.graph_parts.specs.Finished.{Finished}
-use Rattle.graph_parts.specs.Made.{Part}
+use Rattle.lower_relation.specs.Functions.{BodyDoes, ComesTo, EndsAt, GivesAt, Leaves, standing}
+use Rattle.lower_relation.specs.Paths.{Exits}
+use Rattle.lower_nodes.specs.Finished.{Finished}
+use Rattle.lower_nodes.specs.Made.{Part}
 
 -- where a function gives its value
 abbrev pub GivesPart : Bool → Part ℕ

@@ -3,8 +3,8 @@ use Rattle.std.specs.Prelude.{Option, Some, None}
 use Rattle.c_syntax.specs.StatementTree.{StatementTree}
 use Rattle.c_meaning.specs.declared.value_type.ValueType.{ValueType}
 use Rattle.c_meaning.specs.Facts.{Facts, Sites}
-use Rattle.graphs.specs.Paths.{Exits, Graph, Path}
-use Rattle.graphs.specs.Statements.{GoesOn, Runs}
+use Rattle.lower_relation.specs.Paths.{Exits, Graph, Path}
+use Rattle.lower_relation.specs.Statements.{GoesOn, Runs}
 use Rattle.lower.specs.declared.exits.Exits.{Exits as Known}
 
 abbrev pub exits_of : Known → Exits

@@ -8,7 +8,7 @@ use Rattle.flow.specs.Nodes.{NodesFit}
 use Rattle.flow.specs.Program.{bounds_of}
 use Rattle.c_meaning.specs.Facts.{Signature}
 use Rattle.c_meaning.specs.Runs.{Source}
-use Rattle.fitting_nodes.specs.Fitting.{BodyFits}
+use Rattle.lower_nodes_fit.specs.Fitting.{FitsAsBody}
 
 -- what the nodes of the function with this number and signature may name, where it has so many of them
 abbrev pub bounds_with : ℕ → Signature → ℕ → Bounds
@@ -17,7 +17,7 @@ bounds_with number f count = record { function = number; locals = length f.local
 -- it has a body that fits, with however many nodes
 abbrev pub HasFitting : Source → Names → ℕ → Signature → Option EntryList → Type 0
 HasFitting src names number f None = ⊥
-HasFitting src names number f (Some body) = (lo : ℕ) × ((count : ℕ) → BodyFits src.facts src.sites names (bounds_with number f count) f lo body)
+HasFitting src names number f (Some body) = (lo : ℕ) × ((count : ℕ) → FitsAsBody src.facts src.sites names (bounds_with number f count) f lo body)
 
 -- and it has a signature
 pub record IsFitting (src : Source) (names : Names) (number : ℕ) : Type 0 where

@@ -4,7 +4,7 @@ use Rattle.flow.specs.declared.program.ProgramParts.{ProgramParts}
 use Rattle.flow.specs.Machine.{MachineEnds}
 use Rattle.flow.specs.State.{Ending}
 use Rattle.c_meaning.specs.Runs.{Source, meaning}
-use Rattle.graphs.specs.Functions.{ending_of}
+use Rattle.lower_relation.specs.Functions.{ending_of}
 
 -- On every input, with every bank, within every bound of turns, a run of the program has the outcome and the output of the text, and observes the
 -- visits of sites that the text's meaning has, one after another; and there is no other ending.

@@ -7,9 +7,9 @@ use Rattle.c_meaning.specs.declared.value_type.ValueType.{ValueType}
 use Rattle.c_meaning.specs.declared.value_type.ValueType.TheVariants as type
 use Rattle.c_meaning.specs.Facts.{Facts, Sites}
 use Rattle.c_meaning.specs.Meaning.{text_of}
-use Rattle.graphs.specs.Expressions.{number_of_text}
-use Rattle.graphs.specs.Initialisers.{ArrayZeroed, OnLocal, Spells}
-use Rattle.graphs.specs.Paths.{Graph, Path, ◌then◌}
+use Rattle.lower_relation.specs.Expressions.{number_of_text}
+use Rattle.lower_relation.specs.Initialisers.{ArrayZeroed, OnLocal, Spells}
+use Rattle.lower_relation.specs.Paths.{Graph, Path, ◌then◌}
 
 -- whether the type is an array's
 abbrev pub is_array : Option ValueType → Bool

@@ -1,5 +1,5 @@
 ghost use Rattle.std.specs.Prelude.{◌≡◌};
-ghost use Rattle.graphs.specs.Statements.{within_loop};
+ghost use Rattle.lower_relation.specs.Statements.{within_loop};
 ghost use Rattle.lower.specs.Exits.{exits_of};
 
 /// Where a statement goes on: after it, at a `break`, at a `continue`, at a `return` with a value and at one without.

@@ -1,17 +1,17 @@
 ghost use Rattle.std.specs.Prelude.{◌≡◌, ◌==◌, ◌+◌, ◌<◌, IfOk, length, option_map, ◌≤◌};
 ghost use Rattle.std.specs.Option.{option_copied};
 ghost use Rattle.c_syntax.specs.Plain.{plain_entries};
-ghost use Rattle.graphs.specs.Functions.{BodyDoes};
+ghost use Rattle.lower_relation.specs.Functions.{BodyDoes};
 ghost use Rattle.lower.specs.Bodies.{BodyNodes, ComesPart, EndPart, GivesPart, LeavesPart};
 ghost use Rattle.lower.specs.Exits.{exits_of};
 ghost use Rattle.lower.specs.Fits.{HasFitting, bounds_with};
 ghost use Rattle.lower.specs.Ready.{AllMayStand};
-ghost use Rattle.graphs.specs.Room.{body_room, function_room};
-ghost use Rattle.graph_parts.specs.Ends.{AllBelow, all_ends};
-ghost use Rattle.graph_parts.specs.Made.{Made, MadeAlone, MadeExits};
-ghost use Rattle.graph_parts.specs.Reach.{LeadOn};
+ghost use Rattle.lower_relation.specs.Room.{body_room, function_room};
+ghost use Rattle.lower_nodes.specs.Ends.{AllBelow, all_ends};
+ghost use Rattle.lower_nodes.specs.Made.{Made, MadeAlone, MadeExits};
+ghost use Rattle.lower_nodes.specs.Reach.{LeadOn};
 ghost use Rattle.flow.specs.Nodes.{NodesFit};
-ghost use Rattle.tree_facts.specs.Facts.{facts_in, sites_in, source_in};
+ghost use Rattle.lower_facts.specs.Facts.{facts_in, sites_in, source_in};
 
 use crate::exits::{Exits, next_at};
 use crate::keep::keep;
@@ -21,9 +21,9 @@ use c_meaning::ValueType;
 use c_syntax::Entry;
 use cbi_base::{Kind, Memory};
 use flow::{Bounds, Names, Node};
-use graph_parts::{Graph, finish, put_stuck};
+use lower_facts::{Signature, TreeFacts, has_value};
+use lower_nodes::{Graph, finish, put_stuck};
 use std::alloc::Global;
-use tree_facts::{Signature, TreeFacts, has_value};
 
 /// Where a function with a result gives it; no other one comes to a value.
 #[tactic(auto, using(crate::proofs::Bodying::gives_parts))]

@@ -3,20 +3,20 @@ ghost use Rattle.std.specs.List.{sum_by};
 ghost use Rattle.c_meaning.specs.Initialisers.{equals_token, want_of};
 ghost use Rattle.c_meaning.specs.Meaning.{text_of};
 ghost use Rattle.c_syntax.specs.Plain.{plain_declaration, plain_expr, plain_exprs, plain_initial, plain_start};
-ghost use Rattle.graphs.specs.Expressions.{number_of_text};
-ghost use Rattle.graphs.specs.Initialisers.{AllStart, ArrayZeroed, Clears, Declares, ElementSet, ElementsSet, Initialised, OnLocal, ScalarSet, Spells, Starts, ValueSet, Zeroes};
-ghost use Rattle.graphs.specs.Room.{declaration_room, expr_room, exprs_room, initial_room, pairs, start_room};
-ghost use Rattle.graph_parts.specs.Made.{Made};
+ghost use Rattle.lower_relation.specs.Expressions.{number_of_text};
+ghost use Rattle.lower_relation.specs.Initialisers.{AllStart, ArrayZeroed, Clears, Declares, ElementSet, ElementsSet, Initialised, OnLocal, ScalarSet, Spells, Starts, ValueSet, Zeroes};
+ghost use Rattle.lower_relation.specs.Room.{declaration_room, expr_room, exprs_room, initial_room, pairs, start_room};
+ghost use Rattle.lower_nodes.specs.Made.{Made};
 ghost use Rattle.lower.specs.Strings.{StringSet, is_array, text_with};
-ghost use Rattle.tree_facts.specs.Facts.{facts_in, sites_in};
+ghost use Rattle.lower_facts.specs.Facts.{facts_in, sites_in};
 
 use c_meaning::ValueType;
 use c_syntax::{Declaration, Expr, Initial, Start};
 use cbi_base::{Memory, Want};
 use flow::{Node, Slot};
-use graph_parts::{Graph, put_assigned, put_member, put_stuck, put_variable};
 use lower_expressions::emit_wanted;
-use tree_facts::TreeFacts;
+use lower_facts::TreeFacts;
+use lower_nodes::{Graph, put_assigned, put_member, put_stuck, put_variable};
 
 /// What an array's elements are, where it is set to zero.
 fn want_of(of: Option<ValueType>) -> Option<Want>
@@ -30,7 +30,7 @@ fn want_of(of: Option<ValueType>) -> Option<Want>
 }
 
 /// A declared variable is undefined from here on.
-#[tactic(auto, using(graph_parts::proofs::Building::parts_made))]
+#[tactic(auto, using(lower_nodes::proofs::Building::parts_made))]
 fn put_cleared(graph: &mut Graph, slot: Option<Slot>, next: u32) -> Result<u32, Memory>
     ensures made { IfOk result (λ i. Made (λ G. OnLocal G slot (Clears G)) graph.old graph.new i next) }
     ensures few { IfOk result (λ i. length graph.new ≤ length graph.old + 2) }
@@ -48,7 +48,7 @@ fn put_cleared(graph: &mut Graph, slot: Option<Slot>, next: u32) -> Result<u32, 
 }
 
 /// All cells of a local array are zero, or null.
-#[tactic(auto, using(graph_parts::proofs::Building::parts_made))]
+#[tactic(auto, using(lower_nodes::proofs::Building::parts_made))]
 fn put_zeroed(
     graph: &mut Graph,
     slot: Option<Slot>,

@@ -2,12 +2,12 @@ ghost use Rattle.std.specs.Prelude.{◌≡◌, IfOk, map, slice_get};
 ghost use Rattle.flow.specs.Code.{view_at};
 ghost use Rattle.flow.specs.View.{view};
 ghost use Rattle.lower.specs.Ready.{forks, is_condition, kept_node, kept_nodes, may_stand, stays};
-ghost use Rattle.tree_facts.specs.Facts.{sites_in};
+ghost use Rattle.lower_facts.specs.Facts.{sites_in};
 
 use cbi_base::Memory;
 use flow::{Bounds, Names, Node, SiteKind, names_fit};
+use lower_facts::TreeFacts;
 use std::alloc::Global;
-use tree_facts::TreeFacts;
 
 /// Whether the node with this number is a fork.
 fn forks(nodes: &[Node], number: u32) -> bool

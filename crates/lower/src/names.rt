@@ -1,13 +1,12 @@
-ghost use Rattle.std.specs.Prelude.{◌≡◌, IfOk, map};
-ghost use Rattle.cbi_base.specs.Format.{conversions_of};
+ghost use Rattle.std.specs.Prelude.{◌≡◌, IfOk};
 ghost use Rattle.flow.specs.Program.{AreTexts};
-ghost use Rattle.fitting_facts.specs.TextNames.{names_of_text};
-ghost use Rattle.tree_facts.specs.Facts.{facts_in, known_in, tree_in};
+ghost use Rattle.lower_nodes_fit.specs.TextNames.{names_of_text};
+ghost use Rattle.lower_facts.specs.Facts.{facts_in, known_in, tree_in};
 
-use cbi_base::{Memory, Seq, count_conversions};
-use flow::{Names, SiteTable, Text};
+use cbi_base::{Memory, Seq};
+use flow::{Names, SiteTable, conversions};
+use lower_facts::TreeFacts;
 use std::alloc::Global;
-use tree_facts::TreeFacts;
 
 /// A count of a text's things as a number: a text has far fewer than there are numbers.
 pub fn number_of(count: usize) -> Result<u32, Memory>
@@ -17,18 +16,6 @@ pub fn number_of(count: usize) -> Result<u32, Memory>
         Ok(number) => Ok(number),
         Err(_) => Err(Memory),
     }
-}
-
-/// The number of each string's conversions as a format.
-fn conversions(alloc: Global, texts: &[Text]) -> Result<Seq<Option<u32>>, Memory>
-    requires { AreTexts texts.now }
-    ensures { IfOk result (λ counts. counts ≡ map (λ t. conversions_of t.bytes) texts.now) }
-{
-    let mut counts = Vec::with_capacity(alloc, texts.len())?;
-    for text in texts {
-        counts.push(count_conversions(text.bytes.as_slice()))?;
-    }
-    Ok(Seq::from_vec(counts))
 }
 
 /// What the nodes of the text's functions may name, with this table.

@@ -1,30 +1,28 @@
 ghost use Rattle.std.specs.Prelude.{◌≡◌, ℕ, ◌≤◌, ◌+◌, ◌*◌, IfOk, Some, length, map, slice_get};
 ghost use Rattle.c_meaning.specs.Texts.{source_of};
 ghost use Rattle.c_types.specs.Answers.{known_of, tree_of};
-ghost use Rattle.clone_paths.specs.Cloned.{ArePlain};
+ghost use Rattle.flow.specs.Ready.{ArePlain, IsReady};
 ghost use Rattle.flow.specs.declared.program.Function.{Function};
 ghost use Rattle.flow.specs.Program.{table_of};
-ghost use Rattle.sampling.specs.Runs.{IsReady};
 ghost use Rattle.std.specs.List.{All};
-ghost use Rattle.graphs.specs.Functions.{IsGraphOf};
-ghost use Rattle.graphs.specs.Room.{function_room, functions_room};
+ghost use Rattle.lower_relation.specs.Functions.{IsGraphOf};
+ghost use Rattle.lower_relation.specs.Room.{function_room, functions_room};
 ghost use Rattle.lower.specs.Fits.{AreFitting, IsFitting, NodesStand};
 ghost use Rattle.lower.specs.Means.{MeansText};
 ghost use Rattle.lower.specs.Programs.{AreFunctionsOf, HasNoMore, IsFunctionOf, node_count};
-ghost use Rattle.text_programs.specs.Ready.{IsReadyText};
-ghost use Rattle.tree_facts.specs.Facts.{known_in, sites_in, source_in, table_in, tree_in};
+ghost use Rattle.lower_parts_fit.specs.Ready.{IsReadyText};
+ghost use Rattle.lower_facts.specs.Facts.{known_in, sites_in, source_in, table_in, tree_in};
 ghost use Rattle.c_syntax.specs.Spelling.{tree_kinds};
 
 use crate::functions::emit_function;
 use crate::names::{names_of, number_of};
 use c_types::Checked;
 use cbi_base::{Memory, Name, Seq};
-use clone_paths::{copy_of, copy_sites, copy_texts};
-use few_nodes::an_accepted_text_has_few_nodes;
-use flow::{Function, Names, Program, ProgramParts, SiteTable};
+use flow::{Function, Names, Program, ProgramParts, SiteTable, copy_of, copy_sites, copy_texts};
+use lower_facts::{TreeFacts, has_value};
+use lower_nodes_fit::an_accepted_text_has_few_nodes;
+use lower_parts_fit::parts_of_an_accepted_text_are_a_program;
 use std::alloc::Global;
-use text_programs::parts_of_an_accepted_text_are_a_program;
-use tree_facts::{TreeFacts, has_value};
 
 /// The function of the text with this number, under this name.
 fn function_of(

@@ -1,13 +1,13 @@
 ghost use Rattle.std.specs.Prelude.{IfOk, option_map, length, ◌≤◌, ◌+◌};
 ghost use Rattle.c_syntax.specs.Plain.{plain_entries, plain_entry, plain_expr, plain_for_start, plain_second, plain_statement};
 ghost use Rattle.c_syntax.specs.StatementTree.{no_entries};
-ghost use Rattle.graphs.specs.Expressions.{Condition};
-ghost use Rattle.graphs.specs.Statements.{DoDo, ForLoop, ForStarts, OptionalCondition, OptionalEffect, ReturnDo, Runs, RunsAll, WhileDo};
+ghost use Rattle.lower_relation.specs.Expressions.{Condition};
+ghost use Rattle.lower_relation.specs.Statements.{DoDo, ForLoop, ForStarts, OptionalCondition, OptionalEffect, ReturnDo, Runs, RunsAll, WhileDo};
 ghost use Rattle.lower.specs.Exits.{SecondRuns, exits_of};
-ghost use Rattle.graphs.specs.Room.{branches, entries_room, expr_room, for_start_room, part_room, second_room, statement_room};
-ghost use Rattle.graph_parts.specs.Made.{Made, MadeExits, MadeWays};
-ghost use Rattle.graph_parts.specs.Purposes.{ways};
-ghost use Rattle.tree_facts.specs.Facts.{facts_in, sites_in};
+ghost use Rattle.lower_relation.specs.Room.{branches, entries_room, expr_room, for_start_room, part_room, second_room, statement_room};
+ghost use Rattle.lower_nodes.specs.Made.{Made, MadeExits, MadeWays};
+ghost use Rattle.lower_nodes.specs.Purposes.{ways};
+ghost use Rattle.lower_facts.specs.Facts.{facts_in, sites_in};
 
 use crate::exits::{Exits, next_at, within_loop};
 use crate::initialisers::emit_declaration;
@@ -15,9 +15,9 @@ use c_meaning::ValueType;
 use c_syntax::{Entry, Expr, ForStart, Statement};
 use cbi_base::Memory;
 use flow::Node;
-use graph_parts::Graph;
 use lower_expressions::{emit_condition, emit_effect, emit_wanted};
-use tree_facts::TreeFacts;
+use lower_facts::TreeFacts;
+use lower_nodes::Graph;
 
 /// An expression that may be missing, where nothing takes its value.
 fn emit_optional_effect(

@@ -10,8 +10,8 @@ use Rattle.flow.specs.View.{view as view_of}
 use Rattle.c_meaning.specs.declared.value_type.Called.TheVariants as called
 use Rattle.c_meaning.specs.Facts.{Facts}
 use Rattle.c_meaning.specs.Trees.{count}
-use Rattle.graph_parts.specs.Made.{Made}
-use Rattle.graph_parts.proofs.Building.{nothing_made, one_made, view_made}
+use Rattle.lower_nodes.specs.Made.{Made}
+use Rattle.lower_nodes.proofs.Building.{nothing_made, one_made, view_made}
 use Rattle.lower_expressions.specs.Passing.{Acts, Formats, LibraryActs, library_node, number_of_first, others}
 
 same_node : (x y : Node) → Some x ≡ Some y → view_of x ≡ view_of y

@@ -12,19 +12,19 @@ use Rattle.c_meaning.specs.Conversions.{is_null_as}
 use Rattle.c_meaning.specs.Facts.{Facts, Sites}
 use Rattle.c_meaning.specs.Operation.{operation}
 use Rattle.c_meaning.specs.Trees.{Assignment, By, Plain, assignment, count, type_of}
-use Rattle.graphs.specs.Expressions.{LastDoes, emitted}
-use Rattle.graphs.specs.Operators.{Assign, Assigned, Changed, Comma}
-use Rattle.graphs.specs.Paths.{Graph, ◌then◌, Emitted, Stuck}
-use Rattle.graphs.specs.Values.{Valued, WantedValue}
-use Rattle.graph_parts.specs.Made.{Made, MadeAlone, MadeFor, Part}
-use Rattle.graph_parts.specs.Parts.{effect_part, place_part, serving, value_part}
-use Rattle.graph_parts.specs.Purposes.{Serves, Takes}
+use Rattle.lower_relation.specs.Expressions.{LastDoes, emitted}
+use Rattle.lower_relation.specs.Operators.{Assign, Assigned, Changed, Comma}
+use Rattle.lower_relation.specs.Paths.{Graph, ◌then◌, Emitted, Stuck}
+use Rattle.lower_relation.specs.Values.{Valued, WantedValue}
+use Rattle.lower_nodes.specs.Made.{Made, MadeAlone, MadeFor, Part}
+use Rattle.lower_nodes.specs.Parts.{effect_part, place_part, serving, value_part}
+use Rattle.lower_nodes.specs.Purposes.{Serves, Takes}
 use Rattle.lower_expressions.specs.Weights.{exprs_weight, weight}
-use Rattle.graph_parts.specs.declared.purpose.Purpose.{Purpose}
-use Rattle.graph_parts.specs.declared.purpose.Purpose.TheVariants as purpose
-use Rattle.graph_parts.proofs.Building.{surely_made, ◌and_then◌, carried}
-use Rattle.graph_parts.proofs.Lists.{list_step}
-use Rattle.graph_parts.proofs.Serving.{valued_made}
+use Rattle.lower_nodes.specs.declared.purpose.Purpose.{Purpose}
+use Rattle.lower_nodes.specs.declared.purpose.Purpose.TheVariants as purpose
+use Rattle.lower_nodes.proofs.Building.{surely_made, ◌and_then◌, carried}
+use Rattle.lower_nodes.proofs.Lists.{list_step}
+use Rattle.lower_nodes.proofs.Serving.{valued_made}
 
 alone : (xs : List Expr) (j : ℕ) (d : Expr) → length xs ≡ j + 1 → d ≡ get_or xs j d → drop j xs ≡ d ∷ []
 alone [] j d e at = absurd (omega (arith, e))

@@ -8,7 +8,7 @@ use Rattle.c_syntax.specs.ExprTree as e
 use Rattle.c_syntax.specs.ExprTree.{ExprTree, LinkList}
 use Rattle.c_syntax.specs.declared.expr.Link.{Link}
 use Rattle.c_syntax.specs.declared.token.Sign.{Sign}
-use Rattle.c_types.specs.ExprWalk.{binary_of}
+use Rattle.c_types_expressions.specs.ExprWalk.{binary_of}
 use Rattle.c_syntax.specs.Plain.{plain_expr, plain_links}
 use Rattle.c_syntax.proofs.PlainExprs.{plain_link_before}
 use Rattle.flow.specs.declared.node.Node.{Node}
@@ -18,21 +18,21 @@ use Rattle.c_meaning.specs.Facts.{Facts, Sites}
 use Rattle.c_meaning.specs.Operation.{operation}
 use Rattle.c_meaning.specs.Trees as tree
 use Rattle.c_meaning.specs.Trees.{Joint, Both, Computes, Unjoined, begins_null, is_null_beside, joint, operand_type, type_of}
-use Rattle.graphs.specs.Expressions.{LinksDo, emitted}
-use Rattle.graphs.specs.Operators.{Decided, Flagged, Linked, Operates}
-use Rattle.graphs.specs.Paths.{Graph, ◌then◌, Does, Either, Stuck, Ways}
-use Rattle.graphs.specs.Values.{NullOr, Valued}
+use Rattle.lower_relation.specs.Expressions.{LinksDo, emitted}
+use Rattle.lower_relation.specs.Operators.{Decided, Flagged, Linked, Operates}
+use Rattle.lower_relation.specs.Paths.{Graph, ◌then◌, Does, Either, Stuck, Ways}
+use Rattle.lower_relation.specs.Values.{NullOr, Valued}
 use Rattle.lower_expressions.specs.Linking.{Shortcut, To, either_end, link_part, type_before}
-use Rattle.graphs.specs.Functions.{standing}
-use Rattle.graph_parts.specs.Ends.{AllBelow}
-use Rattle.graph_parts.specs.Made.{Made, MadeAlone, MadeFor, MadeTo, MadeWays, Part, Stands}
-use Rattle.graph_parts.specs.Parts.{serving}
-use Rattle.graph_parts.specs.Purposes.{Serves, Takes, ways}
+use Rattle.lower_relation.specs.Functions.{standing}
+use Rattle.lower_nodes.specs.Ends.{AllBelow}
+use Rattle.lower_nodes.specs.Made.{Made, MadeAlone, MadeFor, MadeTo, MadeWays, Part, CameOut}
+use Rattle.lower_nodes.specs.Parts.{serving}
+use Rattle.lower_nodes.specs.Purposes.{Serves, Takes, ways}
 use Rattle.lower_expressions.specs.Weights.{links_weight, weight}
-use Rattle.graph_parts.specs.declared.purpose.Purpose.{Purpose}
-use Rattle.graph_parts.specs.declared.purpose.Purpose.TheVariants as purpose
-use Rattle.graph_parts.proofs.Building.{◌and_then◌, back_both, below_more, carried, either_made, later_self, later_trans, nothing_made, row, stays_put, surely_made, then_made}
-use Rattle.graph_parts.proofs.Serving.{valued_made}
+use Rattle.lower_nodes.specs.declared.purpose.Purpose.{Purpose}
+use Rattle.lower_nodes.specs.declared.purpose.Purpose.TheVariants as purpose
+use Rattle.lower_nodes.proofs.Building.{◌and_then◌, back_both, below_more, carried, either_made, later_self, later_trans, nothing_made, row, stays_put, surely_made, then_made}
+use Rattle.lower_nodes.proofs.Serving.{valued_made}
 
 -- one way of a condition goes on at what was put before
 to_made : (n : List Node) (right k : ℕ) → MadeTo (either_end right) (λ G. To right) n n right k
@@ -43,10 +43,10 @@ beside : (R : Part ℕ) (right : ℕ) (n0 n1 : List Node) (i k : ℕ) → Made R
 beside R right n0 n1 i k made = carried R R k k (λ G i h. h) (λ n b. b.1) n0 n1 i made
 
 cut_stands : (R : Part ℕ) (S : Part ℕ) (n0 n1 n2 : List Node) (right i k : ℕ) → Made R n0 n1 right k → MadeTo (either_end right) S n1 n2 i k → AllBelow (length n0) (k ∷ []) →
-    Stands (length n0) n2 i
+    CameOut (length n0) n2 i
 cut_stands R S n0 n1 n2 right i k made cut below =
-    let second : Stands (length n0) n1 right = made.leads below in
-    let first : Stands (length n1) n2 i = cut.leads (second.inside, below_more (length n0) (length n1) (k ∷ []) made.keeps.longer below) in
+    let second : CameOut (length n0) n1 right = made.leads below in
+    let first : CameOut (length n1) n2 i = cut.leads (second.inside, below_more (length n0) (length n1) (k ∷ []) made.keeps.longer below) in
     record { inside = first.inside; back = back_both (length n0) n1 n2 second.back cut.keeps first.back }
 
 joined_yes : (D : Part Ways) (R S : Part ℕ) (n0 n1 n2 : List Node) (right i k : ℕ) → Made R n0 n1 right k → MadeTo (either_end right) (λ G. Either (D G) (To right) (S G)) n1 n2 i k →

@@ -6,23 +6,23 @@ use Rattle.flow.specs.declared.node.Node.{Node}
 use Rattle.flow.specs.declared.node.Node.TheVariants as node
 use Rattle.c_meaning.specs.declared.value_type.ValueType.{ValueType}
 use Rattle.c_meaning.specs.declared.value_type.ValueType.TheVariants as type
-use Rattle.c_meaning.specs.Conversions.{decayed, is_null_as}
+use Rattle.c_meaning.specs.Conversions.{as_used, is_null_as}
 use Rattle.c_meaning.specs.Expressions.{is_other_pointer}
 use Rattle.c_meaning.specs.Facts.{Facts, Sites}
 use Rattle.c_meaning.specs.Trees.{type_of}
-use Rattle.graphs.specs.Expressions.{Condition, emitted}
-use Rattle.graphs.specs.Operators.{Cast}
-use Rattle.graphs.specs.Paths.{Graph, Path, ◌then◌, Does, Either, Emitted, Stuck}
-use Rattle.graphs.specs.Values.{ArmAs, ArmEffect, ArmValue, HandedValue, Valued}
-use Rattle.graph_parts.specs.Made.{Made, MadeAlone, MadeFor, MadeWays}
+use Rattle.lower_relation.specs.Expressions.{Condition, emitted}
+use Rattle.lower_relation.specs.Operators.{Cast}
+use Rattle.lower_relation.specs.Paths.{Graph, Path, ◌then◌, Does, Either, Emitted, Stuck}
+use Rattle.lower_relation.specs.Values.{ArmAs, ArmEffect, ArmValue, HandedValue, Valued}
+use Rattle.lower_nodes.specs.Made.{Made, MadeAlone, MadeFor, MadeWays}
 use Rattle.lower_expressions.specs.Arms.{arm_effect_part, arm_value_part}
-use Rattle.graph_parts.specs.Parts.{serving, value_part}
-use Rattle.graph_parts.specs.Purposes.{Serves, Takes, ways}
+use Rattle.lower_nodes.specs.Parts.{serving, value_part}
+use Rattle.lower_nodes.specs.Purposes.{Serves, Takes, ways}
 use Rattle.lower_expressions.specs.Voids.{is_void}
-use Rattle.graph_parts.specs.declared.purpose.Purpose.{Purpose}
-use Rattle.graph_parts.specs.declared.purpose.Purpose.TheVariants as purpose
-use Rattle.graph_parts.proofs.Building.{◌and_then◌, carried, either_made, row}
-use Rattle.graph_parts.proofs.Serving.{valued_made}
+use Rattle.lower_nodes.specs.declared.purpose.Purpose.{Purpose}
+use Rattle.lower_nodes.specs.declared.purpose.Purpose.TheVariants as purpose
+use Rattle.lower_nodes.proofs.Building.{◌and_then◌, carried, either_made, row}
+use Rattle.lower_nodes.proofs.Serving.{valued_made}
 
 void_is : (want : Option ValueType) → is_void want ≡ true → want ≡ Some type.Void
 void_is None is = cc
@@ -93,7 +93,7 @@ arm_void is_null have want m n0 n1 i k is made =
 module _ (facts : Facts) (sites : Sites) where
   -- an arm that is no null pointer
   pub arm_value_made : (want : Option ValueType) (x : ExprTree) (n0 n1 n2 : List Node) (m i k : ℕ) → is_null_as want x ≡ false →
-      Made (λ G. ArmAs G (is_other_pointer (decayed (type_of facts x)) want) (type_of facts x) want) n0 n1 m k → Made (value_part facts sites x) n1 n2 i m →
+      Made (λ G. ArmAs G (is_other_pointer (as_used (type_of facts x)) want) (type_of facts x) want) n0 n1 m k → Made (value_part facts sites x) n1 n2 i m →
       Made (arm_value_part facts sites want x) n0 n2 i k
   arm_value_made want x n0 n1 n2 m i k is arm made =
       subst (λ b. Made (λ G. ArmValue G b (type_of facts x) want (emitted G facts sites x)) n0 n2 i k) (sym is) (made and_then arm)

@@ -5,15 +5,15 @@ use Rattle.flow.specs.declared.node.Node.{Node}
 use Rattle.flow.specs.declared.node.Node.TheVariants as node
 use Rattle.flow.specs.declared.node.View.TheVariants as view
 use Rattle.c_meaning.specs.Facts.{Facts, Sites}
-use Rattle.graphs.specs.Expressions.{Condition, emitted}
-use Rattle.graphs.specs.Operators.{DecidesAt}
-use Rattle.graphs.specs.Paths.{◌then◌, ForkTo, MarksAll, Ways}
-use Rattle.graph_parts.specs.Made.{Made, MadeFor, MadeWays}
-use Rattle.graph_parts.specs.Parts.{serving, value_part}
-use Rattle.graph_parts.specs.Purposes.{ways}
-use Rattle.graph_parts.specs.declared.purpose.Purpose.TheVariants as purpose
-use Rattle.graph_parts.proofs.Building.{carried, then_made, view_made}
-use Rattle.graph_parts.proofs.Visiting.{mark_made}
+use Rattle.lower_relation.specs.Expressions.{Condition, emitted}
+use Rattle.lower_relation.specs.Operators.{DecidesAt}
+use Rattle.lower_relation.specs.Paths.{◌then◌, ForkTo, MarksAll, Ways}
+use Rattle.lower_nodes.specs.Made.{Made, MadeFor, MadeWays}
+use Rattle.lower_nodes.specs.Parts.{serving, value_part}
+use Rattle.lower_nodes.specs.Purposes.{ways}
+use Rattle.lower_nodes.specs.declared.purpose.Purpose.TheVariants as purpose
+use Rattle.lower_nodes.proofs.Building.{carried, then_made, view_made}
+use Rattle.lower_nodes.proofs.Visiting.{mark_made}
 
 module _ (facts : Facts) (sites : Sites) (token : ℕ) (x : ExprTree) (site : Option ℕ) (found : site ≡ sites.branch_at token) where
   decides : (o : Option ℕ) (n0 n1 : List Node) (i : ℕ) (k : Ways) → o ≡ site →

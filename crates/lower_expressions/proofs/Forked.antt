@@ -4,27 +4,27 @@ use Rattle.c_syntax.specs.ExprTree as e
 use Rattle.c_syntax.specs.ExprTree.{ExprTree, LinkList}
 use Rattle.c_syntax.specs.declared.expr.Link.{Link}
 use Rattle.c_syntax.specs.Plain.{plain_expr, plain_links}
-use Rattle.c_types.specs.ExprWalk.{binary_of}
+use Rattle.c_types_expressions.specs.ExprWalk.{binary_of}
 use Rattle.flow.specs.declared.node.Node.{Node}
 use Rattle.flow.specs.declared.node.Node.TheVariants as node
 use Rattle.c_meaning.specs.declared.value_type.ValueType.{ValueType}
 use Rattle.c_meaning.specs.Facts.{Facts, Sites}
 use Rattle.c_meaning.specs.Trees as tree
 use Rattle.c_meaning.specs.Trees.{Joint, Both, Computes, Unjoined, begins_null, is_null_beside, joint, operand_type, type_of}
-use Rattle.graphs.specs.Expressions.{LinksHold, emitted}
-use Rattle.graphs.specs.Operators.{DecidesAt, LinkedTruth}
-use Rattle.graphs.specs.Paths.{Graph, Path, ◌then◌, Emitted, Ways}
-use Rattle.graphs.specs.Values.{NullOr, NullTruth}
-use Rattle.graphs.specs.Functions.{standing}
-use Rattle.graph_parts.specs.Ends.{AllBelow, two_ends}
-use Rattle.graph_parts.specs.Made.{Later, LeadBack, MadeFor, MadeWays, Stands}
-use Rattle.graph_parts.specs.Parts.{serving, truth_part}
-use Rattle.graph_parts.specs.Purposes.{Serves, ways}
-use Rattle.graph_parts.specs.declared.purpose.Purpose.TheVariants as purpose
+use Rattle.lower_relation.specs.Expressions.{LinksHold, emitted}
+use Rattle.lower_relation.specs.Operators.{DecidesAt, LinkedTruth}
+use Rattle.lower_relation.specs.Paths.{Graph, Path, ◌then◌, Emitted, Ways}
+use Rattle.lower_relation.specs.Values.{NullOr, NullTruth}
+use Rattle.lower_relation.specs.Functions.{standing}
+use Rattle.lower_nodes.specs.Ends.{AllBelow, two_ends}
+use Rattle.lower_nodes.specs.Made.{Later, LeadBack, MadeFor, MadeWays, CameOut}
+use Rattle.lower_nodes.specs.Parts.{serving, truth_part}
+use Rattle.lower_nodes.specs.Purposes.{Serves, ways}
+use Rattle.lower_nodes.specs.declared.purpose.Purpose.TheVariants as purpose
 use Rattle.lower_expressions.specs.Forking.{all_fork, forks_at, no_before, yes_before}
 use Rattle.lower_expressions.specs.Linking.{link_part, type_before}
-use Rattle.graph_parts.proofs.Building.{◌and_then◌, back_both, below_more, carried, later_self, later_trans, none_back, row}
-use Rattle.graph_parts.proofs.Taking.{fork_made}
+use Rattle.lower_nodes.proofs.Building.{◌and_then◌, back_both, below_more, carried, later_self, later_trans, none_back, row}
+use Rattle.lower_nodes.proofs.Taking.{fork_made}
 use Rattle.lower_expressions.proofs.Chaining.{plain_cons}
 
 -- a null pointer's truth
@@ -150,7 +150,7 @@ module _ (facts : Facts) (sites : Sites) (first : ExprTree) (links : List Link) 
     keeps = later_trans 0 0 n0 n1 n2 (omega arith) rest.keeps made.keeps;
     leads = λ below.
         let second : AllBelow (length n1) (two_ends (ways yes_at no_at)) × LeadBack (length n0) n1 = rest.leads below in
-        let right_at : Stands (length n1) n2 right = made.leads second.0 in
+        let right_at : CameOut (length n1) n2 right = made.leads second.0 in
         let all : AllBelow (length n2) (two_ends (ways yes_at no_at)) = below_more (length n1) (length n2) (two_ends (ways yes_at no_at)) made.keeps.longer second.0 in (
           chosen_below (joint d.sign) (length n2) right yes_at no_at right_at.inside all.0 all.1.0,
           back_both (length n0) n1 n2 second.1 made.keeps right_at.back,
@@ -172,7 +172,7 @@ module _ (facts : Facts) (sites : Sites) (first : ExprTree) (links : List Link) 
     keeps = later_trans 0 0 n0 n1 n2 (omega arith) leads.keeps made.keeps;
     leads = λ below.
         let second : AllBelow (length n1) (two_ends from) × LeadBack (length n0) n1 = leads.leads below in
-        let begins : Stands (length n1) n2 i = made.leads second.0 in
+        let begins : CameOut (length n1) n2 i = made.leads second.0 in
         record { inside = begins.inside; back = back_both (length n0) n1 n2 second.1 made.keeps begins.back };
   }
 

@@ -8,16 +8,16 @@ use Rattle.c_meaning.specs.declared.value_type.Called.TheVariants as called
 use Rattle.c_meaning.specs.Facts.{Facts, Signature, Sites}
 use Rattle.c_meaning.specs.Trees.{has_value}
 use Rattle.c_meaning.specs.Visits.{listed}
-use Rattle.graphs.specs.Calls.{Argument, Arguments, CallDoes, CallFunction, CallLibrary, WithResult}
-use Rattle.graphs.specs.Paths.{Graph, Path, ◌then◌, MarksAll, Stuck}
+use Rattle.lower_relation.specs.Calls.{Argument, Arguments, CallDoes, CallFunction, CallLibrary, WithResult}
+use Rattle.lower_relation.specs.Paths.{Graph, Path, ◌then◌, MarksAll, Stuck}
 use Rattle.lower_expressions.specs.Giving.{CalledDoes, FunctionDoes, Given, GivenTakes, LibraryDoes, function_gives, giving_of, is_refused, library_gives, result_gives}
-use Rattle.graph_parts.specs.Made.{Made, MadeAlone, MadeFor, Part}
-use Rattle.graph_parts.specs.Purposes.{Serves, Takes}
+use Rattle.lower_nodes.specs.Made.{Made, MadeAlone, MadeFor, Part}
+use Rattle.lower_nodes.specs.Purposes.{Serves, Takes}
 use Rattle.lower_expressions.specs.declared.calls.Giving.{Giving}
 use Rattle.lower_expressions.specs.declared.calls.Giving.TheVariants as giving
-use Rattle.graph_parts.specs.declared.purpose.Purpose.{Purpose}
-use Rattle.graph_parts.specs.declared.purpose.Purpose.TheVariants as purpose
-use Rattle.graph_parts.proofs.Building.{carried, later_self, stays_put, then_made}
+use Rattle.lower_nodes.specs.declared.purpose.Purpose.{Purpose}
+use Rattle.lower_nodes.specs.declared.purpose.Purpose.TheVariants as purpose
+use Rattle.lower_nodes.proofs.Building.{carried, later_self, stays_put, then_made}
 
 module _ (facts : Facts) (sites : Sites) (token : ℕ) where
   pub given_value : (p : Purpose) (n0 n1 : List Node) (i : ℕ) → MadeFor (λ G. Takes G) n0 n1 i p →

@@ -20,19 +20,19 @@ use Rattle.c_meaning.specs.declared.value_type.Called.TheVariants as called
 use Rattle.c_meaning.specs.declared.value_type.ValueType.{ValueType}
 use Rattle.c_meaning.specs.declared.value_type.ValueType.TheVariants as type
 use Rattle.c_meaning.specs.Calls.{as_type}
-use Rattle.c_meaning.specs.Conversions.{decayed, is_null_as}
+use Rattle.c_meaning.specs.Conversions.{as_used, is_null_as}
 use Rattle.c_meaning.specs.Facts.{Facts, Signature, Sites}
 use Rattle.c_meaning.specs.Meaning.{text_of}
 use Rattle.c_meaning.specs.Trees.{called_as, count, first_type, other_types, type_of}
-use Rattle.graphs.specs.Calls.{Arguments, CallDoes, Prints}
-use Rattle.graphs.specs.Expressions.{ArgumentsDo, FormatDoes, LoneDoes, emitted, number_of_text}
-use Rattle.graphs.specs.Paths.{Graph, Path, ◌then◌, Does, HaltsAt, Only, Stuck}
-use Rattle.graphs.specs.Values.{HandedValue}
-use Rattle.graph_parts.specs.Made.{Made, MadeAlone, MadeFor, Part}
-use Rattle.graph_parts.specs.Parts.{serving}
-use Rattle.graph_parts.specs.Purposes.{Serves}
-use Rattle.graph_parts.specs.declared.purpose.Purpose.{Purpose}
-use Rattle.graph_parts.proofs.Building.{carried, nothing_made, surely_made, then_made}
+use Rattle.lower_relation.specs.Calls.{Arguments, CallDoes, Prints}
+use Rattle.lower_relation.specs.Expressions.{ArgumentsDo, FormatDoes, LoneDoes, emitted, number_of_text}
+use Rattle.lower_relation.specs.Paths.{Graph, Path, ◌then◌, Does, HaltsAt, Only, Stuck}
+use Rattle.lower_relation.specs.Values.{HandedValue}
+use Rattle.lower_nodes.specs.Made.{Made, MadeAlone, MadeFor, Part}
+use Rattle.lower_nodes.specs.Parts.{serving}
+use Rattle.lower_nodes.specs.Purposes.{Serves}
+use Rattle.lower_nodes.specs.declared.purpose.Purpose.{Purpose}
+use Rattle.lower_nodes.proofs.Building.{carried, nothing_made, surely_made, then_made}
 use Rattle.lower_expressions.specs.Giving.{CalledDoes, FunctionDoes, Given, GivenTakes, LibraryDoes, giving_of, is_refused}
 use Rattle.lower_expressions.specs.Passing.{Acts, Formats, LibraryActs, fits, format_types, known, library_fits, library_types, number_of_first, others, params_of, passed, prints, takes, text_of_first, type_of_first, types_of_text, types_passed}
 use Rattle.lower_expressions.specs.declared.calls.Giving.{Giving}
@@ -177,7 +177,7 @@ module _ (facts : Facts) (sites : Sites) where
     library_passed library.Exit xs i k fit h = lone_passed (as_type (type.Number Int)) (type.Number Int ∷ []) (HaltsAt G node.Exit) xs i k fit refl h
     library_passed library.Abort xs i k fit h = none_passed (HaltsAt G node.Abort) xs i k fit h
     library_passed library.Assert xs i k fit h =
-        lone_passed decayed (known (decayed (type_of_first facts xs))) (Does G (node.Check 0)) xs i k fit (first_known (decayed
+        lone_passed as_used (known (as_used (type_of_first facts xs))) (Does G (node.Check 0)) xs i k fit (first_known (as_used
         (type_of_first facts xs))) h
     library_passed library.Printf xs i k fit h = format_passed xs i k fit h
 
@@ -232,7 +232,7 @@ module _ (facts : Facts) (sites : Sites) where
     library_unfit library.Free xs i k unfit h = lone_unfit (as_type (type.Pointer 0)) (Does G (node.Free 0)) xs i k unfit h
     library_unfit library.Exit xs i k unfit h = lone_unfit (as_type (type.Number Int)) (HaltsAt G node.Exit) xs i k unfit h
     library_unfit library.Abort xs i k unfit h = only_unfit (count xs == 0) (HaltsAt G node.Abort) (HaltsAt G node.Abort) i k unfit h
-    library_unfit library.Assert xs i k unfit h = lone_unfit decayed (Does G (node.Check 0)) xs i k unfit h
+    library_unfit library.Assert xs i k unfit h = lone_unfit as_used (Does G (node.Check 0)) xs i k unfit h
     library_unfit library.Printf xs i k unfit h = format_unfit xs (Formats G (number_of_first facts xs) (count (others xs))) i k unfit h
 
     all_unfit : (c : Called) (xs : ExprList) (i k : ℕ) → fits facts c xs ≡ false → (Stuck G then Acts G facts c xs) i k → called_part c xs G i k

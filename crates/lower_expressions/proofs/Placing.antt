@@ -15,14 +15,14 @@ use Rattle.c_meaning.specs.declared.value_type.ValueType.{ValueType}
 use Rattle.c_meaning.specs.declared.value_type.ValueType.TheVariants as type
 use Rattle.c_meaning.specs.Facts.{Facts, Signature, Sites}
 use Rattle.c_meaning.specs.Trees.{called_as, ends_as_place, has_value, is_place, token_of, type_of}
-use Rattle.graphs.specs.Calls.{Argument, Arguments, CallDoes, CallFunction, CallLibrary, WithResult}
-use Rattle.graphs.specs.Expressions.{LastDoes, emitted}
-use Rattle.graphs.specs.Operators.{Cast, Pointed, Postfixed, Prefixed, SizeValue}
-use Rattle.graphs.specs.Paths.{Graph, Path, Emitted, Stuck}
-use Rattle.graph_parts.specs.Made.{Made, MadeAlone, Part}
-use Rattle.graph_parts.specs.Parts.{place_part, value_part}
+use Rattle.lower_relation.specs.Calls.{Argument, Arguments, CallDoes, CallFunction, CallLibrary, WithResult}
+use Rattle.lower_relation.specs.Expressions.{LastDoes, emitted}
+use Rattle.lower_relation.specs.Operators.{Cast, Pointed, Postfixed, Prefixed, SizeValue}
+use Rattle.lower_relation.specs.Paths.{Graph, Path, Emitted, Stuck}
+use Rattle.lower_nodes.specs.Made.{Made, MadeAlone, Part}
+use Rattle.lower_nodes.specs.Parts.{place_part, value_part}
 use Rattle.lower_expressions.specs.Spots.{is_nowhere, spots_part}
-use Rattle.graph_parts.proofs.Building.{◌and_then◌, carried, surely_made}
+use Rattle.lower_nodes.proofs.Building.{◌and_then◌, carried, surely_made}
 
 module _ (G : Graph) where
   size_nowhere : (cells : Option ℕ) (i k : ℕ) → Stuck G i k → (SizeValue G cells).place i k

@@ -10,12 +10,12 @@ use Rattle.c_syntax.proofs.PlainExprs.{plain_arrow_before, plain_decrement_befor
 use Rattle.flow.specs.declared.node.Node.{Node}
 use Rattle.c_meaning.specs.declared.value_type.ValueType.{ValueType}
 use Rattle.c_meaning.specs.Facts.{Facts, Sites}
-use Rattle.graphs.specs.Expressions.{Behind, has_more}
-use Rattle.graphs.specs.Paths.{Graph, ◌then◌}
-use Rattle.graph_parts.specs.Made.{Made}
+use Rattle.lower_relation.specs.Expressions.{Behind, has_more}
+use Rattle.lower_relation.specs.Paths.{Graph, ◌then◌}
+use Rattle.lower_nodes.specs.Made.{Made}
 use Rattle.lower_expressions.specs.Spots.{first_part, others, place_after, place_before, token_after, type_behind}
 use Rattle.lower_expressions.specs.Weights.{postfix_weight}
-use Rattle.graph_parts.proofs.Building.{carried, nothing_made, then_made}
+use Rattle.lower_nodes.proofs.Building.{carried, nothing_made, then_made}
 
 pub others_plain : (x : PostfixOperator) (rest : PostfixList) → others (plain_postfix x rest) ≡ rest
 others_plain (postfix.Index token i) rest = ap others (plain_index_before token i rest)

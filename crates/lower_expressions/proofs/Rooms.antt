@@ -14,7 +14,7 @@ use Rattle.c_rules.specs.declared.library.Library.TheVariants as library
 use Rattle.c_meaning.specs.declared.value_type.Called.{Called}
 use Rattle.c_meaning.specs.declared.value_type.Called.TheVariants as called
 use Rattle.c_meaning.specs.Facts.{Sites}
-use Rattle.graphs.specs.Room.{branches, expr_room, exprs_room, links_room, postfix_room}
+use Rattle.lower_relation.specs.Room.{branches, expr_room, exprs_room, links_room, postfix_room}
 use Rattle.lower_expressions.proofs.Chaining.{links_split}
 use Rattle.lower_expressions.specs.Passing.{others, passed}
 use Rattle.lower_expressions.specs.Spots.{is_nowhere}

@@ -5,18 +5,18 @@ use Rattle.c_syntax.specs.ExprTree.{ExprTree, PostfixList}
 use Rattle.flow.specs.declared.node.Node.{Node}
 use Rattle.c_meaning.specs.Facts.{Facts, Sites}
 use Rattle.c_meaning.specs.Trees.{ends_as_place, is_place, type_of}
-use Rattle.graphs.specs.Operators.{Postfixed}
-use Rattle.graphs.specs.Paths.{Graph, Path}
-use Rattle.graphs.specs.Values.{Valued}
-use Rattle.graph_parts.specs.Made.{Made, MadeFor, Part}
-use Rattle.graph_parts.specs.Parts.{serving}
-use Rattle.graph_parts.specs.Purposes.{Serves, Takes, TakesPlace}
+use Rattle.lower_relation.specs.Operators.{Postfixed}
+use Rattle.lower_relation.specs.Paths.{Graph, Path}
+use Rattle.lower_relation.specs.Values.{Valued}
+use Rattle.lower_nodes.specs.Made.{Made, MadeFor, Part}
+use Rattle.lower_nodes.specs.Parts.{serving}
+use Rattle.lower_nodes.specs.Purposes.{Serves, Takes, TakesPlace}
 use Rattle.lower_expressions.specs.Spots.{spots_part}
 use Rattle.lower_expressions.specs.Voids.{is_taken}
-use Rattle.graph_parts.specs.declared.purpose.Purpose.{Purpose}
-use Rattle.graph_parts.specs.declared.purpose.Purpose.TheVariants as purpose
-use Rattle.graph_parts.proofs.Building.{carried}
-use Rattle.graph_parts.proofs.Serving.{placed_made, valued_made}
+use Rattle.lower_nodes.specs.declared.purpose.Purpose.{Purpose}
+use Rattle.lower_nodes.specs.declared.purpose.Purpose.TheVariants as purpose
+use Rattle.lower_nodes.proofs.Building.{carried}
+use Rattle.lower_nodes.proofs.Serving.{placed_made, valued_made}
 
 module _ (facts : Facts) (sites : Sites) (primary : ExprTree) (operators : PostfixList) where
   abbrev pub spots : Bool → Part ℕ

@@ -7,16 +7,16 @@ use Rattle.flow.specs.declared.node.Node.{Node}
 use Rattle.flow.specs.declared.node.Node.TheVariants as node
 use Rattle.c_meaning.specs.declared.value_type.ValueType.{ValueType}
 use Rattle.c_meaning.specs.Facts.{Facts, Sites}
-use Rattle.graphs.specs.Operators.{Negated}
-use Rattle.graphs.specs.Paths.{Graph, ◌then◌, Does, Emitted, Stuck}
-use Rattle.graphs.specs.Values.{Valued}
-use Rattle.graph_parts.specs.Made.{Made, MadeAlone, MadeFor, Part}
-use Rattle.graph_parts.specs.Prefixes.{PrefixValue}
-use Rattle.graph_parts.specs.Purposes.{Serves, Takes}
-use Rattle.graph_parts.specs.declared.purpose.Purpose.{Purpose}
-use Rattle.graph_parts.specs.declared.purpose.Purpose.TheVariants as purpose
-use Rattle.graph_parts.proofs.Building.{carried}
-use Rattle.graph_parts.proofs.Serving.{is_valued, valued_made}
+use Rattle.lower_relation.specs.Operators.{Negated}
+use Rattle.lower_relation.specs.Paths.{Graph, ◌then◌, Does, Emitted, Stuck}
+use Rattle.lower_relation.specs.Values.{Valued}
+use Rattle.lower_nodes.specs.Made.{Made, MadeAlone, MadeFor, Part}
+use Rattle.lower_nodes.specs.Prefixes.{PrefixValue}
+use Rattle.lower_nodes.specs.Purposes.{Serves, Takes}
+use Rattle.lower_nodes.specs.declared.purpose.Purpose.{Purpose}
+use Rattle.lower_nodes.specs.declared.purpose.Purpose.TheVariants as purpose
+use Rattle.lower_nodes.proofs.Building.{carried}
+use Rattle.lower_nodes.proofs.Serving.{is_valued, valued_made}
 
 -- a negation whose truth isn't what is wanted
 abbrev turned : (Graph → Emitted) → Part ℕ

@@ -5,9 +5,9 @@ use Rattle.c_meaning.specs.declared.value_type.ValueType.{ValueType}
 use Rattle.c_meaning.specs.Conversions.{is_null_as}
 use Rattle.c_meaning.specs.Facts.{Facts, Sites}
 use Rattle.c_meaning.specs.Trees.{type_of}
-use Rattle.graphs.specs.Expressions.{emitted}
-use Rattle.graphs.specs.Values.{ArmEffect, ArmValue}
-use Rattle.graph_parts.specs.Made.{Part}
+use Rattle.lower_relation.specs.Expressions.{emitted}
+use Rattle.lower_relation.specs.Values.{ArmEffect, ArmValue}
+use Rattle.lower_nodes.specs.Made.{Part}
 
 -- an arm as a value of the type of the whole, and where nothing takes that
 abbrev pub arm_value_part : Facts → Sites → Option ValueType → ExprTree → Part ℕ

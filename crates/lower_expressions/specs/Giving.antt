@@ -9,18 +9,18 @@ use Rattle.c_meaning.specs.declared.value_type.Called.{Called}
 use Rattle.c_meaning.specs.declared.value_type.Called.TheVariants as called
 use Rattle.c_meaning.specs.declared.value_type.ValueType.TheVariants as type
 use Rattle.c_meaning.specs.Calls.{as_type}
-use Rattle.c_meaning.specs.Conversions.{decayed}
+use Rattle.c_meaning.specs.Conversions.{as_used}
 use Rattle.c_meaning.specs.Facts.{Facts, Signature, Sites}
 use Rattle.c_meaning.specs.Trees.{has_value}
 use Rattle.c_meaning.specs.Visits.{listed}
-use Rattle.graphs.specs.Calls.{Argument, Arguments, Returned}
-use Rattle.graphs.specs.Paths.{Graph, Path, ◌then◌, Does, Emitted, HaltsAt, MarksAll, Nothing, Only, Stuck}
-use Rattle.graphs.specs.Values.{Effected, Valued}
-use Rattle.graph_parts.specs.Purposes.{Takes}
+use Rattle.lower_relation.specs.Calls.{Argument, Arguments, Returned}
+use Rattle.lower_relation.specs.Paths.{Graph, Path, ◌then◌, Does, Emitted, HaltsAt, MarksAll, Nothing, Only, Stuck}
+use Rattle.lower_relation.specs.Values.{Effected, Valued}
+use Rattle.lower_nodes.specs.Purposes.{Takes}
 use Rattle.lower_expressions.specs.declared.calls.Giving.{Giving}
 use Rattle.lower_expressions.specs.declared.calls.Giving.TheVariants as giving
-use Rattle.graph_parts.specs.declared.purpose.Purpose.{Purpose}
-use Rattle.graph_parts.specs.declared.purpose.Purpose.TheVariants as purpose
+use Rattle.lower_nodes.specs.declared.purpose.Purpose.{Purpose}
+use Rattle.lower_nodes.specs.declared.purpose.Purpose.TheVariants as purpose
 
 abbrev pub library_gives : Library → Giving
 library_gives library.Getchar = giving.Returned
@@ -59,7 +59,7 @@ module _ (G : Graph) where
   LibraryDoes library.Free n argument print = argument (as_type (type.Pointer 0)) then Does G (node.Free 0)
   LibraryDoes library.Exit n argument print = argument (as_type (type.Number Int)) then HaltsAt G node.Exit
   LibraryDoes library.Abort n argument print = Only G (n == 0) (HaltsAt G node.Abort)
-  LibraryDoes library.Assert n argument print = argument decayed then Does G (node.Check 0)
+  LibraryDoes library.Assert n argument print = argument as_used then Does G (node.Check 0)
   LibraryDoes library.Printf n argument print = print
 
   -- a function of the text

@@ -5,15 +5,15 @@ use Rattle.c_syntax.specs.ExprTree.{ExprTree}
 use Rattle.c_syntax.specs.declared.expr.Link.{Link}
 use Rattle.c_syntax.specs.declared.token.Sign.{Sign}
 use Rattle.flow.specs.declared.node.Node.TheVariants as node
-use Rattle.c_types.specs.ExprWalk.{binary_of}
+use Rattle.c_types_expressions.specs.ExprWalk.{binary_of}
 use Rattle.c_meaning.specs.declared.value_type.ValueType.{ValueType}
 use Rattle.c_meaning.specs.Facts.{Facts, Sites}
 use Rattle.c_meaning.specs.Trees.{is_null_beside, joint, operand_type, type_of}
-use Rattle.graphs.specs.Expressions.{emitted}
-use Rattle.graphs.specs.Operators.{Decided, Linked}
-use Rattle.graphs.specs.Paths.{Graph, Path, Does, Either}
-use Rattle.graphs.specs.Values.{NullOr}
-use Rattle.graph_parts.specs.Made.{Part}
+use Rattle.lower_relation.specs.Expressions.{emitted}
+use Rattle.lower_relation.specs.Operators.{Decided, Linked}
+use Rattle.lower_relation.specs.Paths.{Graph, Path, Does, Either}
+use Rattle.lower_relation.specs.Values.{NullOr}
+use Rattle.lower_nodes.specs.Made.{Part}
 
 -- an operator with its right operand, where what stands before them has the type `left`
 abbrev pub link_part : Facts → Sites → Option ValueType → ℕ → Sign → ExprTree → Part ℕ

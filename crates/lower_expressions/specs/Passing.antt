@@ -15,12 +15,12 @@ use Rattle.c_meaning.specs.declared.value_type.Called.TheVariants as called
 use Rattle.c_meaning.specs.declared.value_type.ValueType.{ValueType}
 use Rattle.c_meaning.specs.declared.value_type.ValueType.TheVariants as type
 use Rattle.c_meaning.specs.Calls.{types_taken}
-use Rattle.c_meaning.specs.Conversions.{decayed}
+use Rattle.c_meaning.specs.Conversions.{as_used}
 use Rattle.c_meaning.specs.Facts.{Facts, Signature}
 use Rattle.c_meaning.specs.Meaning.{text_of}
 use Rattle.c_meaning.specs.Trees.{count, type_of}
-use Rattle.graphs.specs.Expressions.{number_of_text}
-use Rattle.graphs.specs.Paths.{Graph, Path, Does, HaltsAt, Nothing}
+use Rattle.lower_relation.specs.Expressions.{number_of_text}
+use Rattle.lower_relation.specs.Paths.{Graph, Path, Does, HaltsAt, Nothing}
 
 -- the types that the conversions of a format take
 abbrev pub format_types : List ℕ → List ValueType
@@ -67,7 +67,7 @@ library_types facts library.Malloc xs = type.Number Unsigned ∷ []
 library_types facts library.Free xs = type.Pointer 0 ∷ []
 library_types facts library.Exit xs = type.Number Int ∷ []
 library_types facts library.Abort xs = []
-library_types facts library.Assert xs = known (decayed (type_of_first facts xs))
+library_types facts library.Assert xs = known (as_used (type_of_first facts xs))
 library_types facts library.Printf xs = types_of_text (text_of_first facts xs)
 
 -- the types that the arguments of a call become

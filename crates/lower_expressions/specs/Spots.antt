@@ -7,10 +7,10 @@ use Rattle.c_meaning.specs.declared.value_type.ValueType.{ValueType}
 use Rattle.c_meaning.specs.Facts.{Facts, Sites}
 use Rattle.c_meaning.specs.Operation.{operation}
 use Rattle.c_meaning.specs.Trees.{is_place, type_of}
-use Rattle.graphs.specs.Expressions.{Behind, emitted}
-use Rattle.graphs.specs.Operators.{Member, Operates, Settled, Spot, SteppedAs}
-use Rattle.graphs.specs.Paths.{◌then◌, Nothing, Only}
-use Rattle.graph_parts.specs.Made.{Part}
+use Rattle.lower_relation.specs.Expressions.{Behind, emitted}
+use Rattle.lower_relation.specs.Operators.{Member, Operates, Settled, Spot, SteppedAs}
+use Rattle.lower_relation.specs.Paths.{◌then◌, Nothing, Only}
+use Rattle.lower_nodes.specs.Made.{Part}
 
 -- The first of the operators: `known` says whether what stands before it is a place, and `taken` whether something takes its value.
 abbrev pub first_part : Facts → Sites → Bool → Bool → Option ValueType → PostfixList → Part ℕ

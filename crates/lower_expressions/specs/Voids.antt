@@ -2,8 +2,8 @@
 use Rattle.std.specs.Prelude.{Bool, true, false, Option, Some}
 use Rattle.c_meaning.specs.declared.value_type.ValueType.{ValueType}
 use Rattle.c_meaning.specs.declared.value_type.ValueType.TheVariants as type
-use Rattle.graph_parts.specs.declared.purpose.Purpose.{Purpose}
-use Rattle.graph_parts.specs.declared.purpose.Purpose.TheVariants as purpose
+use Rattle.lower_nodes.specs.declared.purpose.Purpose.{Purpose}
+use Rattle.lower_nodes.specs.declared.purpose.Purpose.TheVariants as purpose
 
 -- whether the type is `void`
 abbrev pub is_void : Option ValueType → Bool

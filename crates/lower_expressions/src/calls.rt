@@ -2,13 +2,13 @@ ghost use Rattle.std.specs.Prelude.{◌≡◌, IfOk, length, ◌≤◌, ◌+◌}
 ghost use Rattle.c_meaning.specs.Conversions.{is_null_as};
 ghost use Rattle.c_syntax.specs.ExprTree as e;
 ghost use Rattle.c_syntax.specs.Plain.{plain_expr, plain_exprs};
-ghost use Rattle.graphs.specs.Expressions.{ArgumentsDo};
-ghost use Rattle.graphs.specs.Room.{expr_room, exprs_room, returns};
-ghost use Rattle.graph_parts.specs.Made.{Made, MadeFor};
-ghost use Rattle.graph_parts.specs.Parts.{serving};
+ghost use Rattle.lower_relation.specs.Expressions.{ArgumentsDo};
+ghost use Rattle.lower_relation.specs.Room.{expr_room, exprs_room, returns};
+ghost use Rattle.lower_nodes.specs.Made.{Made, MadeFor};
+ghost use Rattle.lower_nodes.specs.Parts.{serving};
 ghost use Rattle.lower_expressions.specs.Giving.{GivenTakes, giving_of, is_refused, library_gives};
 ghost use Rattle.lower_expressions.specs.Taken.{wanted_types};
-ghost use Rattle.tree_facts.specs.Facts.{facts_in, sites_in};
+ghost use Rattle.lower_facts.specs.Facts.{facts_in, sites_in};
 
 use crate::choices::emit_handed;
 use crate::library::{fits, passed, put_acts, wanted_by};
@@ -17,8 +17,8 @@ use c_meaning::Called;
 use c_rules::Library;
 use c_syntax::Expr;
 use cbi_base::{Memory, Name};
-use graph_parts::{Graph, Purpose, put_mark, put_stuck, put_taken};
-use tree_facts::{TreeFacts, has_value};
+use lower_facts::{TreeFacts, has_value};
+use lower_nodes::{Graph, Purpose, put_mark, put_stuck, put_taken};
 
 /// What a call gives.
 #[derive(Clone, Copy, Debug)]

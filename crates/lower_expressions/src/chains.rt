@@ -1,29 +1,29 @@
 ghost use Rattle.std.specs.Prelude.{IfOk, length, ◌≤◌, ◌+◌};
 ghost use Rattle.c_syntax.specs.ExprTree as e;
 ghost use Rattle.c_syntax.specs.Plain.{plain_expr, plain_links};
-ghost use Rattle.graphs.specs.Expressions.{LinksDo, emitted};
-ghost use Rattle.graphs.specs.Values.{NullOr};
-ghost use Rattle.graphs.specs.Room.{branches, expr_room, links_room};
-ghost use Rattle.graph_parts.specs.Made.{Made, MadeFor};
-ghost use Rattle.graph_parts.specs.Parts.{serving};
-ghost use Rattle.graph_parts.specs.declared.purpose.Purpose.TheVariants as purpose;
+ghost use Rattle.lower_relation.specs.Expressions.{LinksDo, emitted};
+ghost use Rattle.lower_relation.specs.Values.{NullOr};
+ghost use Rattle.lower_relation.specs.Room.{branches, expr_room, links_room};
+ghost use Rattle.lower_nodes.specs.Made.{Made, MadeFor};
+ghost use Rattle.lower_nodes.specs.Parts.{serving};
+ghost use Rattle.lower_nodes.specs.declared.purpose.Purpose.TheVariants as purpose;
 ghost use Rattle.lower_expressions.specs.Linking.{link_part};
-ghost use Rattle.tree_facts.specs.Facts.{facts_in, sites_in};
+ghost use Rattle.lower_facts.specs.Facts.{facts_in, sites_in};
 
 use crate::expressions::emit_value;
 use crate::links::{begins_null, put_shortcut, type_before};
 use crate::truths::{all_fork, emit_forked};
 use c_meaning::{ValueType, operation_of};
 use c_syntax::{Expr, Link};
-use c_types::binary_of;
+use c_types_expressions::binary_of;
 use cbi_base::Memory;
 use flow::Node;
-use graph_parts::{Graph, Purpose, put_flagged, put_operation, put_stuck, put_taken};
-use tree_facts::{Joint, TreeFacts, is_null_beside, joint_by, operand_type};
+use lower_facts::{Joint, TreeFacts, is_null_beside, joint_by, operand_type};
+use lower_nodes::{Graph, Purpose, put_flagged, put_operation, put_stuck, put_taken};
 
 /// The value, or a null pointer in its place.
 #[cycle(emission)]
-#[tactic(auto, using(graph_parts::proofs::Building::parts_made))]
+#[tactic(auto, using(lower_nodes::proofs::Building::parts_made))]
 pub fn emit_null_or(
     graph: &mut Graph,
     facts: &TreeFacts,

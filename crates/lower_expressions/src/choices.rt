@@ -2,15 +2,15 @@ ghost use Rattle.std.specs.Prelude.{IfOk, length, ◌≤◌, ◌+◌};
 ghost use Rattle.c_syntax.specs.ExprTree as e;
 ghost use Rattle.c_syntax.specs.Plain.{plain_expr, plain_exprs};
 ghost use Rattle.c_meaning.specs.Conversions.{is_null_as};
-ghost use Rattle.graphs.specs.Expressions.{LastDoes, emitted};
-ghost use Rattle.graphs.specs.Operators.{Cast};
-ghost use Rattle.graphs.specs.Values.{HandedValue};
-ghost use Rattle.graphs.specs.Room.{branches, expr_room, exprs_room};
-ghost use Rattle.graph_parts.specs.Made.{Made, MadeFor};
-ghost use Rattle.graph_parts.specs.Parts.{serving, value_part};
-ghost use Rattle.graph_parts.specs.Purposes.{Serves};
+ghost use Rattle.lower_relation.specs.Expressions.{LastDoes, emitted};
+ghost use Rattle.lower_relation.specs.Operators.{Cast};
+ghost use Rattle.lower_relation.specs.Values.{HandedValue};
+ghost use Rattle.lower_relation.specs.Room.{branches, expr_room, exprs_room};
+ghost use Rattle.lower_nodes.specs.Made.{Made, MadeFor};
+ghost use Rattle.lower_nodes.specs.Parts.{serving, value_part};
+ghost use Rattle.lower_nodes.specs.Purposes.{Serves};
 ghost use Rattle.lower_expressions.specs.Arms.{arm_effect_part, arm_value_part};
-ghost use Rattle.tree_facts.specs.Facts.{facts_in, sites_in};
+ghost use Rattle.lower_facts.specs.Facts.{facts_in, sites_in};
 
 use crate::conditions::emit_condition;
 use crate::expressions::{emit, emit_value};
@@ -19,12 +19,12 @@ use c_meaning::ValueType;
 use c_syntax::Expr;
 use cbi_base::Memory;
 use flow::Node;
-use graph_parts::{Graph, Purpose, put_arm, put_handed, put_stuck, put_taken};
-use tree_facts::{TreeFacts, is_null_as};
+use lower_facts::{TreeFacts, is_null_as};
+use lower_nodes::{Graph, Purpose, put_arm, put_handed, put_stuck, put_taken};
 
 /// The value, handed over as one of the type.
 #[cycle(emission)]
-#[tactic(auto, using(graph_parts::proofs::Building::parts_made))]
+#[tactic(auto, using(lower_nodes::proofs::Building::parts_made))]
 pub fn emit_handed(
     graph: &mut Graph,
     facts: &TreeFacts,
@@ -75,7 +75,7 @@ pub fn emit_cast(
 
 /// An arm of `? :` as a value of the type of the whole.
 #[cycle(emission)]
-#[tactic(auto, using(graph_parts::proofs::Building::parts_made))]
+#[tactic(auto, using(lower_nodes::proofs::Building::parts_made))]
 pub fn emit_arm_value(
     graph: &mut Graph,
     facts: &TreeFacts,

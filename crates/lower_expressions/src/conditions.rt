@@ -1,17 +1,17 @@
 ghost use Rattle.std.specs.Prelude.{IfOk, length, ◌≤◌, ◌+◌};
 ghost use Rattle.c_syntax.specs.Plain.{plain_expr};
-ghost use Rattle.graphs.specs.Expressions.{Condition};
-ghost use Rattle.graphs.specs.Room.{branches, expr_room};
-ghost use Rattle.graph_parts.specs.Made.{MadeWays};
-ghost use Rattle.graph_parts.specs.Purposes.{ways};
-ghost use Rattle.tree_facts.specs.Facts.{facts_in, sites_in};
+ghost use Rattle.lower_relation.specs.Expressions.{Condition};
+ghost use Rattle.lower_relation.specs.Room.{branches, expr_room};
+ghost use Rattle.lower_nodes.specs.Made.{MadeWays};
+ghost use Rattle.lower_nodes.specs.Purposes.{ways};
+ghost use Rattle.lower_facts.specs.Facts.{facts_in, sites_in};
 
 use crate::expressions::{emit, emit_value};
 use c_syntax::Expr;
 use cbi_base::Memory;
 use flow::Node;
-use graph_parts::{Graph, Purpose};
-use tree_facts::TreeFacts;
+use lower_facts::TreeFacts;
+use lower_nodes::{Graph, Purpose};
 
 /// A condition, with the visit of the site at the token. With a site its value is on top at the mark, and a fork follows at once.
 #[cycle(emission)]

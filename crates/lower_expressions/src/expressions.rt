@@ -2,12 +2,12 @@ ghost use Rattle.std.specs.Prelude.{IfOk, length, ◌≤◌, ◌+◌};
 ghost use Rattle.c_syntax.specs.Plain.{plain_expr};
 ghost use Rattle.c_meaning.specs.Conversions.{is_null_as};
 ghost use Rattle.c_meaning.specs.Trees.{type_of};
-ghost use Rattle.graphs.specs.Expressions.{emitted};
-ghost use Rattle.graphs.specs.Values.{WantedValue};
-ghost use Rattle.graphs.specs.Room.{expr_room};
-ghost use Rattle.graph_parts.specs.Made.{Made, MadeFor};
-ghost use Rattle.graph_parts.specs.Parts.{effect_part, serving, value_part};
-ghost use Rattle.tree_facts.specs.Facts.{facts_in, sites_in};
+ghost use Rattle.lower_relation.specs.Expressions.{emitted};
+ghost use Rattle.lower_relation.specs.Values.{WantedValue};
+ghost use Rattle.lower_relation.specs.Room.{expr_room};
+ghost use Rattle.lower_nodes.specs.Made.{Made, MadeFor};
+ghost use Rattle.lower_nodes.specs.Parts.{effect_part, serving, value_part};
+ghost use Rattle.lower_facts.specs.Facts.{facts_in, sites_in};
 
 use crate::calls::emit_call;
 use crate::chains::emit_chain;
@@ -18,10 +18,10 @@ use c_meaning::ValueType;
 use c_syntax::Expr;
 use cbi_base::{Kind, Memory};
 use flow::Node;
-use graph_parts::{
+use lower_facts::{TreeFacts, is_null_as};
+use lower_nodes::{
     Graph, Purpose, put_constant, put_converted, put_name, put_null, put_size, put_text,
 };
-use tree_facts::{TreeFacts, is_null_as};
 
 /// An expression, for what its value is wanted for.
 #[cycle(emission)]
@@ -78,7 +78,7 @@ pub fn emit(graph: &mut Graph, facts: &TreeFacts, x: &Expr, purpose: Purpose) ->
 
 /// The value of an expression.
 #[cycle(emission)]
-#[tactic(auto, using(graph_parts::proofs::Serving::parts_served))]
+#[tactic(auto, using(lower_nodes::proofs::Serving::parts_served))]
 pub fn emit_value(graph: &mut Graph, facts: &TreeFacts, x: &Expr, next: u32) -> Result<u32, Memory>
     ensures made { IfOk result (λ i. Made (value_part (facts_in facts.now) (sites_in facts.now) (plain_expr x.now)) graph.old graph.new i next) }
     ensures few { IfOk result (λ i. length graph.new ≤ length graph.old + expr_room (sites_in facts.now) (plain_expr x.now)) }
@@ -88,7 +88,7 @@ pub fn emit_value(graph: &mut Graph, facts: &TreeFacts, x: &Expr, next: u32) -> 
 }
 
 /// An expression whose value isn't taken.
-#[tactic(auto, using(graph_parts::proofs::Serving::parts_served))]
+#[tactic(auto, using(lower_nodes::proofs::Serving::parts_served))]
 pub fn emit_effect(graph: &mut Graph, facts: &TreeFacts, x: &Expr, next: u32) -> Result<u32, Memory>
     ensures made { IfOk result (λ i. Made (effect_part (facts_in facts.now) (sites_in facts.now) (plain_expr x.now)) graph.old graph.new i next) }
     ensures few { IfOk result (λ i. length graph.new ≤ length graph.old + expr_room (sites_in facts.now) (plain_expr x.now)) }
@@ -99,7 +99,7 @@ pub fn emit_effect(graph: &mut Graph, facts: &TreeFacts, x: &Expr, next: u32) ->
 
 /// The value of an expression as one of the wanted type, as by assignment.
 #[cycle(emission)]
-#[tactic(auto, using(graph_parts::proofs::Building::parts_made))]
+#[tactic(auto, using(lower_nodes::proofs::Building::parts_made))]
 pub fn emit_wanted(
     graph: &mut Graph,
     facts: &TreeFacts,

@@ -2,20 +2,20 @@ ghost use Rattle.std.specs.Prelude.{◌≡◌, IfOk, option_map, length, ◌≤�
 ghost use Rattle.std.specs.Option.{option_copied};
 ghost use Rattle.c_meaning.specs.Trees.{count};
 ghost use Rattle.c_syntax.specs.Plain.{plain_expr, plain_exprs};
-ghost use Rattle.graphs.specs.Expressions.{number_of_text};
-ghost use Rattle.graph_parts.specs.Made.{Made};
+ghost use Rattle.lower_relation.specs.Expressions.{number_of_text};
+ghost use Rattle.lower_nodes.specs.Made.{Made};
 ghost use Rattle.lower_expressions.specs.Passing.{Acts, Formats, LibraryActs, number_of_first, text_of_first, type_of_first, fits, library_fits, library_node, library_types, others, passed, takes, types_passed};
 ghost use Rattle.lower_expressions.specs.Taken.{wanted_types};
-ghost use Rattle.tree_facts.specs.Facts.{facts_in};
+ghost use Rattle.lower_facts.specs.Facts.{facts_in};
 
 use crate::printing::{Wanted, conversion_count};
-use c_meaning::{Called, ValueType, decayed};
+use c_meaning::{Called, ValueType, as_used};
 use c_rules::Library;
 use c_syntax::Expr;
 use cbi_base::{Kind, Memory};
 use flow::{Node, Text};
-use graph_parts::Graph;
-use tree_facts::TreeFacts;
+use lower_facts::TreeFacts;
+use lower_nodes::Graph;
 
 /// The type of the first argument.
 fn type_of_first(facts: &TreeFacts, arguments: &[Expr]) -> Option<ValueType>
@@ -108,7 +108,7 @@ fn library_wants<'a>(facts: &'a TreeFacts<'_>, function: Library, arguments: &[E
             of: Some(ValueType::Pointer { size: 0 }),
         },
         Library::Assert => Wanted::One {
-            of: decayed(type_of_first(facts, arguments)),
+            of: as_used(type_of_first(facts, arguments)),
         },
         Library::Printf => match text_of_first(facts, arguments) {
             None => Wanted::One { of: None },
@@ -165,7 +165,7 @@ pub fn fits(facts: &TreeFacts, called: Called, arguments: &[Expr]) -> bool
 }
 
 /// `printf` by the string with this number. No text has so many arguments that their count is `Memory`.
-#[tactic(auto, using(graph_parts::proofs::Building::parts_made))]
+#[tactic(auto, using(lower_nodes::proofs::Building::parts_made))]
 fn put_format(
     graph: &mut Graph,
     number: Option<u32>,

@@ -1,18 +1,18 @@
 ghost use Rattle.std.specs.Prelude.{◌≡◌, ◌<◌, IfOk, length, ◌≤◌, ◌+◌};
 ghost use Rattle.c_syntax.specs.Plain.{plain_expr, plain_links};
 ghost use Rattle.c_meaning.specs.Trees.{begins_null};
-ghost use Rattle.graphs.specs.Room.{branches};
-ghost use Rattle.graph_parts.specs.Made.{MadeTo};
+ghost use Rattle.lower_relation.specs.Room.{branches};
+ghost use Rattle.lower_nodes.specs.Made.{MadeTo};
 ghost use Rattle.lower_expressions.specs.Linking.{Shortcut, either_end, type_before};
-ghost use Rattle.tree_facts.specs.Facts.{facts_in, sites_in};
+ghost use Rattle.lower_facts.specs.Facts.{facts_in, sites_in};
 
 use c_meaning::ValueType;
 use c_syntax::{Expr, Link};
-use c_types::binary_of;
+use c_types_expressions::binary_of;
 use cbi_base::{Kind, Memory};
 use flow::Node;
-use graph_parts::{Graph, put_decided};
-use tree_facts::{TreeFacts, is_null_beside};
+use lower_facts::{TreeFacts, is_null_beside};
+use lower_nodes::{Graph, put_decided};
 
 /// Whether the first operand of a chain is a null pointer because of the second one.
 pub fn begins_null(facts: &TreeFacts, first: &Expr, links: &[Link]) -> bool

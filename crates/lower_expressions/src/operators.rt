@@ -3,16 +3,16 @@ ghost use Rattle.cbi_base.specs.declared.operators.Unary.TheVariants as unary;
 ghost use Rattle.c_syntax.specs.ExprTree as e;
 ghost use Rattle.c_syntax.specs.Plain.{plain_expr};
 ghost use Rattle.c_meaning.specs.Trees.{type_of};
-ghost use Rattle.graphs.specs.Expressions.{emitted};
-ghost use Rattle.graphs.specs.Operators.{Negated, OneOperand};
-ghost use Rattle.graphs.specs.Paths.{◌then◌, Does};
+ghost use Rattle.lower_relation.specs.Expressions.{emitted};
+ghost use Rattle.lower_relation.specs.Operators.{Negated, OneOperand};
+ghost use Rattle.lower_relation.specs.Paths.{◌then◌, Does};
 ghost use Rattle.flow.specs.declared.node.Node.TheVariants as node;
-ghost use Rattle.graphs.specs.Room.{expr_room, pairs};
-ghost use Rattle.graph_parts.specs.Made.{Made, MadeFor};
-ghost use Rattle.graph_parts.specs.Parts.{serving};
-ghost use Rattle.graph_parts.specs.Prefixes.{PrefixValue};
-ghost use Rattle.graph_parts.specs.Purposes.{Serves};
-ghost use Rattle.tree_facts.specs.Facts.{facts_in, sites_in};
+ghost use Rattle.lower_relation.specs.Room.{expr_room, pairs};
+ghost use Rattle.lower_nodes.specs.Made.{Made, MadeFor};
+ghost use Rattle.lower_nodes.specs.Parts.{serving};
+ghost use Rattle.lower_nodes.specs.Prefixes.{PrefixValue};
+ghost use Rattle.lower_nodes.specs.Purposes.{Serves};
+ghost use Rattle.lower_facts.specs.Facts.{facts_in, sites_in};
 
 use crate::expressions::{emit, emit_value, emit_wanted};
 use crate::places::emit_place;
@@ -20,11 +20,11 @@ use c_meaning::{ValueType, operation_of};
 use c_syntax::{Expr, PrefixOperator, Sign};
 use cbi_base::{Memory, Unary};
 use flow::Node;
-use graph_parts::{
+use lower_facts::{Assignment, TreeFacts, assignment_by, token_of};
+use lower_nodes::{
     Graph, Purpose, put_assigned, put_changed, put_converted, put_handed, put_size, put_stepped,
     put_stuck, put_taken, put_taken_through,
 };
-use tree_facts::{Assignment, TreeFacts, assignment_by, token_of};
 
 /// An assignment finds its place, then its value, which is converted and stored.
 #[cycle(emission)]
@@ -61,7 +61,7 @@ pub fn emit_assign(
 }
 
 /// A value is converted to the type at the token, and then calculated with.
-#[tactic(auto, using(graph_parts::proofs::Building::parts_made))]
+#[tactic(auto, using(lower_nodes::proofs::Building::parts_made))]
 fn put_sole(
     graph: &mut Graph,
     facts: &TreeFacts,
@@ -81,7 +81,7 @@ fn put_sole(
 
 /// The value of an operator before an operand.
 #[cycle(emission)]
-#[tactic(auto, using(graph_parts::proofs::Building::parts_made))]
+#[tactic(auto, using(lower_nodes::proofs::Building::parts_made))]
 pub fn emit_prefix_value(
     graph: &mut Graph,
     facts: &TreeFacts,
@@ -134,7 +134,7 @@ pub fn emit_prefix_value(
 
 /// 1 where the operand is false, else 0.
 #[cycle(emission)]
-#[tactic(auto, using(graph_parts::proofs::Building::parts_made))]
+#[tactic(auto, using(lower_nodes::proofs::Building::parts_made))]
 fn emit_negation(
     graph: &mut Graph,
     facts: &TreeFacts,

@@ -1,18 +1,18 @@
 ghost use Rattle.std.specs.Prelude.{◌≡◌, IfOk, true, ℕ, length, ◌≤◌, ◌+◌};
 ghost use Rattle.c_syntax.specs.ExprTree as e;
 ghost use Rattle.c_syntax.specs.Plain.{plain_expr, plain_exprs};
-ghost use Rattle.graphs.specs.Room.{expr_room, exprs_room};
-ghost use Rattle.graph_parts.specs.Made.{Made};
-ghost use Rattle.graph_parts.specs.Parts.{place_part};
+ghost use Rattle.lower_relation.specs.Room.{expr_room, exprs_room};
+ghost use Rattle.lower_nodes.specs.Made.{Made};
+ghost use Rattle.lower_nodes.specs.Parts.{place_part};
 ghost use Rattle.lower_expressions.specs.Spots.{is_nowhere};
-ghost use Rattle.tree_facts.specs.Facts.{facts_in, sites_in};
+ghost use Rattle.lower_facts.specs.Facts.{facts_in, sites_in};
 
 use crate::expressions::emit_value;
 use crate::postfix::emit_postfix_place;
 use c_syntax::{Expr, PrefixOperator};
 use cbi_base::Memory;
-use graph_parts::{Graph, put_pointed, put_stuck, put_variable};
-use tree_facts::TreeFacts;
+use lower_facts::TreeFacts;
+use lower_nodes::{Graph, put_pointed, put_stuck, put_variable};
 
 /// No run of a checked text comes to the place of an expression that is a value by its form.
 fn put_nowhere(graph: &mut Graph, facts: &TreeFacts, x: &Expr, next: u32) -> Result<u32, Memory>

@@ -2,13 +2,13 @@ ghost use Rattle.std.specs.Prelude.{IfOk, length, ◌≤◌, ◌+◌};
 ghost use Rattle.c_syntax.specs.ExprTree as e;
 ghost use Rattle.c_syntax.specs.ExprTree.{PostfixList};
 ghost use Rattle.c_syntax.specs.Plain.{plain_expr, plain_operators, plain_postfix};
-ghost use Rattle.graphs.specs.Expressions.{Behind, emitted};
-ghost use Rattle.graphs.specs.Operators.{Spot};
-ghost use Rattle.graphs.specs.Room.{expr_room, postfix_room};
-ghost use Rattle.graph_parts.specs.Made.{Made, MadeFor};
-ghost use Rattle.graph_parts.specs.Parts.{place_part, serving};
+ghost use Rattle.lower_relation.specs.Expressions.{Behind, emitted};
+ghost use Rattle.lower_relation.specs.Operators.{Spot};
+ghost use Rattle.lower_relation.specs.Room.{expr_room, postfix_room};
+ghost use Rattle.lower_nodes.specs.Made.{Made, MadeFor};
+ghost use Rattle.lower_nodes.specs.Parts.{place_part, serving};
 ghost use Rattle.lower_expressions.specs.Spots.{first_part, spots_part};
-ghost use Rattle.tree_facts.specs.Facts.{facts_in, sites_in};
+ghost use Rattle.lower_facts.specs.Facts.{facts_in, sites_in};
 
 use crate::expressions::emit_value;
 use crate::places::emit_place;
@@ -17,10 +17,10 @@ use crate::voids::is_taken;
 use c_meaning::{ValueType, operation_of};
 use c_syntax::{Expr, PostfixOperator};
 use cbi_base::{Binary, Memory};
-use graph_parts::{
+use lower_facts::{TreeFacts, ends_as_place, is_place, postfix_token, token_of};
+use lower_nodes::{
     Graph, Purpose, put_member, put_operation, put_stuck, put_taken, put_taken_place,
 };
-use tree_facts::{TreeFacts, ends_as_place, is_place, postfix_token, token_of};
 
 /// An operator behind an operand.
 #[cycle(emission)]
@@ -93,7 +93,7 @@ pub fn emit_behind(
 
 /// A place where the expression is one, and else its value.
 #[cycle(emission)]
-#[tactic(auto, using(graph_parts::proofs::Building::parts_made))]
+#[tactic(auto, using(lower_nodes::proofs::Building::parts_made))]
 pub fn emit_spot(
     graph: &mut Graph,
     facts: &TreeFacts,

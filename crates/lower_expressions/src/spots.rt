@@ -1,22 +1,22 @@
 ghost use Rattle.std.specs.Prelude.{◌≡◌, ◌<◌, ◌+◌, ◌||◌, IfOk, drop, length, ◌≤◌};
 ghost use Rattle.c_syntax.specs.ExprTree as e;
 ghost use Rattle.c_syntax.specs.Plain.{plain_operators, plain_postfix};
-ghost use Rattle.graphs.specs.Expressions.{has_more};
-ghost use Rattle.graphs.specs.Operators.{Settled, SteppedAs};
-ghost use Rattle.graphs.specs.Paths.{Only};
-ghost use Rattle.graphs.specs.Room.{pairs};
-ghost use Rattle.graph_parts.specs.Made.{Made};
+ghost use Rattle.lower_relation.specs.Expressions.{has_more};
+ghost use Rattle.lower_relation.specs.Operators.{Settled, SteppedAs};
+ghost use Rattle.lower_relation.specs.Paths.{Only};
+ghost use Rattle.lower_relation.specs.Room.{pairs};
+ghost use Rattle.lower_nodes.specs.Made.{Made};
 ghost use Rattle.lower_expressions.specs.Spots.{place_after, place_before, token_after, type_behind};
-ghost use Rattle.tree_facts.specs.Facts.{facts_in, sites_in};
+ghost use Rattle.lower_facts.specs.Facts.{facts_in, sites_in};
 
 use c_meaning::ValueType;
 use c_syntax::PostfixOperator;
 use cbi_base::Memory;
-use graph_parts::{Graph, put_load, put_stepped_as, put_stuck};
-use tree_facts::TreeFacts;
+use lower_facts::TreeFacts;
+use lower_nodes::{Graph, put_load, put_stepped_as, put_stuck};
 
 /// What stands before a postfix operator, as a value.
-#[tactic(auto, using(graph_parts::proofs::Building::parts_made))]
+#[tactic(auto, using(lower_nodes::proofs::Building::parts_made))]
 pub fn put_settled(
     graph: &mut Graph,
     known: bool,
@@ -34,7 +34,7 @@ pub fn put_settled(
 }
 
 /// `++` and `--` behind a place.
-#[tactic(auto, using(graph_parts::proofs::Building::parts_made))]
+#[tactic(auto, using(lower_nodes::proofs::Building::parts_made))]
 pub fn put_stepped_place(
     graph: &mut Graph,
     facts: &TreeFacts,

@@ -2,23 +2,23 @@ ghost use Rattle.std.specs.Prelude.{◌≡◌, IfOk, true, length, ◌≤◌, �
 ghost use Rattle.c_syntax.specs.ExprTree as e;
 ghost use Rattle.c_syntax.specs.Plain.{plain_expr, plain_links};
 ghost use Rattle.c_meaning.specs.Trees.{joint};
-ghost use Rattle.graphs.specs.Expressions.{emitted};
-ghost use Rattle.graphs.specs.Values.{NullTruth};
-ghost use Rattle.graphs.specs.Room.{expr_room};
-ghost use Rattle.graph_parts.specs.Made.{MadeWays};
-ghost use Rattle.graph_parts.specs.Parts.{truth_part};
-ghost use Rattle.graph_parts.specs.Purposes.{ways};
+ghost use Rattle.lower_relation.specs.Expressions.{emitted};
+ghost use Rattle.lower_relation.specs.Values.{NullTruth};
+ghost use Rattle.lower_relation.specs.Room.{expr_room};
+ghost use Rattle.lower_nodes.specs.Made.{MadeWays};
+ghost use Rattle.lower_nodes.specs.Parts.{truth_part};
+ghost use Rattle.lower_nodes.specs.Purposes.{ways};
 ghost use Rattle.lower_expressions.specs.Forking.{all_fork, forks_at, no_before, yes_before};
-ghost use Rattle.tree_facts.specs.Facts.{facts_in, sites_in};
+ghost use Rattle.lower_facts.specs.Facts.{facts_in, sites_in};
 
 use crate::expressions::emit;
 use crate::links::{begins_null, type_before};
 use c_syntax::{Expr, Link, Sign};
-use c_types::binary_of;
+use c_types_expressions::binary_of;
 use cbi_base::Memory;
 use flow::Node;
-use graph_parts::{Graph, Purpose};
-use tree_facts::{Joint, TreeFacts, is_null_beside, joint_by, operand_type};
+use lower_facts::{Joint, TreeFacts, is_null_beside, joint_by, operand_type};
+use lower_nodes::{Graph, Purpose};
 
 /// Whether the operator needs no value of its left side: it is `&&` or `||`, without a site.
 fn forks_at(facts: &TreeFacts, link: &Link) -> bool

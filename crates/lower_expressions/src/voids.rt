@@ -2,7 +2,7 @@ ghost use Rattle.std.specs.Prelude.{◌≡◌};
 ghost use Rattle.lower_expressions.specs.Voids.{is_taken, is_void};
 
 use c_meaning::ValueType;
-use graph_parts::Purpose;
+use lower_nodes::Purpose;
 
 /// Whether the type is `void`.
 pub fn is_void(of: Option<ValueType>) -> bool

@@ -1,17 +1,8 @@
-pub mod OperandLemmas
-pub mod SeveralLemmas
-pub mod PrintedLemmas
-pub mod StringLemmas
-pub mod MoveLemmas
-pub mod QuickLemmas
-pub mod HeldLemmas
-pub mod TextLemmas
 pub mod LookLemmas
 pub mod CallLemmas
 pub mod StandingLemmas
 pub mod RowLemmas
 pub mod CountLemmas
-pub mod MapLemmas
 pub mod StartLemmas
 pub mod SeenLemmas
 pub mod ReachedLemmas

@@ -1,15 +1,8 @@
-pub mod Operands
-pub mod Data
-pub mod Printed
-pub mod Strings
-pub mod Effects
 pub mod Steps
 pub mod Entering
 pub mod Force
 pub mod Standing
-pub mod LocalsFit
 pub mod Counted
-pub mod Starting
 pub mod Begun
 pub mod Reached
 pub mod Going

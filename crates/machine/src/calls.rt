@@ -9,16 +9,14 @@ ghost use Rattle.flow.specs.Fits.{IsLater};
 ghost use Rattle.flow.specs.Limits.{node_limit, local_limit, active_limit};
 ghost use Rattle.flow.specs.Program.{IsProgram};
 ghost use Rattle.machine.specs.Entering.{IsEntered, IsArrival};
-ghost use Rattle.machine.specs.Operands.{several_on};
+ghost use Rattle.machine_rows.specs.Operands.{several_on};
 ghost use Rattle.machine.specs.Steps.{Follows, Nears, IsRunning, nodes_of, waited, resumed, Enters, IsEntry, Keeps};
 
-use crate::locals::Locals;
-use crate::now::Now;
 use crate::state::{Frame, State};
-use crate::stop::Stop;
 use c_store::{Made, Objects, Word};
 use cbi_base::{Kind, Memory, Outcome, Scalar, Trap};
 use flow::{Function, Node, Program};
+use machine_rows::{Locals, Now, Stop};
 
 /// The most functions that are active at a time.
 const ACTIVE_LIMIT: u32 = 512;

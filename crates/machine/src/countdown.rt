@@ -6,9 +6,9 @@ ghost use Rattle.machine.specs.Steps.{Follows, Nears, IsRunning, most_counted};
 
 use crate::look::look;
 use crate::state::State;
-use crate::stop::Stop;
 use cbi_base::{Observation, Trap};
 use flow::Program;
+use machine_rows::Stop;
 
 /// The countdown in force: the running function's copy, or the shared one.
 #[inline(always)]

@@ -3,20 +3,11 @@
 
 mod calls;
 mod countdown;
-mod locals;
 mod look;
-mod now;
-mod operands;
-mod output;
-mod printing;
-mod quick;
-mod rows;
 mod runs;
 mod start;
 mod state;
 mod step;
-mod stop;
-mod texts;
 mod watch;
 
 pub use flow::RunResult;

@@ -1,12 +1,12 @@
 ghost use Rattle.std.specs.Prelude.{◌≡◌, slice_get};
 ghost use Rattle.flow.specs.Truths.{seen_truth, seen_order, seen_sign, object_at, number_at, partner_number, seen_pair, seen_by, looked};
 ghost use Rattle.cbi_base.specs.Scalars.{truth_of, sign_of};
-ghost use Rattle.machine.specs.Data.{data_of};
+ghost use Rattle.machine_rows.specs.Data.{data_of};
 
-use crate::now::Now;
 use c_store::Word;
 use cbi_base::{Scalar, Seen, Trap};
 use flow::{Partner, Program, SiteKind, Slot};
+use machine_rows::Now;
 use std::cmp::Ordering;
 
 fn seen_order(order: Ordering) -> Seen

@@ -3,11 +3,9 @@ ghost use Rattle.flow.specs.declared.node.View.TheVariants as view;
 ghost use Rattle.flow.specs.Fits.{IsLater};
 ghost use Rattle.machine.specs.Steps.{Follows, Nears, IsRunning};
 
-use crate::locals::Locals;
-use crate::now::Now;
-use crate::stop::Stop;
 use cbi_base::{Outcome, Stack, Trap, Work};
 use flow::{Node, Program};
+use machine_rows::{Locals, Now, Stop};
 
 /// A function that waits for the one that it called: the node where it goes on, its locals, and its copy of the countdown.
 #[derive(Clone, Copy)]

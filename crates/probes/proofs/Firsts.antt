@@ -6,7 +6,7 @@ use Rattle.std.proofs.lemmas.List.{append-nil, take-append-le, take_all, take_mo
 use Rattle.std.proofs.lemmas.List.Elements.{filter-append}
 use Rattle.indexmap.specs.IndexSet.{insert_key}
 use Rattle.cbi_base.specs.declared.observation.Observation.{Observation}
-use Rattle.probes.specs.Sites.{most_sites, sites_of}
+use Rattle.probes.specs.Sites.{most_sites, sites_seen}
 use Rattle.probes.specs.FirstSeen.{firsts_of}
 
 abbrev pub others_than : ℕ → ℕ → Bool
@@ -89,18 +89,18 @@ firsts_of-full xs ys full =
     ap (take most_sites) more.1 ∙ take-append-le most_sites (firsts_of xs) more.0 room ∙ take_all most_sites (firsts_of xs) (omega arith)
 
 -- the sites of one more observation
-pub sites_of-next : (xs : List Observation) (i : ℕ) (d : Observation) → i < length xs → sites_of (take (i + 1) xs) ≡ sites_of (take i xs) ++ (get_or xs i d).site ∷ []
-sites_of-next xs i d inside = ap sites_of (take_more xs i d inside) ∙ map-append (λ (o : Observation). o.site) (take i xs) (get_or xs i d ∷ [])
+pub sites_seen-next : (xs : List Observation) (i : ℕ) (d : Observation) → i < length xs → sites_seen (take (i + 1) xs) ≡ sites_seen (take i xs) ++ (get_or xs i d).site ∷ []
+sites_seen-next xs i d inside = ap sites_seen (take_more xs i d inside) ∙ map-append (λ (o : Observation). o.site) (take i xs) (get_or xs i d ∷ [])
 
 pub firsts_of-next : (xs : List Observation) (i : ℕ) (d : Observation) → i < length xs
-    → firsts_of (sites_of (take (i + 1) xs)) ≡ insert_key nat_eq (firsts_of (sites_of (take i xs))) (get_or xs i d).site
-firsts_of-next xs i d inside = ap firsts_of (sites_of-next xs i d inside) ∙ firsts_of-push (sites_of (take i xs)) (get_or xs i d).site
+    → firsts_of (sites_seen (take (i + 1) xs)) ≡ insert_key nat_eq (firsts_of (sites_seen (take i xs))) (get_or xs i d).site
+firsts_of-next xs i d inside = ap firsts_of (sites_seen-next xs i d inside) ∙ firsts_of-push (sites_seen (take i xs)) (get_or xs i d).site
 
 -- the observations so far have the first sites already, where these are as many as the line has
-pub firsts_of-enough : (xs : List Observation) (i : ℕ) → length (firsts_of (sites_of (take i xs))) ≡ most_sites → take most_sites (firsts_of (sites_of xs)) ≡ firsts_of (sites_of (take i xs))
+pub firsts_of-enough : (xs : List Observation) (i : ℕ) → length (firsts_of (sites_seen (take i xs))) ≡ most_sites → take most_sites (firsts_of (sites_seen xs)) ≡ firsts_of (sites_seen (take i xs))
 firsts_of-enough xs i full =
-    let whole : sites_of xs ≡ sites_of (take i xs) ++ sites_of (drop i xs) = ap sites_of (sym (take-append-drop i xs)) ∙ map-append (λ (o : Observation). o.site) (take i xs) (drop i xs) in
-    ap (λ l. take most_sites (firsts_of l)) whole ∙ firsts_of-full (sites_of (take i xs)) (sites_of (drop i xs)) full
+    let whole : sites_seen xs ≡ sites_seen (take i xs) ++ sites_seen (drop i xs) = ap sites_seen (sym (take-append-drop i xs)) ∙ map-append (λ (o : Observation). o.site) (take i xs) (drop i xs) in
+    ap (λ l. take most_sites (firsts_of l)) whole ∙ firsts_of-full (sites_seen (take i xs)) (sites_seen (drop i xs)) full
 
 -- a key that is added to a list that isn't full leaves it within its bound
 length-added : (there : Bool) (ks : List ℕ) (y : ℕ) → length (added there ks y) ≤ length ks + 1

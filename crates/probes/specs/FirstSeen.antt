@@ -1,6 +1,6 @@
 use Rattle.std.specs.Prelude.{ℕ, List, [], ◌∷◌, ◌==◌, not, filter, take, codes}
 use Rattle.cbi_base.specs.declared.observation.Observation.{Observation}
-use Rattle.probes.specs.Sites.{most_sites, sites_of, sites_line}
+use Rattle.probes.specs.Sites.{most_sites, sites_seen, sites_line}
 
 -- the distinct sites of a list, each where it stands first
 abbrev pub firsts_of : List ℕ → List ℕ
@@ -9,4 +9,4 @@ firsts_of (site ∷ sites) = site ∷ filter (λ other. not (other == site)) (fi
 
 -- the first distinct sites, in order of first observation
 abbrev pub first_line : List Observation → List ℕ
-first_line seen = sites_line (codes "first") (take most_sites (firsts_of (sites_of seen)))
+first_line seen = sites_line (codes "first") (take most_sites (firsts_of (sites_seen seen)))

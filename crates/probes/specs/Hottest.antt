@@ -3,7 +3,7 @@ use Rattle.std.specs.List.{list_all}
 use Rattle.std.specs.Option.{option_map}
 use Rattle.cbi_base.specs.Text.{ended}
 use Rattle.cbi_base.specs.declared.observation.Observation.{Observation}
-use Rattle.probes.specs.Sites.{sites_of, number_field}
+use Rattle.probes.specs.Sites.{sites_seen, number_field}
 
 -- how often the site was observed
 abbrev pub times_of : List ℕ → ℕ → ℕ
@@ -24,7 +24,7 @@ count_line (Some best) = ended (codes "hottest" ++ number_field best.0 ++ number
 
 -- the site that was observed most often, and how often it was
 abbrev pub hottest_line : List Observation → List ℕ
-hottest_line seen = let sites = sites_of seen in count_line (option_map (λ site. (site, times_of sites site)) (hottest_of sites))
+hottest_line seen = let sites = sites_seen seen in count_line (option_map (λ site. (site, times_of sites site)) (hottest_of sites))
 
 -- of the best so far and another site, with how often each was observed, the one that was observed more often, or else the smaller
 abbrev pub hotter : Option (ℕ × ℕ) → ℕ × ℕ → Option (ℕ × ℕ)

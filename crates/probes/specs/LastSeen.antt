@@ -1,6 +1,6 @@
 use Rattle.std.specs.Prelude.{ℕ, ◌-◌, List, length, drop, codes}
 use Rattle.cbi_base.specs.declared.observation.Observation.{Observation}
-use Rattle.probes.specs.Sites.{most_sites, sites_of, sites_line}
+use Rattle.probes.specs.Sites.{most_sites, sites_seen, sites_line}
 
 -- the last so many of a list, in order
 abbrev pub last_of : ℕ → List ℕ → List ℕ
@@ -8,4 +8,4 @@ last_of most sites = drop (length sites - most) sites
 
 -- the sites of the last observations, oldest first
 abbrev pub last_line : List Observation → List ℕ
-last_line seen = sites_line (codes "last") (last_of most_sites (sites_of seen))
+last_line seen = sites_line (codes "last") (last_of most_sites (sites_seen seen))

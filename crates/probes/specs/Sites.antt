@@ -5,8 +5,8 @@ use Rattle.cbi_base.specs.Text.{ended}
 use Rattle.cbi_base.specs.declared.observation.Observation.{Observation}
 
 -- the sites that were observed, in order
-abbrev pub sites_of : List Observation → List ℕ
-sites_of seen = map (λ (o : Observation). o.site) seen
+abbrev pub sites_seen : List Observation → List ℕ
+sites_seen seen = map (λ (o : Observation). o.site) seen
 
 -- how many sites a line lists at most
 abbrev pub most_sites : ℕ

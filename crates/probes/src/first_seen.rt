@@ -1,6 +1,6 @@
 ghost use Rattle.std.specs.Prelude.{◌↔◌, ℕ, List, Contains, ◌≡◌, ◌≤◌, [], ◌++◌, ◌∷◌, take, IfOk, OnOk, OnErr};
 ghost use Rattle.cbi_base.specs.declared.observation.Observation.{Observation};
-ghost use Rattle.probes.specs.Sites.{most_sites, sites_of};
+ghost use Rattle.probes.specs.Sites.{most_sites, sites_seen};
 ghost use Rattle.probes.specs.FirstSeen.{firsts_of, first_line};
 ghost use Rattle.probes.specs.Hottest.{times_of};
 
@@ -40,7 +40,7 @@ impl FirstSeen {
 
 /// The first distinct sites of these observations.
 fn first_sites(alloc: Global, observations: &[Observation]) -> Result<IndexSet<u32>, Memory>
-    ensures { IfOk result (λ sites. sites.keys ≡ take most_sites (firsts_of (sites_of observations.now))) }
+    ensures { IfOk result (λ sites. sites.keys ≡ take most_sites (firsts_of (sites_seen observations.now))) }
 {
     let mut sites = IndexSet::new(alloc);
     for observation in observations {

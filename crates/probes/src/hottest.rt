@@ -1,7 +1,7 @@
 ghost use Rattle.std.specs.Prelude.{◌≡◌, ◌<◌, [], ◌++◌, ◌∷◌, ℕ, List, nat_eq, fold, None, Some, unwrap_or, IfSome, IfOk, OnOk, OnErr};
 ghost use Rattle.indexmap.specs.IndexMap.{get, IsUnique};
 ghost use Rattle.cbi_base.specs.declared.observation.Observation.{Observation};
-ghost use Rattle.probes.specs.Sites.{sites_of};
+ghost use Rattle.probes.specs.Sites.{sites_seen};
 ghost use Rattle.probes.specs.Hottest.{hottest_of, hottest_line, count_line, hotter, times_of, IsHottest};
 
 use crate::history::History;
@@ -40,7 +40,7 @@ impl Hottest {
 
 /// How often each site was observed.
 fn times(alloc: Global, observations: &[Observation]) -> Result<IndexMap<u32, u64>, Memory>
-    ensures value { IfOk result (λ counts. (site : ℕ) → unwrap_or (get nat_eq counts site) 0 ≡ times_of (sites_of observations.now) site) }
+    ensures value { IfOk result (λ counts. (site : ℕ) → unwrap_or (get nat_eq counts site) 0 ≡ times_of (sites_seen observations.now) site) }
     ensures positive { IfOk result (λ counts. (site : ℕ) → IfSome (get nat_eq counts site) (λ count. 0 < count)) }
 {
     let mut counts = IndexMap::new(alloc);

@@ -1,6 +1,6 @@
 ghost use Rattle.std.specs.Prelude.{◌≡◌, [], ◌++◌, ◌∷◌, IfOk, OnOk, OnErr};
 ghost use Rattle.cbi_base.specs.declared.observation.Observation.{Observation};
-ghost use Rattle.probes.specs.Sites.{most_sites, sites_of};
+ghost use Rattle.probes.specs.Sites.{most_sites, sites_seen};
 ghost use Rattle.probes.specs.LastSeen.{last_of, last_line};
 
 use crate::history::History;
@@ -38,7 +38,7 @@ impl LastSeen {
 
 /// The sites of the last of these observations, oldest first.
 fn last_sites(alloc: Global, observations: &[Observation]) -> Result<Vec<u32>, Memory>
-    ensures { IfOk result (λ sites. sites.items ≡ last_of most_sites (sites_of observations.now)) }
+    ensures { IfOk result (λ sites. sites.items ≡ last_of most_sites (sites_seen observations.now)) }
 {
     let from = observations.len().saturating_sub(MOST_SITES);
     let sites = observations[from..].iter().map(|o| o.site).collect(alloc)?;

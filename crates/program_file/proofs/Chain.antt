@@ -34,20 +34,20 @@ use Rattle.flow.specs.Nodes.{node_fits, NodesFit}
 use Rattle.flow.specs.Program.{AreTexts, AreGlobals, GlobalFits, AreSites, IsFunction, bounds_of, cell_fits}
 use Rattle.flow.specs.Sites.{IsSite, KindFits, PartnerFits, slot_fits, is_constant}
 use Rattle.flow.specs.Spelling.{Head, head_of, head_fields, text_fields, global_fields, site_fields, node_fields, locals_fields, body_rows}
-use Rattle.program_file.specs.Rows.{text_of_row, head_of_row, locals_of_row}
-use Rattle.program_file.specs.CellRuns.{global_of_row}
-use Rattle.program_file.specs.SiteLines.{site_of_row}
-use Rattle.program_file.specs.NodeLines.{node_of}
-use Rattle.program_file.specs.Sums.{bytes_in, cells_in, locals_in, nodes_in}
+use Rattle.program_lines.specs.Rows.{text_of_row, head_of_row, locals_of_row}
+use Rattle.program_lines.specs.CellRuns.{global_of_row}
+use Rattle.program_lines.specs.SiteLines.{site_of_row}
+use Rattle.program_lines.specs.NodeLines.{node_of}
+use Rattle.program_lines.specs.Sums.{bytes_in, cells_in, locals_in, nodes_in}
 use Rattle.program_file.specs.declared.draft.Due.{Due}
 use Rattle.program_file.specs.declared.draft.Due.TheVariants as due
 use Rattle.program_file.specs.declared.draft.Draft.{Draft}
 use Rattle.program_file.specs.Draft.{Comes, Follows, IsDue, IsHead, due_after, names_in, bounds_in, function_with, with_function, with_sites, with_nodes}
-use Rattle.program_file.proofs.RowReads.{text_of_row-fields, is_field-bytes, IsSmallHead, head_of_row-fields, are_fields-head, sizes_of-fields, are_fields-sizes}
-use Rattle.program_file.proofs.CellReads.{IsSmallCell, global_of_row-fields, are_fields-global}
-use Rattle.program_file.proofs.SiteReads.{IsSmallSlot, IsSmallPartner, IsSmallKind, IsSmallSite, site_of_row-fields, are_fields-site}
-use Rattle.program_file.proofs.NodeReads.{IsSmall, are_fields-node, node_of-fields, node-some}
-use Rattle.program_file.proofs.SmallNodes.{AreSmallNames, small-fits}
+use Rattle.program_lines.proofs.RowReads.{text_of_row-fields, is_field-bytes, IsSmallHead, head_of_row-fields, are_fields-head, sizes_of-fields, are_fields-sizes}
+use Rattle.program_lines.proofs.CellReads.{IsSmallCell, global_of_row-fields, are_fields-global}
+use Rattle.program_lines.proofs.SiteReads.{IsSmallSlot, IsSmallPartner, IsSmallKind, IsSmallSite, site_of_row-fields, are_fields-site}
+use Rattle.program_lines.proofs.NodeReads.{IsSmall, are_fields-node, node_of-fields, node-some}
+use Rattle.program_lines.proofs.SmallNodes.{AreSmallNames, small-fits}
 use Rattle.program_file.proofs.Sound.{sum_by-first}
 
 -- the fields of a line are those that it was made of

@@ -3,7 +3,7 @@ use Rattle.std.proofs.Common.{◌≡◌, ℕ, List, codes, ap, sym, ◌∙◌}
 use Rattle.cbi_base.specs.Text.{fields_of}
 use Rattle.cbi_base.proofs.NumberLemmas.{some-is}
 use Rattle.flow.specs.Spelling.{Head, counted, end_row}
-use Rattle.program_file.specs.Rows.{locals_of_row}
+use Rattle.program_lines.specs.Rows.{locals_of_row}
 use Rattle.program_file.specs.declared.draft.Due.{Due}
 use Rattle.program_file.specs.declared.draft.Due.TheVariants as due
 use Rattle.program_file.specs.declared.draft.Draft.{Draft}

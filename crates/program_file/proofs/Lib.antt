@@ -1,16 +1,7 @@
-pub mod WordLemmas
-pub mod NodeReads
-pub mod RowReads
-pub mod CellLoops
-pub mod CellReads
-pub mod SiteReads
 pub mod Grammar
 pub mod RowsSoFar
 pub mod Sound
-pub mod SmallNodes
 pub mod Chain
 pub mod Whole
 pub mod Taken
 pub mod Alloc
-pub mod WriteLemmas
-pub mod KnownLemmas

@@ -13,10 +13,10 @@ use Rattle.program_file.specs.declared.draft.Due.{Due}
 use Rattle.program_file.specs.declared.draft.Due.TheVariants as due
 use Rattle.program_file.specs.declared.draft.Draft.{Draft}
 use Rattle.program_file.specs.Draft.{Comes, Follows, with_text_count, with_text, with_global_count, with_global, with_head, with_function, function_with}
-use Rattle.program_file.proofs.RowReads.{count_of-spelled, text_of_row-spelled, head_of_row-spelled, locals_of_row-spelled}
-use Rattle.program_file.proofs.CellReads.{global_of_row-spelled}
-use Rattle.program_file.proofs.SiteReads.{site_of_row-spelled}
-use Rattle.program_file.proofs.NodeReads.{node_of-spelled}
+use Rattle.program_lines.proofs.RowReads.{count_of-spelled, text_of_row-spelled, head_of_row-spelled, locals_of_row-spelled}
+use Rattle.program_lines.proofs.CellReads.{global_of_row-spelled}
+use Rattle.program_lines.proofs.SiteReads.{site_of_row-spelled}
+use Rattle.program_lines.proofs.NodeReads.{node_of-spelled}
 
 abbrev pub Rows : Type 0
 Rows = List (List (List ℕ))

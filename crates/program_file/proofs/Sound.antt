@@ -22,12 +22,12 @@ use Rattle.flow.specs.Nodes.{node_fits, NodesFit}
 use Rattle.flow.specs.Program.{AreTexts, AreGlobals, GlobalFits, AreLocals, AreSites, IsFunction, FunctionsFit, IsProgram, names_of, bounds_of}
 use Rattle.flow.specs.Sites.{IsSite}
 use Rattle.flow.specs.Spelling.{Head, head_of}
-use Rattle.program_file.specs.Sums.{bytes_in, cells_in, locals_in, nodes_in}
+use Rattle.program_lines.specs.Sums.{bytes_in, cells_in, locals_in, nodes_in}
 use Rattle.program_file.specs.declared.draft.Due.{Due}
 use Rattle.program_file.specs.declared.draft.Due.TheVariants as due
 use Rattle.program_file.specs.declared.draft.Draft.{Draft}
 use Rattle.program_file.specs.Draft.{Comes, Follows, IsDue, IsHead, with_text_count, with_text, with_global_count, with_global, with_head, names_in, bounds_in, function_with, with_function, parts_in}
-use Rattle.program_file.proofs.RowReads.{locals_of_row-spelled}
+use Rattle.program_lines.proofs.RowReads.{locals_of_row-spelled}
 
 -- the heads of functions
 pub record AreHeads (heads : List Head) : Type 0 where

@@ -17,8 +17,8 @@ use Rattle.flow.specs.Spelling.{Head, counted}
 use Rattle.program_file.specs.declared.draft.Due.{Due}
 use Rattle.program_file.specs.declared.draft.Due.TheVariants as due
 use Rattle.program_file.specs.declared.draft.Draft.{Draft}
-use Rattle.program_file.specs.NodeLines.{node_of}
-use Rattle.program_file.specs.SiteLines.{site_of_row}
+use Rattle.program_lines.specs.NodeLines.{node_of}
+use Rattle.program_lines.specs.SiteLines.{site_of_row}
 use Rattle.program_file.specs.Draft.{IsDue, IsNextNode, IsNextSite, bounds_in, due_after, function_with, with_function, with_nodes}
 use Rattle.program_file.specs.Errors.{TakenAs}
 use Rattle.program_file.proofs.Sound.{slice_get-map}

@@ -21,17 +21,17 @@ use Rattle.flow.specs.declared.site.Site.{Site}
 use Rattle.flow.specs.Limits.{function_limit}
 use Rattle.flow.specs.Program.{AreSites, IsFunction, IsProgram, names_of, bounds_of, is_size}
 use Rattle.flow.specs.Spelling.{Head, head_of, head_fields, text_fields, global_fields, site_fields, body_rows, counted, whole_list, end_row, rows_of, SpellsProgram}
-use Rattle.program_file.specs.Rows.{count_of}
+use Rattle.program_lines.specs.Rows.{count_of}
 use Rattle.program_file.specs.declared.draft.Due.{Due}
 use Rattle.program_file.specs.declared.draft.Due.TheVariants as due
 use Rattle.program_file.specs.declared.draft.Draft.{Draft}
 use Rattle.program_file.specs.Draft.{Follows, IsWhole, IsHead, due_after, names_in, parts_in, empty}
-use Rattle.program_file.proofs.RowReads.{count_of-fields, are_fields-count}
+use Rattle.program_lines.proofs.RowReads.{count_of-fields, are_fields-count}
 use Rattle.program_file.proofs.Grammar.{follows-once}
 use Rattle.program_file.proofs.RowsSoFar.{leads-rows, rows_so_far}
 use Rattle.program_file.proofs.Sound.{Sound, slice_get-mapped, leads-sound, heads-whole, whole-program, slice_get-map, sum_by-map, length-map, map-map, sum_by-first}
 use Rattle.program_file.proofs.Chain.{row-fields, leads-append, leads-one, text-state, texts-lead, global-state, globals-lead, head-state, ProgramHeads, heads-lead, site-state, sites-lead, SmallLocals, function-state, FunctionComes, function-step, list-leads, each-of, slice_get-seam, not-full, each-index, texts-lines, globals-lines, heads-lines, sites-lines, body-lines, rows-append}
-use Rattle.program_file.proofs.SmallNodes.{AreSmallNames}
+use Rattle.program_lines.proofs.SmallNodes.{AreSmallNames}
 
 -- what is read whole is spelled so
 pub whole-spelled : (start end : Draft) (text : List ℕ) → start.due ≡ due.Title → ReadsLines Follows IsWhole start text end → SpellsProgram text (parts_in end)

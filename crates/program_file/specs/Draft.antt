@@ -19,11 +19,11 @@ use Rattle.flow.specs.Nodes.{node_fits}
 use Rattle.flow.specs.Program.{AreLocals, GlobalFits}
 use Rattle.flow.specs.Sites.{IsSite}
 use Rattle.flow.specs.Spelling.{Head, counted, end_row}
-use Rattle.program_file.specs.Sums.{bytes_in, cells_in, locals_in, nodes_in}
-use Rattle.program_file.specs.Rows.{count_of, text_of_row, head_of_row, locals_of_row}
-use Rattle.program_file.specs.CellRuns.{global_of_row}
-use Rattle.program_file.specs.SiteLines.{site_of_row}
-use Rattle.program_file.specs.NodeLines.{node_of}
+use Rattle.program_lines.specs.Sums.{bytes_in, cells_in, locals_in, nodes_in}
+use Rattle.program_lines.specs.Rows.{count_of, text_of_row, head_of_row, locals_of_row}
+use Rattle.program_lines.specs.CellRuns.{global_of_row}
+use Rattle.program_lines.specs.SiteLines.{site_of_row}
+use Rattle.program_lines.specs.NodeLines.{node_of}
 use Rattle.program_file.specs.declared.draft.Due.{Due}
 use Rattle.program_file.specs.declared.draft.Due.TheVariants as due
 use Rattle.program_file.specs.declared.draft.Draft.{Draft}

@@ -1,11 +1,3 @@
-pub mod Words
-pub mod NodeLines
-pub mod Sums
-pub mod Rows
-pub mod CellRuns
-pub mod SiteLines
 pub mod Draft
 pub mod Errors
 pub mod WrongLine
-pub mod Written
-pub mod Known

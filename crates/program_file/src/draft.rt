@@ -6,10 +6,10 @@ ghost use Rattle.program_file.specs.Draft.{Takes, IsCount, IsFunctionCount, IsNe
 ghost use Rattle.program_file.specs.declared.draft.Due.TheVariants as due;
 ghost use Rattle.program_file.specs.declared.draft.Draft.{Draft};
 
-use crate::lists::{Globals, Heads, Texts};
 use crate::scope::names;
 use cbi_base::{LineError, LineReader, Memory, Seq};
 use flow::{Function, Names, Node, ProgramParts, Site};
+use program_lines::{Globals, Heads, Texts};
 use std::alloc::Global;
 use std::mem;
 

@@ -10,15 +10,13 @@ ghost use Rattle.flow.specs.declared.site.Site.{Site};
 ghost use Rattle.program_file.specs.Draft.{IsCount, IsFunctionCount, IsNextText, IsNextGlobal, IsNextHead, IsNextMain, IsNextSite, AreNextLocals, IsNextNode, IsHead};
 ghost use Rattle.program_file.specs.Errors.{TakenAs, item_of};
 
-use crate::cells::global;
 use crate::draft::Draft;
-use crate::head_line::{Head, read_head};
-use crate::node_line::node;
-use crate::rows::{count, locals, text};
-use crate::site_line::site;
 use cbi_base::{Fields, LineError, Memory, Seq};
 use flow::{
     Bounds, Cell, Global as Variable, Node, Site, Text, cell_fits, is_size, node_fits, site_fits,
+};
+use program_lines::{
+    Head, read_count, read_global, read_head, read_locals, read_node, read_site, read_text,
 };
 
 const TEXT_LIMIT: u32 = 400_000;
@@ -53,7 +51,7 @@ fn list_count(line: &[u8], word: &[u8], most: u32) -> Result<u32, LineError>
     ensures ok { IfOk result (λ count. IsCount word.now most line.now count) }
     ensures only { (count : ℕ) → IsCount word.now most line.now count → TakenAs result count }
 {
-    let Some(count) = count(&mut Fields::new(line), word) else {
+    let Some(count) = read_count(&mut Fields::new(line), word) else {
         return Err(LineError::Bad);
     };
     if count > most {
@@ -142,7 +140,7 @@ impl Draft {
         ensures ok { IfOk result (λ t. IsNextText self.now line.now t) }
         ensures only { (t : Text) → IsNextText self.now line.now t → TakenAs result t }
     {
-        let bytes = match item(text(self.alloc, &mut Fields::new(line))) {
+        let bytes = match item(read_text(self.alloc, &mut Fields::new(line))) {
             Ok(bytes) => bytes,
             Err(e) => return Err(e),
         };
@@ -158,7 +156,7 @@ impl Draft {
         ensures only { (g : Global) → IsNextGlobal self.now line.now g → TakenAs result g }
     {
         let room = STATIC_LIMIT - self.globals.cells();
-        let cells = match item(global(self.alloc, &mut Fields::new(line), room as u32)) {
+        let cells = match item(read_global(self.alloc, &mut Fields::new(line), room as u32)) {
             Ok(cells) => cells,
             Err(e) => return Err(e),
         };
@@ -198,7 +196,7 @@ impl Draft {
         ensures ok { IfOk result (λ main. IsNextMain self.now line.now main) }
         ensures only { (main : ℕ) → IsNextMain self.now line.now main → TakenAs result main }
     {
-        let Some(main) = count(&mut Fields::new(line), b"main") else {
+        let Some(main) = read_count(&mut Fields::new(line), b"main") else {
             return Err(LineError::Bad);
         };
         let Some(head) = self.heads.as_slice().get(main as usize) else {
@@ -214,7 +212,7 @@ impl Draft {
         ensures ok { IfOk result (λ s. IsNextSite self.now line.now s) }
         ensures only { (s : Site) → IsNextSite self.now line.now s → TakenAs result s }
     {
-        let site = match item(site(self.alloc, &mut Fields::new(line))) {
+        let site = match item(read_site(self.alloc, &mut Fields::new(line))) {
             Ok(site) => site,
             Err(e) => return Err(e),
         };
@@ -237,7 +235,7 @@ impl Draft {
         let Some(head) = self.heads.as_slice().get(self.functions.len()) else {
             return Err(LineError::Bad);
         };
-        let sizes = match item(locals(self.alloc, &mut Fields::new(line), head.locals)) {
+        let sizes = match item(read_locals(self.alloc, &mut Fields::new(line), head.locals)) {
             Ok(sizes) => sizes,
             Err(e) => return Err(e),
         };
@@ -259,7 +257,7 @@ impl Draft {
         if place >= head.nodes as usize {
             return Err(LineError::Bad);
         }
-        let Some(node) = node(&mut Fields::new(line)) else {
+        let Some(node) = read_node(&mut Fields::new(line)) else {
             return Err(LineError::Bad);
         };
         let bounds = Bounds {

@@ -2,11 +2,11 @@ ghost use Rattle.std.specs.Prelude.{◌≡◌, ◌≤◌, length, map, IfOk};
 ghost use Rattle.cbi_base.specs.Format.{conversions_of};
 ghost use Rattle.flow.specs.Limits.{byte_limit};
 ghost use Rattle.program_file.specs.Draft.{names_beside};
-ghost use Rattle.program_file.specs.Sums.{bytes_in};
+ghost use Rattle.program_lines.specs.Sums.{bytes_in};
 
-use crate::lists::Texts;
 use cbi_base::{Memory, Seq, count_conversions};
 use flow::{Names, Site, Text};
+use program_lines::Texts;
 use std::alloc::Global;
 
 // The number of each text's conversions as a format.

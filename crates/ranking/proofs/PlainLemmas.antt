@@ -19,9 +19,9 @@ use Rattle.flow.specs.declared.site.BranchWord.TheVariants.{If, While, Do, For, 
 use Rattle.flow.specs.declared.site.Site.{Site}
 use Rattle.flow.specs.declared.site.SiteKind.{SiteKind}
 use Rattle.flow.specs.declared.site.SiteKind.TheVariants.{Branch, Return, Pair}
-use Rattle.flow.specs.Predicates.{branch_word, partner_text, predicate_text, predicates_of, relation_sign, text_of_kind, truth_word}
+use Rattle.flow.specs.Predicates.{branch_word, partner_text, predicate_text, predicates_of, relation_sign, site_at, text_of_kind, truth_word}
 use Rattle.ranking.specs.Plain.{ArePlain, IsPlain, is_plain}
-use Rattle.ranking.specs.Ranking.{scheme_word, site_at}
+use Rattle.ranking.specs.Ranking.{scheme_word}
 
 plain-byte : (b : ℕ) → b ≢ 44 → b ≢ 34 → b ≢ 13 → b ≢ 10 → is_plain b ≡ true
 plain-byte b comma quote return_byte newline = grind (arith, nat_tests)

@@ -6,7 +6,7 @@ use Rattle.flow.specs.declared.site.Site.{Site}
 use Rattle.flow.specs.declared.site.SiteKind.{SiteKind}
 use Rattle.flow.specs.declared.site.SiteKind.TheVariants.{Branch, Return, Pair}
 use Rattle.flow.specs.declared.site.TableParts.{TableParts}
-use Rattle.flow.specs.Predicates.{predicate_count, predicate_text, predicates_of}
+use Rattle.flow.specs.Predicates.{predicate_count, predicate_text, site_at}
 use Rattle.fractions.specs.declared.tally.Tally.{Tally}
 use Rattle.fractions.specs.Fraction.{millionths_of}
 use Rattle.fractions.specs.Tally.{IsTally, Passes, importance_of}
@@ -22,11 +22,6 @@ abbrev pub scheme_word : SiteKind → List ℕ
 scheme_word (Branch word) = codes "branches"
 scheme_word (Return callee) = codes "returns"
 scheme_word (Pair target slot partner) = codes "pairs"
-
--- the site of a predicate, by its number among all
-abbrev pub site_at : List Site → ℕ → Option Site
-site_at [] predicate = None
-site_at (s ∷ sites) predicate = if nat_lt predicate (predicates_of s.kind) then Some s else site_at sites (predicate - predicates_of s.kind)
 
 -- where a predicate stands, and what it says
 abbrev pub place_fields : List (List ℕ) → Option Site → List ℕ → List (List ℕ)

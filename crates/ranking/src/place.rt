@@ -1,26 +1,15 @@
-ghost use Rattle.std.specs.Prelude.{◌≡◌, ◌<◌, ◌≤◌, [], ◌++◌, ℕ, All, length, Some, OnOk};
+ghost use Rattle.std.specs.Prelude.{◌≡◌, ◌<◌, [], ◌++◌, OnOk};
 ghost use Rattle.csv.specs.Records.{fields_of, partial_of};
-ghost use Rattle.flow.specs.declared.site.Site.{Site};
-ghost use Rattle.flow.specs.Predicates.{predicate_count, predicate_text, predicates_of};
+ghost use Rattle.flow.specs.Predicates.{predicate_count, predicate_text, site_at};
 ghost use Rattle.ranking.specs.Plain.{ArePlain};
-ghost use Rattle.ranking.specs.Ranking.{place_fields, scheme_word, site_at};
+ghost use Rattle.ranking.specs.Ranking.{place_fields, scheme_word};
 
 use crate::line::{push, push_number};
 use crate::plain::{name_is_plain, number_is_plain, texts_are_plain};
 use cbi_base::Memory;
 use csv::ByteRecord;
-use flow::{Site, SiteKind, SiteTable, predicate_name};
+use flow::{SiteKind, SiteTable, predicate_name, predicate_site};
 use std::alloc::Global;
-
-/// How many predicates a site has.
-fn predicates_of(kind: &SiteKind) -> u32
-    ensures { result ≡ predicates_of kind.now }
-{
-    match kind {
-        SiteKind::Branch { .. } => 2,
-        SiteKind::Return { .. } | SiteKind::Pair { .. } => 6,
-    }
-}
 
 fn scheme_word(kind: &SiteKind) -> &'static [u8]
     ensures { result.now ≡ scheme_word kind.now }
@@ -32,31 +21,13 @@ fn scheme_word(kind: &SiteKind) -> &'static [u8]
     }
 }
 
-// The site of a predicate, which stands in one of so many functions.
-fn site_of(sites: &[Site], functions: usize, predicate: u32) -> &Site
-    requires predicate { predicate < predicate_count sites.now }
-    requires functions { All (λ (s : Site). s.function < functions) sites.now }
-    ensures site { site_at sites.now predicate ≡ Some result.now }
-    ensures function { result.now.function < functions }
-{
-    let mut number = predicate;
-    for site in sites {
-        let own = predicates_of(&site.kind);
-        if number < own {
-            return site;
-        }
-        number -= own;
-    }
-    unreachable!()
-}
-
 /// Where a predicate stands and what it says need no quotes.
 pub fn place_is_plain(table: &SiteTable, predicate: u32)
     requires { predicate < predicate_count table.now.sites }
     ensures { ArePlain (place_fields table.now.functions (site_at table.now.sites predicate) (predicate_text table.now.sites predicate)) }
 {
     let functions = table.functions();
-    let site = site_of(table.sites(), functions.len(), predicate);
+    let site = predicate_site(table, predicate).0;
     number_is_plain(u64::from(site.line));
     texts_are_plain(&site.kind);
     name_is_plain(&functions[site.function as usize]);
@@ -75,7 +46,7 @@ pub fn push_place(
     ensures partial { OnOk result (partial_of record.new ≡ []) }
 {
     let functions = table.functions();
-    let site = site_of(table.sites(), functions.len(), predicate);
+    let site = predicate_site(table, predicate).0;
     let function = &functions[site.function as usize];
     let text = predicate_name(alloc, table, predicate)?;
     push(record, scheme_word(&site.kind))?;

@@ -7,7 +7,7 @@ use Rattle.flow.specs.declared.node.View.TheVariants.{Row, Halts, Forks, Turns, 
 use Rattle.flow.specs.Nodes.{led_to}
 use Rattle.regions.specs.Blocks.{ends_block}
 use Rattle.weights.specs.Paths.{mark_count}
-use Rattle.clone_paths.specs.declared.label.Label.TheVariants.{Out}
+use Rattle.clone_paths.specs.declared.label.CopyLabel.TheVariants.{Out}
 use Rattle.clone_paths.specs.declared.label.Side.{Side}
 use Rattle.clone_paths.specs.declared.label.Side.TheVariants.{Fast, Slow}
 use Rattle.clone_paths.specs.Form.{Cloning, IsFree, IsIn, IsOwing, IsSame, IsVisit, Labelled, MayOwe, is_last, is_outlet}

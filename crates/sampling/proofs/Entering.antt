@@ -14,7 +14,7 @@ use Rattle.flow.specs.Machine.{next_of}
 use Rattle.flow.specs.Now.{Now, Lacks, Taken, Takes}
 use Rattle.flow.specs.State.{Frame, Next, On, State, Watch, over}
 use Rattle.weights.specs.Weight.{IsWeight}
-use Rattle.clone_paths.specs.declared.label.Label.TheVariants.{Back, Enter, Gate}
+use Rattle.clone_paths.specs.declared.label.CopyLabel.TheVariants.{Back, Enter, Gate}
 use Rattle.clone_paths.specs.declared.label.Side.TheVariants.{Fast, Slow}
 use Rattle.clone_paths.specs.Form.{Labelled}
 use Rattle.sampling.specs.Copies.{AreCopies, Copies, cloning, sampled}

@@ -14,7 +14,7 @@ use Rattle.flow.specs.Machine.{fork}
 use Rattle.flow.specs.Now.{Now, any_on}
 use Rattle.flow.specs.State.{State, over}
 use Rattle.flow.specs.Truths.{looked, number_at, partner_number, seen_by, seen_pair, seen_truth}
-use Rattle.sampling.specs.Copies.{IsBranch, IsBranchKind}
+use Rattle.flow.specs.Ready.{IsBranch, IsBranchKind}
 
 -- the fork on the same operands stops with the trap
 abbrev pub ForkTraps : List Scalar → Now → Trap → Type 0

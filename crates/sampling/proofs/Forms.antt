@@ -20,18 +20,18 @@ use Rattle.regions.specs.Blocks.{After, ends_block}
 use Rattle.regions.specs.Flags.{AreFlags, is_in}
 use Rattle.regions.specs.Weighty.{HasSite, IsWeighty, Own, Through}
 use Rattle.regions.proofs.FlagLemmas.{in_within}
-use Rattle.clone_paths.specs.declared.label.Label.{Label}
-use Rattle.clone_paths.specs.declared.label.Label.TheVariants.{Enter}
-use Rattle.clone_paths.specs.Cloned.{ArePlain, FunctionCloned, IsPlain, MayClone}
+use Rattle.clone_paths.specs.declared.label.CopyLabel.{CopyLabel}
+use Rattle.clone_paths.specs.declared.label.CopyLabel.TheVariants.{Enter}
+use Rattle.clone_paths.specs.Cloned.{FunctionCloned, MayClone}
 use Rattle.clone_paths.specs.Form.{IsRight}
 use Rattle.sampling.proofs.Crossing.{not_true}
 use Rattle.sampling.specs.Copies.{AreCopies, Copies}
-use Rattle.sampling.specs.Runs.{IsReady}
+use Rattle.flow.specs.Ready.{ArePlain, IsPlain, IsReady}
 
 -- where the blocks of a function begin, and what its copies' nodes are labelled
 pub record Sheet : Type 0 where
   pub starts : ℕ → Bool
-  pub label : ℕ → Option Label
+  pub label : ℕ → Option CopyLabel
 
 abbrev pub no_sheet : Sheet
 no_sheet = record { starts = λ x. false; label = λ x. None }
@@ -48,7 +48,7 @@ sheet_of weighty number f g form b e = no_sheet
 pub record IsSheet (weighty : ℕ → Bool) (v w : ℕ → View) (sheet : Sheet) : Type 0 where
   pub ends : (place next : ℕ) → ends_block (v place) ≡ true → Contains (led_to (v place)) next → sheet.starts next ≡ true
   pub entry : sheet.label 0 ≡ Some Enter
-  pub each : (place : ℕ) (l : Label) → sheet.label place ≡ Some l →
+  pub each : (place : ℕ) (l : CopyLabel) → sheet.label place ≡ Some l →
       IsRight (record { weighty = weighty; at = v; starts = sheet.starts; label = sheet.label }) l (w place)
 
 is_sheet : (weighty : ℕ → Bool) (number : ℕ) (f g : Option Function) (form : FormOf weighty number f g) (b : Bool) (e : weighty number ≡ b) → b ≡ true →

@@ -9,8 +9,8 @@ use Rattle.flow.specs.Code.{view_at}
 use Rattle.flow.specs.Nodes.{led_to}
 use Rattle.regions.specs.Blocks.{After}
 use Rattle.regions.specs.Weighty.{views_of}
-use Rattle.clone_paths.specs.declared.label.Label.{Label}
-use Rattle.clone_paths.specs.declared.label.Label.TheVariants.{Enter, Gate, Back, In, Out}
+use Rattle.clone_paths.specs.declared.label.CopyLabel.{CopyLabel}
+use Rattle.clone_paths.specs.declared.label.CopyLabel.TheVariants.{Enter, Gate, Back, In, Out}
 use Rattle.clone_paths.specs.declared.label.Side.TheVariants.{Fast}
 use Rattle.weights.specs.Paths.{next_nodes}
 use Rattle.clone_paths.specs.Cloned.{NodesCloned, cloning_of}
@@ -28,7 +28,7 @@ pub ends_of : (weighty : ℕ → Bool) (nodes cloned : List Node) (c : NodesClon
 ends_of weighty nodes cloned c =
     λ node ends. all_last (cloning_by weighty nodes cloned c).starts (led_to (views_of nodes node)) (λ next leads. (c.are_starts.each next).1 (After node ends leads))
 
-pub shown : (weighty : ℕ → Bool) (nodes cloned : List Node) (c : NodesCloned weighty nodes cloned) (place : ℕ) (l : Label) → slice_get c.labels place ≡ Some l →
+pub shown : (weighty : ℕ → Bool) (nodes cloned : List Node) (c : NodesCloned weighty nodes cloned) (place : ℕ) (l : CopyLabel) → slice_get c.labels place ≡ Some l →
     Shows l (views_of cloned place)
 shown weighty nodes cloned c place l e =
     shows (cloning_by weighty nodes cloned c) l (views_of cloned place) (ends_of weighty nodes cloned c) (c.each place l e)
@@ -37,19 +37,19 @@ pub fast_looks_at_nothing : FastLooksAtNothing
 fast_looks_at_nothing weighty nodes cloned c place l e fast = (shown weighty nodes cloned c place l e).looks fast
 
 -- a node that leads anywhere has a label
-label_of : (weighty : ℕ → Bool) (nodes cloned : List Node) (c : NodesCloned weighty nodes cloned) (place next : ℕ) (found : Option Label) (there : Option Node) →
-    slice_get c.labels place ≡ found → slice_get cloned place ≡ there → Contains (led_to (view_at there)) next → (l : Label) × (slice_get c.labels place ≡ Some l)
+label_of : (weighty : ℕ → Bool) (nodes cloned : List Node) (c : NodesCloned weighty nodes cloned) (place next : ℕ) (found : Option CopyLabel) (there : Option Node) →
+    slice_get c.labels place ≡ found → slice_get cloned place ≡ there → Contains (led_to (view_at there)) next → (l : CopyLabel) × (slice_get c.labels place ≡ Some l)
 label_of weighty nodes cloned c place next (Some l) there e f h = (l, e)
 label_of weighty nodes cloned c place next None None e f h = absurd (none_in next h)
 label_of weighty nodes cloned c place next None (Some n) e f h =
     absurd (none_there c.labels place (omega (arith, c.few, slice_get_within cloned place n f)) e)
 
 pub labelled : (weighty : ℕ → Bool) (nodes cloned : List Node) (c : NodesCloned weighty nodes cloned) (place next : ℕ) →
-    Contains (led_to (views_of cloned place)) next → (l : Label) × (slice_get c.labels place ≡ Some l)
+    Contains (led_to (views_of cloned place)) next → (l : CopyLabel) × (slice_get c.labels place ≡ Some l)
 labelled weighty nodes cloned c place next h =
     label_of weighty nodes cloned c place next (slice_get c.labels place) (slice_get cloned place) refl refl h
 
-pub led : (weighty : ℕ → Bool) (nodes cloned : List Node) (c : NodesCloned weighty nodes cloned) (place next : ℕ) (l : Label) → slice_get c.labels place ≡ Some l →
+pub led : (weighty : ℕ → Bool) (nodes cloned : List Node) (c : NodesCloned weighty nodes cloned) (place next : ℕ) (l : CopyLabel) → slice_get c.labels place ≡ Some l →
     Contains (led_to (views_of cloned place)) next → Leads (cloning_by weighty nodes cloned c) l (views_of cloned place) next
 led weighty nodes cloned c place next l e h =
     leads (cloning_by weighty nodes cloned c) l (views_of cloned place) next (ends_of weighty nodes cloned c) (c.each place l e) h
@@ -95,17 +95,17 @@ goes_on weighty (Exports to) next i c = record { leads = c; opens = refl; light 
 goes_on weighty Nowhere next i c = record { leads = c; opens = refl; light = refl }
 
 -- the node stands in the fast copy
-abbrev pub IsFast : (ℕ → Option Label) → ℕ → Type 0
-IsFast label place = (l : Label) × (label place ≡ Some l) × (side_of l ≡ Some Fast)
+abbrev pub IsFast : (ℕ → Option CopyLabel) → ℕ → Type 0
+IsFast label place = (l : CopyLabel) × (label place ≡ Some l) × (side_of l ≡ Some Fast)
 
-in_copy : (l : Label) → side_of l ≡ Some Fast → (is_gate l ≡ false) × (is_back l ≡ false)
+in_copy : (l : CopyLabel) → side_of l ≡ Some Fast → (is_gate l ≡ false) × (is_back l ≡ false)
 in_copy (In side node owed) e = (refl, refl)
 in_copy (Out side node) e = (refl, refl)
 in_copy Enter e = cc
 in_copy (Gate node) e = cc
 in_copy (Back node) e = cc
 
-chosen_by : (weighty : ℕ → Bool) (nodes cloned : List Node) (c : NodesCloned weighty nodes cloned) (place weight fast slow : ℕ) (l : Label) →
+chosen_by : (weighty : ℕ → Bool) (nodes cloned : List Node) (c : NodesCloned weighty nodes cloned) (place weight fast slow : ℕ) (l : CopyLabel) →
     slice_get c.labels place ≡ Some l → is_gate l ≡ true → views_of cloned place ≡ Picks weight fast slow → IsFast (slice_get c.labels) fast
 chosen_by weighty nodes cloned c place weight fast slow (Gate node) e g p =
     let r = c.each place (Gate node) e in

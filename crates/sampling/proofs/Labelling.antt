@@ -9,8 +9,8 @@ use Rattle.flow.specs.declared.node.View.TheVariants.{Row, Halts, Forks, Turns, 
 use Rattle.flow.specs.Nodes.{led_to}
 use Rattle.regions.specs.Flags.{is_in}
 use Rattle.regions.specs.Weighty.{views_of}
-use Rattle.clone_paths.specs.declared.label.Label.{Label}
-use Rattle.clone_paths.specs.declared.label.Label.TheVariants.{Enter, Gate, Back, In, Out}
+use Rattle.clone_paths.specs.declared.label.CopyLabel.{CopyLabel}
+use Rattle.clone_paths.specs.declared.label.CopyLabel.TheVariants.{Enter, Gate, Back, In, Out}
 use Rattle.clone_paths.specs.declared.label.Side.{Side}
 use Rattle.clone_paths.specs.declared.label.Side.TheVariants.{Fast, Slow}
 use Rattle.clone_paths.specs.Cloned.{NodesCloned}
@@ -22,14 +22,14 @@ use Rattle.sampling.proofs.Labels.{either_in, only_in, to_none}
 
 -- each node is what its label says
 abbrev pub EachRight : Cloning → (ℕ → View) → Type 0
-EachRight t at = (place : ℕ) (l : Label) → t.label place ≡ Some l → IsRight t l (at place)
+EachRight t at = (place : ℕ) (l : CopyLabel) → t.label place ≡ Some l → IsRight t l (at place)
 
 -- the same function and copies, with other labels
-abbrev pub relabelled : Cloning → (ℕ → Option Label) → Cloning
+abbrev pub relabelled : Cloning → (ℕ → Option CopyLabel) → Cloning
 relabelled t label = record t { label = label }
 
 -- both labellings fit
-pub record BothFit (t : Cloning) (label : ℕ → Option Label) (at : ℕ → View) : Type 0 where
+pub record BothFit (t : Cloning) (label : ℕ → Option CopyLabel) (at : ℕ → View) : Type 0 where
   pub one : EachRight t at
   pub other : EachRight (relabelled t label) at
 
@@ -42,7 +42,7 @@ not_here t at side place node owed site next each fast m starts e =
     let f : IsVisit t Fast owed site next (at place) = subst (λ (s : Side). IsVisit t s owed site next (at place)) fast v in
     both_ways (t.starts next) f.1 starts
 
-one_stands : (t : Cloning) (label : ℕ → Option Label) (at : ℕ → View) (side : Side) (place node owed : ℕ) → BothFit t label at →
+one_stands : (t : Cloning) (label : ℕ → Option CopyLabel) (at : ℕ → View) (side : Side) (place node owed : ℕ) → BothFit t label at →
     Labelled t side place node owed → Labelled (relabelled t label) side place node owed → t.label place ≡ label place
 one_stands t label at side place node owed w (Here e) (Here f) = e ∙ sym f
 one_stands t label at side place node owed w (Here e) (Owed site next fast m starts rest) =
@@ -56,17 +56,17 @@ one_stands t label at side place node owed w (Owed site next fast m starts rest)
 in_one : (q : View) (m x : ℕ) → led_to q ≡ m ∷ [] → Contains (led_to q) x → x ≡ m
 in_one q m x e c = only_in m x (subst (λ (xs : List ℕ). Contains xs x) e c)
 
-one_label : (t : Cloning) (label : ℕ → Option Label) (q : View) (l : Label) (m n x : ℕ) → led_to q ≡ m ∷ [] → led_to q ≡ n ∷ [] → t.label m ≡ Some l → label n ≡ Some l →
+one_label : (t : Cloning) (label : ℕ → Option CopyLabel) (q : View) (l : CopyLabel) (m n x : ℕ) → led_to q ≡ m ∷ [] → led_to q ≡ n ∷ [] → t.label m ≡ Some l → label n ≡ Some l →
     Contains (led_to q) x → t.label x ≡ label x
 one_label t label q l m n x e f a b c = ap t.label (in_one q m x e c) ∙ a ∙ sym b ∙ sym (ap label (in_one q n x f c))
 
-stands_at : (t : Cloning) (label : ℕ → Option Label) (at : ℕ → View) (side : Side) (m n x node owed : ℕ) → BothFit t label at → x ≡ m → x ≡ n →
+stands_at : (t : Cloning) (label : ℕ → Option CopyLabel) (at : ℕ → View) (side : Side) (m n x node owed : ℕ) → BothFit t label at → x ≡ m → x ≡ n →
     Labelled t side m node owed → Labelled (relabelled t label) side n node owed → t.label x ≡ label x
 stands_at t label at side m n x node owed w e f a b =
     one_stands t label at side x node owed w (subst (λ (k : ℕ). Labelled t side k node owed) (sym e) a)
     (subst (λ (k : ℕ). Labelled (relabelled t label) side k node owed) (sym f) b)
 
-one_inner : (t : Cloning) (label : ℕ → Option Label) (at : ℕ → View) (side : Side) (q : View) (m n x node owed : ℕ) → BothFit t label at →
+one_inner : (t : Cloning) (label : ℕ → Option CopyLabel) (at : ℕ → View) (side : Side) (q : View) (m n x node owed : ℕ) → BothFit t label at →
     led_to q ≡ m ∷ [] → led_to q ≡ n ∷ [] → Labelled t side m node owed → Labelled (relabelled t label) side n node owed →
     Contains (led_to q) x → t.label x ≡ label x
 one_inner t label at side q m n x node owed w e f a b c = stands_at t label at side m n x node owed w (in_one q m x e c) (in_one q n x f c) a b
@@ -76,7 +76,7 @@ pub record TwoStand (t : Cloning) (side also : Side) (m n a b owed : ℕ) : Type
   pub first : Labelled t side m a owed
   pub second : Labelled t also n b owed
 
-two_inner : (t : Cloning) (label : ℕ → Option Label) (at : ℕ → View) (side also : Side) (q : View) (m n k j x first second owed : ℕ) → BothFit t label at →
+two_inner : (t : Cloning) (label : ℕ → Option CopyLabel) (at : ℕ → View) (side also : Side) (q : View) (m n k j x first second owed : ℕ) → BothFit t label at →
     led_to q ≡ m ∷ n ∷ [] → led_to q ≡ k ∷ j ∷ [] → TwoStand t side also m n first second owed → TwoStand (relabelled t label) side also k j first second owed →
     Contains (led_to q) x → t.label x ≡ label x
 two_inner t label at side also q m n k j x first second owed w e f a b c =
@@ -86,7 +86,7 @@ two_inner t label at side also q m n k j x first second owed w e f a b c =
       | inr h ↦ let same : n ≡ j = cc in stands_at t label at also n j x second owed w h (h ∙ same) a.second b.second
     ]
 
-same_agrees : (t : Cloning) (label : ℕ → Option Label) (at : ℕ → View) (side : Side) (owed : ℕ) (v q : View) (x : ℕ) → BothFit t label at →
+same_agrees : (t : Cloning) (label : ℕ → Option CopyLabel) (at : ℕ → View) (side : Side) (owed : ℕ) (v q : View) (x : ℕ) → BothFit t label at →
     IsSame t side owed v q → IsSame (relabelled t label) side owed v q → Contains (led_to q) x → t.label x ≡ label x
 same_agrees t label at side owed (Row op next) q x w h k c = one_inner t label at side q h.0 k.0 x next owed w (ap led_to h.1) (ap led_to k.1) h.2 k.2 c
 same_agrees t label at side owed (Halts op) q x w h k c = to_none q x (ap led_to h) c
@@ -109,7 +109,7 @@ same_agrees t label at side owed Nowhere q x w h k c = absurd h
 abbrev pub Freed : Cloning → Side → ℕ → View → View → Bool → Type 0
 Freed t side node v q b = MatchBool b ((m : ℕ) × (q ≡ Exports m) × (t.label m ≡ Some (Out side node))) (IsSame t side 0 v q)
 
-free_agrees : (t : Cloning) (label : ℕ → Option Label) (at : ℕ → View) (side : Side) (node : ℕ) (v q : View) (x : ℕ) (b : Bool) → BothFit t label at →
+free_agrees : (t : Cloning) (label : ℕ → Option CopyLabel) (at : ℕ → View) (side : Side) (node : ℕ) (v q : View) (x : ℕ) (b : Bool) → BothFit t label at →
     Freed t side node v q b → Freed (relabelled t label) side node v q b → Contains (led_to q) x → t.label x ≡ label x
 free_agrees t label at side node v q x true w h k c = one_label t label q (Out side node) h.0 k.0 x (ap led_to h.1) (ap led_to k.1) h.2 k.2 c
 free_agrees t label at side node v q x false w h k c = same_agrees t label at side 0 v q x w h k c
@@ -117,22 +117,22 @@ free_agrees t label at side node v q x false w h k c = same_agrees t label at si
 abbrev pub Paid : Cloning → Side → ℕ → ℕ → View → View → Bool → Type 0
 Paid t side node owed v q b = MatchBool b ((m : ℕ) × (q ≡ Skips (suc owed) m) × Labelled t side m node 0) (IsSame t side (suc owed) v q)
 
-paid_agrees : (t : Cloning) (label : ℕ → Option Label) (at : ℕ → View) (side : Side) (node owed : ℕ) (v q : View) (x : ℕ) (b : Bool) → BothFit t label at →
+paid_agrees : (t : Cloning) (label : ℕ → Option CopyLabel) (at : ℕ → View) (side : Side) (node owed : ℕ) (v q : View) (x : ℕ) (b : Bool) → BothFit t label at →
     Paid t side node owed v q b → Paid (relabelled t label) side node owed v q b → Contains (led_to q) x → t.label x ≡ label x
 paid_agrees t label at side node owed v q x true w h k c = one_inner t label at side q h.0 k.0 x node 0 w (ap led_to h.1) (ap led_to k.1) h.2 k.2 c
 paid_agrees t label at side node owed v q x false w h k c = same_agrees t label at side (suc owed) v q x w h k c
 
-owing_agrees : (t : Cloning) (label : ℕ → Option Label) (at : ℕ → View) (side : Side) (node owed : ℕ) (v q : View) (x : ℕ) → BothFit t label at →
+owing_agrees : (t : Cloning) (label : ℕ → Option CopyLabel) (at : ℕ → View) (side : Side) (node owed : ℕ) (v q : View) (x : ℕ) → BothFit t label at →
     IsOwing t side node owed v q → IsOwing (relabelled t label) side node owed v q → Contains (led_to q) x → t.label x ≡ label x
 owing_agrees t label at side node zero v q x w h k c = free_agrees t label at side node v q x (is_outlet t.weighty v) w h k c
 owing_agrees t label at side node (suc owed) v q x w h k c = paid_agrees t label at side node owed v q x (is_last t.starts (led_to v)) w h k c
 
-visit_agrees : (t : Cloning) (label : ℕ → Option Label) (at : ℕ → View) (side : Side) (owed site next : ℕ) (q : View) (x : ℕ) → BothFit t label at →
+visit_agrees : (t : Cloning) (label : ℕ → Option CopyLabel) (at : ℕ → View) (side : Side) (owed site next : ℕ) (q : View) (x : ℕ) → BothFit t label at →
     IsVisit t side owed site next q → IsVisit (relabelled t label) side owed site next q → Contains (led_to q) x → t.label x ≡ label x
 visit_agrees t label at Fast owed site next q x w h k c = one_inner t label at Fast q h.0 k.0 x next 0 w (ap led_to h.2) (ap led_to k.2) h.3 k.3 c
 visit_agrees t label at Slow owed site next q x w h k c = one_inner t label at Slow q h.0 k.0 x next 0 w (ap led_to h.1) (ap led_to k.1) h.2 k.2 c
 
-in_agrees : (t : Cloning) (label : ℕ → Option Label) (at : ℕ → View) (side : Side) (node owed : ℕ) (v q : View) (x : ℕ) → BothFit t label at →
+in_agrees : (t : Cloning) (label : ℕ → Option CopyLabel) (at : ℕ → View) (side : Side) (node owed : ℕ) (v q : View) (x : ℕ) → BothFit t label at →
     IsIn t side node owed v q → IsIn (relabelled t label) side node owed v q → Contains (led_to q) x → t.label x ≡ label x
 in_agrees t label at side node owed v q x w h k c =
     elim (visit_cases v) as (λ _. t.label x ≡ label x) [
@@ -143,7 +143,7 @@ in_agrees t label at side node owed v q x w h k c =
           (subst (λ (u : View). IsIn (relabelled t label) side node owed u q) visit.2 k) c
     ]
 
-out_agrees : (t : Cloning) (label : ℕ → Option Label) (v q : View) (x : ℕ) → is_outlet t.weighty v ≡ true → IsOut t v q → IsOut (relabelled t label) v q →
+out_agrees : (t : Cloning) (label : ℕ → Option CopyLabel) (v q : View) (x : ℕ) → is_outlet t.weighty v ≡ true → IsOut t v q → IsOut (relabelled t label) v q →
     Contains (led_to q) x → t.label x ≡ label x
 out_agrees t label Gives q x o h k c = to_none q x (ap led_to h) c
 out_agrees t label Quits q x o h k c = to_none q x (ap led_to h) c
@@ -161,7 +161,7 @@ out_agrees t label (Exports next) q x o h k c = cc
 out_agrees t label Nowhere q x o h k c = cc
 
 -- nodes of one label lead to nodes of one label
-agrees : (t : Cloning) (label : ℕ → Option Label) (at : ℕ → View) (l : Label) (q : View) (x : ℕ) → BothFit t label at → IsRight t l q →
+agrees : (t : Cloning) (label : ℕ → Option CopyLabel) (at : ℕ → View) (l : CopyLabel) (q : View) (x : ℕ) → BothFit t label at → IsRight t l q →
     IsRight (relabelled t label) l q → Contains (led_to q) x → t.label x ≡ label x
 agrees t label at Enter q x w h k c = one_label t label q (Gate 0) h.0 k.0 x (ap led_to h.1) (ap led_to k.1) h.2 k.2 c
 agrees t label at (Back node) q x w h k c = one_label t label q (Gate node) h.0 k.0 x (ap led_to h.1) (ap led_to k.1) h.2 k.2 c

@@ -5,8 +5,8 @@ use Rattle.flow.specs.declared.node.View.{View}
 use Rattle.flow.specs.declared.node.View.TheVariants.{Row, Halts, Forks, Turns, Calls, Gives, Quits, Marks, Skips, Tests, Picks, Imports, Exports, Nowhere}
 use Rattle.flow.specs.Nodes.{led_to}
 use Rattle.regions.specs.Blocks.{ends_block}
-use Rattle.clone_paths.specs.declared.label.Label.{Label}
-use Rattle.clone_paths.specs.declared.label.Label.TheVariants.{Enter, Gate, Back, In, Out}
+use Rattle.clone_paths.specs.declared.label.CopyLabel.{CopyLabel}
+use Rattle.clone_paths.specs.declared.label.CopyLabel.TheVariants.{Enter, Gate, Back, In, Out}
 use Rattle.clone_paths.specs.declared.label.Side.{Side}
 use Rattle.clone_paths.specs.declared.label.Side.TheVariants.{Fast, Slow}
 use Rattle.clone_paths.specs.Form.{Cloning, Here, IsOut, IsRight, IsSame, Labelled, Owed, is_last, is_outlet}
@@ -14,11 +14,11 @@ use Rattle.sampling.specs.Choices.{calls_weighty, is_choice, is_import, opens_re
 use Rattle.sampling.specs.FastCopies.{LooksAtNothing, side_of}
 use Rattle.sampling.proofs.Crossing.{Inner, Leaves, Looks, Passes, Passing, Pays, Remains, inner}
 
-abbrev pub is_gate : Label → Bool
+abbrev pub is_gate : CopyLabel → Bool
 is_gate (Gate node) = true
 is_gate other = false
 
-abbrev pub is_back : Label → Bool
+abbrev pub is_back : CopyLabel → Bool
 is_back Enter = true
 is_back (Back node) = true
 is_back other = false
@@ -93,7 +93,7 @@ out_common t side (Exports next) q o h = cc
 out_common t side Nowhere q o h = cc
 
 -- what a node shows of its label
-pub record Shows (l : Label) (q : View) : Type 0 where
+pub record Shows (l : CopyLabel) (q : View) : Type 0 where
   pub choice : is_choice q ≡ is_gate l
   pub import : is_import q ≡ is_back l
   pub looks : side_of l ≡ Some Fast → LooksAtNothing q
@@ -105,7 +105,7 @@ in_side : (side : Side) (q : View) → MayLook side q → Some side ≡ Some Fas
 in_side Fast q h e = h
 in_side Slow q h e = cc
 
-pub shows : (t : Cloning) (l : Label) (q : View) → Ends t → IsRight t l q → Shows l q
+pub shows : (t : Cloning) (l : CopyLabel) (q : View) → Ends t → IsRight t l q → Shows l q
 shows t Enter q ends h = record { choice = ap is_choice h.1; import = ap is_import h.1; looks = no_side q }
 shows t (Gate node) q ends h = record { choice = ap is_choice h.3; import = ap is_import h.3; looks = no_side q }
 shows t (Back node) q ends h = record { choice = ap is_choice h.1; import = ap is_import h.1; looks = no_side q }
@@ -122,8 +122,8 @@ in_label t side place node owed (Here e) = (node, owed, e)
 in_label t side place node owed (Owed site next fast at starts rest) = in_label t side place next (suc owed) rest
 
 -- what a node shows of the label of one to which it leads
-pub record Leads (t : Cloning) (l : Label) (q : View) (next : ℕ) : Type 0 where
-  pub label : Label
+pub record Leads (t : Cloning) (l : CopyLabel) (q : View) (next : ℕ) : Type 0 where
+  pub label : CopyLabel
   pub is : t.label next ≡ Some label
   pub gate : is_gate label ≡ opens_region q
   pub back : is_back label ≡ calls_weighty t.weighty q
@@ -143,10 +143,10 @@ either_in a b x (suc k, l, e) = inr (only_in b x (k, omega arith, e))
 pub to_none : {A : Type 0} (q : View) (x : ℕ) → led_to q ≡ [] → Contains (led_to q) x → A
 to_none q x e c = absurd (none_in x (subst (λ (xs : List ℕ). Contains xs x) e c))
 
-to_one : (t : Cloning) (l : Label) (q : View) (m x : ℕ) → led_to q ≡ m ∷ [] → Leads t l q m → Contains (led_to q) x → Leads t l q x
+to_one : (t : Cloning) (l : CopyLabel) (q : View) (m x : ℕ) → led_to q ≡ m ∷ [] → Leads t l q m → Contains (led_to q) x → Leads t l q x
 to_one t l q m x e h c = subst (λ (y : ℕ). Leads t l q y) (sym (only_in m x (subst (λ (xs : List ℕ). Contains xs x) e c))) h
 
-to_two : (t : Cloning) (l : Label) (q : View) (m n x : ℕ) → led_to q ≡ m ∷ n ∷ [] → Leads t l q m → Leads t l q n → Contains (led_to q) x → Leads t l q x
+to_two : (t : Cloning) (l : CopyLabel) (q : View) (m n x : ℕ) → led_to q ≡ m ∷ n ∷ [] → Leads t l q m → Leads t l q n → Contains (led_to q) x → Leads t l q x
 to_two t l q m n x e h k c =
     elim (either_in m n x (subst (λ (xs : List ℕ). Contains xs x) e c)) as (λ _. Leads t l q x) [
       | inl first ↦ subst (λ (y : ℕ). Leads t l q y) (sym first) h
@@ -154,7 +154,7 @@ to_two t l q m n x e h k c =
     ]
 
 -- to a node of the same copy
-to_inner : (t : Cloning) (side : Side) (l : Label) (q : View) (m node owed : ℕ) → side_of l ≡ Some side → opens_region q ≡ false →
+to_inner : (t : Cloning) (side : Side) (l : CopyLabel) (q : View) (m node owed : ℕ) → side_of l ≡ Some side → opens_region q ≡ false →
     calls_weighty t.weighty q ≡ false → Labelled t side m node owed → Leads t l q m
 to_inner t side l q m node owed s o w h =
     let k = in_label t side m node owed h in
@@ -163,7 +163,7 @@ to_inner t side l q m node owed s o w h =
 opened : (q : View) {A : Type 0} → opens_region q ≡ true → opens_region q ≡ false → A
 opened q e f = cc
 
-same_leads : (t : Cloning) (side : Side) (owed : ℕ) (l : Label) (v q : View) (x : ℕ) → side_of l ≡ Some side → is_outlet t.weighty v ≡ false →
+same_leads : (t : Cloning) (side : Side) (owed : ℕ) (l : CopyLabel) (v q : View) (x : ℕ) → side_of l ≡ Some side → is_outlet t.weighty v ≡ false →
     IsSame t side owed v q → Contains (led_to q) x → Leads t l q x
 same_leads t side owed l (Row op next) q x s o h c =
     to_one t l q h.0 x (ap led_to h.1) (to_inner t side l q h.0 next owed s (ap opens_region h.1) (ap (calls_weighty t.weighty) h.1) h.2) c
@@ -191,7 +191,7 @@ same_leads t side owed l (Imports next) q x s o h c = absurd h
 same_leads t side owed l (Exports next) q x s o h c = absurd h
 same_leads t side owed l Nowhere q x s o h c = absurd h
 
-inner_leads : (t : Cloning) (side : Side) (node : ℕ) (l : Label) (v q : View) (x : ℕ) → side_of l ≡ Some side → Inner t side node v q → Contains (led_to q) x →
+inner_leads : (t : Cloning) (side : Side) (node : ℕ) (l : CopyLabel) (v q : View) (x : ℕ) → side_of l ≡ Some side → Inner t side node v q → Contains (led_to q) x →
     Leads t l q x
 inner_leads t side node l v q x s (Passes owed (Leaves place z o e label)) c =
     to_one t l q place x (ap led_to e) (record {
@@ -210,7 +210,7 @@ inner_leads t side node l v q x s (Looks site place next slow e label) c =
 called : (q : View) (b : Bool) {A : Type 0} → b ≡ true → b ≡ false → A
 called q b e f = cc
 
-out_leads : (t : Cloning) (l : Label) (v q : View) (x : ℕ) → is_outlet t.weighty v ≡ true → IsOut t v q → Contains (led_to q) x → Leads t l q x
+out_leads : (t : Cloning) (l : CopyLabel) (v q : View) (x : ℕ) → is_outlet t.weighty v ≡ true → IsOut t v q → Contains (led_to q) x → Leads t l q x
 out_leads t l Gives q x o h c = to_none q x (ap led_to h) c
 out_leads t l Quits q x o h c = to_none q x (ap led_to h) c
 out_leads t l (Calls function next) q x o h c =
@@ -233,7 +233,7 @@ out_leads t l (Imports next) q x o h c = cc
 out_leads t l (Exports next) q x o h c = cc
 out_leads t l Nowhere q x o h c = cc
 
-import_leads : (t : Cloning) (l : Label) (q : View) (m node x : ℕ) → q ≡ Imports m → t.label m ≡ Some (Gate node) → Contains (led_to q) x → Leads t l q x
+import_leads : (t : Cloning) (l : CopyLabel) (q : View) (m node x : ℕ) → q ≡ Imports m → t.label m ≡ Some (Gate node) → Contains (led_to q) x → Leads t l q x
 import_leads t l q m node x e label c =
     to_one t l q m x (ap led_to e) (record {
       label = Gate node;
@@ -249,7 +249,7 @@ gate_to t side node q weight fast slow m e h =
     let k = in_label t side m node 0 h in
     record { label = In side k.0 k.1; is = k.2; gate = sym (ap opens_region e); back = sym (ap (calls_weighty t.weighty) e); side = λ a b c. cc }
 
-pub leads : (t : Cloning) (l : Label) (q : View) (x : ℕ) → Ends t → IsRight t l q → Contains (led_to q) x → Leads t l q x
+pub leads : (t : Cloning) (l : CopyLabel) (q : View) (x : ℕ) → Ends t → IsRight t l q → Contains (led_to q) x → Leads t l q x
 leads t Enter q x ends h c = import_leads t Enter q h.0 0 x h.1 h.2 c
 leads t (Back node) q x ends h c = import_leads t (Back node) q h.0 node x h.1 h.2 c
 leads t (Gate node) q x ends h c =

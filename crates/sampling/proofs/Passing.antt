@@ -11,12 +11,12 @@ use Rattle.flow.specs.Rows.{act}
 use Rattle.flow.specs.State.{Frame, On, State}
 use Rattle.regions.specs.Blocks.{ends_block}
 use Rattle.weights.specs.Paths.{mark_count, next_nodes}
-use Rattle.clone_paths.specs.declared.label.Label.TheVariants.{Back, Out}
+use Rattle.clone_paths.specs.declared.label.CopyLabel.TheVariants.{Back, Out}
 use Rattle.clone_paths.specs.declared.label.Side.{Side}
 use Rattle.clone_paths.specs.declared.label.Side.TheVariants.{Fast, Slow}
 use Rattle.clone_paths.specs.Form.{IsOut, IsSame, Labelled, MayOwe, is_outlet}
 use Rattle.sampling.specs.Copies.{AreCopies, Copies, cloning}
-use Rattle.sampling.specs.Follows.{Copied, Follows, IsAbove, MayRun, Own, Returns, Spot, Stands, Waits, beside}
+use Rattle.sampling.specs.Follows.{Copied, Follows, IsAbove, MayRun, Own, Returns, Spot, RunsBeside, Waits, beside}
 use Rattle.sampling.specs.Tally.{Tally}
 use Rattle.sampling.proofs.Entering.{Rest, at_entry, at_gate, give_by, quit_by, views}
 use Rattle.sampling.proofs.Matching.{Matches, call_by, fork_by, halt_by, put_off, row_by, spend_by}
@@ -80,7 +80,7 @@ wait_light : (t : Copies) (s : State) (own : Own) (side : Side) (countdown owed 
     Rest t countdown own.watch.countdown (record { function = s.function; node = next; operands = d.operands; locals = d.locals; copy = s.copy } ∷ s.below)
     (record { node = m; copy = Some (countdown + owed) } ∷ own.spots) (t.weighty function)
 wait_light t s own side countdown owed next m function place d w light l =
-    let stands : Stands t countdown s.function next m (Some (countdown + owed)) (Returns t s.below own.spots) (Waits t countdown own.watch.countdown s.below own.spots) =
+    let stands : RunsBeside t countdown s.function next m (Some (countdown + owed)) (Returns t s.below own.spots) (Waits t countdown own.watch.countdown s.below own.spots) =
     Copied side owed w.heavy w.may l refl
     (run_next t side s.function s.node next countdown countdown (Calls function next) w.at (after_call (t.weighty function) next light) (omega arith) w.run)
     w.returns

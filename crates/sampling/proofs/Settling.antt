@@ -13,7 +13,7 @@ use Rattle.flow.specs.Nodes.{led_to}
 use Rattle.flow.specs.State.{Next, On, State, over}
 use Rattle.regions.specs.Blocks.{ends_block}
 use Rattle.weights.specs.Paths.{mark_count}
-use Rattle.clone_paths.specs.declared.label.Label.TheVariants.{In}
+use Rattle.clone_paths.specs.declared.label.CopyLabel.TheVariants.{In}
 use Rattle.clone_paths.specs.declared.label.Side.{Side}
 use Rattle.clone_paths.specs.declared.label.Side.TheVariants.{Fast, Slow}
 use Rattle.clone_paths.specs.Form.{Here, IsIn, IsOwing, IsSame, Labelled, MayOwe, Owed, is_last}

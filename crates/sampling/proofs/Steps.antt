@@ -9,12 +9,12 @@ use Rattle.flow.specs.Now.{Now, any, several}
 use Rattle.flow.specs.Rows.{act}
 use Rattle.flow.specs.Sampling.{IsPositive}
 use Rattle.flow.specs.State.{Frame, On, State}
-use Rattle.clone_paths.specs.Cloned.{IsPlain}
-use Rattle.clone_paths.specs.declared.label.Label.TheVariants.{In}
+use Rattle.flow.specs.Ready.{IsPlain}
+use Rattle.clone_paths.specs.declared.label.CopyLabel.TheVariants.{In}
 use Rattle.clone_paths.specs.declared.label.Side.{Side}
 use Rattle.clone_paths.specs.Form.{Here, IsIn, IsVisit, Labelled, Owed}
 use Rattle.sampling.specs.Copies.{AreCopies, Copies, cloning}
-use Rattle.sampling.specs.Follows.{Copied, Follows, Own, Returns, Spot, Stands, Waits, Weightless, beside}
+use Rattle.sampling.specs.Follows.{Copied, Follows, Own, Returns, Spot, RunsBeside, Waits, Weightless, beside}
 use Rattle.sampling.specs.Tally.{Tally}
 use Rattle.sampling.proofs.Crossing.{visit_cases}
 use Rattle.sampling.proofs.Entering.{Rest, at_entry, give_by, quit_by, views}
@@ -77,7 +77,7 @@ light_call : (t : Copies) (s : State) (own : Own) (countdown function next : ℕ
     (record { node = next; copy = own.copy } ∷ own.spots) (t.weighty function)
 light_call t s own countdown function next d w =
     let light = w.are.calls s.function s.node function next w.light w.at in
-    let stands : Stands t countdown s.function next next own.copy (Returns t s.below own.spots) (Waits t countdown own.watch.countdown s.below own.spots) =
+    let stands : RunsBeside t countdown s.function next next own.copy (Returns t s.below own.spots) (Waits t countdown own.watch.countdown s.below own.spots) =
     Weightless w.light refl w.copy w.waits
     in
     let frame : Frame = record { function = s.function; node = next; operands = d.operands; locals = d.locals; copy = s.copy } in
@@ -123,7 +123,7 @@ light_by t s own countdown Nowhere w = internal t s (On (beside s own))
 -- each step of the full program is followed
 stands_by : (t : Copies) (s : State) (own : Own) (countdown : ℕ) → AreCopies t → IsPositive t.full.bank →
     Tally t.full.bank s.watch.seen own.watch.seen countdown own.watch.drawn →
-    Stands t countdown s.function s.node own.node own.copy (Returns t s.below own.spots) (Waits t countdown own.watch.countdown s.below own.spots) →
+    RunsBeside t countdown s.function s.node own.node own.copy (Returns t s.below own.spots) (Waits t countdown own.watch.countdown s.below own.spots) →
     Matches t (step t.full s) (On (beside s own))
 stands_by t s own countdown are positive tally (Copied side owed heavy may label copy run returns) =
     subst (λ (c : Option ℕ). Matches t (step t.full s) (On (beside s (record own { copy = c })))) (sym copy)

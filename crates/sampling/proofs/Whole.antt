@@ -16,11 +16,12 @@ use Rattle.flow.specs.Machine.{EndsFrom, MachineEnds, at_start, begin_with, each
 use Rattle.flow.specs.Program.{IsProgram, parts_of}
 use Rattle.flow.specs.Sampling.{IsPositive, total_of}
 use Rattle.flow.specs.State.{Ending, Next, On, Over, State}
+use Rattle.flow.specs.Ready.{IsReady}
 use Rattle.flow.proofs.Endings.{goes}
 use Rattle.clone_paths.specs.Cloned.{Cloned, MayClone}
 use Rattle.sampling.specs.Copies.{AreCopies, Copies, sampled}
 use Rattle.sampling.specs.Follows.{Follows, Own, beside}
-use Rattle.sampling.specs.Runs.{IsReady, RunsLike, SampledRuns}
+use Rattle.sampling.specs.Runs.{RunsLike, SampledRuns}
 use Rattle.sampling.specs.Tally.{Tally}
 use Rattle.sampling.proofs.Entering.{Rest, at_entry}
 use Rattle.sampling.proofs.Forms.{Pair, are_copies, copies_of, same_callee}

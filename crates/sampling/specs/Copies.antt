@@ -7,10 +7,10 @@ use Rattle.flow.specs.declared.site.SiteKind.{SiteKind}
 use Rattle.flow.specs.declared.site.SiteKind.TheVariants.{Branch}
 use Rattle.flow.specs.Code.{Code}
 use Rattle.flow.specs.Nodes.{led_to}
+use Rattle.flow.specs.Ready.{BranchesFork, IsPlain}
 use Rattle.regions.specs.Blocks.{ends_block}
-use Rattle.clone_paths.specs.declared.label.Label.{Label}
-use Rattle.clone_paths.specs.declared.label.Label.TheVariants.{Enter}
-use Rattle.clone_paths.specs.Cloned.{IsPlain}
+use Rattle.clone_paths.specs.declared.label.CopyLabel.{CopyLabel}
+use Rattle.clone_paths.specs.declared.label.CopyLabel.TheVariants.{Enter}
 use Rattle.clone_paths.specs.Form.{Cloning, IsRight}
 
 -- the code of the program, and which functions are weighty; by function, where blocks begin, what the nodes of the sampled program are labelled,
@@ -19,7 +19,7 @@ pub record Copies : Type 0 where
   pub full : Code
   pub weighty : ℕ → Bool
   pub starts : ℕ → ℕ → Bool
-  pub label : ℕ → ℕ → Option Label
+  pub label : ℕ → ℕ → Option CopyLabel
   pub at : ℕ → ℕ → View
 
 -- the code of the sampled program: all but the nodes are the same
@@ -28,21 +28,6 @@ sampled t = record t.full { at = t.at }
 
 abbrev pub cloning : Copies → ℕ → Cloning
 cloning t function = record { weighty = t.weighty; at = t.full.at function; starts = t.starts function; label = t.label function }
-
-abbrev pub IsBranchKind : SiteKind → Type 0
-IsBranchKind (Branch word) = Unit {0}
-IsBranchKind other = ⊥
-
--- the site of a condition
-abbrev pub IsBranch : Option Site → Type 0
-IsBranch None = ⊥
-IsBranch (Some s) = IsBranchKind s.kind
-
--- after the visit of a condition's site control forks
-abbrev pub BranchesFork : (ℕ → ℕ → View) → (ℕ → Option Site) → Type 0
-BranchesFork at site_of =
-    (function place site next : ℕ) → at function place ≡ Marks site next → IsBranch (site_of site) →
-    (when_true when_false : ℕ) × (at function next ≡ Forks when_true when_false)
 
 -- the sampled program is in the cloned form. A weightless function visits no site, and calls weightless functions alone.
 pub record AreCopies (t : Copies) : Type 0 where
@@ -53,5 +38,5 @@ pub record AreCopies (t : Copies) : Type 0 where
   pub ends : (function place next : ℕ) → t.weighty function ≡ true → ends_block (t.full.at function place) ≡ true →
       Contains (led_to (t.full.at function place)) next → t.starts function next ≡ true
   pub entry : (function : ℕ) → t.weighty function ≡ true → t.label function 0 ≡ Some Enter
-  pub each : (function place : ℕ) (l : Label) → t.weighty function ≡ true → t.label function place ≡ Some l → IsRight (cloning t function) l (t.at function place)
+  pub each : (function place : ℕ) (l : CopyLabel) → t.weighty function ≡ true → t.label function place ≡ Some l → IsRight (cloning t function) l (t.at function place)
   pub branches : BranchesFork t.full.at t.full.site

@@ -5,14 +5,14 @@ use Rattle.flow.specs.declared.node.View.{View}
 use Rattle.flow.specs.declared.node.View.TheVariants.{Marks, Tests, Picks}
 use Rattle.regions.specs.Weighty.{views_of}
 use Rattle.weights.specs.Paths.{next_nodes}
-use Rattle.clone_paths.specs.declared.label.Label.{Label}
-use Rattle.clone_paths.specs.declared.label.Label.TheVariants.{In, Out}
+use Rattle.clone_paths.specs.declared.label.CopyLabel.{CopyLabel}
+use Rattle.clone_paths.specs.declared.label.CopyLabel.TheVariants.{In, Out}
 use Rattle.clone_paths.specs.declared.label.Side.{Side}
 use Rattle.clone_paths.specs.declared.label.Side.TheVariants.{Fast}
 use Rattle.clone_paths.specs.Cloned.{NodesCloned}
 
 -- the copy in which a node stands
-abbrev pub side_of : Label → Option Side
+abbrev pub side_of : CopyLabel → Option Side
 side_of (In side node owed) = Some side
 side_of (Out side node) = Some side
 side_of other = None
@@ -26,7 +26,7 @@ LooksAtNothing other = Unit {0}
 -- no node of the fast copy visits or tests a site
 abbrev pub FastLooksAtNothing : Type 0
 FastLooksAtNothing =
-    (weighty : ℕ → Bool) (nodes cloned : List Node) (c : NodesCloned weighty nodes cloned) (place : ℕ) (l : Label) →
+    (weighty : ℕ → Bool) (nodes cloned : List Node) (c : NodesCloned weighty nodes cloned) (place : ℕ) (l : CopyLabel) →
     slice_get c.labels place ≡ Some l → side_of l ≡ Some Fast → LooksAtNothing (views_of cloned place)
 
 -- a path within a region leads from the one node to the other

@@ -3,7 +3,7 @@
 use Rattle.std.specs.Prelude.{◌≡◌, ℕ, ◌+◌, ◌<◌, List, [], ◌∷◌, true, false, Option, None, Some}
 use Rattle.flow.specs.State.{Frame, State, Watch}
 use Rattle.weights.specs.Paths.{IsPath, marks_on}
-use Rattle.clone_paths.specs.declared.label.Label.TheVariants.{Back}
+use Rattle.clone_paths.specs.declared.label.CopyLabel.TheVariants.{Back}
 use Rattle.clone_paths.specs.declared.label.Side.{Side}
 use Rattle.clone_paths.specs.declared.label.Side.TheVariants.{Fast, Slow}
 use Rattle.clone_paths.specs.Form.{Labelled, MayOwe}
@@ -50,20 +50,20 @@ Returns t below spots = ⊥
 
 -- a function that runs, or waits for a weightless one: a weighty one is in a copy of itself, where its copy of the countdown is the countdown in
 -- force and what is owed, and all functions below it wait for a weighty one; a weightless one is at the same node
-pub data Stands (t : Copies) (countdown function node place : ℕ) (copy : Option ℕ) (Below Waits : Type 0) : Type 0 where
+pub data RunsBeside (t : Copies) (countdown function node place : ℕ) (copy : Option ℕ) (Below Waits : Type 0) : Type 0 where
   Copied : (side : Side) (owed : ℕ) → t.weighty function ≡ true → MayOwe side owed → Labelled (cloning t function) side place node owed →
-      copy ≡ Some (countdown + owed) → MayRun side t countdown function node → Below → Stands t countdown function node place copy Below Waits
-  Weightless : t.weighty function ≡ false → place ≡ node → copy ≡ None → Waits → Stands t countdown function node place copy Below Waits
+      copy ≡ Some (countdown + owed) → MayRun side t countdown function node → Below → RunsBeside t countdown function node place copy Below Waits
+  Weightless : t.weighty function ≡ false → place ≡ node → copy ≡ None → Waits → RunsBeside t countdown function node place copy Below Waits
 
 -- the functions that wait for a weightless one, down to the topmost weighty one; where there is none, the shared countdown is in force
 abbrev pub Waits : Copies → ℕ → ℕ → List Frame → List Spot → Type 0
 Waits t countdown shared [] [] = shared ≡ countdown
 Waits t countdown shared (f ∷ below) (spot ∷ spots) =
-    Stands t countdown f.function f.node spot.node spot.copy (Returns t below spots) (Waits t countdown shared below spots)
+    RunsBeside t countdown f.function f.node spot.node spot.copy (Returns t below spots) (Waits t countdown shared below spots)
 Waits t countdown shared below spots = ⊥
 
 -- the sampled program's state beside this one follows it, with this countdown in force
 pub record Follows (t : Copies) (s : State) (own : Own) : Type 0 where
   pub countdown : ℕ
   pub tally : Tally t.full.bank s.watch.seen own.watch.seen countdown own.watch.drawn
-  pub stands : Stands t countdown s.function s.node own.node own.copy (Returns t s.below own.spots) (Waits t countdown own.watch.countdown s.below own.spots)
+  pub stands : RunsBeside t countdown s.function s.node own.node own.copy (Returns t s.below own.spots) (Waits t countdown own.watch.countdown s.below own.spots)

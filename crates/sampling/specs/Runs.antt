@@ -9,12 +9,8 @@ use Rattle.flow.specs.Machine.{MachineEnds}
 use Rattle.flow.specs.Program.{IsProgram}
 use Rattle.flow.specs.Sampling.{IsPositive, samples}
 use Rattle.flow.specs.State.{Ending}
+use Rattle.flow.specs.Ready.{IsReady}
 use Rattle.clone_paths.specs.Cloned.{Cloned, MayClone}
-use Rattle.sampling.specs.Copies.{BranchesFork}
-
--- the visit of a condition's site stands before the fork on it
-abbrev pub IsReady : ProgramParts → Type 0
-IsReady p = BranchesFork (λ function place. node_of (slice_get p.functions function) place) (slice_get p.sites)
 
 -- how a sampled run ends, beside how the full one does: the same outcome and output, and the samples of what the full one observed
 pub record IsSampleOf (bank : ℕ → ℕ) (full ending : Ending) : Type 0 where

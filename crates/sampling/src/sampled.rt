@@ -1,6 +1,7 @@
 ghost use Rattle.std.specs.Prelude.{IfOk};
 ghost use Rattle.clone_paths.specs.Cloned.{Cloned, IsSmall, MayClone};
-ghost use Rattle.sampling.specs.Runs.{IsReady, Samples};
+ghost use Rattle.sampling.specs.Runs.{Samples};
+ghost use Rattle.flow.specs.Ready.{IsReady};
 
 use cbi_base::Memory;
 use clone_paths::clone_program;

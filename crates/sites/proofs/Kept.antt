@@ -4,8 +4,8 @@ use Rattle.std.specs.Prelude.{slice_get, ◌&&◌, option_map, filter}
 use Rattle.std.proofs.lemmas.List.Elements.{filter-append}
 use Rattle.c_rules.specs.TypeTree.{TypeTree}
 use Rattle.c_rules.specs.Conversions.{is_arithmetic}
-use Rattle.c_types.specs.declared.walk.VariableEntry.{VariableEntry}
-use Rattle.c_types.specs.declared.walk.Walk.{Walk}
+use Rattle.c_types_expressions.specs.declared.walk.VariableEntry.{VariableEntry}
+use Rattle.c_types_expressions.specs.declared.walk.Walk.{Walk}
 use Rattle.c_types.specs.Answers.{declared_at, place_at}
 use Rattle.c_syntax.specs.ItemTree as i
 use Rattle.c_syntax.specs.ItemTree.{ItemTree, SourceTree}

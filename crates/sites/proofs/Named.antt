@@ -2,8 +2,8 @@
 use Rattle.std.proofs.Common.{◌≡◌, ℕ, suc, Bool, true, false, ◌||◌, List, [], ◌∷◌, refl, sym, ap, ◌∙◌, true≢false}
 use Rattle.std.specs.Prelude.{◌&&◌}
 use Rattle.std.specs.Str.{bytes_eq}
-use Rattle.c_types.specs.declared.walk.VariableEntry.{VariableEntry}
-use Rattle.c_types.specs.declared.walk.Walk.{Walk}
+use Rattle.c_types_expressions.specs.declared.walk.VariableEntry.{VariableEntry}
+use Rattle.c_types_expressions.specs.declared.walk.Walk.{Walk}
 use Rattle.c_types.specs.Answers.{scope_holds}
 use Rattle.sites.specs.Visible.{is_hidden, is_named}
 

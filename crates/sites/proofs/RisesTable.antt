@@ -9,7 +9,7 @@ use Rattle.c_syntax.specs.ItemTree.{ItemTree, SourceTree}
 use Rattle.c_syntax.specs.Spelling.{a_name, braced, entry_kinds, item_kinds, params_kinds, parenthesized, tree_kinds, type_kinds}
 use Rattle.c_syntax.specs.Place.{EachAt, ItemAt}
 use Rattle.c_syntax.specs.WellFormed.{IsShaped}
-use Rattle.c_types.specs.declared.walk.Walk.{Walk}
+use Rattle.c_types_expressions.specs.declared.walk.Walk.{Walk}
 use Rattle.flow.specs.declared.site.Site.{Site}
 use Rattle.sites.specs.declared.schemes.Schemes.{Schemes}
 use Rattle.sites.specs.declared.spots.Spot.{Spot}

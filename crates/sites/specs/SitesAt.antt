@@ -4,8 +4,8 @@ use Rattle.std.specs.Prelude.{◌∷◌, ◌++◌, map, Option, Some, None, opti
 use Rattle.std.specs.Str.{bytes_eq}
 use Rattle.c_rules.specs.TypeTree.{TypeTree}
 use Rattle.c_rules.specs.Conversions.{is_arithmetic, is_scalar}
-use Rattle.c_types.specs.declared.walk.VariableEntry.{VariableEntry}
-use Rattle.c_types.specs.declared.walk.Walk.{Walk}
+use Rattle.c_types_expressions.specs.declared.walk.VariableEntry.{VariableEntry}
+use Rattle.c_types_expressions.specs.declared.walk.Walk.{Walk}
 use Rattle.c_types.specs.Answers.{declared_at, function_at, place_at, type_at}
 use Rattle.flow.specs.declared.site.BranchWord.{BranchWord}
 use Rattle.flow.specs.declared.site.Partner.{Partner}

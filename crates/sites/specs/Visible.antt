@@ -2,10 +2,10 @@
 use Rattle.std.specs.Prelude.{ℕ, suc, Bool, false, not, ◌&&◌, ◌||◌, ◌==◌, if◌then◌else◌, List, [], ◌∷◌, Option, Some, None}
 use Rattle.std.specs.Str.{bytes_eq}
 use Rattle.c_rules.specs.TypeTree.{TypeTree, same_type}
-use Rattle.c_types.specs.declared.walk.Variable.{Variable}
-use Rattle.c_types.specs.declared.walk.Variable.TheVariants as variable
-use Rattle.c_types.specs.declared.walk.VariableEntry.{VariableEntry}
-use Rattle.c_types.specs.declared.walk.Walk.{Walk}
+use Rattle.c_types_expressions.specs.declared.walk.Variable.{Variable}
+use Rattle.c_types_expressions.specs.declared.walk.Variable.TheVariants as variable
+use Rattle.c_types_expressions.specs.declared.walk.VariableEntry.{VariableEntry}
+use Rattle.c_types_expressions.specs.declared.walk.Walk.{Walk}
 use Rattle.c_types.specs.Answers.{declared_at, scope_holds}
 use Rattle.flow.specs.declared.site.Partner.{Partner}
 use Rattle.flow.specs.declared.site.Partner.TheVariants as partner

@@ -4,7 +4,7 @@ ghost use Rattle.c_syntax.specs.ItemTree.{ItemTree, SourceTree};
 ghost use Rattle.c_syntax.specs.Place.{ItemAt};
 ghost use Rattle.c_syntax.specs.Spelling.{item_kinds, tree_kinds};
 ghost use Rattle.c_syntax.specs.WellFormed.{IsShaped};
-ghost use Rattle.c_types.specs.declared.walk.Walk.{Walk};
+ghost use Rattle.c_types_expressions.specs.declared.walk.Walk.{Walk};
 ghost use Rattle.flow.specs.declared.site.Site.{Site};
 ghost use Rattle.sites.specs.declared.schemes.Schemes.{Schemes};
 ghost use Rattle.sites.specs.Rising.{RisesWithin};

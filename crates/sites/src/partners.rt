@@ -10,7 +10,8 @@ ghost use Rattle.sites.specs.Visible.{is_hidden, is_named, is_partner, is_type, 
 use crate::ground::{Ground, Stand, add_site};
 use crate::schemes::SiteError;
 use c_rules::{CType, is_arithmetic, same_type};
-use c_types::{Checked, Variable, VariableEntry};
+use c_types::Checked;
+use c_types_expressions::{Variable, VariableEntry};
 use cbi_base::{Memory, Name, Seq};
 use flow::{Partner, Site, SiteKind, Slot};
 use std::alloc::Global;

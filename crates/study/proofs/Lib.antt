@@ -1,6 +1,2 @@
-pub mod Agreeing
-pub mod Doing
-pub mod Planning
-pub mod Refusing
 pub mod Studying
 pub mod StudyEnds

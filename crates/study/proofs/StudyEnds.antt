@@ -3,7 +3,7 @@ use Rattle.std.proofs.Common.{◌≡◌, ◌≤◌, ◌<◌, ◌+◌, inl, inr, 
 use Rattle.std.proofs.lemmas.List.{length-map}
 use Rattle.cbi_base.specs.declared.observation.Observation.{Observation}
 use Rattle.c_syntax.specs.ItemTree.{SourceTree}
-use Rattle.c_types.specs.declared.walk.Walk.{Walk}
+use Rattle.c_types_expressions.specs.declared.walk.Walk.{Walk}
 use Rattle.collector.specs.Collected.{mark_limit}
 use Rattle.collector.specs.Sites.{branches_of}
 use Rattle.cbi_base.specs.declared.policy.Policy.{Policy}
@@ -30,10 +30,10 @@ use Rattle.study_runs.specs.Runs.{AreRunsFrom, IsRunOf}
 use Rattle.study_runs.specs.Runs as runs
 use Rattle.study_runs.proofs.Lists.{runs_more, seen_more}
 use Rattle.study.specs.declared.ranked.StudyResult.{StudyResult}
-use Rattle.study.specs.Compiled.{IsCompiled}
+use Rattle.compiler.specs.Compiled.{IsCompiled}
 use Rattle.study.specs.Study.{AreCrowded, AreStudyRuns, StudyRun, labelled, marks_in, study_sites}
 use Rattle.study.specs.Studied.{AreCrowdedRuns, AreToldInPart, IsRefusedStudy, IsStudied, IsStudy, run_of, study_form}
-use Rattle.study.proofs.Refusing.{OneKnown, OneTree, moved}
+use Rattle.compiler.proofs.Refusing.{OneKnown, OneTree, moved}
 use Rattle.study.proofs.Studying.{OneBank, OneInput, labels_same, marks_grow, marks_same, mean, next, one_list, runs_snoc, seen_same}
 
 module _ (one_ending : OneEnding) (text : List ℕ) (plan : StudyPlan) (p : ProgramParts) (c : IsCompiled text study_form p) where

@@ -2,7 +2,7 @@
 use Rattle.std.proofs.Common.{◌≡◌, ◌≤◌, ◌<◌, ◌+◌, ◌%◌, ℕ, zero, suc, List, [], ◌∷◌, ◌++◌, length, map, slice_index, ap, ap₂, sym, refl, ◌∙◌, arith}
 use Rattle.std.proofs.lemmas.List.Sums.{sum_by-cons}
 use Rattle.c_syntax.specs.ItemTree.{SourceTree}
-use Rattle.c_types.specs.declared.walk.Walk.{Walk}
+use Rattle.c_types_expressions.specs.declared.walk.Walk.{Walk}
 use Rattle.countdown_bank.specs.Bank.{BankState, number_after}
 use Rattle.countdown_bank.specs.MadeBank.{AreMade}
 use Rattle.elimination.specs.declared.labelled.LabelledRun.{LabelledRun}
@@ -14,12 +14,12 @@ use Rattle.flow.specs.Laws.{OneEnding}
 use Rattle.flow.specs.Machine.{MachineEnds}
 use Rattle.flow.specs.Sampling.{IsPositive, samples}
 use Rattle.flow.specs.State.{Ending}
-use Rattle.made_runs.specs.MadeRun.{IsMadeRun}
+use Rattle.study_runs.specs.MadeRun.{IsMadeRun}
 use Rattle.report_file.specs.Report.{entries_of}
 use Rattle.study_runs.specs.declared.plan.StudyPlan.{StudyPlan}
 use Rattle.study_runs.specs.Runs.{AreRunsFrom, IsRunOf, reports_from}
 use Rattle.study_runs.specs.Runs as runs
-use Rattle.study.specs.Does.{SamplesText}
+use Rattle.compiler.specs.Does.{SamplesText}
 use Rattle.study.specs.Study.{AreStudyRuns, IsStudyRun, StudyRun, all_seen, entries_in, labelled, marks_in, study_meaning, study_sites}
 use Rattle.study.specs.Studied.{run_of}
 

@@ -4,7 +4,7 @@ use Rattle.cbi_base.specs.declared.observation.Observation.{Observation}
 use Rattle.cbi_base.specs.declared.refusal.Refusal.{Refusal}
 use Rattle.cbi_base.specs.declared.refusal.Refusal.TheVariants.{TooManyMarks}
 use Rattle.c_syntax.specs.ItemTree.{SourceTree}
-use Rattle.c_types.specs.declared.walk.Walk.{Walk}
+use Rattle.c_types_expressions.specs.declared.walk.Walk.{Walk}
 use Rattle.collector.specs.Collected.{mark_limit}
 use Rattle.flow.specs.declared.program.ProgramParts.{ProgramParts}
 use Rattle.flow.specs.Program.{table_of}
@@ -15,15 +15,15 @@ use Rattle.sites.specs.Wanted.{all_schemes}
 use Rattle.study_runs.specs.declared.plan.StudyPlan.{StudyPlan}
 use Rattle.study_runs.specs.Runs.{AreRunsFrom}
 use Rattle.study_runs.specs.Sums.{sums_of}
-use Rattle.accepted_texts.specs.Accepted.{IsAccepted}
-use Rattle.study.specs.declared.plan.Plan.{Plan}
-use Rattle.study.specs.declared.plan.Plan.TheVariants.{Sampled}
+use Rattle.compiler.specs.Accepted.{IsAccepted}
+use Rattle.compiler.specs.declared.plan.Plan.{Plan}
+use Rattle.compiler.specs.declared.plan.Plan.TheVariants.{Sampled}
 use Rattle.study.specs.declared.ranked.StudyFault.{StudyFault}
 use Rattle.study.specs.declared.ranked.StudyFault.TheVariants as faults
 use Rattle.study.specs.declared.ranked.StudyResult.{StudyResult}
-use Rattle.study.specs.Compiled.{IsCompiled}
-use Rattle.study.specs.Planned.{FitsPlan}
-use Rattle.study.specs.Refused.{IsRefusedText, RefusesText}
+use Rattle.compiler.specs.Compiled.{IsCompiled}
+use Rattle.compiler.specs.Planned.{FitsPlan}
+use Rattle.compiler.specs.Refused.{IsRefusedText, RefusesText}
 use Rattle.study.specs.Study.{AreCrowded, AreStudyRuns, StudyRun, all_seen, labelled, marks_in}
 
 -- what a text is compiled to for a study

@@ -1,14 +1,8 @@
-//! From a text to the program that does what it means, and to the ranking of its made runs.
+//! From a text to the ranking of the made runs of its sampled program.
 #![tactic(auto)]
 
-mod error;
 mod laws;
-mod pipeline;
-mod plan;
 mod ranked;
 
-pub use error::CompileError;
-pub use laws::{plans_agree, refused_texts_are_not_compiled, studies_agree};
-pub use pipeline::compile;
-pub use plan::Plan;
+pub use laws::studies_agree;
 pub use ranked::{StudyFault, StudyResult, study};

@@ -1,18 +1,14 @@
 ghost use Rattle.std.specs.Prelude.{◌≡◌, ◌≤◌, IfErr, IfOk, IsErr};
 ghost use Rattle.study.specs.Studied.{IsRefusedStudy, IsStudied, LeftByStudy, RefusesStudy, StudyRefusedBy};
 
-use crate::error::CompileError;
-use crate::pipeline::compile;
-use crate::plan::Plan;
-use accepted_texts::one_accepted_text;
 use cbi_base::{Memory, Refusal};
+use compiler::{CompileError, Plan, compile, one_accepted_text};
 use flow::one_ending;
-use made_runs::one_made_run;
 use probes::Probe;
 use ranking::ranking_of;
 use sites::Schemes;
 use std::alloc::Global;
-use study_runs::{RunsFault, StudyPlan, Sums, run_all};
+use study_runs::{RunsFault, StudyPlan, Sums, one_made_run, run_all};
 
 /// What a study's program is: sampled, with the sites of all schemes.
 const SAMPLED: Plan = Plan::Sampled {

@@ -12,7 +12,7 @@ use Rattle.flow.specs.Counting.{counts_from}
 use Rattle.flow.specs.Machine.{MachineEnds}
 use Rattle.flow.specs.Program.{IsProgram}
 use Rattle.machine.specs.Going.{AreBounded, HasRun, IsBounded}
-use Rattle.made_runs.specs.MadeRun.{IsMadeRun, IsPrintable, generator_of, line_from}
+use Rattle.study_runs.specs.MadeRun.{IsMadeRun, IsPrintable, generator_of, line_from}
 use Rattle.report_file.specs.declared.label.Label.{Label}
 use Rattle.report_file.specs.declared.report.Report.{Report}
 use Rattle.report_file.specs.Label.{label_of}

@@ -8,7 +8,7 @@ use Rattle.collector.specs.Collected.{mark_limit, marks_of, report_at, with_repo
 use Rattle.collector.specs.Sites.{branches_of}
 use Rattle.flow.specs.declared.program.ProgramParts.{ProgramParts}
 use Rattle.flow.specs.State.{Ending}
-use Rattle.made_runs.specs.MadeRun.{IsMadeRun}
+use Rattle.study_runs.specs.MadeRun.{IsMadeRun}
 use Rattle.probes.specs.Told.{AllGrew}
 use Rattle.probes.proofs.Growing.{AllGrew-none, AllGrew-then, AllGrewByPrefix-then}
 use Rattle.report_file.specs.Report.{greatest_count}

@@ -11,7 +11,6 @@ use Rattle.report_file.specs.declared.report.Report.{Report}
 use Rattle.report_file.specs.Report.{entries_of}
 use Rattle.collector.specs.Collected.{marks_of, report_at, with_report}
 use Rattle.study_runs.specs.declared.plan.StudyPlan.{StudyPlan}
-use Rattle.study_runs.specs.declared.sums.Sums.{Sums}
 use Rattle.study_runs.specs.Runs.{AreRunsFrom, IsRunOf, all_seen, marks_in, report_of, reports_from}
 use Rattle.study_runs.specs.Sums.{is_cut, is_ended, is_trapped, one_if, sums_of, with_run}
 
@@ -55,9 +54,6 @@ marks_same p number (x ∷ es) =
 
 pub marks_more : (p : ProgramParts) (es : List Ending) (e : Ending) → marks_in p (es ++ e ∷ []) ≡ marks_in p es + length (entries_of (counts_of p.sites e.seen))
 marks_more p es e = sum_by_push (λ (x : Ending). length (entries_of (counts_of p.sites x.seen))) es e
-
-made_sums : (a b c d e f : ℕ) → Sums
-made_sums a b c d e f = record { failed = a; ended = b; cut = c; fast = d; slow = e; tests = f }
 
 pub sums_more : (es : List Ending) (e : Ending) → sums_of (es ++ e ∷ []) ≡ with_run e.outcome e.work (sums_of es)
 sums_more es e =

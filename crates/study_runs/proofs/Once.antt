@@ -5,7 +5,7 @@ use Rattle.flow.specs.declared.program.ProgramParts.{ProgramParts}
 use Rattle.flow.specs.Laws.{OneEnding}
 use Rattle.flow.specs.Machine.{MachineEnds}
 use Rattle.flow.specs.State.{Ending}
-use Rattle.made_runs.specs.MadeRun.{IsMadeRun}
+use Rattle.study_runs.specs.MadeRun.{IsMadeRun}
 use Rattle.study_runs.specs.declared.plan.StudyPlan.{StudyPlan}
 use Rattle.study_runs.specs.Runs.{AreRunsFrom, IsRunOf}
 

@@ -1,3 +1,4 @@
+pub mod MadeRun
 pub mod Runs
 pub mod Sums
 pub mod Left

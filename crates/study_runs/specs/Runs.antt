@@ -7,7 +7,7 @@ use Rattle.flow.specs.declared.program.ProgramParts.{ProgramParts}
 use Rattle.flow.specs.Counting.{counts_of}
 use Rattle.flow.specs.Machine.{MachineEnds}
 use Rattle.flow.specs.State.{Ending}
-use Rattle.made_runs.specs.MadeRun.{IsMadeRun}
+use Rattle.study_runs.specs.MadeRun.{IsMadeRun}
 use Rattle.report_file.specs.declared.report.Report.{Report}
 use Rattle.report_file.specs.Label.{label_of}
 use Rattle.report_file.specs.Report.{entries_of}

@@ -7,7 +7,7 @@ use Rattle.countdown_bank.specs.Bank.{BankState, number_after}
 use Rattle.flow.specs.declared.program.ProgramParts.{ProgramParts}
 use Rattle.flow.specs.Machine.{MachineEnds}
 use Rattle.flow.specs.State.{Ending}
-use Rattle.made_runs.specs.MadeRun.{IsMadeRun}
+use Rattle.study_runs.specs.MadeRun.{IsMadeRun}
 use Rattle.probes.specs.Told.{AllGrew, AllGrewByPrefix}
 use Rattle.report_file.specs.declared.report.Report.{Report}
 use Rattle.report_file.specs.Report.{IsWork}

@@ -4,12 +4,13 @@ ghost use Rattle.report_file.specs.Report.{IsReport};
 ghost use Rattle.study_runs.specs.Steps.{Failed, Holds, IsHeld, IsOverfull};
 
 use crate::fault::RunsFault;
+use crate::laws::made_lines_are_printable;
+use crate::made_run::{MadeRun, make_run};
 use crate::plan::StudyPlan;
 use cbi_base::{Memory, Outcome, ProgramId, Work};
 use collector::{AddFault, Collection};
 use flow::{Program, RunResult};
 use machine::run;
-use made_runs::{MadeRun, made_lines_are_printable, make_run};
 use probes::Probe;
 use report_file::{Report, RunSummary, label_of, make_report};
 use std::alloc::Global;

@@ -4,15 +4,15 @@ use Rattle.c_meaning.specs.Trees as tree
 use Rattle.c_syntax.proofs.PlainExprs.{plain_arrow_before, plain_assign, plain_call, plain_cast, plain_chain, plain_comma, plain_conditional, plain_constant, plain_decrement_before, plain_end_of_file, plain_increment_before, plain_index_before, plain_member_before, plain_name, plain_null, plain_paren, plain_prefix, plain_size_of_type, plain_strings, plain_with_postfix}
 use Rattle.c_syntax.specs.ExprTree as e
 use Rattle.c_syntax.specs.Plain.{plain_expr, plain_exprs, plain_links, plain_operators, plain_postfix}
-use Rattle.c_types.specs.ExprWalk.{binary_of}
+use Rattle.c_types_expressions.specs.ExprWalk.{binary_of}
 use Rattle.cbi_base.specs.declared.operators.Unary.TheVariants as unary
 use Rattle.flow.specs.declared.node.Node.TheVariants as node
-use Rattle.graph_parts.proofs.Building.{row, surely_made, ◌and_then◌}
-use Rattle.graphs.specs.Paths.{Stuck}
-use Rattle.graph_parts.proofs.Serving.{negated_truth, prefixed_made, through_made}
-use Rattle.graphs.specs.Expressions.{emitted}
-use Rattle.graphs.specs.Room.{branches, exprs_room}
-use Rattle.graphs.specs.Values.{NullOr}
+use Rattle.lower_nodes.proofs.Building.{row, surely_made, ◌and_then◌}
+use Rattle.lower_relation.specs.Paths.{Stuck}
+use Rattle.lower_nodes.proofs.Serving.{negated_truth, prefixed_made, through_made}
+use Rattle.lower_relation.specs.Expressions.{emitted}
+use Rattle.lower_relation.specs.Room.{branches, exprs_room}
+use Rattle.lower_relation.specs.Values.{NullOr}
 use Rattle.c_meaning.specs.Visits.{listed}
 use Rattle.lower_expressions.proofs.Assigning.{assign_by, assign_plain, comma_step, last_made, lasts_whole, none_made, operand_weighs}
 use Rattle.lower_expressions.proofs.Chaining.{both_made, chain_made, computes_made, either_links, link_weighs, linked_by, links_none, links_step}
@@ -28,8 +28,8 @@ use Rattle.lower_expressions.proofs.Turning.{turned_made, value_stuck_made, valu
 use Rattle.lower_expressions.specs.Taken.{wanted_types}
 use Rattle.lower_expressions.specs.Weights.{exprs_weight, links_weight, postfix_weight, weight}
 use Rattle.std.proofs.Common.{ap, arith, drop, length, refl, rules, sym, ◌+◌, ◌-◌, ◌<◌, ◌∙◌, ◌≡◌, ◌≤◌}
-use Rattle.tree_facts.specs.Facts.{facts_in, sites_in}
-use Rattle.tree_facts.specs.Operators.{assignment_of, joint_of}
+use Rattle.lower_facts.specs.Facts.{facts_in, sites_in}
+use Rattle.lower_facts.specs.Operators.{assignment_of, joint_of}
 use Rattle.lower_expressions.proofs.+emission.Goals as goal
 
 pub expressions::emit-returns-in-Comma-clause-made : goal.expressions::emit-returns-in-Comma-clause-made

@@ -1,16 +1,16 @@
 use Rattle.c_syntax.specs.ExprTree as e
 use Rattle.c_syntax.specs.Plain.{plain_expr, plain_exprs, plain_links, plain_operators, plain_postfix}
-use Rattle.graph_parts.specs.Made.{Made, MadeFor}
-use Rattle.graph_parts.specs.Purposes.{Serves, ways}
-use Rattle.graphs.specs.Expressions.{ArgumentsDo, Behind, LastDoes, LinksDo}
-use Rattle.graphs.specs.Room.{exprs_room, links_room, postfix_room}
+use Rattle.lower_nodes.specs.Made.{Made, MadeFor}
+use Rattle.lower_nodes.specs.Purposes.{Serves, ways}
+use Rattle.lower_relation.specs.Expressions.{ArgumentsDo, Behind, LastDoes, LinksDo}
+use Rattle.lower_relation.specs.Room.{exprs_room, links_room, postfix_room}
 use Rattle.lower_expressions.proofs.Forked.{Leads}
 use Rattle.lower_expressions.specs.Linking.{type_before}
 use Rattle.lower_expressions.specs.Spots.{place_before, type_behind}
 use Rattle.lower_expressions.specs.Taken.{wanted_types}
 use Rattle.lower_expressions.specs.Weights.{exprs_weight, links_weight, postfix_weight, weight}
 use Rattle.std.proofs.Common.{drop, length, ◌+◌, ◌<◌, ◌≤◌}
-use Rattle.tree_facts.specs.Facts.{facts_in, sites_in}
+use Rattle.lower_facts.specs.Facts.{facts_in, sites_in}
 use Rattle.lower_expressions.proofs.+emission.Given as goal
 
 -- the operands from this place on are done

@@ -1,7 +1,7 @@
 use Rattle.std.proofs.Common.{[], ◌∷◌, length}
-use Rattle.c_parser.specs.Steps.{with_front, all_of}
+use Rattle.c_parser_expressions.specs.Steps.{with_front, all_of}
 use Rattle.c_parser.specs.ItemParser.{declarator_step}
-use Rattle.c_parser.proofs.Many.{Front}
+use Rattle.c_parser_expressions.proofs.Many.{Front}
 use Rattle.c_parser.proofs.item.declarators.Given as goal
 
 abbrev pub invariant-declarators : goal.invariant-declarators

@@ -1,7 +1,7 @@
 use Rattle.std.proofs.Common.{[], ◌∷◌, length}
-use Rattle.c_parser.specs.Steps.{with_front, all_of}
+use Rattle.c_parser_expressions.specs.Steps.{with_front, all_of}
 use Rattle.c_parser.specs.ItemParser.{param_step}
-use Rattle.c_parser.proofs.Many.{Front}
+use Rattle.c_parser_expressions.proofs.Many.{Front}
 use Rattle.c_parser.proofs.item.further.Given as goal
 
 abbrev pub invariant-further : goal.invariant-further

@@ -1,9 +1,9 @@
 use Rattle.std.proofs.Common.{rules, ◌≡◌, [], ◌∷◌, Option, None, Ok, Err, subst}
 use Rattle.c_syntax.specs.declared.parts.Members.{Members}
-use Rattle.c_parser.specs.Steps.{with_front, all_of}
-use Rattle.c_parser.specs.Turns.{GivesStep}
+use Rattle.c_parser_expressions.specs.Steps.{with_front, all_of}
+use Rattle.c_parser_declarations.specs.Turns.{GivesStep}
 use Rattle.c_parser.specs.ItemParser.{members_step}
-use Rattle.c_parser.proofs.Turns.{same_push, same_done, turn_err}
+use Rattle.c_parser_declarations.proofs.Turns.{same_push, same_done, turn_err}
 use Rattle.c_parser.proofs.ItemTurns.{lines_advance}
 use Rattle.c_parser.proofs.item.lines.Goals as goal
 

@@ -1,7 +1,7 @@
 use Rattle.std.proofs.Common.{[], ◌∷◌, length}
-use Rattle.c_parser.specs.Steps.{with_front, all_of}
+use Rattle.c_parser_expressions.specs.Steps.{with_front, all_of}
 use Rattle.c_parser.specs.ItemParser.{members_step}
-use Rattle.c_parser.proofs.Many.{Front}
+use Rattle.c_parser_expressions.proofs.Many.{Front}
 use Rattle.c_parser.proofs.item.lines.Given as goal
 
 abbrev pub invariant-lines : goal.invariant-lines

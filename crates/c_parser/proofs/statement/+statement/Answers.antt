@@ -1,13 +1,13 @@
 use Rattle.std.proofs.Common.{rules, ◌≡◌, ◌∙◌, map, Option, Some, None, Ok, Err, subst, sym}
 use Rattle.c_syntax.specs.declared.statement.Entry.{Entry}
 use Rattle.c_syntax.specs.Plain.{plain_entry}
-use Rattle.c_parser.specs.Reading.{Cursor}
-use Rattle.c_parser.specs.Steps.{all_of}
-use Rattle.c_parser.specs.Turns.{GivesStep}
+use Rattle.c_parser_expressions.specs.Reading.{Cursor}
+use Rattle.c_parser_expressions.specs.Steps.{all_of}
+use Rattle.c_parser_declarations.specs.Turns.{GivesStep}
 use Rattle.c_parser.specs.StatementParser.{header_by, entry_step, statements_below}
 use Rattle.c_parser.specs.StatementViews.{plain_header, plain_entry_list}
-use Rattle.c_parser.proofs.Turns.{turn_push, turn_less, turn_done, turn_err}
-use Rattle.c_parser.proofs.DeclarationLoops.{entries_advance}
+use Rattle.c_parser_declarations.proofs.Turns.{turn_push, turn_less, turn_done, turn_err}
+use Rattle.c_parser.proofs.EntryLoops.{entries_advance}
 use Rattle.c_parser.proofs.StatementViews.{for_err, entry_stated}
 use Rattle.c_parser.proofs.statement.+statement.Goals as goal
 

@@ -1,8 +1,8 @@
 use Rattle.std.proofs.Common.{◌+◌, ◌*◌, length, map}
 use Rattle.c_syntax.specs.Plain.{plain_entry}
-use Rattle.c_parser.specs.Steps.{all_of}
+use Rattle.c_parser_expressions.specs.Steps.{all_of}
 use Rattle.c_parser.specs.StatementParser.{entry_step, statements_below}
-use Rattle.c_parser.proofs.Many.{Front}
+use Rattle.c_parser_expressions.proofs.Many.{Front}
 use Rattle.c_parser.proofs.statement.+statement.Given as goal
 
 abbrev pub decreases-otherwise : goal.decreases-otherwise

@@ -12,10 +12,11 @@ use Rattle.regions.specs.Weighty.{views_of}
 use Rattle.regions.proofs.RowLemmas.{rows_more, take_more}
 use Rattle.regions.proofs.Within.{has_entry}
 use Rattle.weights.specs.Weight.{AreWeights}
-use Rattle.clone_paths.specs.Cloned.{ArePlain, FunctionCloned, StillFits, cloned_limit}
+use Rattle.clone_paths.specs.Cloned.{FunctionCloned, StillFits, cloned_limit}
 use Rattle.clone_paths.specs.Parts.{HasOrder}
 use Rattle.clone_paths.proofs.PrepareLemmas.{few_of, headers_of_weighty, order_of, plain_of}
 use Rattle.clone_paths.proofs.clones.clone_functions.Goals as goal
+use Rattle.flow.specs.Ready.{ArePlain}
 
 pub clone_function-requires-clause-prepared : goal.clone_function-requires-clause-prepared
 clone_function-requires-clause-prepared c = λ w.

@@ -3,7 +3,7 @@ use Rattle.std.specs.Vec.{with_items}
 use Rattle.std.proofs.lemmas.List.{with_items_is}
 use Rattle.regions.specs.Flags.{is_in}
 use Rattle.regions.specs.Rows.{EachFits}
-use Rattle.clone_paths.specs.declared.label.Label.{Label}
+use Rattle.clone_paths.specs.declared.label.CopyLabel.{CopyLabel}
 use Rattle.clone_paths.specs.Layout.{Sheet, sheet_of}
 use Rattle.clone_paths.specs.Made.{IsMade, Resolved, parts_from, sheet_at}
 use Rattle.clone_paths.specs.Parts.{AreDebts}
@@ -64,7 +64,7 @@ returns c =
     in
     let labels = ap (λ (t : Sheet). t.labels) c.in_ok-layout.ensures in
     let fits = subst (λ (t : Sheet). EachFits (IsMade (tables s t)) layout.labels.items c.in_ok-nodes.nodes.items) sheet c.in_ok-nodes.ensures in
-    let all = subst (λ (ls : List Label). EachFits (IsMade (tables s (put fast whole))) ls c.in_ok-nodes.nodes.items) labels fits in
+    let all = subst (λ (ls : List CopyLabel). EachFits (IsMade (tables s (put fast whole))) ls c.in_ok-nodes.nodes.items) labels fits in
     record {
       cloned = cloned_all s.weighty.now s.nodes.now s.starts.now s.weights.now debts headers fast c.in_ok-nodes.nodes.items laid all;
       small = cloned_small s.weighty.now s.nodes.now s.starts.now s.weights.now debts headers fast c.in_ok-nodes.nodes.items laid all;

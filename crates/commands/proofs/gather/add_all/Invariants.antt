@@ -2,14 +2,14 @@ use Rattle.std.proofs.Common.{length}
 use Rattle.std.specs.Prelude.{reverse}
 use Rattle.collector.specs.declared.answers.AddFault.{AddFault}
 use Rattle.collector.specs.declared.collection.Held.{Held}
-use Rattle.commands.specs.Collect.{AreBundles, StopsAt, TakesAll}
+use Rattle.commands.specs.Collect.{AreBundles, MeetsFault, TakesAll}
 use Rattle.commands.proofs.gather.add_all.Given as goal
 
 -- what the bundles that are left come to, all come to
 abbrev pub invariant-loop-bundle : goal.invariant-loop-bundle
 invariant-loop-bundle l = record {
   taken : (after : Held) → TakesAll l.collection (reverse l.rest.items) after → TakesAll l.initial.collection (reverse l.initial.rest.items) after;
-  stops : (fault : AddFault) → StopsAt l.collection (reverse l.rest.items) fault → StopsAt l.initial.collection (reverse l.initial.rest.items) fault;
+  stops : (fault : AddFault) → MeetsFault l.collection (reverse l.rest.items) fault → MeetsFault l.initial.collection (reverse l.initial.rest.items) fault;
   are : AreBundles (reverse l.rest.items);
 }
 

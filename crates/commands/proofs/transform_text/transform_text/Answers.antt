@@ -1,5 +1,5 @@
 use Rattle.std.proofs.Common.{subst}
-use Rattle.study.specs.Refused.{RefusesText}
+use Rattle.compiler.specs.Refused.{RefusesText}
 use Rattle.commands.specs.Transform.{plan_of}
 use Rattle.commands.proofs.GatherLemmas.{put-left}
 use Rattle.commands.proofs.RunLemmas.{caused-as}

@@ -1,7 +1,7 @@
 use Rattle.std.proofs.Common.{option_map}
 use Rattle.std.specs.Option.{option_copied}
 use Rattle.c_syntax.specs.Plain.{plain_entries}
-use Rattle.tree_facts.specs.Facts.{facts_in, sites_in}
+use Rattle.lower_facts.specs.Facts.{facts_in, sites_in}
 use Rattle.lower.proofs.Bodying.{function_back, function_made}
 use Rattle.lower.proofs.functions.body_nodes.Goals as goal
 

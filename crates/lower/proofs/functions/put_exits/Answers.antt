@@ -1,6 +1,6 @@
 use Rattle.std.proofs.Common.{length, subst, sym}
-use Rattle.graphs.specs.Paths.{Exits}
-use Rattle.graph_parts.specs.Ends.{AllBelow, all_ends}
+use Rattle.lower_relation.specs.Paths.{Exits}
+use Rattle.lower_nodes.specs.Ends.{AllBelow, all_ends}
 use Rattle.lower.proofs.Bodying.{exits_below, leaves_made}
 use Rattle.lower.proofs.functions.put_exits.Goals as goal
 

@@ -1,5 +1,5 @@
 use Rattle.std.proofs.Common.{◌≡◌, ◌+◌, ◌-◌, ◌<◌, arith, length}
-use Rattle.tree_facts.specs.Facts.{facts_in, sites_in}
+use Rattle.lower_facts.specs.Facts.{facts_in, sites_in}
 use Rattle.lower.proofs.Initialising.{elements_none, elements_step}
 use Rattle.lower_expressions.proofs.Rooms.{exprs_more}
 use Rattle.lower.proofs.initialisers.emit_elements.Goals as goal

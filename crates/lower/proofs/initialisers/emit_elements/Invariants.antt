@@ -1,9 +1,9 @@
 use Rattle.std.proofs.Common.{◌+◌, ◌≤◌, length, drop}
 use Rattle.c_syntax.specs.Plain.{plain_exprs}
-use Rattle.tree_facts.specs.Facts.{facts_in, sites_in}
-use Rattle.graphs.specs.Initialisers.{ElementsSet}
-use Rattle.graphs.specs.Room.{exprs_room}
-use Rattle.graph_parts.specs.Made.{Made}
+use Rattle.lower_facts.specs.Facts.{facts_in, sites_in}
+use Rattle.lower_relation.specs.Initialisers.{ElementsSet}
+use Rattle.lower_relation.specs.Room.{exprs_room}
+use Rattle.lower_nodes.specs.Made.{Made}
 use Rattle.lower.proofs.initialisers.emit_elements.Given as goal
 
 -- the elements from this place on are put

@@ -1,6 +1,6 @@
 use Rattle.std.proofs.Common.{Some, ap}
 use Rattle.c_syntax.specs.Plain.{plain_initial}
-use Rattle.tree_facts.specs.Facts.{facts_in, sites_in}
+use Rattle.lower_facts.specs.Facts.{facts_in, sites_in}
 use Rattle.lower.proofs.Zeroing.{braced_made}
 use Rattle.lower.proofs.initialisers.emit_initial.Goals as goal
 

@@ -1,6 +1,6 @@
 use Rattle.std.proofs.Common.{sym, ◌∙◌}
 use Rattle.c_syntax.specs.Plain.{plain_expr}
-use Rattle.tree_facts.specs.Facts.{facts_in, sites_in}
+use Rattle.lower_facts.specs.Facts.{facts_in, sites_in}
 use Rattle.lower.proofs.Zeroing.{by_string, by_value}
 use Rattle.lower.proofs.initialisers.emit_single.Goals as goal
 

@@ -1,5 +1,5 @@
 use Rattle.c_syntax.specs.Plain.{plain_start}
-use Rattle.tree_facts.specs.Facts.{facts_in, sites_in}
+use Rattle.lower_facts.specs.Facts.{facts_in, sites_in}
 use Rattle.lower.proofs.Initialising.{start_made}
 use Rattle.lower.proofs.initialisers.emit_start.Goals as goal
 

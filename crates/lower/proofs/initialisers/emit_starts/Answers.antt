@@ -1,5 +1,5 @@
 use Rattle.std.proofs.Common.{◌≡◌, ◌+◌, ◌-◌, ◌<◌, arith, length}
-use Rattle.tree_facts.specs.Facts.{facts_in, sites_in}
+use Rattle.lower_facts.specs.Facts.{facts_in, sites_in}
 use Rattle.lower.proofs.Initialising.{starts_none, starts_step}
 use Rattle.lower.proofs.Rooms.{starts_more}
 use Rattle.lower.proofs.initialisers.emit_starts.Goals as goal

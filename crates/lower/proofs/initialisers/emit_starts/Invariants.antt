@@ -1,10 +1,10 @@
 use Rattle.std.proofs.Common.{◌+◌, ◌≤◌, length, drop, map}
 use Rattle.c_syntax.specs.Plain.{plain_start}
-use Rattle.tree_facts.specs.Facts.{facts_in, sites_in}
-use Rattle.graphs.specs.Initialisers.{AllStart}
+use Rattle.lower_facts.specs.Facts.{facts_in, sites_in}
+use Rattle.lower_relation.specs.Initialisers.{AllStart}
 use Rattle.std.specs.List.{sum_by}
-use Rattle.graphs.specs.Room.{start_room}
-use Rattle.graph_parts.specs.Made.{Made}
+use Rattle.lower_relation.specs.Room.{start_room}
+use Rattle.lower_nodes.specs.Made.{Made}
 use Rattle.lower.proofs.initialisers.emit_starts.Given as goal
 
 -- the variables from this place on are put

@@ -1,5 +1,5 @@
 use Rattle.std.proofs.Common.{◌≡◌, map, take}
-use Rattle.tree_facts.specs.Facts.{sites_in}
+use Rattle.lower_facts.specs.Facts.{sites_in}
 use Rattle.lower.specs.Ready.{kept_node}
 use Rattle.lower.proofs.keep.keep.Given as goal
 

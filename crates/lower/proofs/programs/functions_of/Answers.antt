@@ -1,6 +1,6 @@
 use Rattle.std.proofs.Common.{[], ◌∷◌, ap, arith, length, length-append, subst, ◌≡◌, ◌≤◌}
-use Rattle.tree_facts.specs.Facts.{known_in, sites_in, source_in}
-use Rattle.graphs.specs.Room.{functions_room}
+use Rattle.lower_facts.specs.Facts.{known_in, sites_in, source_in}
+use Rattle.lower_relation.specs.Room.{functions_room}
 use Rattle.lower.specs.Fits.{NodesStand}
 use Rattle.lower.specs.Programs.{IsFunctionOf, node_count}
 use Rattle.lower.proofs.Graphing.{each_pushed, no_more_functions, seen_all, seen_pushed}

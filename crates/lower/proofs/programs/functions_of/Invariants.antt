@@ -1,7 +1,7 @@
 use Rattle.std.proofs.Common.{◌≡◌, ℕ, ◌≤◌, Some, length, map, slice_get, take}
 use Rattle.flow.specs.declared.program.Function.{Function}
-use Rattle.tree_facts.specs.Facts.{sites_in, source_in}
-use Rattle.graphs.specs.Room.{functions_room}
+use Rattle.lower_facts.specs.Facts.{sites_in, source_in}
+use Rattle.lower_relation.specs.Room.{functions_room}
 use Rattle.lower.specs.Fits.{NodesStand}
 use Rattle.lower.specs.Programs.{AreFunctionsOf, node_count}
 use Rattle.lower.proofs.programs.functions_of.Given as goal

@@ -1,6 +1,6 @@
 use Rattle.std.proofs.Common.{◌∙◌, ◌≤◌, ◌+◌, ◌*◌, length}
 use Rattle.c_syntax.specs.Spelling.{tree_kinds}
-use Rattle.tree_facts.specs.Facts.{known_in, table_in, tree_in}
+use Rattle.lower_facts.specs.Facts.{known_in, table_in, tree_in}
 use Rattle.lower.specs.Programs.{node_count}
 use Rattle.lower.proofs.Assembling.{are_parts, fitting_facts, globals_are, names_as_many, none_of, program_graph, program_parts, program_plain, program_ready, texts_are}
 use Rattle.lower.proofs.Rooms.{few_of}

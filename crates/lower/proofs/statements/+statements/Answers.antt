@@ -1,11 +1,11 @@
 use Rattle.std.proofs.Common.{◌≡◌, ◌+◌, ◌-◌, ◌<◌, length, arith, option_map}
 use Rattle.c_syntax.specs.Plain.{plain_expr, plain_for_start, plain_statement}
 use Rattle.c_syntax.proofs.PlainStatements as plain
-use Rattle.graphs.specs.Expressions.{Condition}
-use Rattle.graphs.specs.Statements.{ForLoop, ForStarts, OptionalCondition, OptionalEffect, Runs}
-use Rattle.tree_facts.specs.Facts.{facts_in, sites_in}
+use Rattle.lower_relation.specs.Expressions.{Condition}
+use Rattle.lower_relation.specs.Statements.{ForLoop, ForStarts, OptionalCondition, OptionalEffect, Runs}
+use Rattle.lower_facts.specs.Facts.{facts_in, sites_in}
 use Rattle.lower.specs.Exits.{exits_of}
-use Rattle.graph_parts.proofs.Building.{then_made}
+use Rattle.lower_nodes.proofs.Building.{then_made}
 use Rattle.lower.proofs.Looping.{again_below, break_made, continue_made, declared_made, do_made, do_parts, empty_made, entries_none, entries_step, for_made, for_parts, branch_made, stated_made, while_made, while_parts}
 use Rattle.lower.proofs.Rooms.{entries_more}
 use Rattle.lower.proofs.statements.+statements.Goals as goal

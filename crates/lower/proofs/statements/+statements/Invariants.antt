@@ -1,10 +1,10 @@
 use Rattle.std.proofs.Common.{◌+◌, ◌≤◌, length, drop}
 use Rattle.c_syntax.specs.Plain.{plain_entries}
-use Rattle.tree_facts.specs.Facts.{facts_in, sites_in}
-use Rattle.graphs.specs.Statements.{RunsAll}
-use Rattle.graphs.specs.Room.{entries_room}
+use Rattle.lower_facts.specs.Facts.{facts_in, sites_in}
+use Rattle.lower_relation.specs.Statements.{RunsAll}
+use Rattle.lower_relation.specs.Room.{entries_room}
 use Rattle.lower.specs.Exits.{exits_of}
-use Rattle.graph_parts.specs.Made.{MadeExits}
+use Rattle.lower_nodes.specs.Made.{MadeExits}
 use Rattle.lower.proofs.statements.+statements.Given as goal
 
 -- the entries from this place on are put

@@ -1,4 +1,4 @@
-use Rattle.tree_facts.specs.Facts.{facts_in, sites_in}
+use Rattle.lower_facts.specs.Facts.{facts_in, sites_in}
 use Rattle.lower_expressions.proofs.Handing.{given_returned}
 use Rattle.lower_expressions.proofs.calls.put_given.Goals as goal
 

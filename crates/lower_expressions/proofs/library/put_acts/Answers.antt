@@ -1,5 +1,5 @@
 use Rattle.c_syntax.specs.Plain.{plain_exprs}
-use Rattle.tree_facts.specs.Facts.{facts_in}
+use Rattle.lower_facts.specs.Facts.{facts_in}
 use Rattle.lower_expressions.proofs.Acting.{call_acted}
 use Rattle.lower_expressions.proofs.library.put_acts.Goals as goal
 

@@ -1,4 +1,4 @@
-use Rattle.tree_facts.specs.Facts.{facts_in, sites_in}
+use Rattle.lower_facts.specs.Facts.{facts_in, sites_in}
 use Rattle.lower_expressions.proofs.Chaining.{shortcut_both, shortcut_either}
 use Rattle.lower_expressions.proofs.links.put_shortcut.Goals as goal
 

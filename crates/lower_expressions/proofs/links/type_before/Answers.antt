@@ -1,5 +1,5 @@
 use Rattle.std.proofs.Common.{◌≡◌, ◌+◌, ◌-◌, ◌∙◌, ap, arith, sym}
-use Rattle.tree_facts.specs.Facts.{facts_in, sites_in}
+use Rattle.lower_facts.specs.Facts.{facts_in, sites_in}
 use Rattle.lower_expressions.specs.Linking.{type_before}
 use Rattle.lower_expressions.proofs.Chaining.{type_after}
 use Rattle.lower_expressions.proofs.links.type_before.Goals as goal

@@ -1,6 +1,6 @@
 use Rattle.std.proofs.Common.{refl}
 use Rattle.flow.specs.declared.node.Node.TheVariants as node
-use Rattle.graph_parts.proofs.Building.{◌and_then◌, row}
+use Rattle.lower_nodes.proofs.Building.{◌and_then◌, row}
 use Rattle.lower_expressions.proofs.operators.put_sole.Goals as goal
 
 pub returns-clause-made : goal.returns-clause-made

@@ -1,5 +1,5 @@
 use Rattle.c_syntax.specs.Plain.{plain_expr}
-use Rattle.tree_facts.specs.Facts.{facts_in, sites_in}
+use Rattle.lower_facts.specs.Facts.{facts_in, sites_in}
 use Rattle.std.proofs.Common.{arith}
 use Rattle.lower_expressions.proofs.Placing.{nowhere_made}
 use Rattle.lower_expressions.proofs.Rooms.{nowhere_room}

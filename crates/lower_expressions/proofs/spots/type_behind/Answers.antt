@@ -1,6 +1,6 @@
 use Rattle.std.proofs.Common.{◌≡◌, ◌+◌, ◌-◌, ◌∙◌, ap, arith, sym}
 use Rattle.c_syntax.specs.Plain.{plain_operators}
-use Rattle.tree_facts.specs.Facts.{facts_in, sites_in}
+use Rattle.lower_facts.specs.Facts.{facts_in, sites_in}
 use Rattle.lower_expressions.specs.Spots.{type_behind}
 use Rattle.lower_expressions.proofs.Postfixing.{type_next}
 use Rattle.lower_expressions.proofs.spots.type_behind.Goals as goal

@@ -1,5 +1,5 @@
 use Rattle.std.proofs.Common.{◌≡◌, drop}
-use Rattle.tree_facts.specs.Facts.{sites_in}
+use Rattle.lower_facts.specs.Facts.{sites_in}
 use Rattle.lower_expressions.specs.Forking.{all_fork}
 use Rattle.lower_expressions.proofs.truths.all_fork.Given as goal
 

@@ -3,7 +3,7 @@ use Rattle.flow.specs.Calls.{give, has_result}
 use Rattle.flow.specs.Code.{callee_of}
 use Rattle.flow.specs.Now.{Takes}
 use Rattle.flow.specs.State.{Over}
-use Rattle.machine.specs.Data.{data_of}
+use Rattle.machine_rows.specs.Data.{data_of}
 use Rattle.machine.specs.Steps.{state_of, frames_of}
 use Rattle.machine.proofs.CallLemmas.{gives_end}
 use Rattle.machine.proofs.calls.give.Goals as goal

@@ -3,7 +3,7 @@ use Rattle.flow.specs.Calls.{enter}
 use Rattle.flow.specs.Code.{code_of}
 use Rattle.flow.specs.Machine.{first_objects, each_made, begin_with}
 use Rattle.machine.specs.Begun.{first_past}
-use Rattle.machine.specs.Starting.{IsAllMade}
+use Rattle.machine_rows.specs.Starting.{IsAllMade}
 use Rattle.machine.specs.Steps.{IsNext}
 use Rattle.machine.proofs.StartLemmas.{all_there, starts}
 use Rattle.machine.proofs.start.begin.Goals as goal

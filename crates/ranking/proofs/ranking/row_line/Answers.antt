@@ -2,9 +2,9 @@ use Rattle.std.proofs.Common.{◌∙◌, ◌++◌, [], ◌∷◌, List, ℕ, ap,
 use Rattle.csv.specs.Writing.{default_writer, row_text}
 use Rattle.std.specs.List.{join_with_byte}
 use Rattle.cbi_base.specs.Text.{ended}
-use Rattle.flow.specs.Predicates.{predicate_text}
+use Rattle.flow.specs.Predicates.{predicate_text, site_at}
 use Rattle.ranking.specs.Plain.{IsPlain}
-use Rattle.ranking.specs.Ranking.{place_fields, share_fields, site_at, tally_fields}
+use Rattle.ranking.specs.Ranking.{place_fields, share_fields, tally_fields}
 use Rattle.ranking.proofs.PlainLemmas.{are-plain-append, row-line}
 use Rattle.ranking.proofs.ranking.row_line.Goals as goal
 

@@ -1,5 +1,0 @@
-use Rattle.accepted_texts.proofs.Refusing.{refuses_text}
-use Rattle.accepted_texts.proofs.laws.refused_texts_are_not_accepted.Goals as goal
-
-pub returns : goal.returns
-returns c = λ refusal text h. refuses_text refusal text h

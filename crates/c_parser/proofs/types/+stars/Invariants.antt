@@ -1,4 +1,0 @@
-use Rattle.c_parser.proofs.types.+stars.Given as goal
-
-abbrev pub decreases-stars : goal.decreases-stars
-decreases-stars l = l.most

@@ -1,0 +1,4 @@
+pub mod Lists
+pub mod Declarations
+pub mod DeclarationParser
+pub mod Turns

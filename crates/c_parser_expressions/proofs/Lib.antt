@@ -1,0 +1,17 @@
+pub mod Assignments
+pub mod Casts
+pub mod Chains
+pub mod Choices
+pub mod Commas
+pub mod Depths
+pub mod Heads
+pub mod Laws
+pub mod Loops
+pub mod Many
+pub mod Postfix
+pub mod Primary
+pub mod Starts
+pub mod Tokens
+pub mod TypeNames
+pub mod Unary
+pub mod WholeParses

@@ -1,0 +1,6 @@
+pub mod Reading
+pub mod Marks
+pub mod Steps
+pub mod Expressions
+pub mod ExpressionParser
+pub mod Views

@@ -1,6 +1,0 @@
-use Rattle.std.proofs.Common.{◌≡◌, ◌++◌, drop}
-use Rattle.c_types.specs.ExprWalk.{flat}
-use Rattle.c_types.proofs.expr_walk.flat.Given as goal
-
-abbrev pub invariant-loop-part : goal.invariant-loop-part
-invariant-loop-part l = l.bytes.items ++ flat (drop l.part-index l.parts) ≡ flat l.parts

@@ -1,6 +1,0 @@
-use Rattle.std.proofs.Common.{◌≡◌, drop}
-use Rattle.c_types.specs.ItemWalk.{with_params}
-use Rattle.c_types.proofs.params.add_params.Given as goal
-
-abbrev pub invariant-loop-param : goal.invariant-loop-param
-invariant-loop-param l = with_params (drop l.param-index l.params) l.walk ≡ with_params l.params l.fn.walk

@@ -1,6 +1,0 @@
-use Rattle.std.proofs.Common.{◌≡◌, drop}
-use Rattle.c_types.specs.ItemWalk.{walk_members}
-use Rattle.c_types.proofs.struct_walk.walk_members.Given as goal
-
-abbrev pub invariant-loop-line : goal.invariant-loop-line
-invariant-loop-line l = walk_members (drop l.line-index l.members) l.known l.walk ≡ walk_members l.members l.fn.first l.fn.walk

@@ -1,0 +1,5 @@
+pub mod Names
+pub mod Walked
+pub mod ExprWalk
+pub mod Beginning
+pub mod Indexed

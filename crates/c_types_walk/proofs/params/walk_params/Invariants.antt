@@ -1,0 +1,6 @@
+use Rattle.std.proofs.Common.{◌≡◌, [], drop}
+use Rattle.c_types_walk.specs.ItemWalk.{walk_params}
+use Rattle.c_types_walk.proofs.params.walk_params.Given as goal
+
+abbrev pub invariant-loop-param : goal.invariant-loop-param
+invariant-loop-param l = walk_params l.body (drop l.param-index l.params) l.done l.walk ≡ walk_params l.body l.params [] l.fn.walk

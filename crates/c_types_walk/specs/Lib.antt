@@ -1,0 +1,4 @@
+pub mod Declarators
+pub mod Initialisers
+pub mod StatementWalk
+pub mod ItemWalk

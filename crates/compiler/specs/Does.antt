@@ -1,0 +1,55 @@
+-- Programs that do what a text means: the record that each compiled program meets.
+use Rattle.std.specs.Prelude.{◌≡◌, ◌≢◌, ◌≤◌, ◌+◌, ◌*◌, ℕ, List, length}
+use Rattle.cbi_base.specs.declared.observation.Observation.{Observation}
+use Rattle.cbi_base.specs.declared.outcome.Outcome.TheVariants.{Trapped}
+use Rattle.cbi_base.specs.declared.trap.Trap.TheVariants.{Internal}
+use Rattle.c_syntax.specs.ItemTree.{SourceTree}
+use Rattle.c_syntax.specs.Spelling.{tree_kinds}
+use Rattle.c_types_expressions.specs.declared.walk.Walk.{Walk}
+use Rattle.c_meaning.specs.Runs.{Behaviour}
+use Rattle.c_meaning.specs.Texts.{text_meaning}
+use Rattle.flow.specs.declared.program.ProgramParts.{ProgramParts}
+use Rattle.flow.specs.declared.site.Site.{Site}
+use Rattle.flow.specs.Counting.{counts_of, result_of}
+use Rattle.flow.specs.Machine.{MachineEnds}
+use Rattle.flow.specs.Sampling.{IsPositive, samples}
+use Rattle.flow.specs.State.{Ending}
+use Rattle.clone_paths.specs.Cloned.{Cloned}
+use Rattle.lower.specs.Programs.{node_count}
+
+-- A run goes as the text means, and what its sites saw is this: outcome and output are the meaning's, and the counters count what was seen.
+pub record GoesAs (meant : Behaviour) (seen : List Observation) (table : List Site) (ending : Ending) : Type 0 where
+  pub outcome : ending.outcome ≡ meant.outcome
+  pub output : ending.output ≡ meant.output
+  pub seen_is : ending.seen ≡ seen
+  pub counts : (result_of table ending).counts ≡ counts_of table seen
+
+-- the machine on the program ends so
+pub record EndsAs (p : ProgramParts) (input : List ℕ) (bank : ℕ → ℕ) (turns : ℕ) (meant : Behaviour) (seen : List Observation) : Type 0 where
+  pub ending : Ending
+  pub ends : MachineEnds p input bank turns ending
+  pub goes : GoesAs meant seen p.sites ending
+
+-- at most 16 nodes for each token of the text, and one more for each site
+abbrev pub HasFewNodes : SourceTree → ProgramParts → Type 0
+HasFewNodes tree p = node_count p.functions ≤ 16 * length (tree_kinds tree) + length p.sites
+
+module _ (tree : SourceTree) (known : Walk) (table : List Site) where
+  -- On each input, with each bank and within each bound of turns the program ends as the text means, and its sites, those of the table, see
+  -- exactly the visits of the text. It has few nodes.
+  pub record DoesText (p : ProgramParts) : Type 0 where
+    pub sites : p.sites ≡ table
+    pub ends : (input : List ℕ) (bank : ℕ → ℕ) (turns : ℕ) →
+        EndsAs p input bank turns (text_meaning tree known table input turns) (text_meaning tree known table input turns).seen
+    pub never : (input : List ℕ) (turns : ℕ) → (text_meaning tree known table input turns).outcome ≢ Trapped Internal
+    pub few : HasFewNodes tree p
+
+  -- The program is the cloned form of one that does so. On each input, with each bank and within each bound of turns it ends as the text means, and
+  -- its sites see exactly the samples of the text's visits.
+  pub record SamplesText (q : ProgramParts) : Type 0 where
+    pub full : ProgramParts
+    pub does : DoesText full
+    pub cloned : Cloned full q
+    pub sites : q.sites ≡ table
+    pub ends : (input : List ℕ) (bank : ℕ → ℕ) (turns : ℕ) → IsPositive bank →
+        EndsAs q input bank turns (text_meaning tree known table input turns) (samples bank (text_meaning tree known table input turns).seen)

@@ -1,0 +1,6 @@
+pub mod Accepted
+pub mod Rejected
+pub mod Planned
+pub mod Does
+pub mod Compiled
+pub mod Refused

@@ -1,3 +1,0 @@
-pub mod FactsFit
-pub mod TextNames
-pub mod Owned

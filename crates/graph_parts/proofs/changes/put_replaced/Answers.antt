@@ -1,7 +1,0 @@
-use Rattle.tree_facts.specs.Facts.{facts_in, sites_in}
-use Rattle.graph_parts.proofs.Changing.{replace_made}
-use Rattle.graph_parts.proofs.changes.put_replaced.Goals as goal
-
-pub returns-clause-made : goal.returns-clause-made
-returns-clause-made c =
-    replace_made (facts_in c.args.facts.now) (sites_in c.args.facts.now) c.args.token c.args.of _ _ _ _ _ _ _ _ _ _ _ _ c.type_given.ensures c.in_ok-drop.ensures.number c.in_ok-drop.ensures.added c.in_ok-stored.ensures.made c.in_ok-converted.ensures.made c.in_ok-i.ensures.made

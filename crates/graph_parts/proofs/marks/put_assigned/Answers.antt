@@ -1,7 +1,0 @@
-use Rattle.tree_facts.specs.Facts.{facts_in, sites_in}
-use Rattle.graph_parts.proofs.Visiting.{assigned_made}
-use Rattle.graph_parts.proofs.marks.put_assigned.Goals as goal
-
-pub returns-clause-made : goal.returns-clause-made
-returns-clause-made c =
-    assigned_made (facts_in c.args.facts.now) (sites_in c.args.facts.now) c.args.token _ _ _ _ _ _ _ c.pairs_at.ensures c.in_ok-marks.ensures.made c.in_ok-i.ensures.number c.in_ok-i.ensures.added

@@ -1,5 +1,0 @@
-use Rattle.graph_parts.proofs.Numbers.{TurnedFrom}
-use Rattle.graph_parts.proofs.numbering.finish.Given as goal
-
-abbrev pub invariant-loop-i : goal.invariant-loop-i
-invariant-loop-i l = TurnedFrom l.i l.nodes l.finished.items

@@ -1,6 +1,0 @@
-use Rattle.graph_parts.proofs.Taking.{place_truth}
-use Rattle.graph_parts.proofs.purpose.put_taken_place.Goals as goal
-
-pub returns-in_ok-i-in-Truth-clause-made : goal.returns-in_ok-i-in-Truth-clause-made
-returns-in_ok-i-in-Truth-clause-made c =
-    rw c.in-Truth.is (place_truth c.args.of _ _ _ _ _ _ _ c.in_ok-fork-in-Truth.ensures.number c.in_ok-fork-in-Truth.ensures.added c.in_ok-i-in-Truth.ensures.made)

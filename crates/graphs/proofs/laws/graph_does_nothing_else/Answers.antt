@@ -1,5 +1,0 @@
-use Rattle.graphs.proofs.WholeRuns.{only_ending}
-use Rattle.graphs.proofs.laws.graph_does_nothing_else.Goals as goal
-
-pub returns : goal.returns
-returns c = λ src p input bank turns ending is ends. only_ending src p is input bank turns ending ends

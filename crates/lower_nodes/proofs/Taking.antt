@@ -1,0 +1,99 @@
+-- What becomes of values and places.
+use Rattle.std.proofs.Common.{◌≡◌, ℕ, refl, List, [], ◌∷◌, ◌++◌, length, true, false, Option, Some, None}
+use Rattle.cbi_base.specs.declared.scalar.Want.TheVariants as want
+use Rattle.flow.specs.declared.node.Node.{Node}
+use Rattle.flow.specs.declared.node.Node.TheVariants as node
+use Rattle.flow.specs.declared.node.View.TheVariants as view
+use Rattle.c_meaning.specs.declared.value_type.ValueType.{ValueType}
+use Rattle.c_meaning.specs.declared.value_type.ValueType.TheVariants as type
+use Rattle.c_meaning.specs.Expressions.{is_struct}
+use Rattle.lower_relation.specs.Paths.{◌then◌, Does, Either, ForkTo, Nothing, Ways}
+use Rattle.lower_relation.specs.Operators.{LoadThrough, Pointed}
+use Rattle.lower_relation.specs.Values.{Discarded, LoadAt}
+use Rattle.lower_nodes.specs.Made.{Made, MadeFor, MadeWays, Part}
+use Rattle.lower_nodes.specs.Purposes.{Takes, TakesPlace, TakesThrough, is_single, ways}
+use Rattle.lower_nodes.specs.declared.purpose.Purpose.TheVariants as purpose
+use Rattle.lower_nodes.proofs.Building.{carried, either_made, later_self, nothing_made, one_made, stays_put, then_made, view_made}
+
+pub fork_made : (n0 n1 : List Node) (i yes_at no_at : ℕ) → i ≡ length n0 → n1 ≡ n0 ++ node.Fork yes_at no_at ∷ [] → MadeWays (λ G. ForkTo G) n0 n1 i (ways yes_at no_at)
+fork_made n0 n1 i yes_at no_at at is = view_made (λ (w : Ways). view.Forks w.yes_to w.no_to) (node.Fork yes_at no_at) n0 n1 i (ways yes_at no_at) refl at is (λ all b. b)
+
+-- a path before a fork
+pub tests_made : (R : Part ℕ) (n0 n1 n2 : List Node) (f i yes_at no_at : ℕ) → f ≡ length n0 → n1 ≡ n0 ++ node.Fork yes_at no_at ∷ [] → Made R n1 n2 i f →
+    MadeWays (λ G. R G then ForkTo G) n0 n2 i (ways yes_at no_at)
+tests_made R n0 n1 n2 f i yes_at no_at at is made = then_made R (λ G. ForkTo G) n0 n1 n2 i f (ways yes_at no_at) (fork_made n0 n1 f yes_at no_at at is) made
+
+pub take_value : (n : List Node) (next : ℕ) → MadeFor (λ G. Takes G) n n next (purpose.Value next)
+take_value n next = record { does = λ fin l. refl; keeps = later_self 0 n; leads = λ below. stays_put n next below }
+
+pub take_effect : (n0 n1 : List Node) (i next : ℕ) → i ≡ length n0 → n1 ≡ n0 ++ node.Drop next ∷ [] → MadeFor (λ G. Takes G) n0 n1 i (purpose.Effect next)
+take_effect n0 n1 i next at is =
+    carried (λ G. Does G (node.Drop 0)) (λ G. Takes G) next (purpose.Effect next) (λ G i h. h) (λ n b. b) n0 n1 i (one_made (node.Drop 0) (node.Drop next) n0 n1 i next refl at is)
+
+pub take_truth : (n0 n1 : List Node) (i yes_at no_at : ℕ) → i ≡ length n0 → n1 ≡ n0 ++ node.Fork yes_at no_at ∷ [] → MadeFor (λ G. Takes G) n0 n1 i (purpose.Truth yes_at no_at)
+take_truth n0 n1 i yes_at no_at at is = carried (λ G. ForkTo G) (λ G. Takes G) (ways yes_at no_at) (purpose.Truth yes_at no_at) (λ G i h. h) (λ n b. b) n0 n1 i (fork_made n0 n1 i yes_at no_at at is)
+
+pub place_value : (of : Option ValueType) (n0 n1 : List Node) (i next : ℕ) → Made (λ G. LoadAt G of) n0 n1 i next → MadeFor (λ G. TakesPlace G of) n0 n1 i (purpose.Value next)
+place_value of n0 n1 i next made = carried (λ G. LoadAt G of) (λ G. TakesPlace G of) next (purpose.Value next) (λ G i h. h) (λ n b. b) n0 n1 i made
+
+pub place_effect : (of : Option ValueType) (n0 n1 : List Node) (i next : ℕ) → Made (λ G. Discarded G (is_struct of) of) n0 n1 i next →
+    MadeFor (λ G. TakesPlace G of) n0 n1 i (purpose.Effect next)
+place_effect of n0 n1 i next made =
+    carried (λ G. Discarded G (is_struct of) of) (λ G. TakesPlace G of) next (purpose.Effect next) (λ G i h. h) (λ n b. b) n0 n1 i made
+
+pub place_truth : (of : Option ValueType) (n0 n1 n2 : List Node) (f i yes_at no_at : ℕ) → f ≡ length n0 → n1 ≡ n0 ++ node.Fork yes_at no_at ∷ [] →
+    Made (λ G. LoadAt G of) n1 n2 i f → MadeFor (λ G. TakesPlace G of) n0 n2 i (purpose.Truth yes_at no_at)
+place_truth of n0 n1 n2 f i yes_at no_at at is made =
+    carried (λ G. LoadAt G of then ForkTo G) (λ G. TakesPlace G of) (ways yes_at no_at) (purpose.Truth yes_at no_at) (λ G i h. h) (λ n b. b) n0 n2 i
+    (tests_made (λ G. LoadAt G of) n0 n1 n2 f i yes_at no_at at is made)
+
+-- a test of a pointer, with the load of null that is the trap
+pub pointed_made : (n0 n1 n2 n3 : List Node) (trap fork i k : ℕ) → trap ≡ length n0 → n1 ≡ n0 ++ node.Load want.Pointer k ∷ [] →
+    fork ≡ length n1 → n2 ≡ n1 ++ node.Fork k trap ∷ [] → i ≡ length n2 → n3 ≡ n2 ++ node.Dup fork ∷ [] → Made (λ G. Pointed G) n0 n3 i k
+pointed_made n0 n1 n2 n3 trap fork i k at1 is1 at2 is2 at3 is3 =
+    then_made (λ G. Does G (node.Dup 0)) (λ G. Either (ForkTo G) Nothing (Does G (node.Load want.Pointer 0))) n0 n2 n3 i fork k
+    (either_made (λ G. ForkTo G) (λ G. Nothing) (λ G. Does G (node.Load want.Pointer 0)) n0 n1 n1 n2 fork k trap k
+    (one_made (node.Load want.Pointer 0) (node.Load want.Pointer k) n0 n1 trap k refl at1 is1) (nothing_made n1 k) (fork_made n1 n2 fork k trap at2 is2))
+    (one_made (node.Dup 0) (node.Dup fork) n2 n3 i fork refl at3 is3)
+
+pub through_value : (of : Option ValueType) (n0 n1 : List Node) (i next : ℕ) → Made (λ G. LoadThrough G of) n0 n1 i next →
+    MadeFor (λ G. TakesThrough G of) n0 n1 i (purpose.Value next)
+through_value of n0 n1 i next made = carried (λ G. LoadThrough G of) (λ G. TakesThrough G of) next (purpose.Value next) (λ G i h. h) (λ n b. b) n0 n1 i made
+
+pub through_effect : (of : Option ValueType) (n0 n1 n2 : List Node) (m i next : ℕ) → Made (λ G. Discarded G (is_struct of) of) n0 n1 m next → Made (λ G. Pointed G) n1 n2 i m →
+    MadeFor (λ G. TakesThrough G of) n0 n2 i (purpose.Effect next)
+through_effect of n0 n1 n2 m i next discarded made =
+    carried (λ G. Pointed G then Discarded G (is_struct of) of) (λ G. TakesThrough G of) next (purpose.Effect next) (λ G i h. h) (λ n b. b) n0 n2 i
+    (then_made (λ G. Pointed G) (λ G. Discarded G (is_struct of) of) n0 n1 n2 i m next discarded made)
+
+pub through_truth : (of : Option ValueType) (n0 n1 n2 : List Node) (f i yes_at no_at : ℕ) → f ≡ length n0 → n1 ≡ n0 ++ node.Fork yes_at no_at ∷ [] →
+    Made (λ G. LoadThrough G of) n1 n2 i f → MadeFor (λ G. TakesThrough G of) n0 n2 i (purpose.Truth yes_at no_at)
+through_truth of n0 n1 n2 f i yes_at no_at at is made =
+    carried (λ G. LoadThrough G of then ForkTo G) (λ G. TakesThrough G of) (ways yes_at no_at) (purpose.Truth yes_at no_at) (λ G i h. h) (λ n b. b) n0 n2 i
+    (tests_made (λ G. LoadThrough G of) n0 n1 n2 f i yes_at no_at at is made)
+
+pub ruleset takes_made = (take_value, take_effect, take_truth)
+
+pub ruleset places_made = (place_value, place_effect, place_truth)
+
+pub ruleset pointers_made = (pointed_made, through_value, through_effect, through_truth)
+
+pub load_single : (of : Option ValueType) (n0 n1 : List Node) (i next : ℕ) → is_single of ≡ true → Made (λ G. LoadAt G of) n0 n1 i next → Made (λ G. LoadThrough G of) n0 n1 i next
+load_single None n0 n1 i next single made = cc
+load_single (Some (type.Number kind)) n0 n1 i next single made = made
+load_single (Some (type.Pointer size)) n0 n1 i next single made = made
+load_single (Some (type.Array size)) n0 n1 i next single made = cc
+load_single (Some type.Struct) n0 n1 i next single made = cc
+load_single (Some type.Void) n0 n1 i next single made = cc
+
+pub load_pointed : (of : Option ValueType) (n0 n1 n2 : List Node) (m i next : ℕ) → is_single of ≡ false → Made (λ G. LoadAt G of) n0 n1 m next →
+    Made (λ G. Pointed G) n1 n2 i m → Made (λ G. LoadThrough G of) n0 n2 i next
+load_pointed None n0 n1 n2 m i next several load pointed = then_made (λ G. Pointed G) (λ G. LoadAt G None) n0 n1 n2 i m next load pointed
+load_pointed (Some (type.Number kind)) n0 n1 n2 m i next several load pointed = cc
+load_pointed (Some (type.Pointer size)) n0 n1 n2 m i next several load pointed = cc
+load_pointed (Some (type.Array size)) n0 n1 n2 m i next several load pointed =
+    then_made (λ G. Pointed G) (λ G. LoadAt G (Some (type.Array size))) n0 n1 n2 i m next load pointed
+load_pointed (Some type.Struct) n0 n1 n2 m i next several load pointed = then_made (λ G. Pointed G) (λ G. LoadAt G (Some type.Struct)) n0 n1 n2 i m next load pointed
+load_pointed (Some type.Void) n0 n1 n2 m i next several load pointed = then_made (λ G. Pointed G) (λ G. LoadAt G (Some type.Void)) n0 n1 n2 i m next load pointed
+
+pub ruleset loads_made = (load_single, load_pointed)

@@ -1,0 +1,7 @@
+use Rattle.lower_facts.specs.Facts.{facts_in, sites_in}
+use Rattle.lower_nodes.proofs.Changing.{step_behind_made}
+use Rattle.lower_nodes.proofs.changes.put_stepped_behind.Goals as goal
+
+pub returns-clause-made : goal.returns-clause-made
+returns-clause-made c =
+    step_behind_made (facts_in c.args.facts.now) (sites_in c.args.facts.now) c.args.token c.args.of _ _ _ _ _ _ _ _ _ _ _ _ _ _ _ _ _ c.step.ensures c.one_kind.ensures c.in_ok-replaced.ensures.made c.in_ok-one.ensures.number c.in_ok-one.ensures.added c.in_ok-over.ensures.number c.in_ok-over.ensures.added c.in_ok-swap.ensures.number c.in_ok-swap.ensures.added c.in_ok-load.ensures.made c.in_ok-i.ensures.number c.in_ok-i.ensures.added

@@ -1,0 +1,15 @@
+use Rattle.std.proofs.Common.{pos, rules}
+use Rattle.cbi_base.specs.declared.scalar.Kind.TheVariants.{Unsigned}
+use Rattle.flow.specs.declared.node.Node.TheVariants as node
+use Rattle.lower_relation.specs.Paths.{Does, Stuck}
+use Rattle.lower_nodes.proofs.Building.{one_made, surely_made}
+use Rattle.lower_nodes.proofs.Serving.{valued_made}
+use Rattle.lower_nodes.proofs.leaves.put_size.Goals as goal
+
+pub returns-in_ok-i-in-None-clause-made : goal.returns-in_ok-i-in-None-clause-made
+returns-in_ok-i-in-None-clause-made c = rw (c.in-None.is) (valued_made (λ G. Stuck G) c.args.purpose _ _ _ _ _ c.in_ok-next.ensures.made (surely_made (λ G. Stuck G) _ _ _ _ c.in_ok-i-in-None.ensures.made))
+
+pub returns-in_ok-i-in-Some-clause-made : goal.returns-in_ok-i-in-Some-clause-made
+returns-in_ok-i-in-Some-clause-made c =
+    rw (c.in-Some.is) (valued_made (λ G. Does G (node.Push Unsigned (pos c.in-Some.cells) 0)) c.args.purpose _ _ _ _ _ c.in_ok-next.ensures.made
+    (one_made (node.Push Unsigned (pos c.in-Some.cells) 0) _ _ _ _ _ (search rules) c.in_ok-i-in-Some.ensures.number c.in_ok-i-in-Some.ensures.added))

@@ -1,0 +1,26 @@
+-- The parts that an expression is emitted as.
+use Rattle.std.specs.Prelude.{ℕ}
+use Rattle.c_syntax.specs.ExprTree.{ExprTree}
+use Rattle.c_meaning.specs.Facts.{Facts, Sites}
+use Rattle.lower_relation.specs.Expressions.{emitted}
+use Rattle.lower_relation.specs.Paths.{Ways}
+use Rattle.lower_nodes.specs.declared.purpose.Purpose.{Purpose}
+use Rattle.lower_nodes.specs.Made.{Part}
+use Rattle.lower_nodes.specs.Purposes.{Serves}
+
+module _ (facts : Facts) (sites : Sites) (x : ExprTree) where
+  -- the expression, for what its value is wanted for
+  abbrev pub serving : Part Purpose
+  serving G = Serves (emitted G facts sites x)
+
+  abbrev pub value_part : Part ℕ
+  value_part G = (emitted G facts sites x).value
+
+  abbrev pub place_part : Part ℕ
+  place_part G = (emitted G facts sites x).place
+
+  abbrev pub effect_part : Part ℕ
+  effect_part G = (emitted G facts sites x).effect
+
+  abbrev pub truth_part : Part Ways
+  truth_part G = (emitted G facts sites x).truth

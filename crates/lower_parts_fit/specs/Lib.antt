@@ -1,0 +1,3 @@
+pub mod Brought
+pub mod Ready
+pub mod Parts

@@ -1,0 +1,122 @@
+-- A condition may go by its value, whatever the expression.
+use Rattle.std.proofs.Common.{ℕ, zero, suc, subst, inl, Option, Some, None, Bool, true, false}
+use Rattle.c_rules.specs.declared.library.Library.{Library}
+use Rattle.c_rules.specs.declared.library.Library.TheVariants as library
+use Rattle.c_syntax.specs.declared.expr.PrefixOperator.{PrefixOperator}
+use Rattle.c_syntax.specs.declared.expr.PrefixOperator.TheVariants as prefix
+use Rattle.c_syntax.specs.ExprTree as e
+use Rattle.c_syntax.specs.ExprTree.{ExprTree, ExprList}
+use Rattle.c_meaning.specs.declared.value_type.Called.{Called}
+use Rattle.c_meaning.specs.declared.value_type.Called.TheVariants as called
+use Rattle.c_meaning.specs.declared.value_type.ValueType.{ValueType}
+use Rattle.c_meaning.specs.declared.value_type.ValueType.TheVariants as type
+use Rattle.c_meaning.specs.Conversions.{is_null_as}
+use Rattle.c_meaning.specs.Facts.{Facts, Signature, Sites}
+use Rattle.c_meaning.specs.Trees.{called_as, count, ends_as_place, has_value, is_place, token_of, type_of}
+use Rattle.lower_relation.specs.Calls.{Argument, Arguments, CallDoes, CallFunction, CallLibrary, WithResult}
+use Rattle.lower_relation.specs.Expressions.{Condition, LastDoes, emitted}
+use Rattle.lower_relation.specs.Operators.{Cast, Comma, Decided, Decides, DecidesAt, Postfixed, Prefixed, SizeValue}
+use Rattle.lower_relation.specs.Paths.{Emitted, Graph, MarksAll, Path, ◌then◌, Tests, ForkTo, Ways}
+use Rattle.c_meaning.specs.Visits.{listed}
+
+module _ (G : Graph) where
+  -- an expression's truth may be that of its value
+  abbrev pub ByValue : Emitted → Type 0
+  ByValue m = (i : ℕ) (k : Ways) → Tests G m.value i k → m.truth i k
+
+  cast_by : (is_null : Bool) (want : Option ValueType) (m : Emitted) → ByValue (Cast G is_null want m)
+  cast_by is_null (Some type.Void) m i k h = h.1
+  cast_by is_null None m i k h = h
+  cast_by is_null (Some type.Struct) m i k h = h
+  cast_by is_null (Some (type.Number kind)) m i k h = h
+  cast_by is_null (Some (type.Pointer size)) m i k h = h
+  cast_by is_null (Some (type.Array size)) m i k h = h
+
+  size_by : (o : Option ℕ) → ByValue (SizeValue G o)
+  size_by None i k h = h
+  size_by (Some cells) i k h = h
+
+  postfixed_by : (known : Bool) (of : Option ValueType) (R S : Path ℕ) → ByValue (Postfixed G known of R S)
+  postfixed_by true of R S i k h = h
+  postfixed_by false of R S i k h = h
+
+  module _ (facts : Facts) (sites : Sites) where
+    prefixed_by : (token : ℕ) (o : PrefixOperator) (of : Option ValueType) (cells : Option ℕ) (m : Emitted)
+        → ByValue (Prefixed G facts sites token o of cells m)
+    prefixed_by token prefix.Increment of cells m i k h = h
+    prefixed_by token prefix.Decrement of cells m i k h = h
+    prefixed_by token prefix.Address of cells m i k h = h
+    prefixed_by token prefix.Indirection of cells m i k h = h
+    prefixed_by token prefix.Plus of cells m i k h = h
+    prefixed_by token prefix.Minus of cells m i k h = h
+    prefixed_by token prefix.Complement of cells m i k h = h
+    prefixed_by token prefix.Not of cells m i k h = inl h
+    prefixed_by token prefix.SizeOf of cells m i k h = size_by cells i k h
+
+    result_by : (token : ℕ) (b : Bool) (R : Path ℕ) → ByValue (WithResult G facts sites token b R)
+    result_by token true R i k h = h
+    result_by token false R i k h = h.1
+
+    function_by : (token number : ℕ) (o : Option Signature) (n : ℕ) (R : Arguments) → ByValue (CallFunction G facts sites token number o n R)
+    function_by token number None n R i k h = h
+    function_by token number (Some f) n R i k h = result_by token (has_value f.result) _ i k h
+
+    library_by : (token : ℕ) (f : Library) (n : ℕ) (R : Argument) (P : Path ℕ) → ByValue (CallLibrary G facts sites token f n R P)
+    library_by token library.Getchar n R P i k h = h
+    library_by token library.Putchar n R P i k h = h
+    library_by token library.Puts n R P i k h = h
+    library_by token library.Malloc n R P i k h = h
+    library_by token library.Free n R P i k h = h.1
+    library_by token library.Exit n R P i k h = h.1
+    library_by token library.Abort n R P i k h = h.1
+    library_by token library.Assert n R P i k h = h.1
+    library_by token library.Printf n R P i k h = h.1
+
+    call_by : (token : ℕ) (c : Called) (n : ℕ) (R : Arguments) (S : Argument) (P : Path ℕ) → ByValue (CallDoes G facts sites token c n R S P)
+    call_by token (called.Function number) n R S P i k h = function_by token number (facts.signature number) n R i k h
+    call_by token (called.Library f) n R S P i k h = library_by token f n S P i k h
+    call_by token called.Unknown n R S P i k h = h
+
+    comma_by : (n : ℕ) (m rest : Emitted) → ByValue m → ByValue (Comma G n m rest)
+    comma_by zero m rest a i k h = a i k h
+    comma_by (suc n) m rest a i k h = inl h
+
+    mutual
+      pub by_value : (x : ExprTree) → ByValue (emitted G facts sites x)
+      by_value (e.Comma token operands) i k h = last_by_value operands i k h
+      by_value (e.Assign token sign target value) i k h = h
+      by_value (e.Conditional token condition first second) i k h = h
+      by_value (e.Chain level first links) i k h = inl h
+      by_value (e.Cast token base stars operand) i k h =
+          cast_by (is_null_as (facts.type_at token) operand) (facts.type_at token) (emitted G facts sites operand) i k h
+      by_value (e.Prefix token operator operand) i k h =
+          prefixed_by token operator (type_of facts operand) (facts.cells_at (token_of operand)) (emitted G facts sites operand) i k h
+      by_value (e.SizeOfType token base stars) i k h = size_by (facts.named_cells base stars) i k h
+      by_value (e.Postfix primary operators) i k h =
+          postfixed_by (ends_as_place (is_place primary) operators) (type_of facts (e.Postfix primary operators)) _ _ i k h
+      by_value (e.Name token name) i k h = h
+      by_value (e.Call token name arguments) i k h = call_by token (called_as (facts.function_at token) name) (count arguments) _ _ _ i k h
+      by_value (e.Constant token kind value) i k h = h
+      by_value (e.Strings token parts) i k h = h
+      by_value (e.Paren token inner) i k h = by_value inner i k h
+      by_value (e.Null token) i k h = h
+      by_value (e.EndOfFile token) i k h = h
+
+      last_by_value : (x : ExprList) → ByValue (LastDoes G facts sites x)
+      last_by_value e.no_exprs i k h = h
+      last_by_value (e.more_exprs x rest) i k h = comma_by (count rest) (emitted G facts sites x) (LastDoes G facts sites rest) (by_value x) i k h
+
+    decides_by : (o : Option ℕ) (R : Path ℕ) (T : Path Ways) → ((i : ℕ) (k : Ways) → Tests G R i k → T i k)
+        → (i : ℕ) (k : Ways) → (R then MarksAll G (listed o) then ForkTo G) i k → DecidesAt G facts sites o R T i k
+    decides_by None R T a i k h = a i k (h.2.0, subst (λ j. R i j) h.2.1 h.1, h.2.2)
+    decides_by (Some site) R T a i k h = h
+
+    -- any operand's truth, by its value, with the visit of the token's site
+    pub decided_by_value : (token : ℕ) (x : ExprTree) (i : ℕ) (k : Ways) → ((emitted G facts sites x).value then Decided G facts sites token) i k
+        → Decides G facts sites token (emitted G facts sites x).value (emitted G facts sites x).truth i k
+    decided_by_value token x i k h = decides_by (sites.branch_at token) _ _ (by_value x) i k h
+
+    -- a condition may go by its value
+    pub condition_by_value : (token : ℕ) (x : ExprTree) (i : ℕ) (k : Ways) → ((emitted G facts sites x).value then Decided G facts sites token) i k
+        → Condition G facts sites token x i k
+    condition_by_value token x i k h = decided_by_value token x i k h

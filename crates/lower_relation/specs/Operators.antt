@@ -1,0 +1,191 @@
+-- What a graph does for each operator (C99 6.5).
+use Rattle.std.specs.Prelude.{ℕ, zero, suc, pos, Bool, true, false, [], ◌∷◌, Option, Some, None}
+use Rattle.cbi_base.specs.declared.operators.Unary.{Unary}
+use Rattle.cbi_base.specs.declared.operators.Unary.TheVariants as unary
+use Rattle.cbi_base.specs.declared.scalar.Kind.TheVariants.{Int, Unsigned}
+use Rattle.cbi_base.specs.declared.scalar.Want.TheVariants as want
+use Rattle.c_syntax.specs.declared.expr.PrefixOperator.{PrefixOperator}
+use Rattle.c_syntax.specs.declared.expr.PrefixOperator.TheVariants as prefix
+use Rattle.flow.specs.declared.node.Node.TheVariants as node
+use Rattle.flow.specs.declared.site.Slot.{Slot}
+use Rattle.flow.specs.declared.site.Slot.TheVariants as slot
+use Rattle.c_meaning.specs.declared.operation.Operation.{Operation}
+use Rattle.c_meaning.specs.declared.operation.Operation.TheVariants.{Numbers, MoveLeft, MoveRight, Span, Ordered, Wrong}
+use Rattle.c_meaning.specs.declared.value_type.ValueType.{ValueType}
+use Rattle.c_meaning.specs.declared.value_type.ValueType.TheVariants as type
+use Rattle.c_meaning.specs.Conversions.{between, conversion}
+use Rattle.c_meaning.specs.Facts.{Facts, Sites}
+use Rattle.c_meaning.specs.Operation.{left_kind, operation, right_kind, type_given}
+use Rattle.c_meaning.specs.Trees as tree
+use Rattle.c_meaning.specs.Trees.{Assignment, Plain, By, Joint, Both, Computes, Unjoined, one_kind, step_of}
+use Rattle.c_meaning.specs.Visits.{listed}
+use Rattle.lower_relation.specs.Paths.{Graph, Path, ◌then◌, Does, Either, Emitted, Falsely, ForkTo, MarksAll, Nothing, OneOf, Stuck, Tests, Truly, Turned, Ways}
+use Rattle.lower_relation.specs.Values.{Converts, ConvertsBelow, Dropped, Effected, Handed, HandedValue, LoadAt, Placed, Pushed, Valued, WantedValue}
+
+-- the operation of `++` and `--`
+abbrev pub step : Bool → Option ValueType → Operation
+step is_up of = operation (step_of is_up) of (Some (type.Number (one_kind of)))
+
+module _ (G : Graph) where
+  -- what is done with two values, the right one on top
+  abbrev pub Operates : Operation → Path ℕ
+  Operates (Numbers o left right) =
+      ConvertsBelow G (between left (left_kind o left right)) then Converts G (between right (right_kind o left right)) then Does G (node.Math o 0)
+  Operates (MoveLeft size) = Does G (node.Move size 0)
+  Operates (MoveRight size) = Does G (node.Swap 0) then Does G (node.Move size 0)
+  Operates (Span size) = Does G (node.Span size 0)
+  Operates (Ordered o) = Does G (node.Order o 0)
+  Operates Wrong = Stuck G
+
+  -- the object of a variable
+  abbrev pub Variable : Option Slot → Path ℕ
+  Variable None = Stuck G
+  Variable (Some (slot.Local index)) = Does G (node.Local index 0)
+  Variable (Some (slot.Global index)) = Does G (node.Global index 0)
+
+  -- a member, or an element, of the object at a place
+  abbrev pub Member : Option ℕ → Path ℕ
+  Member None = Stuck G
+  Member (Some offset) = Does G (node.Member offset 0)
+
+  -- a pointer becomes a place where it isn't null: a load of null is the trap
+  abbrev pub Pointed : Path ℕ
+  Pointed = Does G (node.Dup 0) then Either (ForkTo G) Nothing (Does G (node.Load want.Pointer 0))
+
+  -- the value at a pointer: a load of a pointer looks at it as well
+  abbrev pub LoadThrough : Option ValueType → Path ℕ
+  LoadThrough (Some (type.Number kind)) = LoadAt G (Some (type.Number kind))
+  LoadThrough (Some (type.Pointer size)) = LoadAt G (Some (type.Pointer size))
+  LoadThrough of = Pointed then LoadAt G of
+
+  -- the place that a pointer's value is
+  abbrev pub Through : Option ValueType → Path ℕ → Emitted
+  Through of R = record (Placed G of (R then Pointed)) { value = R then LoadThrough of; truth = Tests G (R then LoadThrough of) }
+
+  -- what stands before a postfix operator, as a value
+  abbrev pub Settled : Bool → Option ValueType → Path ℕ
+  Settled true of = LoadAt G of
+  Settled false of = Nothing
+
+  -- a place where it is one, and else a value
+  abbrev pub Spot : Bool → Emitted → Path ℕ
+  Spot true m = m.place
+  Spot false m = m.value
+
+  -- what postfix operators lead to, the second path where nothing takes its value
+  abbrev pub Postfixed : Bool → Option ValueType → Path ℕ → Path ℕ → Emitted
+  Postfixed true of R S = Placed G of R
+  Postfixed false of R S = record (Valued G R) { effect = Dropped G S }
+
+  -- the value of a cast, or nothing of it where it is one to `void`
+  abbrev pub Cast : Bool → Option ValueType → Emitted → Emitted
+  Cast is_null (Some type.Void) m = Effected G m.effect
+  Cast is_null want m = Valued G (HandedValue G is_null want m)
+
+  -- one operand after another, of which the last gives the value
+  abbrev pub Comma : ℕ → Emitted → Emitted → Emitted
+  Comma zero m rest = m
+  Comma (suc n) m rest = record {
+    value = m.effect then rest.value;
+    place = Stuck G;
+    effect = m.effect then rest.effect;
+    truth = OneOf (Tests G (m.effect then rest.value)) (m.effect then rest.truth);
+  }
+
+  -- 1 where a value is true, else 0
+  abbrev pub Flagged : Path ℕ
+  Flagged = Does G (node.Sole unary.Not 0) then Does G (node.Sole unary.Not 0)
+
+  abbrev pub SizeValue : Option ℕ → Emitted
+  SizeValue None = Valued G (Stuck G)
+  SizeValue (Some cells) = Pushed G Unsigned cells
+
+  -- a unary operator converts its operand, and then calculates
+  abbrev pub OneOperand : Option ValueType → Option ValueType → Unary → Path ℕ
+  OneOperand have want o = Converts G (conversion have want) then Does G (node.Sole o 0)
+
+  module _ (facts : Facts) (sites : Sites) where
+    -- a condition's value, with the visit of its site
+    abbrev pub Decided : ℕ → Path Ways
+    Decided token = MarksAll G (listed (sites.branch_at token)) then ForkTo G
+
+    -- the way of a condition with its site: without one, no value is needed
+    abbrev pub DecidesAt : Option ℕ → Path ℕ → Path Ways → Path Ways
+    DecidesAt None R T = T
+    DecidesAt (Some site) R T = R then MarksAll G (site ∷ []) then ForkTo G
+
+    abbrev pub Decides : ℕ → Path ℕ → Path Ways → Path Ways
+    Decides token R T = DecidesAt (sites.branch_at token) R T
+
+    -- what is assigned at the token is stored, and then the sites there are visited
+    abbrev pub Assigned : ℕ → Path ℕ
+    Assigned token = Does G (node.Store 0) then MarksAll G (sites.pairs_at token)
+
+    -- an operation on the old value and a right value, whose result is converted and stored, the old value on top
+    abbrev pub Updates : ℕ → Option ValueType → Operation → Path ℕ
+    Updates token of o = Operates o then Converts G (conversion (type_given o of) of) then Assigned token
+
+    -- from the place and the right value on
+    abbrev pub Changed : ℕ → Option ValueType → Operation → Path ℕ
+    Changed token of o = Does G (node.Over 0) then LoadAt G of then Does G (node.Swap 0) then Updates token of o
+
+    -- `++` and `--` before a place
+    abbrev pub Stepped : Bool → ℕ → Option ValueType → Path ℕ
+    Stepped is_up token of =
+        Does G (node.Dup 0) then LoadAt G of then Does G (node.Push (one_kind of) (pos 1) 0) then Updates token of (step is_up of)
+
+    -- behind a place they leave the old value
+    abbrev pub SteppedBehind : Bool → ℕ → Option ValueType → Path ℕ
+    SteppedBehind is_up token of =
+        Does G (node.Dup 0) then LoadAt G of then Does G (node.Swap 0) then Does G (node.Over 0) then Does G (node.Push (one_kind of) (pos 1) 0)
+        then Operates (step is_up of) then Converts G (conversion (type_given (step is_up of) of) of) then Assigned token then Does G (node.Drop 0)
+
+    -- behind a place they leave the old value, or where nothing takes it perhaps the new one
+    abbrev pub SteppedAs : Bool → Bool → ℕ → Option ValueType → Path ℕ
+    SteppedAs true is_up token of = SteppedBehind is_up token of
+    SteppedAs false is_up token of = Stepped is_up token of
+
+    -- the right side of an operator of a chain
+    abbrev pub Linked : Joint → ℕ → Option ValueType → Option ValueType → Path ℕ → Path ℕ
+    Linked Both token left right R = Either (Decided token) (R then Flagged) (Does G (node.Push Int (pos 0) 0))
+    Linked tree.Either token left right R = Either (Decided token) (Does G (node.Push Int (pos 1) 0)) (R then Flagged)
+    Linked (Computes o) token left right R = R then Operates (operation o left right)
+    Linked Unjoined token left right R = Stuck G
+
+    -- the truth of an operator of a chain, by the value and the truth of its left side, and those of its right one
+    abbrev pub LinkedTruth : Joint → ℕ → Option ValueType → Option ValueType → Path ℕ → Path Ways → Path ℕ → Path Ways → Path Ways
+    LinkedTruth Both token left right R T S U = Either (Decides token R T) U Falsely
+    LinkedTruth tree.Either token left right R T S U = Either (Decides token R T) Truly U
+    LinkedTruth (Computes o) token left right R T S U = Tests G (R then S then Operates (operation o left right))
+    LinkedTruth Unjoined token left right R T S U = R then Stuck G
+
+    -- an assignment finds its place, then its value, which is converted and stored
+    abbrev pub Assign : ℕ → Assignment → Bool → Option ValueType → Option ValueType → Emitted → Emitted → Path ℕ
+    Assign token Plain is_null left right goal m = goal.place then WantedValue G is_null right left m then Assigned token
+    Assign token (By o) is_null left right goal m = goal.place then m.value then Changed token left (operation o left right)
+
+    -- `? :`, whose arms become values of its type
+    abbrev pub Conditional : ℕ → Emitted → Path ℕ → Path ℕ → Path ℕ → Path ℕ → Emitted
+    Conditional token c R S first_effect second_effect = record {
+      value = Either (Decides token c.value c.truth) R S;
+      place = Stuck G;
+      effect = Either (Decides token c.value c.truth) first_effect second_effect;
+      truth = Tests G (Either (Decides token c.value c.truth) R S);
+    }
+
+    -- the operand's truth, the other way round, or that of the value
+    abbrev pub Negated : Emitted → Emitted
+    Negated m =
+        let value : Path ℕ = m.value then Does G (node.Sole unary.Not 0) in record (Valued G value) { truth = OneOf (Tests G value) (Turned m.truth) }
+
+    -- the operators before an operand of the type `of`
+    abbrev pub Prefixed : ℕ → PrefixOperator → Option ValueType → Option ℕ → Emitted → Emitted
+    Prefixed token prefix.Increment of cells m = Valued G (m.place then Stepped true token of)
+    Prefixed token prefix.Decrement of cells m = Valued G (m.place then Stepped false token of)
+    Prefixed token prefix.Address of cells m = Valued G m.place
+    Prefixed token prefix.Indirection of cells m = Through (facts.type_at token) m.value
+    Prefixed token prefix.Plus of cells m = Valued G (m.value then Handed G (facts.type_at token))
+    Prefixed token prefix.Minus of cells m = Valued G (m.value then OneOperand of (facts.type_at token) unary.Neg)
+    Prefixed token prefix.Complement of cells m = Valued G (m.value then OneOperand of (facts.type_at token) unary.Com)
+    Prefixed token prefix.Not of cells m = Negated m
+    Prefixed token prefix.SizeOf of cells m = SizeValue cells

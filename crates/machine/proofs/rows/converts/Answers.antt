@@ -1,5 +1,0 @@
-use Rattle.machine.proofs.HeldLemmas.{converted_held}
-use Rattle.machine.proofs.rows.converts.Goals as goal
-
-pub of-requires : goal.of-requires
-of-requires c = converted_held c.args.kind _ c.in_ok-value.value c.in_ok-value.ensures.value c.in_ok-value.ensures.in_range

@@ -1,6 +1,0 @@
-use Rattle.std.proofs.Common.{◌≡◌, map, drop}
-use Rattle.flow.specs.Machine.{text_object, each_made}
-use Rattle.machine.proofs.start.make_texts.Given as goal
-
-abbrev pub invariant-loop-text : goal.invariant-loop-text
-invariant-loop-text l = each_made (map text_object l.texts) l.fn.objects ≡ each_made (map text_object (drop l.text-index l.texts)) l.objects

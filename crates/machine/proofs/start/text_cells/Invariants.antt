@@ -1,6 +1,0 @@
-use Rattle.std.proofs.Common.{◌≡◌, ◌++◌, map, drop}
-use Rattle.flow.specs.Rows.{char_of}
-use Rattle.machine.proofs.start.text_cells.Given as goal
-
-abbrev pub invariant-loop-byte : goal.invariant-loop-byte
-invariant-loop-byte l = l.words.items ++ map char_of (drop l.byte-index l.bytes) ≡ map char_of l.bytes

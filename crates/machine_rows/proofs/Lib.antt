@@ -1,0 +1,10 @@
+pub mod OperandLemmas
+pub mod SeveralLemmas
+pub mod PrintedLemmas
+pub mod StringLemmas
+pub mod MoveLemmas
+pub mod QuickLemmas
+pub mod HeldLemmas
+pub mod TextLemmas
+pub mod MapLemmas
+pub mod FirstLemmas

@@ -1,0 +1,7 @@
+use Rattle.std.proofs.Common.{drop}
+use Rattle.flow.specs.Printing.{these}
+use Rattle.machine_rows.specs.Strings.{Continues}
+use Rattle.machine_rows.proofs.output.Output.write.Given as goal
+
+abbrev pub invariant-loop-byte : goal.invariant-loop-byte
+invariant-loop-byte l = Continues (these (drop l.byte-index l.bytes)) (these l.bytes) l.fn.self l.self

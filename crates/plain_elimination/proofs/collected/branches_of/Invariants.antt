@@ -1,6 +1,0 @@
-use Rattle.std.proofs.Common.{◌≡◌, take}
-use Rattle.collector.specs.Sites.{branches_of}
-use Rattle.plain_elimination.proofs.collected.branches_of.Given as goal
-
-abbrev pub invariant-loop-site : goal.invariant-loop-site
-invariant-loop-site l = l.branches.items ≡ branches_of (take l.site-index l.sites)

@@ -1,9 +1,0 @@
-use Rattle.std.proofs.Common.{◌≡◌, ◌+◌, ◌≤◌, length}
-use Rattle.elimination.specs.Recount.{failing_runs}
-use Rattle.plain_elimination.proofs.counting.failing_runs.Given as goal
-
-abbrev pub invariant-loop-rest : goal.invariant-loop-rest
-invariant-loop-rest l = (failing_runs l.runs ≡ l.count + failing_runs l.rest) × (l.count + length l.rest ≤ length l.runs)
-
-abbrev pub decreases-loop-rest : goal.decreases-loop-rest
-decreases-loop-rest l = length l.rest

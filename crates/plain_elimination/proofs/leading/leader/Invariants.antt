@@ -1,6 +1,0 @@
-use Rattle.elimination.specs.Recount.{recount}
-use Rattle.plain_elimination.specs.Best.{AreFractions, IsBest}
-use Rattle.plain_elimination.proofs.leading.leader.Given as goal
-
-abbrev pub invariant-loop-predicate : goal.invariant-loop-predicate
-invariant-loop-predicate l = IsBest (recount l.branches l.runs) l.predicate l.failing l.best × AreFractions (recount l.branches l.runs) l.predicate l.failing

@@ -1,7 +1,0 @@
-use Rattle.std.proofs.Common.{◌≡◌, ◌++◌, take, drop}
-use Rattle.std.specs.Prelude.{map}
-use Rattle.plain_elimination.specs.Relabelling.{relabelled}
-use Rattle.plain_elimination.proofs.listing.relabel.Given as goal
-
-abbrev pub invariant-loop-run : goal.invariant-loop-run
-invariant-loop-run l = l.runs ≡ map (relabelled l.branches l.leader) (take l.run-index l.initial.runs) ++ drop l.run-index l.initial.runs

@@ -1,9 +1,0 @@
-use Rattle.std.proofs.Common.{sym, ◌∙◌, rules}
-use Rattle.std.proofs.lemmas.Fn.{filter_same}
-use Rattle.plain_elimination.proofs.PlainLemmas.{discards}
-use Rattle.plain_elimination.proofs.listing.step.Goals as goal
-
-pub returns-in-All : goal.returns-in-All
-returns-in-All c =
-    filter_same _ _ _ (λ x b f' k. search rules) _ _ c.retain.ensures.filtered
-    ∙ sym (discards c.args.branches.now c.args.policy c.args.leader c.args.runs.now.items (search rules))

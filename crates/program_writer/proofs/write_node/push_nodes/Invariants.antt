@@ -1,0 +1,12 @@
+use Rattle.std.proofs.Common.{◌≡◌, ◌++◌, length}
+use Rattle.std.specs.Prelude.{map}
+use Rattle.flow.specs.Spelling.{node_fields}
+use Rattle.program_writer.specs.Written.{rows_text}
+use Rattle.program_writer.proofs.write_node.push_nodes.Given as goal
+
+-- with the lines of the nodes that are left, all is appended
+abbrev pub invariant-loop-rest : goal.invariant-loop-rest
+invariant-loop-rest l = l.out.items ++ rows_text (map node_fields l.rest) ≡ l.initial.out.items ++ rows_text (map node_fields l.nodes)
+
+abbrev pub decreases-loop-rest : goal.decreases-loop-rest
+decreases-loop-rest l = length l.rest

@@ -1,3 +1,0 @@
-pub mod Numbers
-pub mod Functions
-pub mod Limits

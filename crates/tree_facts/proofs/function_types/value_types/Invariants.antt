@@ -1,7 +1,0 @@
-use Rattle.std.proofs.Common.{◌≡◌, take}
-use Rattle.std.specs.Prelude.{map}
-use Rattle.c_meaning.specs.Known.{value_type}
-use Rattle.tree_facts.proofs.function_types.value_types.Given as goal
-
-abbrev pub invariant-loop-ctype : goal.invariant-loop-ctype
-invariant-loop-ctype l = l.values.items ≡ map (value_type l.structs) (take l.ctype-index l.types)

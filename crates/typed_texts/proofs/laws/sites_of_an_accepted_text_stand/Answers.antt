@@ -1,9 +1,0 @@
-use Rattle.typed_texts.proofs.Samples.{sample_sited}
-use Rattle.typed_texts.proofs.Standings.{accepted_stand}
-use Rattle.typed_texts.proofs.laws.sites_of_an_accepted_text_stand.Goals as goal
-
-pub returns-clause-stand : goal.returns-clause-stand
-returns-clause-stand c = λ tree walk schemes a s. accepted_stand tree walk schemes a s
-
-pub returns-clause-example : goal.returns-clause-example
-returns-clause-example c = sample_sited
