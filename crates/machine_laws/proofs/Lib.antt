@@ -1,0 +1,4 @@
+mod Stepping
+mod Ends
+mod Observing
+mod Taken
