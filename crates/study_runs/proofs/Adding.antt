@@ -3,6 +3,8 @@ use Rattle.std.proofs.Common.{◌≡◌, ◌≤◌, ◌+◌, ℕ, suc, true, Lis
 use Rattle.cbi_base.specs.declared.observation.Observation.{Observation}
 use Rattle.cbi_base.specs.declared.outcome.Counts.{Counts}
 use Rattle.collector.specs.declared.collection.Held.{Held}
+use Rattle.collector.specs.Collected.{IsOurs}
+use Rattle.collector.specs.Sites.{branches_of, first_bad}
 use Rattle.countdown_bank.specs.Bank.{BankState, number_after}
 use Rattle.countdown_bank.specs.MadeBank.{word_after}
 use Rattle.flow.specs.declared.program.ProgramParts.{ProgramParts}
@@ -19,7 +21,8 @@ use Rattle.report_file.specs.Label.{label_of}
 use Rattle.report_file.specs.Report.{AreAllCounts, IsSummary, entries_of}
 use Rattle.study_runs.specs.declared.plan.StudyPlan.{StudyPlan}
 use Rattle.study_runs.specs.Runs.{no_identity}
-use Rattle.study_runs.specs.Steps.{Holds, IsHeld}
+use Rattle.machine_laws.specs.Laws.{ReportsOfRunsAreTaken}
+use Rattle.study_runs.specs.Steps.{Holds, IsHeld, IsOfProgram}
 
 abbrev pub LinesArePrintable : Type 0
 LinesArePrintable = (words : ℕ → ℕ) → (bytes : List ℕ) × (line_from words ≡ bytes ++ 10 ∷ []) × (length bytes ≤ 63) × All IsPrintable bytes
@@ -47,6 +50,16 @@ module _ {B : Type 0} (p : ProgramParts) (plan : StudyPlan) (number : ℕ) (told
     few = subst (λ (x : RunResult). length x.counts ≤ 65536) (sym h.result_is) (subst (λ n. n ≤ 65536) (sym (length_counts 0 p.sites h.ending.seen)) is.parts.sites.few);
     work = record { fast = bounded.fast; slow = bounded.slow; tests = bounded.tests };
     counts = bounded_counts ran.counts bounded.counts;
+  }
+
+  -- the report is one of the study's, of sites of the program
+  pub ours : (report : Report) (c : Held) (label : Label) → IsProgram p → ReportsOfRunsAreTaken → IsOfProgram p c →
+      report ≡ record { program = no_identity; run = number; outcome = ran.outcome; label = label; work = ran.work; entries = entries_of ran.counts } → IsOurs c report
+  ours report c label is law own report_is = record {
+    program = ap (λ (r : Report). r.program) report_is ∙ sym own.program;
+    sites = ap (λ bs. first_bad bs report.entries) own.branches
+        ∙ ap (first_bad (branches_of p.sites)) (ap (λ (r : Report). r.entries) report_is ∙ ap (λ (x : RunResult). entries_of x.counts) h.result_is)
+        ∙ law p slice (number_after bank) plan.turns h.ending is h.ends;
   }
 
   pub held : (input : List ℕ) (label : Label) (report : Report) (c d : Held) → IsMadeRun plan.seed plan.rate number bank input → slice ≡ input → label ≡ label_of ran.outcome true

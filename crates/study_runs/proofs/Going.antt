@@ -4,7 +4,7 @@ use Rattle.cbi_base.specs.declared.observation.Observation.{Observation}
 use Rattle.cbi_base.specs.declared.outcome.Outcome.{Outcome}
 use Rattle.cbi_base.specs.declared.outcome.Outcome.TheVariants.{Ended, Trapped, CutTurns, CutOutput}
 use Rattle.collector.specs.declared.collection.Held.{Held}
-use Rattle.collector.specs.Collected.{mark_limit, marks_of, report_at, with_report}
+use Rattle.collector.specs.Collected.{mark_limit, marks_of, report_at, report_limit, with_report}
 use Rattle.collector.specs.Sites.{branches_of}
 use Rattle.flow.specs.declared.program.ProgramParts.{ProgramParts}
 use Rattle.flow.specs.State.{Ending}
@@ -19,9 +19,9 @@ use Rattle.study_runs.specs.declared.fault.RunsFault.{RunsFault}
 use Rattle.study_runs.specs.declared.fault.RunsFault.TheVariants as faults
 use Rattle.study_runs.specs.Left.{AreCrowdedAt, HaveStopped, LeftByFault}
 use Rattle.study_runs.specs.Runs.{AreRunsFrom, IsRunOf, all_seen, marks_in, no_identity, report_of, reports_from}
-use Rattle.study_runs.specs.Steps.{Failed, HasEnded, IsCrowding, IsHeld, Stopped}
+use Rattle.study_runs.specs.Steps.{Failed, HasEnded, IsCrowding, IsHeld, IsOfProgram, Stopped}
 use Rattle.study_runs.specs.Sums.{is_cut, is_ended, is_trapped, one_if, sums_of, with_run}
-use Rattle.study_runs.proofs.Lists.{marks_more, marks_same, none_at, reports_more, runs_more, seen_more, sums_more, with_last}
+use Rattle.study_runs.proofs.Lists.{length_reports, marks_more, marks_same, none_at, reports_more, runs_more, seen_more, sums_more, with_last}
 
 -- the collection of these runs
 abbrev pub collected : ProgramParts → List Ending → Held
@@ -89,6 +89,12 @@ module _ {B : Type 0} (p : ProgramParts) (plan : StudyPlan) (told : B → List O
 
     pub absent : report_at number c.reports ≡ None
     absent = ap (λ (x : Held). report_at number x.reports) come.collection ∙ none_at p 1 number es (omega (arith, place))
+
+    pub own : IsOfProgram p c
+    own = record { program = ap (λ (x : Held). x.program) come.collection; branches = ap (λ (x : Held). x.branches) come.collection }
+
+    pub room : done < plan.runs → plan.runs ≤ report_limit → length c.reports < report_limit
+    room more few = omega (arith, come.as_many, ap (λ (x : Held). length x.reports) come.collection, length_reports p 1 es)
 
     goes : (ran : Ran) (held : Held) → IsHeld p plan number told now later ran c held → HaveCome (done + 1) held (with_run ran.outcome ran.work s) later
     goes ran held h =

@@ -46,6 +46,10 @@ with_last p number r [] fits = refl
 with_last p number r (x ∷ es) fits =
     rw (not_below r.run number (omega arith), above r.run number (omega arith)) (ap (λ rest. report_of p number x ∷ rest) (with_last p (suc number) r es (omega arith)))
 
+pub length_reports : (p : ProgramParts) (number : ℕ) (es : List Ending) → length (reports_from p number es) ≡ length es
+length_reports p number [] = refl
+length_reports p number (e ∷ es) = ap suc (length_reports p (suc number) es)
+
 pub marks_same : (p : ProgramParts) (number : ℕ) (es : List Ending) → marks_of (reports_from p number es) ≡ marks_in p es
 marks_same p number [] = refl
 marks_same p number (x ∷ es) =

@@ -3,6 +3,7 @@ use Rattle.std.specs.Prelude.{◌≡◌, ◌⊎◌, ℕ, ◌+◌, ◌<◌, ◌�
 use Rattle.cbi_base.specs.declared.observation.Observation.{Observation}
 use Rattle.collector.specs.declared.collection.Held.{Held}
 use Rattle.collector.specs.Collected.{mark_limit, marks_of, with_report}
+use Rattle.collector.specs.Sites.{branches_of}
 use Rattle.countdown_bank.specs.Bank.{BankState, number_after}
 use Rattle.flow.specs.declared.program.ProgramParts.{ProgramParts}
 use Rattle.flow.specs.Machine.{MachineEnds}
@@ -15,7 +16,12 @@ use Rattle.study_runs.specs.declared.fault.RunsFault.{RunsFault}
 use Rattle.study_runs.specs.declared.fault.RunsFault.TheVariants as faults
 use Rattle.study_runs.specs.declared.plan.StudyPlan.{StudyPlan}
 use Rattle.study_runs.specs.declared.run.Ran.{Ran}
-use Rattle.study_runs.specs.Runs.{IsRunOf, report_of}
+use Rattle.study_runs.specs.Runs.{IsRunOf, no_identity, report_of}
+
+-- the collection is one of a study's reports, with the sites of the program
+pub record IsOfProgram (p : ProgramParts) (c : Held) : Type 0 where
+  pub program : c.program ≡ no_identity
+  pub branches : c.branches ≡ branches_of p.sites
 
 -- the report is held, under its run
 pub record Holds (r : Report) (c held : Held) : Type 0 where

@@ -1,7 +1,7 @@
-ghost use Rattle.std.specs.Prelude.{◌≡◌, ◌≤◌, None, IfOk, IfErr, OnOk};
-ghost use Rattle.collector.specs.Collected.{report_at};
+ghost use Rattle.std.specs.Prelude.{◌≡◌, ◌<◌, ◌≤◌, None, IfOk, IfErr, OnOk, length};
+ghost use Rattle.collector.specs.Collected.{IsOurs, report_at, report_limit};
 ghost use Rattle.report_file.specs.Report.{IsReport};
-ghost use Rattle.study_runs.specs.Steps.{Failed, Holds, IsHeld, IsOverfull};
+ghost use Rattle.study_runs.specs.Steps.{Failed, Holds, IsHeld, IsOfProgram, IsOverfull};
 
 use crate::fault::RunsFault;
 use crate::laws::made_lines_are_printable;
@@ -11,6 +11,7 @@ use cbi_base::{Memory, Outcome, ProgramId, Work};
 use collector::{AddFault, Collection};
 use flow::{Program, RunResult};
 use machine::run;
+use machine_laws::reports_of_runs_are_taken;
 use probes::Probe;
 use report_file::{Report, RunSummary, label_of, make_report};
 use std::alloc::Global;
@@ -28,14 +29,22 @@ pub struct Ran {
 /// Adds the report of a run that isn't held.
 fn hold(collection: &mut Collection, report: Report) -> Result<(), RunsFault>
     requires report { IsReport report }
+    requires ours { IsOurs collection.old report }
     requires absent { report_at report.run collection.old.reports ≡ None }
+    requires room { length collection.old.reports < report_limit }
     ensures ok { OnOk result (Holds report collection.old collection.new) }
     ensures fault { IfErr result (IsOverfull report collection.old) }
 {
     match collection.add(report) {
         Ok(_) => Ok(()),
         Err(AddFault::TooManyMarks { run }) => Err(RunsFault::TooManyMarks { run }),
-        Err(_) => Err(RunsFault::Memory),
+        Err(AddFault::Memory) => Err(RunsFault::Memory),
+        Err(
+            AddFault::Foreign { .. }
+            | AddFault::NoSite { .. }
+            | AddFault::Conflict { .. }
+            | AddFault::TooManyReports { .. },
+        ) => unreachable!(),
     }
 }
 
@@ -51,11 +60,14 @@ pub fn add_run(
     requires number { 1 ≤ number }
     requires rate { (1 ≤ plan.rate) × (plan.rate ≤ 65536) }
     requires turns { plan.turns ≤ 100000000 }
+    requires own { IsOfProgram program.now collection.old }
     requires absent { report_at number collection.old.reports ≡ None }
+    requires room { length collection.old.reports < report_limit }
     ensures held { IfOk result (λ ran. IsHeld program.now plan number (λ b. seen b) probes.old.items probes.new.items ran collection.old collection.new) }
     ensures failed { IfErr result (Failed program.now plan number (λ b. seen b) probes.old.items probes.new.items collection.old) }
 {
     made_lines_are_printable();
+    reports_of_runs_are_taken();
     let _main = program.main();
     let MadeRun { mut bank, input } = make_run(alloc, plan.seed, plan.rate, number)?;
     let ran = run(

@@ -1,4 +1,4 @@
-use Rattle.study_runs.proofs.Adding.{held, short, summed}
+use Rattle.study_runs.proofs.Adding.{held, ours, short, summed}
 use Rattle.study_runs.proofs.run.add_run.Goals as goal
 
 pub run-requires-clause-input : goal.run-requires-clause-input
@@ -7,6 +7,11 @@ run-requires-clause-input g c =
 
 pub make_report-requires-clause-summary : goal.make_report-requires-clause-summary
 make_report-requires-clause-summary g c = summed _ c.args.plan c.args.number _ _ _ _ _ _ _ c.in_ok-ran.ensures.ran c.in_ok-ran.ensures.bounded c.main-main.ensures.is_program
+
+pub hold-requires-clause-ours : goal.hold-requires-clause-ours
+hold-requires-clause-ours g c =
+    ours _ c.args.plan c.args.number _ _ _ _ _ _ _ c.in_ok-ran.ensures.ran c.in_ok-ran.ensures.bounded _ _ c.label_of-label.result c.main-main.ensures.is_program
+    c.reports_of_runs_are_taken.ensures c.requires.own c.in_ok-report.ensures.report
 
 pub returns-clause-held : goal.returns-clause-held
 returns-clause-held g c =

@@ -3,7 +3,7 @@ use Rattle.collector.specs.declared.collection.Held.{Held}
 use Rattle.collector.specs.Sites.{branches_of}
 use Rattle.flow.specs.declared.site.TableParts.{TableParts}
 use Rattle.study_runs.specs.Runs.{no_identity}
-use Rattle.study_runs.proofs.Going.{absent, begun, goes_on, left}
+use Rattle.study_runs.proofs.Going.{absent, begun, goes_on, left, own, room}
 use Rattle.study_runs.proofs.runs.run_all.Goals as goal
 
 pub loop-done-init : goal.loop-done-init
@@ -14,6 +14,13 @@ loop-done-init g c =
 
 pub add_run-requires-clause-absent : goal.add_run-requires-clause-absent
 add_run-requires-clause-absent g c = absent _ _ _ _ c.loop-done.done _ c.loop-done.collection c.loop-done.sums _ c.loop-done.probes.items c.loop-done.invariant refl
+
+pub add_run-requires-clause-own : goal.add_run-requires-clause-own
+add_run-requires-clause-own g c = own _ _ _ _ c.loop-done.done _ c.loop-done.collection c.loop-done.sums _ c.loop-done.probes.items c.loop-done.invariant refl
+
+pub add_run-requires-clause-room : goal.add_run-requires-clause-room
+add_run-requires-clause-room g c =
+    room _ _ _ _ c.loop-done.done _ c.loop-done.collection c.loop-done.sums _ c.loop-done.probes.items c.loop-done.invariant refl c.loop-done-test.true c.requires.runs
 
 pub returns-in-Err-clause-left : goal.returns-in-Err-clause-left
 returns-in-Err-clause-left g c =
