@@ -1,9 +1,1 @@
-pub mod Placed
-pub mod Bodied
 pub mod Signed
-pub mod Starred
-pub mod ConstantLaws
-pub mod Zeroed
-pub mod Counted
-pub mod Begun
-pub mod Gathered

@@ -1,10 +1,2 @@
-pub mod Operators
-pub mod Places
-pub mod Looks
-pub mod Joined
 pub mod Signatures
-pub mod Bodies
 pub mod Facts
-pub mod Cells
-pub mod Zeros
-pub mod Objects

@@ -1,28 +1,25 @@
 ghost use Rattle.std.specs.Prelude.{◌≡◌, ℕ, map};
 ghost use Rattle.c_types.specs.Answers.{known_of, tree_of};
 ghost use Rattle.c_meaning.specs.Literals.{literals, number_from, texts_of};
-ghost use Rattle.c_meaning.specs.Texts.{first_of, main_of, sites_from};
-ghost use Rattle.lower_facts.specs.Bodies.{defining};
-ghost use Rattle.lower_facts.specs.Looks.{is_of};
-ghost use Rattle.lower_facts.specs.Places.{listed};
+ghost use Rattle.c_meaning.specs.Texts.{first_of, is_branch, is_pair, is_return, main_of, sites_from};
+ghost use Rattle.lower_trees.specs.Bodies.{defining};
+ghost use Rattle.lower_trees.specs.Places.{listed};
 ghost use Rattle.lower_facts.specs.Signatures.{signature_of_entry};
-ghost use Rattle.lower_facts.specs.declared.site_index.Looks.TheVariants.{Branch, Pair, Return};
 
-use crate::bodies::{body_numbered, body_places};
-use crate::function_types::{Signature, signatures};
-use crate::main_function::main_of;
-use crate::named::named_cells;
-use crate::places::{at_token, first_at};
-use crate::site_index::{Looks, sites_by_token};
-use crate::texts::{strings_by_token, strings_of_tree, texts_of};
+use crate::function_types::Signature;
+use crate::functions::{Functions, functions_of};
 use crate::values::{element_type, object_cells, value_type};
 use c_meaning::{Called, ValueType};
 use c_rules::{CType, StructType, library_named};
 use c_syntax::{Base, Entry, Expr, Item};
 use c_types::Checked;
 use c_types_expressions::Variable;
-use cbi_base::{Memory, Name, Scalar, Seq};
+use cbi_base::{Memory, Name, Scalar};
 use flow::{Site, SiteTable, Slot, Text};
+use lower_trees::{
+    SiteLists, TextLists, at_token, body_numbered, first_at, named_cells, site_lists, text_lists,
+    token_of,
+};
 use std::alloc::Global;
 
 /// What is known of a checked tree and a site table, by token.
@@ -30,22 +27,17 @@ use std::alloc::Global;
 pub struct TreeFacts<'a> {
     checked: &'a Checked,
     table: &'a SiteTable,
-    branches: Vec<Seq<u32>>,
-    returns: Vec<Seq<u32>>,
-    pairs: Vec<Seq<u32>>,
-    strings: Vec<Seq<u32>>,
-    texts: Seq<Text>,
-    signatures: Seq<Option<Signature>>,
-    bodies: Vec<u32>,
-    main: u32,
-    ghost branches_stand: { (token : ℕ) → listed branches.items token ≡ sites_from 0 (is_of Branch) token table.now.sites },
-    ghost returns_stand: { (token : ℕ) → listed returns.items token ≡ sites_from 0 (is_of Return) token table.now.sites },
-    ghost pairs_stand: { (token : ℕ) → listed pairs.items token ≡ sites_from 0 (is_of Pair) token table.now.sites },
-    ghost strings_stand: { (token : ℕ) → first_of (listed strings.items token) ≡ number_from 0 token (literals (tree_of checked.now)) },
-    ghost texts_stand: { texts ≡ texts_of (literals (tree_of checked.now)) },
-    ghost signatures_stand: { signatures ≡ map (signature_of_entry (known_of checked.now)) (known_of checked.now).definitions },
-    ghost bodies_stand: { bodies.items ≡ defining 0 (tree_of checked.now).items },
-    ghost main_stands: { main ≡ main_of (known_of checked.now) },
+    sites: SiteLists,
+    strings: TextLists,
+    functions: Functions,
+    ghost branches_stand: { (token : ℕ) → listed sites.branches.items token ≡ sites_from 0 is_branch token table.now.sites },
+    ghost returns_stand: { (token : ℕ) → listed sites.returns.items token ≡ sites_from 0 is_return token table.now.sites },
+    ghost pairs_stand: { (token : ℕ) → listed sites.pairs.items token ≡ sites_from 0 is_pair token table.now.sites },
+    ghost strings_stand: { (token : ℕ) → first_of (listed strings.numbers.items token) ≡ number_from 0 token (literals (tree_of checked.now)) },
+    ghost texts_stand: { strings.texts ≡ texts_of (literals (tree_of checked.now)) },
+    ghost signatures_stand: { functions.signatures ≡ map (signature_of_entry (known_of checked.now)) (known_of checked.now).definitions },
+    ghost bodies_stand: { functions.bodies.items ≡ defining 0 (tree_of checked.now).items },
+    ghost main_stands: { functions.main ≡ main_of (known_of checked.now) },
 }
 
 impl<'a> TreeFacts<'a> {
@@ -69,24 +61,17 @@ impl<'a> TreeFacts<'a> {
         ensures known { IfOk result (λ f. known_in f ≡ known_of checked.now) }
         ensures sites { IfOk result (λ f. table_in f ≡ table.now.sites) }
     {
-        let strings = strings_of_tree(alloc, checked.tree())?;
-        let sites = table.sites();
         Ok(TreeFacts {
             checked,
             table,
-            branches: sites_by_token(alloc, Looks::Branch, sites)?,
-            returns: sites_by_token(alloc, Looks::Return, sites)?,
-            pairs: sites_by_token(alloc, Looks::Pair, sites)?,
-            strings: strings_by_token(alloc, strings.as_slice())?,
-            texts: texts_of(alloc, strings.as_slice())?,
-            signatures: signatures(alloc, checked)?,
-            bodies: body_places(alloc, checked.tree().items.as_slice())?,
-            main: main_of(alloc, checked)?,
+            sites: site_lists(alloc, table.sites())?,
+            strings: text_lists(alloc, checked.tree())?,
+            functions: functions_of(alloc, checked)?,
         })
     }
 
     /// The items of the tree, of which is known what the walk through it comes to.
-    pub(crate) fn items(&self) -> &[Item]
+    pub fn items(&self) -> &[Item]
         ensures items { map plain_item result.now ≡ (tree_in self.now).items }
         ensures walked { walk_tree (tree_in self.now) ≡ Fine tt (known_in self.now) }
     {
@@ -108,7 +93,7 @@ impl<'a> TreeFacts<'a> {
     pub fn type_of(&self, expr: &Expr) -> Option<ValueType>
         ensures { result ≡ type_of (facts_in self.now) (plain_expr expr.now) }
     {
-        self.type_at(crate::trees::token_of(expr))
+        self.type_at(token_of(expr))
     }
 
     /// How many cells an object of that type has, where it has any.
@@ -150,14 +135,14 @@ impl<'a> TreeFacts<'a> {
     }
 
     /// The type of the variable whose name stands at the token, as it was declared.
-    pub(crate) fn declared_type(&self, token: u32) -> Option<&CType>
+    pub fn declared_type(&self, token: u32) -> Option<&CType>
         ensures { option_map plain_type (option_copied result) ≡ declared_at (known_in self.now) token }
     {
         self.checked.declared_type(token as usize)
     }
 
     /// The structs, by their numbers.
-    pub(crate) fn structs(&self) -> &[StructType]
+    pub fn structs(&self) -> &[StructType]
         ensures { result.now ≡ (known_in self.now).structs }
     {
         self.checked.structs()
@@ -204,11 +189,11 @@ impl<'a> TreeFacts<'a> {
     pub fn text_at(&self, token: u32) -> Option<u32>
         ensures { result ≡ (facts_in self.now).text_at token }
     {
-        first_at(self.strings.as_slice(), token)
+        first_at(self.strings.numbers.as_slice(), token)
     }
 
     /// The place of the first byte of the string at the token.
-    pub(crate) fn text_place(&self, token: u32) -> Option<Scalar>
+    pub fn text_place(&self, token: u32) -> Option<Scalar>
         ensures { result ≡ option_map (place_of (facts_in self.now)) ((facts_in self.now).text_at token) }
     {
         match self.text_at(token) {
@@ -224,7 +209,7 @@ impl<'a> TreeFacts<'a> {
     pub fn texts(&self) -> &[Text]
         ensures { result.now ≡ (facts_in self.now).statics.texts }
     {
-        self.texts.as_slice()
+        self.strings.texts.as_slice()
     }
 
     /// How many globals there are. The strings are the objects after them.
@@ -239,7 +224,7 @@ impl<'a> TreeFacts<'a> {
     pub fn signature(&self, number: u32) -> Option<&Signature>
         ensures { option_copied result ≡ (facts_in self.now).signature number }
     {
-        match self.signatures.as_slice().get(number as usize) {
+        match self.functions.signatures.as_slice().get(number as usize) {
             None => None,
             Some(signature) => signature.as_ref(),
         }
@@ -249,21 +234,21 @@ impl<'a> TreeFacts<'a> {
     pub fn branch_at(&self, token: u32) -> Option<u32>
         ensures { result ≡ (sites_in self.now).branch_at token }
     {
-        first_at(self.branches.as_slice(), token)
+        first_at(self.sites.branches.as_slice(), token)
     }
 
     /// The site of the returned value at the token.
     pub fn return_at(&self, token: u32) -> Option<u32>
         ensures { result ≡ (sites_in self.now).return_at token }
     {
-        first_at(self.returns.as_slice(), token)
+        first_at(self.sites.returns.as_slice(), token)
     }
 
     /// The sites of the variable that is assigned at the token.
     pub fn pairs_at(&self, token: u32) -> &[u32]
         ensures { result.now ≡ (sites_in self.now).pairs_at token }
     {
-        at_token(self.pairs.as_slice(), token)
+        at_token(self.sites.pairs.as_slice(), token)
     }
 
     /// The site with this number.
@@ -278,14 +263,14 @@ impl<'a> TreeFacts<'a> {
         ensures { option_map plain_entries (option_copied result) ≡ (source_in self.now).body number }
     {
         let items = self.checked.tree().items.as_slice();
-        body_numbered(items, self.bodies.as_slice(), number)
+        body_numbered(items, self.functions.bodies.as_slice(), number)
     }
 
     /// The number of the function `main`.
     pub fn main(&self) -> u32
         ensures { result ≡ (source_in self.now).main }
     {
-        self.main
+        self.functions.main
     }
 
     /// How many functions are defined.

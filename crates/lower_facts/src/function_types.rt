@@ -18,7 +18,7 @@ use std::marker::Model;
 const MOST_CELLS: u32 = 1_048_576;
 
 /// The types of a function's parameters and of its result, and the sizes of its variables in cells, the parameters first.
-#[derive(Debug, Drop)]
+#[derive(Drop)]
 pub struct Signature {
     params: Seq<ValueType>,
     gives: ValueType,

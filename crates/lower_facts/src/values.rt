@@ -25,7 +25,7 @@ fn element_cells(structs: &[StructType], ctype: &CType) -> u32
 }
 
 /// What the type is where values are computed.
-pub(crate) fn value_type(structs: &[StructType], ctype: &CType) -> ValueType
+pub fn value_type(structs: &[StructType], ctype: &CType) -> ValueType
     ensures { result ≡ value_type structs.now (plain_type ctype.now) }
 {
     match ctype {
@@ -46,7 +46,7 @@ pub(crate) fn value_type(structs: &[StructType], ctype: &CType) -> ValueType
 }
 
 /// The type of an array's elements.
-pub(crate) fn element_type(structs: &[StructType], ctype: &CType) -> Option<ValueType>
+pub fn element_type(structs: &[StructType], ctype: &CType) -> Option<ValueType>
     ensures { result ≡ element_type structs.now (plain_type ctype.now) }
 {
     match ctype {

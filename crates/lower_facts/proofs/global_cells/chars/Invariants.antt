@@ -1,7 +1,0 @@
-use Rattle.std.proofs.Common.{◌≡◌, take}
-use Rattle.std.specs.Prelude.{map}
-use Rattle.flow.specs.Rows.{char_of}
-use Rattle.lower_facts.proofs.global_cells.chars.Given as goal
-
-abbrev pub invariant-loop-byte : goal.invariant-loop-byte
-invariant-loop-byte l = l.cells.items ≡ map char_of (take l.byte-index l.bytes)

@@ -1,7 +1,0 @@
-use Rattle.lower_facts.proofs.Placed.{strings_next}
-use Rattle.lower_facts.proofs.texts.strings_by_token.Goals as goal
-
-pub loop-string-preserved : goal.loop-string-preserved
-loop-string-preserved c = λ token.
-    strings_next c.args.strings.now c.loop-string.string-index c.loop-string.number _ token c.string-item.result _ _ _ c.in_ok-number.ensures c.loop-string-test.true c.string-item.is
-    (rw c.token.ensures at c.in_ok-add.ensures token) (c.loop-string.invariant token)

@@ -1,0 +1,5 @@
+pub mod ConstantLaws
+pub mod Zeroed
+pub mod Counted
+pub mod Begun
+pub mod Gathered

@@ -1,0 +1,123 @@
+ghost use Rattle.std.specs.Prelude.{◌≡◌, [], IfOk, map, option_map};
+ghost use Rattle.c_syntax.specs.Plain.{plain_initial, plain_start};
+ghost use Rattle.c_rules.specs.Plain.{plain_type};
+ghost use Rattle.cbi_base.specs.declared.scalar.Scalar.TheVariants.{Place};
+ghost use Rattle.flow.specs.Machine as machine;
+ghost use Rattle.flow.specs.Machine.{cell_value};
+ghost use Rattle.c_meaning.specs.Globals.{static_object, struct_cells};
+ghost use Rattle.c_meaning.specs.Globals as meaning;
+ghost use Rattle.lower_facts.specs.Facts.{facts_in, known_in};
+ghost use Rattle.lower_globals.specs.Objects.{all_objects, initial_object, objects_in};
+
+use crate::global_cells::given_to;
+use crate::zeros::{filled_up, struct_zeros, zero_cells};
+use c_rules::CType;
+use c_syntax::{Initial, Start};
+use cbi_base::{Memory, Scalar, Seq};
+use flow::{Cell, Global};
+use lower_facts::{TreeFacts, element_type, value_type};
+use std::alloc::Global as Heap;
+
+/// The cell that holds the place of a string. Any other place is `Memory`: no constant gives one.
+fn place_cell(globals: u32, object: u64, offset: u32) -> Result<Cell, Memory>
+    ensures { IfOk result (λ c. cell_value globals c ≡ Place object offset) }
+{
+    if offset != 0 || object < globals as u64 {
+        return Err(Memory);
+    }
+    match u32::try_from(object - globals as u64) {
+        Err(_) => Err(Memory),
+        Ok(index) => Ok(Cell::Text { index }),
+    }
+}
+
+/// The cell that holds the value. Undefined is `Memory`: no constant gives it.
+fn cell_of(globals: u32, value: Scalar) -> Result<Cell, Memory>
+    ensures { IfOk result (λ c. cell_value globals c ≡ value) }
+{
+    match value {
+        Scalar::Number { kind, value } => Ok(Cell::Number { kind, value }),
+        Scalar::Null => Ok(Cell::Null),
+        Scalar::Place { object, offset } => place_cell(globals, object, offset),
+        Scalar::Undefined => Err(Memory),
+    }
+}
+
+/// The global that begins with these values.
+fn global_with(alloc: Heap, globals: u32, values: &[Scalar]) -> Result<Global, Memory>
+    ensures { IfOk result (λ g. machine.global_object globals g ≡ static_object values.now) }
+{
+    let mut cells = Vec::new(alloc);
+    for value in values {
+        cells.push(cell_of(globals, *value)?)?;
+    }
+    Ok(Global {
+        cells: Seq::from_vec(cells),
+    })
+}
+
+/// The global of the type, with this initialiser; None where the initialiser gives it nothing.
+fn object_with(
+    alloc: Heap,
+    facts: &TreeFacts<'_>,
+    zeros: &[Seq<Scalar>],
+    ctype: &CType,
+    initial: &Option<Initial>,
+) -> Result<Option<Global>, Memory>
+    requires { zeros.now ≡ struct_cells (known_in facts.now).structs [] }
+    ensures { IfOk result (λ g. option_map (machine.global_object (facts_in facts.now).statics.globals) g ≡ initial_object (facts_in facts.now) (known_in facts.now) (plain_type ctype.now) (option_map plain_initial initial.now)) }
+{
+    let structs = facts.structs();
+    let of = value_type(structs, ctype);
+    let Some(given) = given_to(alloc, facts, of, element_type(structs, ctype), initial)? else {
+        return Ok(None);
+    };
+    let zeros = zero_cells(alloc, zeros, ctype)?;
+    let values = filled_up(zeros.as_slice(), given)?;
+    let global = global_with(alloc, facts.global_count(), values.as_slice())?;
+    Ok(Some(global))
+}
+
+/// The global of a declared variable; None where its initialiser gives it nothing.
+fn global_of(
+    alloc: Heap,
+    facts: &TreeFacts<'_>,
+    zeros: &[Seq<Scalar>],
+    start: &Start,
+) -> Result<Option<Global>, Memory>
+    requires { zeros.now ≡ struct_cells (known_in facts.now).structs [] }
+    ensures { IfOk result (λ g. option_map (machine.global_object (facts_in facts.now).statics.globals) g ≡ meaning.global_object (facts_in facts.now) (known_in facts.now) (plain_start start.now)) }
+{
+    match facts.declared_type(start.declarator.name_token) {
+        None => Ok(None),
+        Some(ctype) => object_with(alloc, facts, zeros, ctype, &start.initial),
+    }
+}
+
+/// The globals of variables that are declared outside all functions, where these are the zeros of the structs; None where the initialiser
+/// of one gives it nothing. An initialiser that is no constant, which no text without a fault has here, is `Memory`.
+pub fn globals_of_starts(
+    alloc: Heap,
+    facts: &TreeFacts<'_>,
+    zeros: &[Seq<Scalar>],
+    starts: &[Start],
+) -> Result<Option<Seq<Global>>, Memory>
+    requires { zeros.now ≡ struct_cells (known_in facts.now).structs [] }
+    ensures { IfOk result (λ gs. objects_in facts.now gs ≡ all_objects facts.now (map plain_start starts.now)) }
+{
+    let mut globals = Vec::new(alloc);
+    for start in starts {
+        let Some(global) = global_of(alloc, facts, zeros, start)? else {
+            return Ok(None);
+        };
+        globals.push(global)?;
+    }
+    Ok(Some(Seq::from_vec(globals)))
+}
+
+/// Zero in each cell of each struct, by its number: what globals begin with. They take as many values as the structs have cells together.
+pub fn zeros_of_structs(alloc: Heap, facts: &TreeFacts<'_>) -> Result<Seq<Seq<Scalar>>, Memory>
+    ensures { IfOk result (λ zeros. zeros ≡ struct_cells (known_in facts.now).structs []) }
+{
+    struct_zeros(alloc, facts.structs())
+}

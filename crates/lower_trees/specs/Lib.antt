@@ -1,0 +1,5 @@
+pub mod Operators
+pub mod Places
+pub mod Looks
+pub mod Joined
+pub mod Bodies
