@@ -26,7 +26,7 @@ use Rattle.lower_parts_fit.specs.Parts.{ArePartsOf, FitsAsFunction}
 use Rattle.lower_parts_fit.specs.Ready.{IsReadyText}
 use Rattle.lower_facts.specs.declared.facts.TreeFacts.{TreeFacts}
 use Rattle.lower_facts.specs.Facts.{facts_in, known_in, source_in, table_in, tree_in}
-use Rattle.lower_facts.specs.Objects.{begun_with}
+use Rattle.lower_globals.specs.Objects.{begun_with}
 use Rattle.lower.specs.Fits.{AreFitting, NodesStand}
 use Rattle.lower.specs.Programs.{AreFunctionsOf, HasNoMore, IsFunctionOf, node_count}
 use Rattle.lower.proofs.Graphing.{graph_of}

@@ -15,7 +15,7 @@ use Rattle.lower.specs.Bodies.{BodyNodes}
 use Rattle.lower.specs.Ready.{AllMayStand}
 use Rattle.lower_nodes.specs.Finished.{Finished}
 use Rattle.lower.specs.Means.{MeansText}
-use Rattle.lower_facts.specs.Objects.{begun_with}
+use Rattle.lower_globals.specs.Objects.{begun_with}
 use Rattle.lower.specs.Programs.{AreFunctionsOf, HasNoMore, IsFunctionOf}
 use Rattle.std.proofs.Common.{◌++◌, ⊎_elim, add-one, get_or, length-append, map, take}
 use Rattle.std.proofs.Math.Seq.{take-suc}

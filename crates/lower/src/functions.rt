@@ -21,8 +21,9 @@ use c_meaning::ValueType;
 use c_syntax::Entry;
 use cbi_base::{Kind, Memory};
 use flow::{Bounds, Names, Node};
-use lower_facts::{Signature, TreeFacts, has_value};
+use lower_facts::{Signature, TreeFacts};
 use lower_nodes::{Graph, finish, put_stuck};
+use lower_trees::has_value;
 use std::alloc::Global;
 
 /// Where a function with a result gives it; no other one comes to a value.

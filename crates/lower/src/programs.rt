@@ -19,9 +19,11 @@ use crate::names::{names_of, number_of};
 use c_types::Checked;
 use cbi_base::{Memory, Name, Seq};
 use flow::{Function, Names, Program, ProgramParts, SiteTable, copy_of, copy_sites, copy_texts};
-use lower_facts::{TreeFacts, has_value};
+use lower_facts::TreeFacts;
+use lower_globals::globals_of_text;
 use lower_nodes_fit::an_accepted_text_has_few_nodes;
 use lower_parts_fit::parts_of_an_accepted_text_are_a_program;
+use lower_trees::has_value;
 use std::alloc::Global;
 
 /// The function of the text with this number, under this name.
@@ -87,7 +89,7 @@ fn program_of(alloc: Global, facts: &TreeFacts<'_>, table: &SiteTable) -> Result
 {
     an_accepted_text_has_few_nodes();
     parts_of_an_accepted_text_are_a_program();
-    let Some(globals) = facts.globals(alloc)? else {
+    let Some(globals) = globals_of_text(alloc, facts)? else {
         unreachable!()
     };
     let names = names_of(alloc, facts, table)?;

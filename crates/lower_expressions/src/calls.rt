@@ -17,8 +17,9 @@ use c_meaning::Called;
 use c_rules::Library;
 use c_syntax::Expr;
 use cbi_base::{Memory, Name};
-use lower_facts::{TreeFacts, has_value};
+use lower_facts::TreeFacts;
 use lower_nodes::{Graph, Purpose, put_mark, put_stuck, put_taken};
+use lower_trees::has_value;
 
 /// What a call gives.
 #[derive(Clone, Copy, Debug)]

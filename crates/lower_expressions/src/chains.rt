@@ -18,8 +18,9 @@ use c_syntax::{Expr, Link};
 use c_types_expressions::binary_of;
 use cbi_base::Memory;
 use flow::Node;
-use lower_facts::{Joint, TreeFacts, is_null_beside, joint_by, operand_type};
+use lower_facts::TreeFacts;
 use lower_nodes::{Graph, Purpose, put_flagged, put_operation, put_stuck, put_taken};
+use lower_trees::{Joint, is_null_beside, joint_by, operand_type};
 
 /// The value, or a null pointer in its place.
 #[cycle(emission)]

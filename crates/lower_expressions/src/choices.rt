@@ -19,8 +19,9 @@ use c_meaning::ValueType;
 use c_syntax::Expr;
 use cbi_base::Memory;
 use flow::Node;
-use lower_facts::{TreeFacts, is_null_as};
+use lower_facts::TreeFacts;
 use lower_nodes::{Graph, Purpose, put_arm, put_handed, put_stuck, put_taken};
+use lower_trees::is_null_as;
 
 /// The value, handed over as one of the type.
 #[cycle(emission)]

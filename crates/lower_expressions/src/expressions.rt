@@ -18,10 +18,11 @@ use c_meaning::ValueType;
 use c_syntax::Expr;
 use cbi_base::{Kind, Memory};
 use flow::Node;
-use lower_facts::{TreeFacts, is_null_as};
+use lower_facts::TreeFacts;
 use lower_nodes::{
     Graph, Purpose, put_constant, put_converted, put_name, put_null, put_size, put_text,
 };
+use lower_trees::is_null_as;
 
 /// An expression, for what its value is wanted for.
 #[cycle(emission)]

@@ -11,8 +11,9 @@ use c_syntax::{Expr, Link};
 use c_types_expressions::binary_of;
 use cbi_base::{Kind, Memory};
 use flow::Node;
-use lower_facts::{TreeFacts, is_null_beside};
+use lower_facts::TreeFacts;
 use lower_nodes::{Graph, put_decided};
+use lower_trees::is_null_beside;
 
 /// Whether the first operand of a chain is a null pointer because of the second one.
 pub fn begins_null(facts: &TreeFacts, first: &Expr, links: &[Link]) -> bool

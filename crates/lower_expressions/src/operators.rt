@@ -20,11 +20,12 @@ use c_meaning::{ValueType, operation_of};
 use c_syntax::{Expr, PrefixOperator, Sign};
 use cbi_base::{Memory, Unary};
 use flow::Node;
-use lower_facts::{Assignment, TreeFacts, assignment_by, token_of};
+use lower_facts::TreeFacts;
 use lower_nodes::{
     Graph, Purpose, put_assigned, put_changed, put_converted, put_handed, put_size, put_stepped,
     put_stuck, put_taken, put_taken_through,
 };
+use lower_trees::{Assignment, assignment_by, token_of};
 
 /// An assignment finds its place, then its value, which is converted and stored.
 #[cycle(emission)]

@@ -17,10 +17,11 @@ use crate::voids::is_taken;
 use c_meaning::{ValueType, operation_of};
 use c_syntax::{Expr, PostfixOperator};
 use cbi_base::{Binary, Memory};
-use lower_facts::{TreeFacts, ends_as_place, is_place, postfix_token, token_of};
+use lower_facts::TreeFacts;
 use lower_nodes::{
     Graph, Purpose, put_member, put_operation, put_stuck, put_taken, put_taken_place,
 };
+use lower_trees::{ends_as_place, is_place, postfix_token, token_of};
 
 /// An operator behind an operand.
 #[cycle(emission)]

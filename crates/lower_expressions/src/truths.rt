@@ -17,8 +17,9 @@ use c_syntax::{Expr, Link, Sign};
 use c_types_expressions::binary_of;
 use cbi_base::Memory;
 use flow::Node;
-use lower_facts::{Joint, TreeFacts, is_null_beside, joint_by, operand_type};
+use lower_facts::TreeFacts;
 use lower_nodes::{Graph, Purpose};
+use lower_trees::{Joint, is_null_beside, joint_by, operand_type};
 
 /// Whether the operator needs no value of its left side: it is `&&` or `||`, without a site.
 fn forks_at(facts: &TreeFacts, link: &Link) -> bool

@@ -16,7 +16,8 @@ use crate::values::{put_conversion, put_load};
 use c_meaning::{Operation, ValueType, conversion_of, left_kind, operation_of};
 use cbi_base::{Binary, Kind, Memory};
 use flow::Node;
-use lower_facts::{TreeFacts, one_kind, step_of};
+use lower_facts::TreeFacts;
+use lower_trees::{one_kind, step_of};
 
 /// The kind of what a calculation with this kind gives: a comparison gives an `int`.
 fn kind_given(op: Binary, kind: Kind) -> Kind

@@ -10,7 +10,7 @@ use Rattle.c_syntax.specs.Spelling.{a_sign, after_commas, base_kinds, declarator
 use Rattle.c_types_expressions.specs.declared.walk.Walk.{Walk}
 use Rattle.c_meaning.specs.Globals.{first_objects, starts_of}
 use Rattle.flow.specs.Limits.{global_limit}
-use Rattle.lower_facts.proofs.Counted.{globals_are}
+use Rattle.lower_globals.proofs.Counted.{globals_are}
 use Rattle.c_types_never_stuck.proofs.Constants.{text_is_source}
 use Rattle.c_types_sound.specs.Accepted.{IsAcceptedTree}
 use Rattle.c_types_sound.specs.Sited.{IsSited}

@@ -27,8 +27,8 @@ use Rattle.flow.specs.declared.program.Global.{Global}
 use Rattle.flow.specs.declared.program.Text.{Text}
 use Rattle.flow.specs.Machine.{cell_value, global_object, text_object}
 use Rattle.flow.specs.Program.{AreGlobals, GlobalFits, cell_fits}
-use Rattle.lower_facts.specs.Objects.{begun_with}
-use Rattle.lower_facts.proofs.Counted.{globals_are}
+use Rattle.lower_globals.specs.Objects.{begun_with}
+use Rattle.lower_globals.proofs.Counted.{globals_are}
 use Rattle.c_types_sound.specs.Accepted.{IsAcceptedTree}
 use Rattle.c_types_sound.specs.Sited.{IsSited}
 use Rattle.c_types_sound.proofs.Ending.{small_structs, tree_sums}

@@ -39,8 +39,8 @@ use Rattle.c_meaning.specs.Meaning.{expr, text_of, text_place}
 use Rattle.c_meaning.specs.Trees.{type_of}
 use Rattle.c_meaning.specs.World.{Out, Go, Stop, World, answered, bind}
 use Rattle.c_types.proofs.Options.{some_is}
-use Rattle.lower_facts.specs.Cells.{given, negative_given, wanted_given}
-use Rattle.lower_facts.proofs.ConstantLaws.{as_negative}
+use Rattle.lower_globals.specs.Cells.{given, negative_given, wanted_given}
+use Rattle.lower_globals.proofs.ConstantLaws.{as_negative}
 use Rattle.c_types_never_stuck.specs.TypedText.{GlobalItems, IsConstant}
 use Rattle.c_types_sound.proofs.Parting.{all_first, all_second, bytes_long}
 use Rattle.c_types_sound.proofs.Spotting.{all_two}

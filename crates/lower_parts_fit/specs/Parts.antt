@@ -13,7 +13,7 @@ use Rattle.flow.specs.declared.program.Global.{Global}
 use Rattle.flow.specs.declared.site.TableParts.{TableParts}
 use Rattle.flow.specs.Nodes.{NodesFit}
 use Rattle.flow.specs.Program.{bounds_of}
-use Rattle.lower_facts.specs.Objects.{begun_with}
+use Rattle.lower_globals.specs.Objects.{begun_with}
 use Rattle.lower_nodes_fit.specs.TextNames.{names_of_text}
 
 -- a function with the signature of the text's function with this number, and nodes that may stand in it

@@ -9,7 +9,7 @@ ghost use Rattle.c_meaning.specs.Known.{facts_of};
 ghost use Rattle.flow.specs.Limits.{global_limit};
 ghost use Rattle.flow.specs.declared.program.Global.{Global};
 ghost use Rattle.flow.specs.Program.{AreGlobals};
-ghost use Rattle.lower_facts.specs.Objects.{begun_with};
+ghost use Rattle.lower_globals.specs.Objects.{begun_with};
 ghost use Rattle.c_types_sound.specs.Accepted.{IsAcceptedTree};
 ghost use Rattle.c_types_sound.specs.Sited.{IsSited};
 

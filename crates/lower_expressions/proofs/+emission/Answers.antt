@@ -29,7 +29,7 @@ use Rattle.lower_expressions.specs.Taken.{wanted_types}
 use Rattle.lower_expressions.specs.Weights.{exprs_weight, links_weight, postfix_weight, weight}
 use Rattle.std.proofs.Common.{ap, arith, drop, length, refl, rules, sym, ◌+◌, ◌-◌, ◌<◌, ◌∙◌, ◌≡◌, ◌≤◌}
 use Rattle.lower_facts.specs.Facts.{facts_in, sites_in}
-use Rattle.lower_facts.specs.Operators.{assignment_of, joint_of}
+use Rattle.lower_trees.specs.Operators.{assignment_of, joint_of}
 use Rattle.lower_expressions.proofs.+emission.Goals as goal
 
 pub expressions::emit-returns-in-Comma-clause-made : goal.expressions::emit-returns-in-Comma-clause-made
