@@ -3,3 +3,4 @@ pub mod Zeroed
 pub mod Counted
 pub mod Begun
 pub mod Gathered
+pub mod Started
