@@ -7,15 +7,15 @@ use Rattle.c_syntax.specs.declared.token.TokenKind.{TokenKind}
 use Rattle.c_lexer.specs.declared.error.LexError.{LexError}
 use Rattle.c_lexer.specs.declared.error.LexError.TheVariants as error
 use Rattle.c_lexer.specs.declared.lexer.Lexer.{Lexer}
-use Rattle.c_lexer.specs.Cutting.{piece_at, is_fresh, fresh_from}
-use Rattle.c_lexer.specs.Found.{known_by}
-use Rattle.c_lexer.specs.Pieces.{Place}
+use Rattle.c_lexer_pieces.specs.Cutting.{piece_at, is_fresh, fresh_from}
+use Rattle.c_lexer_pieces.specs.Found.{known_by}
+use Rattle.c_lexer_pieces.specs.Pieces.{Place}
 use Rattle.c_lexer.specs.Lexing.{IsLongest, NothingStands, Lexes, Stops, Taken, Cuts, past_piece, place_after, known_after, line_of, tokens_from, with_line, kind_at, start}
-use Rattle.c_lexer.specs.Bytes.{newlines}
+use Rattle.c_lexer_pieces.specs.Bytes.{newlines}
 use Rattle.c_lexer.specs.Refusals.{HasMany, ErrorSays, can_begin, refusal_for}
 use Rattle.c_lexer.specs.State.{Advances, Refuses, kept_with, between}
 use Rattle.c_syntax.specs.Limits.{most_tokens}
-use Rattle.c_lexer.proofs.FreshLaws.{fresh_from-append}
+use Rattle.c_lexer_pieces.proofs.FreshLaws.{fresh_from-append}
 use Rattle.c_lexer.proofs.PieceLaws.{LongestRead, longest-read, nothing-read}
 
 pub record IsAt (text : List ℕ) (l : Lexer) : Type 0 where

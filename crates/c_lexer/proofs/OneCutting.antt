@@ -5,9 +5,9 @@ use Rattle.std.proofs.Math.Seq.{take-append_seam}
 use Rattle.c_syntax.specs.declared.token.Token.{Token}
 use Rattle.c_lexer.specs.declared.error.LexError.{LexError}
 use Rattle.c_lexer.specs.declared.error.LexError.TheVariants as error
-use Rattle.c_lexer.specs.Cutting.{piece_at, is_fresh}
-use Rattle.c_lexer.specs.Piece.{Piece}
-use Rattle.c_lexer.specs.Pieces.{Place}
+use Rattle.c_lexer_pieces.specs.Cutting.{piece_at, is_fresh}
+use Rattle.c_lexer_pieces.specs.Piece.{Piece}
+use Rattle.c_lexer_pieces.specs.Pieces.{Place}
 use Rattle.c_lexer.specs.Lexing.{IsLongest, NothingStands, Taken, Cuts, past_piece, place_after, line_of, tokens_from, start, Lexes, Stops}
 use Rattle.c_lexer.specs.Refusals.{Says, can_begin, lexed_answer, refusal_for}
 use Rattle.c_lexer.specs.Endings.{Ending, Whole, Stopped, Ends}

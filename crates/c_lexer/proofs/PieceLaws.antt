@@ -1,11 +1,11 @@
 -- What is read at a place is the longest piece that stands there.
 use Rattle.std.proofs.Common.{◌≡◌, ℕ, List, [], ◌++◌, length, refl, ap, sym, ◌∙◌, arith, length-append, Some, None}
-use Rattle.c_lexer.specs.Cutting.{piece_at, plain_at, is_fresh}
-use Rattle.c_lexer.specs.Piece.{Piece}
-use Rattle.c_lexer.specs.Pieces.{Place}
+use Rattle.c_lexer_pieces.specs.Cutting.{piece_at, plain_at, is_fresh}
+use Rattle.c_lexer_pieces.specs.Piece.{Piece}
+use Rattle.c_lexer_pieces.specs.Pieces.{Place}
 use Rattle.c_lexer.specs.Lexing.{IsLongest, NothingStands}
-use Rattle.c_lexer.proofs.StandLaws.{piece-stands}
-use Rattle.c_lexer.proofs.Reach.{stands-reach}
+use Rattle.c_lexer_pieces.proofs.StandLaws.{piece-stands}
+use Rattle.c_lexer_pieces.proofs.Reach.{stands-reach}
 
 pub record LongestRead (place : Place) (left : List ℕ) (x : Piece × List ℕ) : Type 0 where
   pub bytes : List ℕ

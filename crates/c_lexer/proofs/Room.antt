@@ -11,14 +11,15 @@ use Rattle.c_syntax.specs.declared.token.Word.{Word}
 use Rattle.c_syntax.specs.declared.parts.Constant.{Constant}
 use Rattle.c_syntax.specs.Tokens.{text_len, lines_of}
 use Rattle.c_lexer.specs.declared.lexer.Lexer.{Lexer}
-use Rattle.c_lexer.specs.Piece.{Piece, Nothing, Name, Constant', Text, Punctuator, Definition, Known}
-use Rattle.c_lexer.specs.Found.{known_by}
-use Rattle.c_lexer.specs.Spellings.{word_of}
+use Rattle.c_lexer_pieces.specs.Piece.{Piece, Nothing, Name, Constant', Text, Punctuator, Definition, Known}
+use Rattle.c_lexer_pieces.specs.Found.{known_by}
+use Rattle.c_lexer_pieces.specs.Spellings.{word_of}
 use Rattle.c_lexer.specs.Lexing.{kind_at, known_after, name_kind, word_kind, with_line}
 use Rattle.c_syntax.specs.Limits.{most_tokens}
-use Rattle.c_lexer.specs.Bytes.{newlines}
-use Rattle.c_lexer.specs.State.{Roomy, Advances, between, AllFit, PieceFits, Fits}
-use Rattle.c_lexer.proofs.Fronts.{ReadsPiece, piece_len}
+use Rattle.c_lexer_pieces.specs.Bytes.{newlines}
+use Rattle.c_lexer.specs.State.{Roomy, Advances, between, AllFit}
+use Rattle.c_lexer_pieces.specs.PieceFacts.{PieceFits, Fits}
+use Rattle.c_lexer_pieces.proofs.Fronts.{ReadsPiece, piece_len}
 
 word-text : (line : ℕ) (word : Option Word) (name : List ℕ) → sum_by text_len (with_line line (Some (word_kind word name))) ≤ 0
 word-text line None name = omega arith

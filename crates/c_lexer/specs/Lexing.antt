@@ -6,10 +6,10 @@ use Rattle.c_syntax.specs.declared.token.Token.{Token}
 use Rattle.c_syntax.specs.declared.token.Word.{Word}
 use Rattle.c_syntax.specs.declared.token.TokenKind.{TokenKind}
 use Rattle.c_syntax.specs.declared.token.TokenKind.TheVariants as kind
-use Rattle.c_lexer.specs.Bytes.{newlines}
-use Rattle.c_lexer.specs.Spellings.{word_of}
-use Rattle.c_lexer.specs.Piece.{Piece, Nothing, Name, Constant', Text, Punctuator, Definition, Known}
-use Rattle.c_lexer.specs.Pieces.{Place, StandsAs}
+use Rattle.c_lexer_pieces.specs.Bytes.{newlines}
+use Rattle.c_lexer_pieces.specs.Spellings.{word_of}
+use Rattle.c_lexer_pieces.specs.Piece.{Piece, Nothing, Name, Constant', Text, Punctuator, Definition, Known}
+use Rattle.c_lexer_pieces.specs.Pieces.{Place, StandsAs}
 
 -- The bytes are the longest that stand as a piece at the place (C99 6.4, paragraph 4).
 pub record IsLongest (place : Place) (bytes after : List ℕ) (piece : Piece) : Type 0 where

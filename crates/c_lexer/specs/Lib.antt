@@ -1,12 +1,4 @@
-pub mod Bytes
-pub mod Spellings
-pub mod Values
-pub mod Piece
-pub mod Pieces
 pub mod Lexing
 pub mod Refusals
 pub mod Endings
-pub mod Reading
-pub mod Cutting
-pub mod Found
 pub mod State

@@ -5,8 +5,8 @@ use Rattle.c_syntax.specs.Limits.{most_bytes, most_tokens}
 use Rattle.c_syntax.specs.declared.token.Token.{Token}
 use Rattle.c_lexer.specs.declared.error.LexError.{LexError}
 use Rattle.c_lexer.specs.declared.error.LexError.TheVariants as error
-use Rattle.c_lexer.specs.Bytes.{is_separator, is_digit}
-use Rattle.c_lexer.specs.Spellings.{sign_of}
+use Rattle.c_lexer_pieces.specs.Bytes.{is_separator, is_digit}
+use Rattle.c_lexer_pieces.specs.Spellings.{sign_of}
 use Rattle.c_lexer.specs.Lexing.{Lexes, Stops}
 
 -- a letter, digit, `_`, `#`, quote, separator or first byte of a punctuator

@@ -1,39 +1,23 @@
 -- The lexer's state, and what one step makes of it.
-use Rattle.std.specs.Prelude.{◌≡◌, Bool, false, ℕ, ◌+◌, ◌-◌, ◌≤◌, nat_lt, if◌then◌else◌, List, ◌++◌, length, take, sum_by, All, Option, Some, None, IfSome, ◌⊎◌, slice_index}
+use Rattle.std.specs.Prelude.{◌≡◌, ℕ, ◌+◌, ◌-◌, ◌≤◌, nat_lt, if◌then◌else◌, List, ◌++◌, length, take, sum_by, All, Option, Some, None, IfSome, ◌⊎◌, slice_index}
 use Rattle.c_syntax.specs.declared.token.Token.{Token}
 use Rattle.c_syntax.specs.declared.token.TokenKind.{TokenKind}
-use Rattle.c_syntax.specs.declared.parts.Constant.{Constant}
 use Rattle.c_syntax.specs.Limits.{most_bytes, most_tokens, greatest_line}
-use Rattle.c_syntax.specs.Tokens.{text_len, lines_of, ConstantFits, KindFits}
-use Rattle.cbi_base.specs.Name.{IsName}
+use Rattle.c_syntax.specs.Tokens.{text_len, lines_of, KindFits}
 use Rattle.c_lexer.specs.declared.error.LexError.{LexError}
 use Rattle.c_lexer.specs.declared.error.LexError.TheVariants as error
 use Rattle.c_lexer.specs.declared.lexer.Lexer.{Lexer}
-use Rattle.c_lexer.specs.Values.{after_close}
-use Rattle.c_lexer.specs.Cutting.{piece_at, fresh_from}
-use Rattle.c_lexer.specs.Piece.{Piece, Name, Constant', Definition, Known}
-use Rattle.c_lexer.specs.Found.{known_by}
-use Rattle.c_lexer.specs.Bytes.{newlines}
+use Rattle.c_lexer_pieces.specs.Cutting.{piece_at, fresh_from}
+use Rattle.c_lexer_pieces.specs.Piece.{Piece, Known}
+use Rattle.c_lexer_pieces.specs.Found.{known_by}
+use Rattle.c_lexer_pieces.specs.PieceFacts.{Fits}
+use Rattle.c_lexer_pieces.specs.Bytes.{newlines}
 use Rattle.c_lexer.specs.Refusals.{refusal_for}
 use Rattle.c_lexer.specs.Lexing.{kind_at, known_after, with_line}
 
 -- the bytes between a place and one after it
 abbrev pub between : List ℕ → List ℕ → List ℕ
 between left rest = take (length left - length rest) left
-
--- What is read as a name is one.
-abbrev pub IsNamed : Piece → Type 0
-IsNamed (Name name) = IsName name
-IsNamed _ = Unit {0}
-
-abbrev pub Fits : Constant → Type 0
-Fits c = ConstantFits c.kind c.value
-
--- What is read as a constant, or defined as one, fits its kind.
-abbrev pub PieceFits : Piece → Type 0
-PieceFits (Constant' c) = Fits c
-PieceFits (Definition name c) = Fits c
-PieceFits _ = Unit {0}
 
 -- The constants that names stand for fit.
 abbrev pub AllFit : Known → Type 0
@@ -48,10 +32,6 @@ pub record Roomy (l : Lexer) : Type 0 where
   pub kept : length l.tokens ≤ l.count
   pub kept_lines : All (λ x. x ≤ l.line) (lines_of l.tokens)
   pub known_fit : AllFit (known_by l.defined)
-
--- It may be known that no `*/` comes, so that none is looked for at each `/*`.
-abbrev pub KnowsClosing : Bool → List ℕ → Type 0
-KnowsClosing closes left = closes ≡ false → after_close left ≡ None
 
 -- a token is kept where fewer came before it than a text may have
 abbrev pub kept_with : ℕ → List Token → List Token → List Token

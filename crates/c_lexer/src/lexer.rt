@@ -1,21 +1,19 @@
-ghost use Rattle.std.specs.Prelude.{◌≡◌, ◌≤◌, ◌<◌, ◌+◌, ◌^◌, ◌++◌, ◌∷◌, [], length, ℕ, List, IfOk, IfErr, IfSome, OnOk, OnErr, option_map};
-ghost use Rattle.c_syntax.specs.Tokens.{IsTokens};
+ghost use Rattle.std.specs.Prelude.{◌≡◌, ◌≤◌, ◌<◌, ◌+◌, ◌^◌, ◌∷◌, [], length, ℕ, List, IfOk, IfErr, IfSome, OnOk};
 ghost use Rattle.c_syntax.specs.Limits.{most_bytes};
 ghost use Rattle.c_syntax.specs.Tokens.{KindFits};
-ghost use Rattle.c_lexer.specs.Bytes.{newlines};
-ghost use Rattle.c_lexer.specs.Cutting.{piece_at, fresh_from};
-ghost use Rattle.c_lexer.specs.Found.{piece_of, known_by};
+ghost use Rattle.c_lexer_pieces.specs.Bytes.{newlines};
+ghost use Rattle.c_lexer_pieces.specs.Cutting.{piece_at, fresh_from};
+ghost use Rattle.c_lexer_pieces.specs.Found.{piece_of, known_by};
 ghost use Rattle.c_lexer.specs.Refusals.{can_begin, refusal_for};
 ghost use Rattle.c_lexer.specs.Lexing.{kind_at, name_kind, constant_kind, known_after, with_line};
-ghost use Rattle.c_lexer.specs.State.{AllFit, Fits, IsNamed, PieceFits, kept_with, MayFollow};
+ghost use Rattle.c_lexer.specs.State.{AllFit, kept_with, MayFollow};
+ghost use Rattle.c_lexer_pieces.specs.PieceFacts.{Fits, IsNamed, PieceFits};
 ghost use Rattle.cbi_base.specs.Name.{IsName};
 
-use crate::bytes::{Class, is_separator};
-use crate::comments::may_close;
 use crate::error::LexError;
-use crate::front::{Defined, constant_of, piece_at};
-use crate::pieces::Found;
-use crate::spellings::{sign_of, word_of};
+use c_lexer_pieces::{
+    Class, Defined, Found, constant_of, is_separator, may_close, piece_at, sign_of, word_of,
+};
 use c_syntax::{Constant, Token, TokenKind, Tokens};
 use cbi_base::{Memory, Name, Seq, is_letter};
 use std::alloc::Global;
@@ -180,8 +178,9 @@ fn define<'a>(defined: &mut Defined<'a>, found: &Found<'a>) -> Result<(), Memory
 impl<'a> Lexer<'a> {
     ghost use Rattle.std.specs.Prelude.{◌≡◌, ◌<◌, ◌≤◌, ℕ, List, [], None, IsTrue, length, OnOk, IfErr};
     ghost use Rattle.c_syntax.specs.Limits.{most_bytes};
-    ghost use Rattle.c_lexer.specs.State.{Roomy, KnowsClosing, Advances, Refuses};
-    ghost use Rattle.c_lexer.specs.Found.{known_by};
+    ghost use Rattle.c_lexer.specs.State.{Roomy, Advances, Refuses};
+    ghost use Rattle.c_lexer_pieces.specs.PieceFacts.{KnowsClosing};
+    ghost use Rattle.c_lexer_pieces.specs.Found.{known_by};
 
     /// The start of a text of at most 1,048,576 bytes.
     pub(crate) fn new(alloc: Global, text: &'a [u8]) -> Lexer<'a>

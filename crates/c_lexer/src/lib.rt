@@ -8,16 +8,8 @@ ghost use Rattle.c_lexer.specs.Lexing.{Lexes, Stops};
 ghost use Rattle.c_lexer.specs.Refusals.{Says, CuttingStops, IsTooLarge, lexed_answer, refusal_for};
 ghost use Rattle.c_lexer.specs.Endings.{Ending, Ends};
 
-mod bytes;
-mod comments;
-mod constants;
-mod directives;
 mod error;
-mod escapes;
-mod front;
 mod lexer;
-mod pieces;
-mod spellings;
 
 use c_syntax::Tokens;
 pub use error::LexError;

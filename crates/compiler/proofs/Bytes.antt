@@ -12,11 +12,11 @@ use Rattle.c_syntax.specs.Limits.{most_tokens}
 use Rattle.c_syntax.specs.Spelling.{tree_kinds}
 use Rattle.c_syntax.specs.Tokens.{KindFits, kinds_of}
 use Rattle.c_lexer.specs.Lexing.{Cuts, Lexes, Taken, kind_at, line_of, name_kind, past_piece, start, tokens_from, with_line, word_kind}
-use Rattle.c_lexer.specs.Piece.{Piece}
-use Rattle.c_lexer.specs.Pieces.{AreElements, IsElement, IsText, Place, StandsAs, comment, define, hexadecimal, include, letter, octal, plain, separator}
-use Rattle.c_lexer.specs.Pieces as pieces
-use Rattle.c_lexer.specs.Spellings.{word_of}
-use Rattle.c_lexer.specs.Values.{simple_escape}
+use Rattle.c_lexer_pieces.specs.Piece.{Piece}
+use Rattle.c_lexer_pieces.specs.Pieces.{AreElements, IsElement, IsText, Place, StandsAs, comment, define, hexadecimal, include, letter, octal, plain, separator}
+use Rattle.c_lexer_pieces.specs.Pieces as pieces
+use Rattle.c_lexer_pieces.specs.Spellings.{word_of}
+use Rattle.c_lexer_pieces.specs.Values.{simple_escape}
 use Rattle.lower_parts_fit.specs.Brought.{IsOfBytes}
 use Rattle.c_types_sound.proofs.Parting.{all_first, all_second}
 use Rattle.compiler.specs.Accepted.{HasTree}

@@ -14,10 +14,10 @@ use Rattle.c_syntax.specs.declared.token.TokenKind.TheVariants as token
 use Rattle.c_syntax.specs.declared.token.Word.{Word}
 use Rattle.c_syntax.specs.Tokens.{kinds_of}
 use Rattle.c_lexer.specs.Lexing.{Cuts, Lexes, Taken, kind_at, known_after, line_of, name_kind, past_piece, start, tokens_from, with_line, word_kind}
-use Rattle.c_lexer.specs.Piece.{Known, Piece}
-use Rattle.c_lexer.specs.Pieces as pieces
-use Rattle.c_lexer.specs.Pieces.{IsCharacter, IsConstant, IsNumber, Place, StandsAs, comment, define, include, separator}
-use Rattle.c_lexer.specs.Spellings.{word_of}
+use Rattle.c_lexer_pieces.specs.Piece.{Known, Piece}
+use Rattle.c_lexer_pieces.specs.Pieces as pieces
+use Rattle.c_lexer_pieces.specs.Pieces.{IsCharacter, IsConstant, IsNumber, Place, StandsAs, comment, define, include, separator}
+use Rattle.c_lexer_pieces.specs.Spellings.{word_of}
 
 -- a name is one, and a constant is what digits without a sign, or a character, can stand for
 abbrev pub IsSpelled : TokenKind → Type 0

@@ -7,10 +7,10 @@ use Rattle.c_syntax.specs.Limits.{most_bytes}
 use Rattle.c_syntax.specs.Spelling.{tree_kinds}
 use Rattle.c_syntax.specs.Tokens.{kind_text_len, kinds_of, text_len}
 use Rattle.c_lexer.specs.Lexing.{Cuts, Taken, kind_at, line_of, past_piece, start, tokens_from, with_line}
-use Rattle.c_lexer.specs.Piece.{Known, Piece}
-use Rattle.c_lexer.specs.Pieces.{AreElements, IsElement, IsText, Place, StandsAs, comment, define, hexadecimal, include, letter, octal, plain, separator}
-use Rattle.c_lexer.specs.Pieces as pieces
-use Rattle.c_lexer.proofs.Fronts.{piece_len}
+use Rattle.c_lexer_pieces.specs.Piece.{Known, Piece}
+use Rattle.c_lexer_pieces.specs.Pieces.{AreElements, IsElement, IsText, Place, StandsAs, comment, define, hexadecimal, include, letter, octal, plain, separator}
+use Rattle.c_lexer_pieces.specs.Pieces as pieces
+use Rattle.c_lexer_pieces.proofs.Fronts.{piece_len}
 use Rattle.c_lexer.proofs.Room.{piece-text}
 use Rattle.compiler.specs.Accepted.{HasTokens, HasTree}
 

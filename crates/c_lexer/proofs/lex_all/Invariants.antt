@@ -1,5 +1,6 @@
 use Rattle.std.proofs.Common.{length}
-use Rattle.c_lexer.specs.State.{Roomy, KnowsClosing}
+use Rattle.c_lexer.specs.State.{Roomy}
+use Rattle.c_lexer_pieces.specs.PieceFacts.{KnowsClosing}
 use Rattle.c_lexer.proofs.At.{IsAt}
 use Rattle.c_lexer.proofs.lex_all.Given as goal
 

@@ -1,6 +1,6 @@
 use Rattle.std.proofs.Common.{◌≡◌, ◌+◌, ◌≤◌, take, drop}
-use Rattle.c_lexer.specs.Cutting.{fresh_from}
-use Rattle.c_lexer.specs.Bytes.{newlines}
+use Rattle.c_lexer_pieces.specs.Cutting.{fresh_from}
+use Rattle.c_lexer_pieces.specs.Bytes.{newlines}
 use Rattle.c_lexer.proofs.lexer.moved.Given as goal
 
 abbrev pub invariant-loop-b : goal.invariant-loop-b

@@ -1,13 +1,14 @@
 use Rattle.std.proofs.Common.{◌≡◌, ◌+◌, length, Some, ap, sym, ◌∙◌, sum_by, arith, rules}
 use Rattle.c_syntax.specs.Tokens.{text_len}
-use Rattle.c_lexer.specs.Cutting.{piece_at}
-use Rattle.c_lexer.specs.Found.{piece_of, known_by}
+use Rattle.c_lexer_pieces.specs.Cutting.{piece_at}
+use Rattle.c_lexer_pieces.specs.Found.{piece_of, known_by}
 use Rattle.c_lexer.specs.Lexing.{kind_at, with_line}
-use Rattle.c_lexer.specs.State.{Roomy, Advances, PieceFits, kept_with}
+use Rattle.c_lexer.specs.State.{Roomy, Advances, kept_with}
+use Rattle.c_lexer_pieces.specs.PieceFacts.{PieceFits}
 use Rattle.c_lexer.specs.declared.lexer.Lexer.{Lexer}
-use Rattle.c_lexer.specs.Values.{after_close}
-use Rattle.c_lexer.proofs.CommentLaws.{unclosed-after}
-use Rattle.c_lexer.proofs.Fronts.{piece-read}
+use Rattle.c_lexer_pieces.specs.Values.{after_close}
+use Rattle.c_lexer_pieces.proofs.CommentLaws.{unclosed-after}
+use Rattle.c_lexer_pieces.proofs.Fronts.{piece-read}
 use Rattle.c_lexer.proofs.Room.{room-next, piece-text}
 use Rattle.c_lexer.proofs.lexer.Lexer.step.Goals as goal
 

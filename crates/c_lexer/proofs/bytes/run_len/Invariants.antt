@@ -1,6 +1,0 @@
-use Rattle.std.proofs.Common.{◌≡◌, ℕ, ◌<◌, true, get_or}
-use Rattle.c_lexer.specs.Bytes.{has}
-use Rattle.c_lexer.proofs.bytes.run_len.Given as goal
-
-abbrev pub invariant-loop-i : goal.invariant-loop-i
-invariant-loop-i l = (k : ℕ) → k < l.i → has l.class (get_or l.bytes k 0) ≡ true

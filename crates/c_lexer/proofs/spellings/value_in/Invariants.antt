@@ -1,8 +1,0 @@
-use Rattle.std.proofs.Common.{◌≡◌, drop}
-use Rattle.std.specs.Prelude.{map}
-use Rattle.c_lexer.specs.Spellings.{value_in}
-use Rattle.c_lexer.proofs.spellings.value_in.Given as goal
-
-abbrev pub invariant-loop-spelling : goal.invariant-loop-spelling
-invariant-loop-spelling g l =
-    value_in (map (λ e. (e.0.now, e.1)) (drop l.spelling-index l.table)) l.bytes ≡ value_in (map (λ e. (e.0.now, e.1)) l.table) l.bytes

@@ -1,0 +1,15 @@
+pub mod CommentLaws
+pub mod DirectiveLaws
+pub mod DirectiveReads
+pub mod FreshLaws
+pub mod Fronts
+pub mod Lengths
+pub mod NumberLaws
+pub mod Reach
+pub mod ReadLaws
+pub mod RunLaws
+pub mod SoundLaws
+pub mod StandLaws
+pub mod Steps
+pub mod Turns
+pub mod Unrolled

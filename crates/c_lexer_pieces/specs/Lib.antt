@@ -1,0 +1,9 @@
+pub mod Bytes
+pub mod Spellings
+pub mod Values
+pub mod Piece
+pub mod Pieces
+pub mod Reading
+pub mod Cutting
+pub mod Found
+pub mod PieceFacts
