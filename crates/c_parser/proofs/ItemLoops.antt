@@ -11,14 +11,14 @@ use Rattle.c_syntax.specs.Shape.{HasOne}
 use Rattle.c_parser.specs.declared.error.ParseError.{ParseError}
 use Rattle.c_parser.specs.declared.error.ParseError.TheVariants as error
 use Rattle.c_parser_expressions.specs.Reading.{Cursor, Found, Fails, Read, Outcome}
-use Rattle.c_parser.specs.Items.{item}
-use Rattle.c_parser.specs.ItemParser.{item_by}
+use Rattle.c_parser_items.specs.Items.{item}
+use Rattle.c_parser_items.specs.ItemParser.{item_by}
 use Rattle.c_parser.specs.Parsed.{Refuses, AreRead}
 use Rattle.c_parser.specs.ItemAnswers.{ItemRead}
 use Rattle.c_parser_expressions.proofs.Laws.{found-takes}
 use Rattle.c_parser.proofs.Texts.{item-some, Reached, reached-next}
 use Rattle.c_parser.proofs.Parsing.{beginning, refuses}
-use Rattle.c_parser.proofs.ItemsParse.{item-parses}
+use Rattle.c_parser_items.proofs.ItemsParse.{item-parses}
 
 found-of : (c to : Cursor) (x : ItemTree) → item_by 200 c ≡ Ok (x, to) → Found (item 200) c x to
 found-of c to x h = subst (λ (r : Read ItemTree). Outcome (item 200) c r) h (item-parses 200 (omega arith) c)

@@ -1,17 +1,4 @@
-pub mod Branches
-pub mod Conditions
-pub mod Entries
-pub mod EntryLoops
 pub mod ItemLoops
-pub mod ItemParses
-pub mod ItemTurns
-pub mod ItemsParse
-pub mod MemberLines
 pub mod OneTree
-pub mod ParamLists
-pub mod Parameters
 pub mod Parsing
-pub mod Sentences
-pub mod StatementParses
-pub mod StatementViews
 pub mod Texts

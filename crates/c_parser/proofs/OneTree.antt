@@ -12,13 +12,13 @@ use Rattle.c_parser.specs.declared.error.ParseError.{ParseError}
 use Rattle.c_parser.specs.declared.error.ParseError.TheVariants as error
 use Rattle.c_parser_expressions.specs.Reading.{Cursor, Same, Read, Outcome}
 use Rattle.c_parser_expressions.specs.Steps.{Step, all_of}
-use Rattle.c_parser.specs.Items.{item, AreItems, items}
-use Rattle.c_parser.specs.ItemParser.{item_by}
+use Rattle.c_parser_items.specs.Items.{item, AreItems, items}
+use Rattle.c_parser_items.specs.ItemParser.{item_by}
 use Rattle.c_parser.specs.Parsed.{IsTreeOf, IsReadAs, IsRefused, IsParsed}
 use Rattle.c_parser_expressions.proofs.Laws.{same-all, found-takes}
 use Rattle.c_parser_expressions.proofs.Many.{Listing, StepIs, put_all, all-parses}
 use Rattle.c_parser.proofs.Texts.{kinds, item-some, items-end, item-leads, item-fails}
-use Rattle.c_parser.proofs.ItemsParse.{item-parses}
+use Rattle.c_parser_items.proofs.ItemsParse.{item-parses}
 
 -- an item where one can begin
 abbrev before_end : Read ItemTree → Kinds → Step ItemTree

@@ -11,7 +11,7 @@ use Rattle.c_syntax.specs.Shape.{HasOne}
 use Rattle.c_syntax.specs.Tokens.{kinds_of, lines_of}
 use Rattle.c_syntax.specs.WellFormed.{IsWellFormed}
 use Rattle.c_parser_expressions.specs.Reading.{Cursor, Same, Found, Fails}
-use Rattle.c_parser.specs.Items.{item, AreItems, items}
+use Rattle.c_parser_items.specs.Items.{item, AreItems, items}
 use Rattle.c_parser.specs.Parsed.{IsTreeOf, HasTree, IsDead, Refuses}
 use Rattle.c_parser_expressions.proofs.Laws.{same-all}
 use Rattle.c_parser.proofs.Texts.{kinds, item-some, Reached, reached-end, reached-fails, reached-longest, reached-good}

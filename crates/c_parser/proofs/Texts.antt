@@ -11,18 +11,18 @@ use Rattle.c_syntax.specs.ItemTree.{ItemTree}
 use Rattle.c_syntax.specs.Spelling.{Kinds, item_kinds, base_kinds}
 use Rattle.c_syntax.specs.Place.{EachAt, ItemAt}
 use Rattle.c_parser_expressions.specs.Reading.{Cursor, Same, Found, Fails}
-use Rattle.c_parser.specs.Items.{IsItem, item, AreItems, IsEnd, items}
+use Rattle.c_parser_items.specs.Items.{IsItem, item, AreItems, IsEnd, items}
 use Rattle.c_parser_expressions.proofs.Laws.{same-all, Leads, leads-found, leads-fails, leads-trans, leads-wrap, leads-none, found-takes}
 
 -- an item has a token
-pub base-some : (b : Base) → 1 ≤ length (base_kinds b)
+base-some : (b : Base) → 1 ≤ length (base_kinds b)
 base-some (base_is.Void t) = omega arith
 base-some (base_is.Char t) = omega arith
 base-some (base_is.Int t) = omega arith
 base-some (base_is.Unsigned t n) = omega arith
 base-some (base_is.Struct t n) = omega arith
 
-pub longer : (a b : Kinds) → 1 ≤ length a → 1 ≤ length (a ++ b)
+longer : (a b : Kinds) → 1 ≤ length a → 1 ≤ length (a ++ b)
 longer a b h = omega (arith, length-append a b)
 
 pub item-some : (x : ItemTree) → 1 ≤ length (item_kinds x)

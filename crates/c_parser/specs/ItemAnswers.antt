@@ -5,7 +5,7 @@ use Rattle.c_syntax.specs.Plain.{plain_item}
 use Rattle.c_parser.specs.declared.error.ParseError.{ParseError}
 use Rattle.c_parser.specs.declared.error.ParseError.TheVariants as error
 use Rattle.c_parser_expressions.specs.Reading.{Cursor}
-use Rattle.c_parser.specs.ItemParser.{item_by}
+use Rattle.c_parser_items.specs.ItemParser.{item_by}
 
 abbrev pub ItemRead : (old new : Cursor) → Result Item ParseError → Type 0
 ItemRead old new (Ok v) = item_by 200 old ≡ Ok (plain_item v, new)

@@ -1,9 +1,2 @@
-pub mod Items
 pub mod Parsed
-pub mod StatementParser
-pub mod Statements
-pub mod ItemParts
-pub mod ItemParser
 pub mod ItemAnswers
-pub mod StatementViews
-pub mod ItemViews

@@ -1,4 +1,4 @@
-//! The parser: tokens to the one tree. Statements, items and the whole text.
+//! The parser: tokens to the one tree of the whole text.
 #![tactic(auto)]
 
 ghost use Rattle.std.specs.Prelude.{◌≡◌, ℕ, Err, IfOk};
@@ -9,9 +9,7 @@ ghost use Rattle.c_syntax.specs.WellFormed.{IsShaped};
 ghost use Rattle.c_parser.specs.Parsed.{IsTreeOf, Refuses, IsReadAs, IsRefused};
 
 mod error;
-mod item;
 mod program;
-mod statement;
 
 use c_syntax::{Tokens, Tree};
 pub use error::ParseError;

@@ -4,8 +4,8 @@ ghost use Rattle.c_parser.specs.Parsed.{IsParsed, AreRead};
 ghost use Rattle.c_parser.specs.ItemAnswers.{ItemRead};
 
 use crate::error::ParseError;
-use crate::item::item;
 use c_parser_expressions::{Reader, Stop};
+use c_parser_items::item;
 use c_syntax::{Item, Tokens, Tree};
 use cbi_base::Seq;
 use std::alloc::{AllocError, Global};

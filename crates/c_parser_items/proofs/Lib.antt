@@ -1,0 +1,2 @@
+pub mod ItemParses
+pub mod ItemsParse

@@ -1,0 +1,4 @@
+pub mod Items
+pub mod ItemParts
+pub mod ItemParser
+pub mod ItemViews

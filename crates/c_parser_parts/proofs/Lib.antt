@@ -1,0 +1,4 @@
+pub mod MemberLines
+pub mod ParamLists
+pub mod ParamParses
+pub mod PartTurns

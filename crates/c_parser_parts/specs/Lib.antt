@@ -1,0 +1,2 @@
+pub mod PartParser
+pub mod Parts

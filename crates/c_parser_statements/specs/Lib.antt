@@ -1,0 +1,3 @@
+pub mod StatementParser
+pub mod Statements
+pub mod StatementViews
