@@ -1,5 +1,5 @@
 -- Chains: operators of one level.
-use Rattle.std.proofs.Common.{◌≡◌, inl, ℕ, zero, suc, ◌+◌, ◌<◌, ◌≤◌, ◌∙◌, ap, refl, subst, sym, arith, List, [], ◌∷◌, ◌++◌, length, drop, get_or, Option, true, false, rules}
+use Rattle.std.proofs.Common.{◌≡◌, inl, ℕ, zero, suc, ◌+◌, ◌<◌, ◌≤◌, ◌∙◌, ap, subst, sym, arith, List, [], ◌∷◌, length, drop, get_or, Option, true, false}
 use Rattle.std.specs.Prelude.{pos}
 use Rattle.std.proofs.lemmas.List.{drop_all, drop_more}
 use Rattle.cbi_base.specs.declared.operators.Binary.{Binary}
@@ -22,25 +22,18 @@ use Rattle.lower_relation.specs.Expressions.{LinksDo, emitted}
 use Rattle.lower_relation.specs.Operators.{Decided, Flagged, Linked, Operates}
 use Rattle.lower_relation.specs.Paths.{Graph, ◌then◌, Does, Either, Stuck, Ways}
 use Rattle.lower_relation.specs.Values.{NullOr, Valued}
-use Rattle.lower_expressions.specs.Linking.{Shortcut, To, either_end, link_part, type_before}
+use Rattle.lower_operators.specs.Linking.{Shortcut, To, either_end, link_part, type_before}
 use Rattle.lower_relation.specs.Functions.{standing}
 use Rattle.lower_nodes.specs.Ends.{AllBelow}
-use Rattle.lower_nodes.specs.Made.{Made, MadeAlone, MadeFor, MadeTo, MadeWays, Part, CameOut}
+use Rattle.lower_nodes.specs.Made.{Made, MadeAlone, MadeFor, MadeTo, Part, CameOut}
 use Rattle.lower_nodes.specs.Parts.{serving}
-use Rattle.lower_nodes.specs.Purposes.{Serves, Takes, ways}
+use Rattle.lower_nodes.specs.Purposes.{Serves, Takes}
 use Rattle.lower_expressions.specs.Weights.{links_weight, weight}
 use Rattle.lower_nodes.specs.declared.purpose.Purpose.{Purpose}
 use Rattle.lower_nodes.specs.declared.purpose.Purpose.TheVariants as purpose
-use Rattle.lower_nodes.proofs.Building.{◌and_then◌, back_both, below_more, carried, either_made, later_self, later_trans, nothing_made, row, stays_put, surely_made, then_made}
+use Rattle.lower_operators.proofs.Linked.{type_after}
+use Rattle.lower_nodes.proofs.Building.{◌and_then◌, back_both, below_more, carried, later_self, later_trans, nothing_made, surely_made, then_made}
 use Rattle.lower_nodes.proofs.Serving.{valued_made}
-
--- one way of a condition goes on at what was put before
-to_made : (n : List Node) (right k : ℕ) → MadeTo (either_end right) (λ G. To right) n n right k
-to_made n right k = record { does = λ fin l. refl; keeps = later_self 0 n; leads = λ below. stays_put n right (below.0, tt) }
-
--- what goes on at one node, beside the other
-beside : (R : Part ℕ) (right : ℕ) (n0 n1 : List Node) (i k : ℕ) → Made R n0 n1 i k → MadeTo (either_end right) R n0 n1 i k
-beside R right n0 n1 i k made = carried R R k k (λ G i h. h) (λ n b. b.1) n0 n1 i made
 
 cut_stands : (R : Part ℕ) (S : Part ℕ) (n0 n1 n2 : List Node) (right i k : ℕ) → Made R n0 n1 right k → MadeTo (either_end right) S n1 n2 i k → AllBelow (length n0) (k ∷ []) →
     CameOut (length n0) n2 i
@@ -73,21 +66,6 @@ joined_no D R S n0 n1 n2 right i k made cut = record {
   leads = λ below. cut_stands S (λ G. Either (D G) (R G) (To right)) n0 n1 n2 right i k made cut below;
 }
 
--- what `&&` and `||` do with their left values
-pub shortcut_both : (facts : Facts) (sites : Sites) (token right : ℕ) (n0 n1 n2 : List Node) (zero_at i k : ℕ) → zero_at ≡ length n0 →
-    n1 ≡ n0 ++ node.Push Int (pos 0) k ∷ [] → MadeWays (λ G. Decided G facts sites token) n1 n2 i (ways right zero_at) →
-    MadeTo (either_end right) (λ G. Shortcut G facts sites true token right) n0 n2 i k
-shortcut_both facts sites token right n0 n1 n2 zero_at i k at new decided =
-    either_made (λ G. Decided G facts sites token) (λ G. To right) (λ G. Does G (node.Push Int (pos 0) 0)) n0 n1 n1 n2 i right zero_at k
-    (beside (λ G. Does G (node.Push Int (pos 0) 0)) right n0 n1 zero_at k (row (node.Push Int (pos 0) 0) _ at new (search rules))) (to_made n1 right k) decided
-
-pub shortcut_either : (facts : Facts) (sites : Sites) (token right : ℕ) (n0 n1 n2 : List Node) (one_at i k : ℕ) → one_at ≡ length n0 →
-    n1 ≡ n0 ++ node.Push Int (pos 1) k ∷ [] → MadeWays (λ G. Decided G facts sites token) n1 n2 i (ways one_at right) →
-    MadeTo (either_end right) (λ G. Shortcut G facts sites false token right) n0 n2 i k
-shortcut_either facts sites token right n0 n1 n2 one_at i k at new decided =
-    either_made (λ G. Decided G facts sites token) (λ G. Does G (node.Push Int (pos 1) 0)) (λ G. To right) n0 n0 n1 n2 i one_at right k
-    (to_made n0 right k) (beside (λ G. Does G (node.Push Int (pos 1) 0)) right n0 n1 one_at k (row (node.Push Int (pos 1) 0) _ at new (search rules))) decided
-
 abbrev rest_of : Link → LinkList → LinkList
 rest_of x rest = e.more_links x.token x.sign (plain_expr x.operand) rest
 
@@ -105,18 +83,6 @@ link_weighs (x ∷ xs) zero d low at = rw (at, plain_cons x xs) (omega arith)
 link_weighs (x ∷ xs) (suc j) d low at = rw (plain_cons x xs) (omega (arith, link_weighs xs j d (omega (arith, low)) at))
 
 module _ (facts : Facts) (sites : Sites) where
-  type_next : (left : Option ValueType) (links : List Link) (j : ℕ) (d : Link) → j < length links → d ≡ get_or links j d →
-      type_before facts left links (suc j) ≡ facts.type_at d.token
-  type_next left [] j d low at = absurd (omega (arith, low))
-  type_next left (x ∷ xs) zero d low at = rw at refl
-  type_next left (x ∷ xs) (suc j) d low at = type_next (facts.type_at x.token) xs j d (omega (arith, low)) at
-
-  pub type_after : (left : Option ValueType) (links : List Link) (j : ℕ) (d : Link) → j < length links → d ≡ get_or links j d →
-      type_before facts left links (j + 1) ≡ facts.type_at d.token
-  type_after left links j d low at =
-      let more : j + 1 ≡ suc j = omega arith in
-      ap (type_before facts left links) more ∙ type_next left links j d low at
-
   -- none is put yet
   pub links_none : (left : Option ValueType) (m : ℕ) (links : List Link) (n : List Node) (k : ℕ) →
       Made (λ G. LinksDo G facts sites (type_before facts left links m) (plain_links (drop (length links) links))) n n k k
@@ -130,7 +96,7 @@ module _ (facts : Facts) (sites : Sites) where
       Made (λ G. LinksDo G facts sites (type_before facts left links j) (plain_links (drop j links))) n0 n2 i k
   links_step left links m j d n0 n1 n2 entry i k e low at rest made =
       let later : Made (λ G. LinksDo G facts sites (facts.type_at d.token) (plain_links (drop (j + 1) links))) n0 n1 entry k =
-      subst (λ t. Made (λ G. LinksDo G facts sites t (plain_links (drop (j + 1) links))) n0 n1 entry k) (type_after left links j d low at)
+      subst (λ t. Made (λ G. LinksDo G facts sites t (plain_links (drop (j + 1) links))) n0 n1 entry k) (type_after facts sites left links j d low at)
       (subst (λ q. Made (λ G. LinksDo G facts sites (type_before facts left links q) (plain_links (drop q links))) n0 n1 entry k) e rest)
       in subst (λ l. Made (λ G. LinksDo G facts sites (type_before facts left links j) l) n0 n2 i k) (sym (links_split links j d low at))
       (then_made (link_part facts sites (type_before facts left links j) d.token d.sign (plain_expr d.operand))
@@ -181,5 +147,3 @@ module _ (facts : Facts) (sites : Sites) where
   chain_made first links p n0 n1 n2 n3 after done i taken linked made =
       carried (λ G. Serves (Valued G (chain_value first links G))) (serving facts sites (e.Chain 0 first links)) p p (λ G i h. chain_serves G first links p i h) (λ n b. b) n0 n3 i
       (valued_made (chain_value first links) p n0 n1 n3 i after taken (made and_then linked))
-
-pub ruleset shortcuts_made = (shortcut_both, shortcut_either)

@@ -18,7 +18,7 @@ use Rattle.lower_nodes.specs.Made.{Made, MadeAlone, MadeFor, MadeWays}
 use Rattle.lower_expressions.specs.Arms.{arm_effect_part, arm_value_part}
 use Rattle.lower_nodes.specs.Parts.{serving, value_part}
 use Rattle.lower_nodes.specs.Purposes.{Serves, Takes, ways}
-use Rattle.lower_expressions.specs.Voids.{is_void}
+use Rattle.lower_operators.specs.Voids.{is_void}
 use Rattle.lower_nodes.specs.declared.purpose.Purpose.{Purpose}
 use Rattle.lower_nodes.specs.declared.purpose.Purpose.TheVariants as purpose
 use Rattle.lower_nodes.proofs.Building.{◌and_then◌, carried, either_made, row}

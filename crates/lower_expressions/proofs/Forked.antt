@@ -21,8 +21,8 @@ use Rattle.lower_nodes.specs.Made.{Later, LeadBack, MadeFor, MadeWays, CameOut}
 use Rattle.lower_nodes.specs.Parts.{serving, truth_part}
 use Rattle.lower_nodes.specs.Purposes.{Serves, ways}
 use Rattle.lower_nodes.specs.declared.purpose.Purpose.TheVariants as purpose
-use Rattle.lower_expressions.specs.Forking.{all_fork, forks_at, no_before, yes_before}
-use Rattle.lower_expressions.specs.Linking.{link_part, type_before}
+use Rattle.lower_operators.specs.Forking.{all_fork, forks_at, no_before, yes_before}
+use Rattle.lower_operators.specs.Linking.{link_part, type_before}
 use Rattle.lower_nodes.proofs.Building.{◌and_then◌, back_both, below_more, carried, later_self, later_trans, none_back, row}
 use Rattle.lower_nodes.proofs.Taking.{fork_made}
 use Rattle.lower_expressions.proofs.Chaining.{plain_cons}

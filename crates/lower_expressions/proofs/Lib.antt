@@ -1,10 +1,8 @@
-pub mod Acting
 pub mod Assigning
 pub mod Chaining
 pub mod Choosing
 pub mod Deciding
 pub mod Forked
-pub mod Handing
 pub mod Passed
 pub mod Placing
 pub mod Postfixing

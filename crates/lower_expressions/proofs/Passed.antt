@@ -33,10 +33,10 @@ use Rattle.lower_nodes.specs.Parts.{serving}
 use Rattle.lower_nodes.specs.Purposes.{Serves}
 use Rattle.lower_nodes.specs.declared.purpose.Purpose.{Purpose}
 use Rattle.lower_nodes.proofs.Building.{carried, nothing_made, surely_made, then_made}
-use Rattle.lower_expressions.specs.Giving.{CalledDoes, FunctionDoes, Given, GivenTakes, LibraryDoes, giving_of, is_refused}
-use Rattle.lower_expressions.specs.Passing.{Acts, Formats, LibraryActs, fits, format_types, known, library_fits, library_types, number_of_first, others, params_of, passed, prints, takes, text_of_first, type_of_first, types_of_text, types_passed}
-use Rattle.lower_expressions.specs.declared.calls.Giving.{Giving}
-use Rattle.lower_expressions.proofs.Handing.{call_is, given_made, refused_serves}
+use Rattle.lower_operators.specs.Giving.{CalledDoes, FunctionDoes, Given, GivenTakes, LibraryDoes, giving_of, is_refused}
+use Rattle.lower_operators.specs.Passing.{Acts, Formats, LibraryActs, fits, format_types, known, library_fits, library_types, number_of_first, others, params_of, passed, prints, takes, text_of_first, type_of_first, types_of_text, types_passed}
+use Rattle.lower_operators.specs.declared.giving.Giving.{Giving}
+use Rattle.lower_operators.proofs.Handing.{call_is, given_made, refused_serves}
 
 -- arguments of these types
 first_dropped : (types : List ValueType) (j : ℕ) → first_type (drop j types) ≡ slice_get types j
@@ -78,11 +78,6 @@ arguments_step facts sites types arguments m j d want n0 n1 n2 entry i k e low a
     (plain_expr d)))
     (λ G. ArgumentsDo G facts sites (other_types (drop j types)) (plain_exprs (drop (j + 1) arguments))) n0 n1 n2 i entry k last first)
 
--- how many expressions there are
-pub counted : (xs : List Expr) → count (plain_exprs xs) ≡ length xs
-counted [] = refl
-counted (x ∷ xs) = ap suc (counted xs)
-
 -- one more than nothing is one
 one_more : (n : ℕ) → (suc n == 1) ≡ (n == 0)
 one_more n = grind (arith, nat_tests)
@@ -114,10 +109,6 @@ text_numbered facts (e.Strings token parts) = refl
 text_numbered facts (e.Paren token inner) = refl
 text_numbered facts (e.Null token) = refl
 text_numbered facts (e.EndOfFile token) = refl
-
-pub first_numbered : (facts : Facts) (xs : ExprList) → option_and_then (slice_get facts.statics.texts) (number_of_first facts xs) ≡ text_of_first facts xs
-first_numbered facts e.no_exprs = refl
-first_numbered facts (e.more_exprs x rest) = text_numbered facts x
 
 module _ (facts : Facts) (sites : Sites) where
   -- what a call does, with its arguments

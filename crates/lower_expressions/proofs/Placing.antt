@@ -21,7 +21,7 @@ use Rattle.lower_relation.specs.Operators.{Cast, Pointed, Postfixed, Prefixed, S
 use Rattle.lower_relation.specs.Paths.{Graph, Path, Emitted, Stuck}
 use Rattle.lower_nodes.specs.Made.{Made, MadeAlone, Part}
 use Rattle.lower_nodes.specs.Parts.{place_part, value_part}
-use Rattle.lower_expressions.specs.Spots.{is_nowhere, spots_part}
+use Rattle.lower_operators.specs.Spots.{is_nowhere, spots_part}
 use Rattle.lower_nodes.proofs.Building.{◌and_then◌, carried, surely_made}
 
 module _ (G : Graph) where

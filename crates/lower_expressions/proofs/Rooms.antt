@@ -16,8 +16,8 @@ use Rattle.c_meaning.specs.declared.value_type.Called.TheVariants as called
 use Rattle.c_meaning.specs.Facts.{Sites}
 use Rattle.lower_relation.specs.Room.{branches, expr_room, exprs_room, links_room, postfix_room}
 use Rattle.lower_expressions.proofs.Chaining.{links_split}
-use Rattle.lower_expressions.specs.Passing.{others, passed}
-use Rattle.lower_expressions.specs.Spots.{is_nowhere}
+use Rattle.lower_operators.specs.Passing.{others, passed}
+use Rattle.lower_operators.specs.Spots.{is_nowhere}
 
 -- what fits in some room fits in more
 pub wider : {E : Type 0} (r : Result ℕ E) (grown old few more : ℕ) → IfOk r (λ i. grown ≤ old + few) → few ≤ more → IfOk r (λ i. grown ≤ old + more)

@@ -11,8 +11,8 @@ use Rattle.lower_relation.specs.Values.{Valued}
 use Rattle.lower_nodes.specs.Made.{Made, MadeFor, Part}
 use Rattle.lower_nodes.specs.Parts.{serving}
 use Rattle.lower_nodes.specs.Purposes.{Serves, Takes, TakesPlace}
-use Rattle.lower_expressions.specs.Spots.{spots_part}
-use Rattle.lower_expressions.specs.Voids.{is_taken}
+use Rattle.lower_operators.specs.Spots.{spots_part}
+use Rattle.lower_operators.specs.Voids.{is_taken}
 use Rattle.lower_nodes.specs.declared.purpose.Purpose.{Purpose}
 use Rattle.lower_nodes.specs.declared.purpose.Purpose.TheVariants as purpose
 use Rattle.lower_nodes.proofs.Building.{carried}

@@ -1,9 +1,2 @@
 pub mod Arms
-pub mod Forking
-pub mod Giving
-pub mod Linking
-pub mod Passing
-pub mod Spots
-pub mod Taken
-pub mod Voids
 pub mod Weights

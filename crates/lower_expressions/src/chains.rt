@@ -7,12 +7,11 @@ ghost use Rattle.lower_relation.specs.Room.{branches, expr_room, links_room};
 ghost use Rattle.lower_nodes.specs.Made.{Made, MadeFor};
 ghost use Rattle.lower_nodes.specs.Parts.{serving};
 ghost use Rattle.lower_nodes.specs.declared.purpose.Purpose.TheVariants as purpose;
-ghost use Rattle.lower_expressions.specs.Linking.{link_part};
+ghost use Rattle.lower_operators.specs.Linking.{link_part};
 ghost use Rattle.lower_facts.specs.Facts.{facts_in, sites_in};
 
 use crate::expressions::emit_value;
-use crate::links::{begins_null, put_shortcut, type_before};
-use crate::truths::{all_fork, emit_forked};
+use crate::truths::emit_forked;
 use c_meaning::{ValueType, operation_of};
 use c_syntax::{Expr, Link};
 use c_types_expressions::binary_of;
@@ -20,6 +19,7 @@ use cbi_base::Memory;
 use flow::Node;
 use lower_facts::TreeFacts;
 use lower_nodes::{Graph, Purpose, put_flagged, put_operation, put_stuck, put_taken};
+use lower_operators::{all_fork, begins_null, put_shortcut, type_before};
 use lower_trees::{Joint, is_null_beside, joint_by, operand_type};
 
 /// The value, or a null pointer in its place.

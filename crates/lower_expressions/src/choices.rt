@@ -14,13 +14,13 @@ ghost use Rattle.lower_facts.specs.Facts.{facts_in, sites_in};
 
 use crate::conditions::emit_condition;
 use crate::expressions::{emit, emit_value};
-use crate::voids::is_void;
 use c_meaning::ValueType;
 use c_syntax::Expr;
 use cbi_base::Memory;
 use flow::Node;
 use lower_facts::TreeFacts;
 use lower_nodes::{Graph, Purpose, put_arm, put_handed, put_stuck, put_taken};
+use lower_operators::is_void;
 use lower_trees::is_null_as;
 
 /// The value, handed over as one of the type.

@@ -6,15 +6,10 @@ mod chains;
 mod choices;
 mod conditions;
 mod expressions;
-mod library;
-mod links;
 mod operators;
 mod places;
 mod postfix;
-mod printing;
-mod spots;
 mod truths;
-mod voids;
 
 pub use conditions::emit_condition;
 pub use expressions::{emit, emit_effect, emit_value, emit_wanted};

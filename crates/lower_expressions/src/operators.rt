@@ -4,7 +4,7 @@ ghost use Rattle.c_syntax.specs.ExprTree as e;
 ghost use Rattle.c_syntax.specs.Plain.{plain_expr};
 ghost use Rattle.c_meaning.specs.Trees.{type_of};
 ghost use Rattle.lower_relation.specs.Expressions.{emitted};
-ghost use Rattle.lower_relation.specs.Operators.{Negated, OneOperand};
+ghost use Rattle.lower_relation.specs.Operators.{Negated};
 ghost use Rattle.lower_relation.specs.Paths.{◌then◌, Does};
 ghost use Rattle.flow.specs.declared.node.Node.TheVariants as node;
 ghost use Rattle.lower_relation.specs.Room.{expr_room, pairs};
@@ -22,9 +22,10 @@ use cbi_base::{Memory, Unary};
 use flow::Node;
 use lower_facts::TreeFacts;
 use lower_nodes::{
-    Graph, Purpose, put_assigned, put_changed, put_converted, put_handed, put_size, put_stepped,
-    put_stuck, put_taken, put_taken_through,
+    Graph, Purpose, put_assigned, put_changed, put_handed, put_size, put_stepped, put_stuck,
+    put_taken, put_taken_through,
 };
+use lower_operators::put_sole;
 use lower_trees::{Assignment, assignment_by, token_of};
 
 /// An assignment finds its place, then its value, which is converted and stored.
@@ -59,25 +60,6 @@ pub fn emit_assign(
             Ok(i)
         }
     }
-}
-
-/// A value is converted to the type at the token, and then calculated with.
-#[tactic(auto, using(lower_nodes::proofs::Building::parts_made))]
-fn put_sole(
-    graph: &mut Graph,
-    facts: &TreeFacts,
-    token: u32,
-    of: Option<ValueType>,
-    op: Unary,
-    next: u32,
-) -> Result<u32, Memory>
-    ensures made { IfOk result (λ i. Made (λ G. OneOperand G of ((facts_in facts.now).type_at token) op) graph.old graph.new i next) }
-    ensures few { IfOk result (λ i. length graph.new ≤ length graph.old + 3) }
-{
-    let sole = graph.put(Node::Sole { op, next })?;
-    let want = facts.type_at(token);
-    let i = put_converted(graph, of, want, sole)?;
-    Ok(i)
 }
 
 /// The value of an operator before an operand.

@@ -4,7 +4,7 @@ ghost use Rattle.c_syntax.specs.Plain.{plain_expr, plain_exprs};
 ghost use Rattle.lower_relation.specs.Room.{expr_room, exprs_room};
 ghost use Rattle.lower_nodes.specs.Made.{Made};
 ghost use Rattle.lower_nodes.specs.Parts.{place_part};
-ghost use Rattle.lower_expressions.specs.Spots.{is_nowhere};
+ghost use Rattle.lower_operators.specs.Spots.{is_nowhere};
 ghost use Rattle.lower_facts.specs.Facts.{facts_in, sites_in};
 
 use crate::expressions::emit_value;

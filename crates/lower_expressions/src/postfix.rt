@@ -7,19 +7,20 @@ ghost use Rattle.lower_relation.specs.Operators.{Spot};
 ghost use Rattle.lower_relation.specs.Room.{expr_room, postfix_room};
 ghost use Rattle.lower_nodes.specs.Made.{Made, MadeFor};
 ghost use Rattle.lower_nodes.specs.Parts.{place_part, serving};
-ghost use Rattle.lower_expressions.specs.Spots.{first_part, spots_part};
+ghost use Rattle.lower_operators.specs.Spots.{first_part, spots_part};
 ghost use Rattle.lower_facts.specs.Facts.{facts_in, sites_in};
 
 use crate::expressions::emit_value;
 use crate::places::emit_place;
-use crate::spots::{is_used, place_before, put_settled, put_stepped_place, type_behind};
-use crate::voids::is_taken;
 use c_meaning::{ValueType, operation_of};
 use c_syntax::{Expr, PostfixOperator};
 use cbi_base::{Binary, Memory};
 use lower_facts::TreeFacts;
 use lower_nodes::{
     Graph, Purpose, put_member, put_operation, put_stuck, put_taken, put_taken_place,
+};
+use lower_operators::{
+    is_taken, is_used, place_before, put_settled, put_stepped_place, type_behind,
 };
 use lower_trees::{ends_as_place, is_place, postfix_token, token_of};
 

@@ -1,70 +1,24 @@
 ghost use Rattle.std.specs.Prelude.{◌≡◌, IfOk, true, length, ◌≤◌, ◌+◌};
 ghost use Rattle.c_syntax.specs.ExprTree as e;
 ghost use Rattle.c_syntax.specs.Plain.{plain_expr, plain_links};
-ghost use Rattle.c_meaning.specs.Trees.{joint};
 ghost use Rattle.lower_relation.specs.Expressions.{emitted};
 ghost use Rattle.lower_relation.specs.Values.{NullTruth};
 ghost use Rattle.lower_relation.specs.Room.{expr_room};
 ghost use Rattle.lower_nodes.specs.Made.{MadeWays};
 ghost use Rattle.lower_nodes.specs.Parts.{truth_part};
 ghost use Rattle.lower_nodes.specs.Purposes.{ways};
-ghost use Rattle.lower_expressions.specs.Forking.{all_fork, forks_at, no_before, yes_before};
+ghost use Rattle.lower_operators.specs.Forking.{all_fork};
 ghost use Rattle.lower_facts.specs.Facts.{facts_in, sites_in};
 
 use crate::expressions::emit;
-use crate::links::{begins_null, type_before};
-use c_syntax::{Expr, Link, Sign};
+use c_syntax::{Expr, Link};
 use c_types_expressions::binary_of;
 use cbi_base::Memory;
 use flow::Node;
 use lower_facts::TreeFacts;
 use lower_nodes::{Graph, Purpose};
-use lower_trees::{Joint, is_null_beside, joint_by, operand_type};
-
-/// Whether the operator needs no value of its left side: it is `&&` or `||`, without a site.
-fn forks_at(facts: &TreeFacts, link: &Link) -> bool
-    ensures { result ≡ forks_at ((sites_in facts.now).branch_at link.now.token) (joint link.now.sign) }
-{
-    if facts.branch_at(link.token).is_some() {
-        return false;
-    }
-    match joint_by(link.sign) {
-        Joint::Both | Joint::Either => true,
-        Joint::Computes { .. } | Joint::Unjoined => false,
-    }
-}
-
-/// Whether that holds of all the operators.
-pub fn all_fork(facts: &TreeFacts, links: &[Link]) -> bool
-    ensures { result ≡ all_fork (sites_in facts.now) links.now }
-{
-    for link in links {
-        if !forks_at(facts, link) {
-            return false;
-        }
-    }
-    true
-}
-
-/// Where a left side that is true goes on.
-fn yes_before(sign: Sign, right: u32, next: u32) -> u32
-    ensures { result ≡ yes_before (joint sign) right next }
-{
-    match joint_by(sign) {
-        Joint::Both => right,
-        _ => next,
-    }
-}
-
-/// Where one that is false goes on.
-fn no_before(sign: Sign, right: u32, next: u32) -> u32
-    ensures { result ≡ no_before (joint sign) right next }
-{
-    match joint_by(sign) {
-        Joint::Both => next,
-        _ => right,
-    }
-}
+use lower_operators::{begins_null, no_before, type_before, yes_before};
+use lower_trees::{is_null_beside, operand_type};
 
 /// The truth of an operand, or of a null pointer in its place.
 #[cycle(emission)]

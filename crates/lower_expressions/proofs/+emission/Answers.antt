@@ -25,7 +25,7 @@ use Rattle.lower_expressions.proofs.Postfixing.{behind_none, behind_step, behind
 use Rattle.lower_expressions.proofs.Rooms.{exprs_all, exprs_more, links_all, links_more, passed_room, postfix_all, postfix_more, wider}
 use Rattle.lower_expressions.proofs.Spotting.{postfix_place, postfix_value}
 use Rattle.lower_expressions.proofs.Turning.{turned_made, value_stuck_made, valued_else}
-use Rattle.lower_expressions.specs.Taken.{wanted_types}
+use Rattle.lower_operators.specs.Taken.{wanted_types}
 use Rattle.lower_expressions.specs.Weights.{exprs_weight, links_weight, postfix_weight, weight}
 use Rattle.std.proofs.Common.{ap, arith, drop, length, refl, rules, sym, ◌+◌, ◌-◌, ◌<◌, ◌∙◌, ◌≡◌, ◌≤◌}
 use Rattle.lower_facts.specs.Facts.{facts_in, sites_in}

@@ -5,9 +5,9 @@ use Rattle.lower_nodes.specs.Purposes.{Serves, ways}
 use Rattle.lower_relation.specs.Expressions.{ArgumentsDo, Behind, LastDoes, LinksDo}
 use Rattle.lower_relation.specs.Room.{exprs_room, links_room, postfix_room}
 use Rattle.lower_expressions.proofs.Forked.{Leads}
-use Rattle.lower_expressions.specs.Linking.{type_before}
-use Rattle.lower_expressions.specs.Spots.{place_before, type_behind}
-use Rattle.lower_expressions.specs.Taken.{wanted_types}
+use Rattle.lower_operators.specs.Linking.{type_before}
+use Rattle.lower_operators.specs.Spots.{place_before, type_behind}
+use Rattle.lower_operators.specs.Taken.{wanted_types}
 use Rattle.lower_expressions.specs.Weights.{exprs_weight, links_weight, postfix_weight, weight}
 use Rattle.std.proofs.Common.{drop, length, ◌+◌, ◌<◌, ◌≤◌}
 use Rattle.lower_facts.specs.Facts.{facts_in, sites_in}

@@ -1,0 +1,105 @@
+-- What becomes of what calls give.
+use Rattle.std.proofs.Common.{◌≡◌, ℕ, subst, refl, List, Option, Some, None, Bool, true, false}
+use Rattle.c_rules.specs.declared.library.Library.{Library}
+use Rattle.c_rules.specs.declared.library.Library.TheVariants as library
+use Rattle.flow.specs.declared.node.Node.{Node}
+use Rattle.c_meaning.specs.declared.value_type.Called.{Called}
+use Rattle.c_meaning.specs.declared.value_type.Called.TheVariants as called
+use Rattle.c_meaning.specs.Facts.{Facts, Signature, Sites}
+use Rattle.c_meaning.specs.Trees.{has_value}
+use Rattle.c_meaning.specs.Visits.{listed}
+use Rattle.lower_relation.specs.Calls.{Argument, Arguments, CallDoes, CallFunction, CallLibrary, WithResult}
+use Rattle.lower_relation.specs.Paths.{Graph, Path, ◌then◌, MarksAll, Stuck}
+use Rattle.lower_operators.specs.Giving.{CalledDoes, FunctionDoes, Given, GivenTakes, LibraryDoes, function_gives, giving_of, is_refused, library_gives, result_gives}
+use Rattle.lower_nodes.specs.Made.{Made, MadeAlone, MadeFor, Part}
+use Rattle.lower_nodes.specs.Purposes.{Serves, Takes}
+use Rattle.lower_operators.specs.declared.giving.Giving.{Giving}
+use Rattle.lower_operators.specs.declared.giving.Giving.TheVariants as giving
+use Rattle.lower_nodes.specs.declared.purpose.Purpose.{Purpose}
+use Rattle.lower_nodes.specs.declared.purpose.Purpose.TheVariants as purpose
+use Rattle.lower_nodes.proofs.Building.{carried, later_self, stays_put, then_made}
+
+module _ (facts : Facts) (sites : Sites) (token : ℕ) where
+  pub given_value : (p : Purpose) (n0 n1 : List Node) (i : ℕ) → MadeFor (λ G. Takes G) n0 n1 i p →
+      MadeFor (λ G. GivenTakes G facts sites token giving.Value) n0 n1 i p
+  given_value p n0 n1 i made = carried (λ G. Takes G) (λ G. GivenTakes G facts sites token giving.Value) p p (λ G i h. h) (λ n b. b) n0 n1 i made
+
+  pub given_returned : (site : Option ℕ) (p : Purpose) (n0 n1 n2 : List Node) (after i : ℕ) → site ≡ sites.return_at token →
+      MadeFor (λ G. Takes G) n0 n1 after p →
+      Made (λ G. MarksAll G (listed site)) n1 n2 i after → MadeFor (λ G. GivenTakes G facts sites token giving.Returned) n0 n2 i p
+  given_returned site p n0 n1 n2 after i e taken marked =
+      carried (λ G. MarksAll G (listed (sites.return_at token)) then Takes G) (λ G. GivenTakes G facts sites token giving.Returned) p p
+      (λ G i h. h) (λ n b. b) n0 n2 i
+      (then_made (λ G. MarksAll G (listed (sites.return_at token))) (λ G. Takes G) n0 n1 n2 i after p taken
+      (subst (λ s. Made (λ G. MarksAll G (listed s)) n1 n2 i after) e marked))
+
+  pub given_nothing : (n : List Node) (next : ℕ) → MadeFor (λ G. GivenTakes G facts sites token giving.Nothing) n n next (purpose.Effect next)
+  given_nothing n next = record { does = λ fin l. refl; keeps = later_self 0 n; leads = λ below. stays_put n next below }
+
+  pub stuck_value : (n0 n1 : List Node) (i k next : ℕ) → MadeAlone (λ G. Stuck G) n0 n1 i k →
+      MadeFor (λ G. GivenTakes G facts sites token giving.Nothing) n0 n1 i (purpose.Value next)
+  stuck_value n0 n1 i k next made =
+      carried (λ G. Stuck G) (λ G. GivenTakes G facts sites token giving.Nothing) k (purpose.Value next) (λ G i h. h) (λ n b. tt) n0 n1 i made
+
+  pub stuck_truth : (n0 n1 : List Node) (i k yes_at no_at : ℕ) → MadeAlone (λ G. Stuck G) n0 n1 i k →
+      MadeFor (λ G. GivenTakes G facts sites token giving.Nothing) n0 n1 i (purpose.Truth yes_at no_at)
+  stuck_truth n0 n1 i k yes_at no_at made =
+      carried (λ G. Stuck G) (λ G. GivenTakes G facts sites token giving.Nothing) k (purpose.Truth yes_at no_at) (λ G i h. h) (λ n b. tt) n0 n1 i made
+
+  given_serves : (G : Graph) (g : Giving) (R : Path ℕ) (p : Purpose) (i : ℕ) → is_refused g p ≡ false → (R then GivenTakes G facts sites token g) i p →
+      Serves (Given G facts sites token g R) i p
+  given_serves G giving.Value R (purpose.Value next) i e h = subst (λ k. R i k) h.2 h.1
+  given_serves G giving.Value R (purpose.Effect next) i e h = h
+  given_serves G giving.Value R (purpose.Truth yes_at no_at) i e h = h
+  given_serves G giving.Returned R (purpose.Value next) i e h =
+      (h.0, h.1, subst (λ k. MarksAll G (listed (sites.return_at token)) h.0 k) h.2.2 h.2.1)
+  given_serves G giving.Returned R (purpose.Effect next) i e h = (h.2.0, (h.0, h.1, h.2.1), h.2.2)
+  given_serves G giving.Returned R (purpose.Truth yes_at no_at) i e h = (h.2.0, (h.0, h.1, h.2.1), h.2.2)
+  given_serves G giving.Nothing R (purpose.Value next) i e h = cc
+  given_serves G giving.Nothing R (purpose.Effect next) i e h = subst (λ k. R i k) h.2 h.1
+  given_serves G giving.Nothing R (purpose.Truth yes_at no_at) i e h = cc
+
+  pub given_made : (g : Giving) (R : Part ℕ) (p : Purpose) (n0 n1 n2 : List Node) (after i : ℕ) → is_refused g p ≡ false →
+      MadeFor (λ G. GivenTakes G facts sites token g) n0 n1 after p → Made R n1 n2 i after → MadeFor (λ G. Serves (Given G facts sites token g (R G))) n0 n2 i p
+  given_made g R p n0 n1 n2 after i e taken made =
+      carried (λ G. R G then GivenTakes G facts sites token g) (λ G. Serves (Given G facts sites token g (R G))) p p (λ G i h. given_serves G g
+      (R G) p i e h) (λ n b. b) n0 n2 i
+      (then_made R (λ G. GivenTakes G facts sites token g) n0 n1 n2 i after p taken made)
+
+  pub refused_serves : (G : Graph) (g : Giving) (R : Path ℕ) (p : Purpose) (i k : ℕ) → is_refused g p ≡ true → Stuck G i k →
+      Serves (Given G facts sites token g R) i p
+  refused_serves G giving.Value R p i k e h = cc
+  refused_serves G giving.Returned R p i k e h = cc
+  refused_serves G giving.Nothing R (purpose.Value next) i k e h = h
+  refused_serves G giving.Nothing R (purpose.Effect next) i k e h = cc
+  refused_serves G giving.Nothing R (purpose.Truth yes_at no_at) i k e h = h
+
+  result_is : (G : Graph) (b : Bool) (R : Path ℕ) → Given G facts sites token (result_gives b) R ≡ WithResult G facts sites token b R
+  result_is G true R = refl
+  result_is G false R = refl
+
+  function_is : (G : Graph) (number : ℕ) (s : Option Signature) (n : ℕ) (arguments : Arguments) →
+      Given G facts sites token (function_gives s) (FunctionDoes G number s n arguments) ≡ CallFunction G facts sites token number s n arguments
+  function_is G number None n arguments = refl
+  function_is G number (Some f) n arguments = result_is G (has_value f.result) (FunctionDoes G number (Some f) n arguments)
+
+  library_is : (G : Graph) (f : Library) (n : ℕ) (argument : Argument) (print : Path ℕ) →
+      Given G facts sites token (library_gives f) (LibraryDoes G f n argument print) ≡ CallLibrary G facts sites token f n argument print
+  library_is G library.Getchar n argument print = refl
+  library_is G library.Putchar n argument print = refl
+  library_is G library.Puts n argument print = refl
+  library_is G library.Malloc n argument print = refl
+  library_is G library.Free n argument print = refl
+  library_is G library.Exit n argument print = refl
+  library_is G library.Abort n argument print = refl
+  library_is G library.Assert n argument print = refl
+  library_is G library.Printf n argument print = refl
+
+  pub call_is : (G : Graph) (c : Called) (n : ℕ) (arguments : Arguments) (argument : Argument) (print : Path ℕ) →
+      Given G facts sites token (giving_of facts c) (CalledDoes G facts c n arguments argument print) ≡ CallDoes G facts sites token c n arguments
+      argument print
+  call_is G (called.Function number) n arguments argument print = function_is G number (facts.signature number) n arguments
+  call_is G (called.Library f) n arguments argument print = library_is G f n argument print
+  call_is G called.Unknown n arguments argument print = refl
+
+pub ruleset gives_made = (given_value, given_returned, given_nothing, stuck_value, stuck_truth)

@@ -1,0 +1,4 @@
+pub mod Acting
+pub mod Handing
+pub mod Linked
+pub mod Spotted

@@ -1,0 +1,10 @@
+use Rattle.c_syntax.specs.Plain.{plain_exprs}
+use Rattle.lower_facts.specs.Facts.{facts_in}
+use Rattle.lower_operators.proofs.Acting.{call_acted}
+use Rattle.lower_operators.proofs.library.put_acts.Goals as goal
+
+pub returns-in_ok-i-in-Library-clause-made : goal.returns-in_ok-i-in-Library-clause-made
+returns-in_ok-i-in-Library-clause-made c =
+    rw (c.in-Library.is) (call_acted (facts_in c.args.facts.now)
+    (plain_exprs c.args.arguments.now) c.in-Library.function _ _ _ _ _ _ _ c.number_of_first-number.ensures
+    c.others.ensures c.count-values.ensures c.in_ok-i-in-Library.ensures.made)
