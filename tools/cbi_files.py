@@ -1,0 +1,341 @@
+"""What cbi-hunt, cbi-show and cbi-explain share: the files of `cbi`, and how a script ends.
+
+Not proved: no promise of `cbi` speaks of these scripts. They read the files that `cbi` writes by their
+forms (docs/FORMATS.md), and call `cbi` for everything that is promised.
+"""
+import csv
+import hashlib
+import re
+import signal
+import sys
+from typing import Dict, Iterator, List, NamedTuple, Optional, Tuple
+
+NOT_PROVED = "This script is not proved; the executable cbi, which it stands beside, is."
+
+# Statuses of the scripts, as `grep` has them: found, nothing found, trouble.
+FOUND, NOTHING, TROUBLE = 0, 1, 2
+INTERRUPTED = 130
+
+RANKING_COLUMNS = ("rank,predicate,scheme,function,line,text,f,s,fobs,sobs,"
+                   "failure,context,increase,importance").split(",")
+STUDY_LINE = re.compile(r"study runs (\d+) failed (\d+) ended (\d+) cut (\d+) fast (\d+) slow (\d+) tests (\d+)")
+
+TRAPS = {
+    1: ("Overflow", "a signed result is out of range"),
+    2: ("Divide", "a divisor is zero"),
+    3: ("Shift", "a shift isn't defined: its count is below 0 or above 31, or an int is shifted left that is "
+                 "negative or becomes too great"),
+    4: ("Undefined", "a value is used that nothing was stored to"),
+    5: ("WrongKind", "a cell is read as another type than the one that was stored there"),
+    6: ("Bounds", "a pointer or an index goes past the ends of its object"),
+    7: ("Dead", "an object is used after free, or after its function returned"),
+    8: ("NullUse", "a null pointer is used"),
+    9: ("ReadOnly", "a string constant is written to"),
+    10: ("BadFree", "free is given what isn't the start of a live object of malloc"),
+    11: ("Unrelated", "pointers into two objects are compared or subtracted"),
+    12: ("StackOverflow", "more than 512 calls are active, or there is no room for a function's variables"),
+    13: ("Assertion", "an assert is false"),
+    14: ("Abort", "abort was called"),
+    99: ("Internal", "the program file isn't one that cbi compiled"),
+}
+
+# The six relations of a returned value or a pair, with the counters (less, equal, greater) that each sums up.
+RELATIONS = (("<", (0,)), ("<=", (0, 1)), (">", (2,)), (">=", (1, 2)), ("==", (1,)), ("!=", (0, 2)))
+BRANCH_TRUTHS = (("true", (0,)), ("false", (1,)))
+
+
+class Fault(Exception):
+    """Something that the user gave is wrong: it is told as one line, and the status is 2."""
+
+
+def call_main(name, main) -> None:
+    """Ends the process with the status of `main`; faults become a line, and a closed pipe ends quietly."""
+    if hasattr(signal, "SIGPIPE"):
+        signal.signal(signal.SIGPIPE, signal.SIG_DFL)
+    for stream in (sys.stdout, sys.stderr):
+        if hasattr(stream, "reconfigure"):
+            stream.reconfigure(errors="backslashreplace")
+    try:
+        status = main()
+        sys.stdout.flush()
+    except Fault as fault:
+        print(f"{name}: {fault}", file=sys.stderr)
+        status = TROUBLE
+    except KeyboardInterrupt:
+        print(f"{name}: interrupted", file=sys.stderr)
+        status = INTERRUPTED
+    except OSError as error:
+        print(f"{name}: {error.filename + ': ' if error.filename else ''}{error.strerror}", file=sys.stderr)
+        status = TROUBLE
+    sys.exit(status)
+
+
+def read_bytes(name: str) -> bytes:
+    """The bytes of a file; `-` is standard input."""
+    try:
+        if name == "-":
+            return sys.stdin.buffer.read()
+        with open(name, "rb") as file:
+            return file.read()
+    except OSError as error:
+        raise Fault(f"{name}: {error.strerror}")
+
+
+def decoded(data: bytes) -> str:
+    """A text in UTF-8, or where it is none with a character for each byte, so that no byte is lost."""
+    try:
+        return data.decode("utf-8-sig")
+    except UnicodeDecodeError:
+        return data.decode("latin-1")
+
+
+def read_source(name: str) -> List[str]:
+    """The lines of a C text, as `cbi` counts them: by newline bytes alone."""
+    return [line.rstrip("\r") for line in decoded(read_bytes(name)).split("\n")]
+
+
+def count_of(number: int, what: str, many: Optional[str] = None) -> str:
+    """`1 run`, `2 runs`, `no runs`."""
+    word = what if number == 1 else many or what + "s"
+    return f"{number if number else 'no'} {word}"
+
+
+def share(millionths: int) -> str:
+    """A share in per cent, rounded, but never to 0 or to 100 where it is neither."""
+    if 0 < millionths < 10000:
+        return "under 1 %"
+    if 990000 < millionths < 1000000:
+        return "over 99 %"
+    return f"{(millionths + 5000) // 10000} %"
+
+
+# Rankings
+
+class Row(NamedTuple):
+    """A line of a ranking: a predicate, in how many runs it was true and its site observed, and four shares in millionths."""
+    rank: int
+    predicate: int
+    scheme: str
+    function: str
+    line: int
+    text: str
+    f: int
+    s: int
+    fobs: int
+    sobs: int
+    failure: int
+    context: int
+    increase: int
+    importance: int
+
+
+class Study(NamedTuple):
+    """The last line of a study."""
+    runs: int
+    failed: int
+    ended: int
+    cut: int
+    fast: int
+    slow: int
+    tests: int
+
+
+class Ranking(NamedTuple):
+    rows: List[Row]
+    study: Optional[Study]
+
+
+def read_ranking(name: str) -> Ranking:
+    """A ranking as `cbi rank` writes it, or as `cbi study` does, with its last line."""
+    lines = [line.rstrip("\r") for line in decoded(read_bytes(name)).split("\n")]
+    if lines[0].split(",") != RANKING_COLUMNS:
+        raise Fault(f"{name}: no ranking: its first line isn't the header that cbi rank and cbi study write")
+    rows, study = [], None
+    for number, line in enumerate(lines[1:], 2):
+        found = STUDY_LINE.fullmatch(line)
+        if found:
+            study = Study(*map(int, found.groups()))
+        elif line:
+            rows.append(ranking_row(name, number, line))
+    return Ranking(rows, study)
+
+
+def ranking_row(name: str, number: int, line: str) -> Row:
+    fields = next(csv.reader([line]))
+    try:
+        kinds = Row.__annotations__.values()
+        if len(fields) != len(RANKING_COLUMNS):
+            raise ValueError
+        return Row(*[kind(field) for kind, field in zip(kinds, fields)])
+    except ValueError:
+        raise Fault(f"{name}: no ranking: line {number} has not the form of a row")
+
+
+# Programs
+
+class Site(NamedTuple):
+    """A line `site ..` of a program file, with what `cbi rank` says of it: `names` are what it speaks of."""
+    number: int
+    scheme: str
+    function: str
+    line: int
+    token: int
+    names: Tuple[str, ...]
+    constant: bool
+
+    def predicates(self) -> List[Tuple[str, Tuple[int, ...]]]:
+        """The texts of its predicates in their order, each with the counters that it sums up."""
+        if self.scheme == "branches":
+            return [(f"{self.names[0]} is {truth}", counters) for truth, counters in BRANCH_TRUTHS]
+        other = self.names[1] if self.scheme == "pairs" else "0"
+        return [(f"{self.names[0]} {relation} {other}", counters) for relation, counters in RELATIONS]
+
+
+class Program(NamedTuple):
+    identity: str
+    functions: List[str]
+    sites: List[Site]
+
+    def numbered(self) -> Dict[int, Tuple[Site, str, Tuple[int, ...]]]:
+        """Each predicate by its number: its site, its text and the counters that it sums up."""
+        every = [(site, *predicate) for site in self.sites for predicate in site.predicates()]
+        return dict(enumerate(every))
+
+
+def read_program(name: str) -> Program:
+    """The functions and the sites of a program file; its nodes aren't looked at."""
+    data = read_bytes(name)
+    lines = iter(enumerate(data.decode("latin-1").split("\n"), 1))
+    if next(lines)[1] != "cbi-program 1":
+        raise Fault(f"{name}: no program file: it doesn't begin with cbi-program 1 (cbi transform makes one of a C text)")
+    try:
+        counted_lines(lines, "texts")
+        counted_lines(lines, "globals")
+        functions = [line.split(" ")[1] for line in counted_lines(lines, "functions")]
+        next(lines)
+        sites = [site_of(number, line.split(" "), functions) for number, line in enumerate(counted_lines(lines, "sites"))]
+    except (StopIteration, ValueError, IndexError, KeyError):
+        raise Fault(f"{name}: a damaged program file")
+    return Program(hashlib.sha256(data).hexdigest(), functions, sites)
+
+
+def counted_lines(lines: Iterator[Tuple[int, str]], word: str) -> List[str]:
+    """The lines behind a line `WORD N`, of which there are N."""
+    said, count = next(lines)[1].split(" ")
+    if said != word:
+        raise ValueError
+    return [next(lines)[1] for _ in range(int(count))]
+
+
+def site_of(number: int, words: List[str], functions: List[str]) -> Site:
+    """The site of a line: `site pair F LINE TOKEN NAME SLOT PARTNER PSLOT`, or `return` or `branch` with a word."""
+    kind, function, line, token, name = words[1:6]
+    scheme = {"branch": "branches", "return": "returns", "pair": "pairs"}[kind]
+    names = (name, words[7]) if kind == "pair" else (name,)
+    constant = kind == "pair" and words[8] == "k"
+    return Site(number, scheme, functions[int(function)], int(line), int(token), names, constant)
+
+
+# Reports and collections
+
+class Run(NamedTuple):
+    """What a report says: `sites` are the numbers of its sites, each with its three counters."""
+    number: int
+    outcome: str
+    label: str
+    sites: Dict[int, Tuple[int, int, int]]
+
+
+def label_by(outcome: str) -> str:
+    """The label of a report of the first version, which has none."""
+    return {"trapped": "fail", "ended": "pass"}.get(outcome.split(" ")[0], "none")
+
+
+class Report(NamedTuple):
+    program: str
+    run: Run
+    work: Tuple[int, ...]
+
+
+def parse_report(name: str, text: str) -> Report:
+    fields, sites = {}, {}
+    try:
+        for line in text.split("\n")[1:]:
+            word, _, rest = line.rstrip("\r").partition(" ")
+            if word == "end":
+                break
+            if word == "site":
+                number, *counters = map(int, rest.split(" "))
+                sites[number] = tuple(counters)
+            else:
+                fields[word] = rest
+        run = Run(int(fields["run"]), fields["outcome"], fields.get("label", label_by(fields["outcome"])), sites)
+        return Report(fields["program"], run, tuple(map(int, fields["work"].split(" "))))
+    except (KeyError, ValueError):
+        raise Fault(f"{name}: a damaged report")
+
+
+RUN_LINE = re.compile(r"run (\d+) (ended -?\d+|trapped \d+|cut turns|cut output)(?: label (fail|pass|none))? work \d+ \d+ \d+")
+
+
+def read_collection(name: str) -> Iterator[Run]:
+    """The runs of a collection, one after another, so that a large one needs no room."""
+    try:
+        with open(name, encoding="latin-1", newline="\n") as file:
+            yield from runs_of(name, file)
+    except OSError as error:
+        raise Fault(f"{name}: {error.strerror}")
+
+
+def runs_of(name: str, file) -> Iterator[Run]:
+    if not file.readline().startswith("cbi-collection "):
+        raise Fault(f"{name}: no collection: it doesn't begin with cbi-collection (cbi collect makes one of reports)")
+    run = None
+    for number, line in enumerate(file, 2):
+        if line.startswith("site ") and run is not None:
+            _, site, first, second, third = line.split(" ")
+            run.sites[int(site)] = (int(first), int(second), int(third))
+            continue
+        if run is not None:
+            yield run
+        found = RUN_LINE.fullmatch(line.rstrip("\n"))
+        if found:
+            run = Run(int(found[1]), found[2], found[3] or label_by(found[2]), {})
+        elif line == "end\n":
+            return
+        elif number > 2:
+            raise Fault(f"{name}: a damaged collection: line {number} has not the form of a run")
+    raise Fault(f"{name}: a damaged collection: it has no end")
+
+
+# Cards
+
+class Card(NamedTuple):
+    """What a card says of a predicate: in how many runs it was true, the first failing one, and what falls with it."""
+    predicate: int
+    failing: int
+    successful: int
+    first: int
+    near: List[Tuple[int, int, str]]
+
+
+def read_cards(name: str) -> Dict[int, Card]:
+    """The cards by predicate: `card K P FUNCTION LINE TEXT`, `truth A B first R`, `near Q FALL TEXT`, and `end`."""
+    cards, card = {}, None
+    lines = [line.rstrip("\r") for line in decoded(read_bytes(name)).split("\n")]
+    for number, line in enumerate(lines, 1):
+        if line == "end":
+            return cards
+        word, *rest = line.split(" ")
+        try:
+            if word == "card":
+                card = int(rest[1])
+            elif word == "truth" and rest[2] == "first":
+                cards[card] = Card(card, int(rest[0]), int(rest[1]), int(rest[3]), [])
+            elif word == "near":
+                cards[card].near.append((int(rest[0]), int(rest[1]), " ".join(rest[2:])))
+            else:
+                raise ValueError
+        except (ValueError, IndexError, KeyError):
+            raise Fault(f"{name}: no cards: line {number} has not the form of one")
+    raise Fault(f"{name}: no cards: there is no line end")

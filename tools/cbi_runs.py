@@ -1,0 +1,162 @@
+"""The runs of a hunt: their plan, and batches of them made by calls of `cbi`. Not proved.
+
+A run's number says everything about it: its input, and the seed's stream for its bank. So a batch is the same
+wherever and whenever it is made, which is what lets a hunt go on where it stopped, and lets hosts share it.
+"""
+import json
+import os
+import shutil
+import subprocess
+import tempfile
+import zipfile
+from typing import Callable, List, NamedTuple, Optional, Tuple
+
+from cbi_files import Fault
+
+# How many numbers a run's bank has. It is drawn round and round.
+BANK_NUMBERS = 256
+# What an oracle answers: 0 is right, 125 is `I can't tell`, as for `git bisect run`, and up to 124 is wrong.
+ORACLE_UNKNOWN = 125
+
+
+class Plan(NamedTuple):
+    """What a run is made with, whatever its number."""
+    cbi: str
+    program: str
+    rate: int
+    seed: int
+    turns: int
+    oracle: Optional[List[str]]
+    names: List[str]
+    inputs: List[str]
+    expected: Optional[List[str]]
+
+    def input_of(self, run: int) -> int:
+        """The place of a run's input: the inputs in turn, again and again."""
+        return (run - 1) % len(self.inputs)
+
+
+class Batch(NamedTuple):
+    first: int
+    last: int
+
+    def name(self) -> str:
+        return f"{self.first}-{self.last}"
+
+
+def call(words: List[str], out=subprocess.DEVNULL) -> None:
+    """Calls `cbi`; what it refuses is a fault, in its own words."""
+    done = subprocess.run(words, stdin=subprocess.DEVNULL, stdout=out, stderr=subprocess.PIPE, close_fds=False, check=False)
+    if done.returncode:
+        said = done.stderr.decode(errors="replace").strip() or f"status {done.returncode}"
+        raise Fault(f"{os.path.basename(words[0])} {words[1]}: {said}")
+
+
+def call_to(path: str, words: List[str]) -> None:
+    """As `call`, with the output in a file that is there whole or not at all."""
+    with open(path + ".part", "wb") as out:
+        call(words, out)
+    os.replace(path + ".part", path)
+
+
+class Runner:
+    """Makes runs in a scratch folder of its own. `stopped` is asked between runs."""
+
+    def __init__(self, plan: Plan, folder: str, stopped: Callable[[], bool]):
+        self.plan = plan
+        self.folder = folder
+        self.stopped = stopped
+        self.bank, self.output = os.path.join(folder, "bank"), os.path.join(folder, "output")
+        self.judged = {}
+
+    def make(self, run: int) -> str:
+        """Makes a run; answers the name of its report."""
+        plan, place = self.plan, self.plan.input_of(run)
+        report = os.path.join(self.folder, f"report{run}")
+        with open(self.bank, "wb") as out:
+            call([plan.cbi, "bank", f"--rate={plan.rate}", f"--count={BANK_NUMBERS}", f"--seed={plan.seed}", f"--stream={run}"], out)
+        words = [plan.cbi, "run", f"--bank={self.bank}", f"--input={plan.inputs[place]}", f"--turns={plan.turns}", f"--run={run}", f"--report={report}"]
+        if plan.expected:
+            words.append(f"--expect={plan.expected[place]}")
+        words += ["--", plan.program]
+        if not plan.oracle:
+            call(words)
+            return report
+        with open(self.output, "wb") as out:
+            call(words, out)
+        self.label(report, place)
+        return report
+
+    def label(self, report: str, place: int) -> None:
+        """Puts the oracle's answer into the report of a run that ended. A sampled run writes what every run on its
+        input writes, so an input is judged once."""
+        with open(report, encoding="ascii") as file:
+            text = file.read()
+        if "\noutcome ended " not in text:
+            return
+        if place not in self.judged:
+            self.judged[place] = self.judge(self.plan.inputs[place])
+        with open(report, "w", encoding="ascii", newline="\n") as file:
+            file.write(text.replace("\nlabel pass\n", f"\nlabel {self.judged[place]}\n"))
+
+    def judge(self, name: str) -> str:
+        words = self.plan.oracle + [name, self.output]
+        try:
+            status = subprocess.run(words, stdin=subprocess.DEVNULL, stdout=subprocess.DEVNULL, stderr=subprocess.DEVNULL, check=False).returncode
+        except OSError as error:
+            raise Fault(f"the oracle {words[0]} doesn't start: {error.strerror}")
+        if not 0 <= status <= ORACLE_UNKNOWN:
+            raise Fault(f"the oracle {words[0]} ended with status {status} on {name}: 0 says right, 1 to 124 wrong, and 125 neither")
+        return "pass" if status == 0 else "none" if status == ORACLE_UNKNOWN else "fail"
+
+    def make_batch(self, batch: Batch, target: Callable[[Batch], str]) -> Optional[Batch]:
+        """Makes the runs of a batch until it is stopped, and collects their reports in the file that `target` names."""
+        reports = []
+        for run in range(batch.first, batch.last + 1):
+            if self.stopped():
+                break
+            reports.append(self.make(run))
+        if not reports:
+            return None
+        made = Batch(batch.first, batch.first + len(reports) - 1)
+        call_to(target(made), [self.plan.cbi, "collect", f"--program={self.plan.program}", "--"] + reports)
+        for report in reports:
+            os.remove(report)
+        return made
+
+
+# Batches that are sent to other hosts
+
+def pack(plan: Plan, batch: Batch, path: str) -> None:
+    """Writes all that a batch needs into one file: the plan, the program, and its inputs under their places."""
+    places = sorted({plan.input_of(run) for run in range(batch.first, batch.last + 1)})
+    about = {"cbi": plan.cbi, "rate": plan.rate, "seed": plan.seed, "turns": plan.turns, "oracle": plan.oracle,
+             "count": len(plan.inputs), "expected": bool(plan.expected), "first": batch.first, "last": batch.last}
+    with zipfile.ZipFile(path + ".part", "w", zipfile.ZIP_DEFLATED) as packed:
+        packed.writestr("plan.json", json.dumps(about))
+        packed.write(plan.program, "program")
+        for place in places:
+            packed.write(plan.inputs[place], f"input{place}")
+            if plan.expected:
+                packed.write(plan.expected[place], f"expected{place}")
+    os.replace(path + ".part", path)
+
+
+def unpack(path: str, folder: str) -> Tuple[Plan, Batch]:
+    with zipfile.ZipFile(path) as packed:
+        packed.extractall(folder)
+        about = json.loads(packed.read("plan.json").decode())
+    inputs = [os.path.join(folder, f"input{place}") for place in range(about["count"])]
+    expected = [os.path.join(folder, f"expected{place}") for place in range(about["count"])] if about["expected"] else None
+    cbi = shutil.which(about["cbi"])
+    if cbi is None:
+        raise Fault(f"{about['cbi']} isn't on the path of this host")
+    plan = Plan(cbi, os.path.join(folder, "program"), about["rate"], about["seed"], about["turns"], about["oracle"], inputs, inputs, expected)
+    return plan, Batch(about["first"], about["last"])
+
+
+def make_packed(path: str) -> None:
+    """Makes the batch of a packed file, on whatever host this is; its collection stands beside it, as PATH.runs."""
+    with tempfile.TemporaryDirectory(prefix="cbi-hunt-") as folder:
+        plan, batch = unpack(path, folder)
+        Runner(plan, folder, lambda: False).make_batch(batch, lambda made: path + ".runs")
