@@ -1,0 +1,649 @@
+"""Looks at the scripts of tools/ as processes. What they should write stands here, or in the documents.
+
+usage: look_at_tools.py CBI
+"""
+import ast
+import html.parser
+import importlib.machinery
+import importlib.util
+import json
+import os
+import pty
+import re
+import shutil
+import signal
+import subprocess
+import sys
+import tempfile
+import time
+import unittest
+
+sys.dont_write_bytecode = True
+TOP = os.path.dirname(os.path.dirname(os.path.abspath(__file__)))
+TOOLS = os.path.join(TOP, "tools")
+EXAMPLES = os.path.join(TOP, "examples")
+sys.path.insert(0, TOOLS)
+import cbi_dialect  # noqa: E402
+import cbi_files  # noqa: E402
+import cbi_rows  # noqa: E402
+
+CBI = ""
+SCRIPTS = ("cbi-hunt", "cbi-show", "cbi-explain")
+HEADER = "rank,predicate,scheme,function,line,text,f,s,fobs,sobs,failure,context,increase,importance\n"
+
+
+def call(*words, given=b"", folder=None, **more):
+    """A call with the executable and the scripts on the path: status, out and err."""
+    environment = dict(os.environ, PATH=os.pathsep.join([os.path.dirname(CBI), TOOLS, os.environ["PATH"]]), LC_ALL="C.UTF-8", PYTHONDONTWRITEBYTECODE="1")
+    done = subprocess.run(words, input=given, stdout=subprocess.PIPE, stderr=subprocess.PIPE, cwd=folder, env=environment, check=False, **more)
+    return done.returncode, done.stdout.decode(), done.stderr.decode()
+
+
+def module_of(name):
+    """A script as a module."""
+    loader = importlib.machinery.SourceFileLoader(name.replace("-", "_"), os.path.join(TOOLS, name))
+    module = importlib.util.module_from_spec(importlib.util.spec_from_loader(loader.name, loader))
+    loader.exec_module(module)
+    return module
+
+
+class Case(unittest.TestCase):
+    """A case with a folder of its own, whose name has a blank."""
+
+    def setUp(self):
+        self.room = tempfile.mkdtemp(prefix="cbi tools ")
+        self.addCleanup(shutil.rmtree, self.room)
+
+    def path(self, *parts):
+        return os.path.join(self.room, *parts)
+
+    def write(self, name, text):
+        os.makedirs(os.path.dirname(self.path(name)), exist_ok=True)
+        with open(self.path(name), "wb") as file:
+            file.write(text if isinstance(text, bytes) else text.encode())
+        return self.path(name)
+
+    def read(self, name):
+        with open(self.path(name), "rb") as file:
+            return file.read()
+
+    def call(self, *words, given=b"", due=0):
+        """A call in the folder, whose status is looked at; out and err."""
+        status, out, err = call(*words, given=given, folder=self.room)
+        self.assertEqual(status, due, f"{words}: {out}{err}")
+        self.assertNotIn("Traceback", err)
+        return out, err
+
+    def transform(self, text, mode="full", schemes="branches,returns,pairs"):
+        """Compiles a text, as the file prog.cbi."""
+        self.write("prog.c", text)
+        out, _ = self.call("cbi", "transform", "--mode", mode, "--schemes", schemes, "prog.c")
+        return self.write("prog.cbi", out)
+
+
+class Scripts(Case):
+    def test_they_run_on_an_old_python(self):
+        for name in os.listdir(TOOLS):
+            if name.startswith("cbi"):
+                with open(os.path.join(TOOLS, name), encoding="utf-8") as file:
+                    ast.parse(file.read(), name, feature_version=(3, 8))
+
+    def test_their_first_page_says_that_they_are_not_proved(self):
+        for script in SCRIPTS:
+            out, _ = self.call(script, "--help")
+            self.assertIn("This script is not proved", out)
+            with open(os.path.join(TOOLS, script), encoding="utf-8") as file:
+                self.assertIn("Not proved.", "".join(file.readlines()[:3]))
+
+    def test_words_that_are_wrong_have_status_2(self):
+        for words in (["cbi-hunt"], ["cbi-show"], ["cbi-show", "a", "b"], ["cbi-hunt", "--rate", "0", "--inputs", "a", "b"], ["cbi-show", "--what"]):
+            _, err = self.call(*words, due=2)
+            self.assertIn("usage: ", err)
+
+    def test_a_closed_pipe_ends_them_quietly(self):
+        environment = dict(os.environ, PATH=f"{TOOLS}:{os.environ['PATH']}")
+        done = subprocess.run(["bash", "-c", "cbi-explain --table | head -n 1"], stdout=subprocess.PIPE, stderr=subprocess.PIPE, env=environment, check=False)
+        self.assertEqual((done.stdout, done.stderr), (b"| Left out | Write in its place |\n", b""))
+
+
+class Explain(Case):
+    def explained(self, text, mode="plain"):
+        """The refusal of a text, and what is said of it."""
+        self.write("prog.c", text)
+        _, said = self.call("cbi", "transform", "--mode", mode, "prog.c", due=5)
+        out, _ = self.call("cbi-explain", "prog.c", given=said.encode())
+        return said, out
+
+    def test_what_is_left_out_is_named_and_what_is_written_in_its_place_is_taken(self):
+        for entry in cbi_dialect.ENTRIES:
+            with self.subTest(entry.name):
+                _, out = self.explained(cbi_dialect.sample(entry.refused))
+                self.assertIn(entry.name, out)
+                self.assertIn(entry.advice, out)
+                self.write("prog.c", cbi_dialect.sample(entry.written))
+                self.call("cbi", "transform", "--mode", "full", "prog.c")
+
+    def test_the_table_stands_in_the_documents(self):
+        out, _ = self.call("cbi-explain", "--table")
+        with open(os.path.join(TOP, "docs", "PORTING.md"), encoding="utf-8") as file:
+            self.assertIn(out, file.read())
+
+    def test_a_line_is_shown_as_it_stands(self):
+        said, out = self.explained('int main(void)\r\n{\r\n    int n;\r\n    scanf("%d", &n);\r\n}\r\n')
+        self.assertEqual(said, "cbi: refusal 15 BadType kind 1 line 4\n")
+        self.assertEqual(out.split("\n")[:3], ["cbi: refusal 15 BadType kind 1 line 4", "", '    4 |     scanf("%d", &n);'])
+
+    def test_each_kind_has_its_rule(self):
+        texts = {1: "int main(void){return x;}", 2: "int x;int x;int main(void){}", 3: "int main(void){int *p;p=p+p;}", 4: "int main(void){1=2;}",
+                 5: "int f(int a){return a;}int main(void){f();}", 6: "void x;int main(void){}", 7: "int a[1]={1,2};int main(void){}",
+                 8: "int main(void){break;}", 9: "int x;", 10: "int f(void);int main(void){f();}"}
+        begins = {1: "A name, a member or a tag isn't known", 2: "The name is declared twice", 3: "The operands don't fit", 4: "This is no place",
+                  5: "The arguments of a call don't fit", 6: "An object of a type that isn't complete", 7: "The initialiser doesn't fit",
+                  8: "A break or continue outside a loop", 9: "There is no definition of `int main(void)`", 10: "This function is called and never defined"}
+        for kind, text in texts.items():
+            said, out = self.explained(text)
+            self.assertEqual(said, f"cbi: refusal 15 BadType kind {kind} line 1\n")
+            self.assertIn(begins[kind], out)
+
+    def test_each_trap_has_its_rule(self):
+        bodies = {1: "return 2147483647+1;", 2: "int z=0;return 1/z;", 3: "int n=32;return 1<<n;", 4: "int x;return x;",
+                  5: "void *p=malloc(1);char *c=p;int *i=p;*c='a';return *i;", 6: "int a[2];int i=2;a[i]=1;", 7: "int *p=malloc(1);free(p);*p=1;",
+                  8: "int *p=NULL;*p=1;", 9: 'char *s="a";*s=\'b\';', 10: "int x;free(&x);", 11: "int a;int b;return &a<&b;", 12: "return main();",
+                  13: "assert(0);", 14: "abort();"}
+        for trap, body in bodies.items():
+            self.transform("int main(void){" + body + "}", "plain")
+            self.call("cbi", "run", "--report", "report", "prog.cbi")
+            out, _ = self.call("cbi-explain", "report")
+            self.assertIn(f"It trapped: {trap} {cbi_files.TRAPS[trap][0]}, ", out)
+            self.assertIn("It counts as failing.", out)
+
+    def test_a_report_is_explained_with_its_sites(self):
+        self.transform("int main(void){int i;\nfor(i=0;i<7;i++);\nreturn 0;}", "full", "branches")
+        self.call("cbi", "run", "--run", "3", "--report", "a report", "prog.cbi")
+        out, _ = self.call("cbi-explain", "--program", "prog.cbi", "a report")
+        identity = cbi_files.read_program(self.path("prog.cbi")).identity
+        self.assertEqual(out, f"Run 3 of the program {identity[:12]}..\nIt ended with status 0.\nIt counts as successful.\nIt was seen at 1 site. "
+                         "Of its regions 0 went by unlooked at and 0 were looked at, visit by visit, which were no visits.\n"
+                         "  line 2, main: `for is true` 7 times, `for is false` 1 time\n")
+        given = self.read("a report")
+        self.assertEqual(self.call("cbi-explain", "--program", "prog.cbi", given=given)[0], out)
+
+    def test_what_is_no_text_is_explained_too(self):
+        self.write("x.c", "int main(void){}")
+        for words, due, said in ((["run", "x.c"], 5, "A C text is none: compile it first"), (["run", "--turns", "01", "x.c"], 2, "--turns takes a number from 0 to 100000000."),
+                                 (["run", "missing"], 3, "isn't there"), (["walk"], 2, "The words read as no command.")):
+            _, err = self.call("cbi", *words, due=due)
+            self.assertIn(said, self.call("cbi-explain", given=err.encode())[0])
+
+    def test_where_nothing_was_refused_it_says_so(self):
+        _, err = self.call("cbi-explain", given=b"added 3 repeated 0\n", due=1)
+        self.assertIn("nothing to explain", err)
+        self.call("cbi-explain", "missing.c", given=b"cbi: refusal 12 Syntax line 1\n", due=2)
+
+
+# A program with one branch, and 20 runs of it: those of docs/RANKING.md. Its thermometer, by hand: context 10/20, failure 9/10. The shares of
+# failing and successful runs are 9/10 and 1/10, the interval of their difference 0.8 +- 1.96 * sqrt(0.09/10 + 0.09/10) = 0.8 +- 0.262962, and that
+# of Increase half of it, from 0.268519 to 0.531481.
+BRANCH = "int main(void){int a=getchar();if(a);return 0;}\n"
+BRANCH_ROW = "1,0,branches,main,1,if is true,9,1,10,10,900000,500000,400000,563706\n"
+BRANCH_TEXT = """\
+ranked: 20 runs, of which 10 failed and 10 succeeded
+
+  1. line 1, main: if is true
+     [################=========----...] importance 0.564
+     true in 9 failing runs and 1 successful run; looked at in 10 failing and 10 successful
+     first failing run: 1
+     1 | int main(void){int a=getchar();if(a);return 0;}
+
+Each row is about the runs that no row above it explains. A bar is the longer the more runs it is about: # is how
+often runs fail that come to the place, = what the predicate adds to that for sure (95 %), - what it may add, and
+. how often runs succeed in which it was true.
+"""
+
+
+class Page(html.parser.HTMLParser):
+    """Parses a page: what is open must be closed in turn, and ids and links are kept."""
+    EMPTY = {"meta", "br", "img", "hr", "link", "input"}
+
+    def __init__(self, text):
+        super().__init__()
+        self.open, self.ids, self.links, self.tags, self.text = [], [], [], set(), ""
+        self.feed(text)
+        self.close()
+
+    def handle_starttag(self, tag, attrs):
+        names = dict(attrs)
+        self.tags.add(tag)
+        self.ids += [names["id"]] if "id" in names else []
+        self.links += [names[name] for name in ("href", "src") if name in names]
+        if tag not in self.EMPTY:
+            self.open.append(tag)
+
+    def handle_endtag(self, tag):
+        if not self.open or self.open.pop() != tag:
+            raise AssertionError(f"</{tag}> closes what isn't open")
+
+    def handle_data(self, data):
+        self.text += data
+
+
+class Show(Case):
+    def setUp(self):
+        super().setUp()
+        self.transform(BRANCH, "full", "branches")
+        identity = cbi_files.read_program(self.path("prog.cbi")).identity
+        runs = []
+        for run in range(1, 21):
+            failing, true = run <= 10, run <= 9 or run == 11
+            runs.append(f"run {run} {'trapped 14' if failing else 'ended 0'} label {'fail' if failing else 'pass'} work 0 0 0\nsite 0 {int(true)} {int(not true)} 0\n")
+        self.write("runs", f"cbi-collection 2\nprogram {identity}\n" + "".join(runs) + "end\n")
+        out, _ = self.call("cbi", "rank", "prog.cbi", "runs")
+        self.assertEqual(out, HEADER + BRANCH_ROW)
+        self.write("ranking", out)
+
+    def show(self, *words, given=b"", due=0):
+        return self.call("cbi-show", *words, given=given, due=due)[0]
+
+    def page(self, *words):
+        """The page, parsed: it stands alone, and each of its links leads somewhere in it."""
+        text = self.show(*words, "--format", "html")
+        page = Page(text)
+        self.assertEqual(page.open, [])
+        self.assertEqual(len(page.ids), len(set(page.ids)))
+        for link in page.links:
+            self.assertTrue(link.startswith("#") and link[1:] in page.ids, link)
+        self.assertFalse(page.tags & {"script", "link", "img", "iframe"})
+        self.assertNotIn("url(", text)
+        return page, text
+
+    def test_the_worked_ranking_as_text(self):
+        self.assertEqual(self.show("ranking", "--source", "prog.c", "--program", "prog.cbi", "--reports", "runs"), BRANCH_TEXT)
+        self.assertEqual(self.show("-", "--source", "prog.c", "--program", "prog.cbi", "--reports", "runs", given=self.read("ranking").replace(b"\n", b"\r\n")), BRANCH_TEXT)
+
+    def test_its_thermometer(self):
+        row = cbi_files.read_ranking(self.path("ranking")).rows[0]
+        bands = cbi_rows.bands(row, 10)
+        for got, due in zip(bands, (0.5, 0.268519, 0.131481, 0.1, 1.0)):
+            self.assertAlmostEqual(got, due, places=6)
+        self.assertAlmostEqual(cbi_rows.bands(row, 120).length, 0.5, places=6)  # 121 is the square of 11
+
+    def test_its_page(self):
+        page, text = self.page("ranking", "--source", "prog.c", "--program", "prog.cbi", "--reports", "runs")
+        self.assertIn("True in 9 failing runs and 1 successful run; looked at in 10 failing and 10 successful.", page.text)
+        self.assertIn('aria-label="context 50 %, increase at least 27 % and up to 13 % more, successful runs 10 %"', text)
+        self.assertIn("p0", page.ids)
+        self.assertIn("#L1", page.links)
+
+    def test_sarif_has_what_the_standard_requires(self):
+        log = json.loads(self.show("ranking", "--source", "prog.c", "--format", "sarif"))
+        self.assertEqual((log["version"], log["$schema"]), ("2.1.0", "https://json.schemastore.org/sarif-2.1.0.json"))
+        driver = log["runs"][0]["tool"]["driver"]
+        self.assertEqual(driver["name"], "cbi")
+        for result in log["runs"][0]["results"]:
+            self.assertTrue(result["message"]["text"])
+            self.assertEqual(driver["rules"][result["ruleIndex"]]["id"], result["ruleId"])
+            place = result["locations"][0]["physicalLocation"]
+            self.assertEqual((place["artifactLocation"]["uri"], place["region"]["startLine"]), ("prog.c", 1))
+            self.assertEqual(result["rank"], 56.3706)
+        self.write("a folder/50%.c", BRANCH)
+        log = json.loads(self.show("ranking", "--source", "a folder/50%.c", "--format", "sarif"))
+        self.assertEqual(log["runs"][0]["results"][0]["locations"][0]["physicalLocation"]["artifactLocation"]["uri"], "a%20folder/50%25.c")
+
+    def test_lines_for_editors(self):
+        self.assertEqual(self.show("ranking", "--source", "prog.c", "--format", "quickfix"),
+                         "prog.c:1: if is true: true in 9 failing runs and 1 successful run; looked at in 10 failing and 10 successful\n")
+
+    def test_a_study_is_taken_with_its_last_line(self):
+        out, _ = self.call("cbi", "study", "--runs", "200", "--seed", "7", "--rate", "10", "--turns", "100000", os.path.join(EXAMPLES, "lookup", "lookup.c"))
+        summary = re.search(r"study runs 200 failed (\d+) ended (\d+) cut 0", out)
+        text = self.show("-", "--source", os.path.join(EXAMPLES, "lookup", "lookup.c"), given=out.encode())
+        self.assertEqual(text.split("\n")[0], f"ranked: 200 runs, of which {summary[1]} failed and {summary[2]} succeeded")
+
+    def test_constants_that_print_are_shown_as_characters(self):
+        rows = [("c == 63", "c == 63 '?'"), ("c < 39", "c < 39 '\\''"), ("c > 92", "c > 92 '\\\\'"), ("c >= 10", "c >= 10"), ("c < d", "c < d"), ("c != 127", "c != 127")]
+        for number, (text, due) in enumerate(rows):
+            row = cbi_files.Row(1, number, "pairs", "f", 1, text, 1, 1, 1, 1, 0, 0, 0, 1)
+            self.assertEqual(cbi_rows.with_character(row), due)
+        self.assertEqual(cbi_rows.with_character(cbi_files.Row(1, 0, "returns", "f", 1, "getchar > 0", 1, 1, 1, 1, 0, 0, 0, 1)), "getchar > 0")
+
+    def test_cards_bring_rows_together(self):
+        self.transform("int main(void){int a=getchar();\nif(a);\nif(a);\nif(a);\nreturn 0;}\n", "full", "branches")
+        self.write("ranking", HEADER + "1,0,branches,main,2,if is true,9,1,10,10,900000,500000,400000,563706\n"
+                   "2,5,branches,main,4,if is false,4,0,5,5,1000000,500000,500000,400000\n3,2,branches,main,3,if is true,3,0,4,4,1000000,500000,500000,300000\n"
+                   "4,4,branches,main,4,if is true,1,0,1,3,1000000,250000,750000,0\n")
+        self.write("cards", "card 1 0 main 2 if is true\ntruth 9 1 first 17\nnear 2 200000 if is true\nnear 1 100 if is false\ncard 2 5 main 4 if is false\n"
+                   "truth 4 0 first 3\ncard 3 2 main 3 if is true\ntruth 5 0 first 17\ncard 4 4 main 4 if is true\ntruth 2 0 first 20\nend\n")
+        text = self.show("ranking", "--source", "prog.c", "--program", "prog.cbi", "--cards", "cards")
+        heads = [line for line in text.split("\n") if re.match(r"[ |]*\d+\. line", line)]
+        self.assertEqual(heads, ["  1. line 2, main: if is true", "     |   3. line 3, main: if is true", "  2. line 4, main: if is false", "  4. line 4, main: if is true"])
+        self.assertIn("     falls with it: if is false, line 2 (by 0.000)\n", text)
+        self.assertIn("Rows of importance 0:\n", text)
+        self.assertIn("     |      among all runs: 5 failing runs and no successful runs\n", text)
+        page, html_text = self.page("ranking", "--source", "prog.c", "--program", "prog.cbi", "--cards", "cards")
+        self.assertIn('<a href="#p2"><code>if is true</code></a>, <a href="#L3">line 3</a>, by 0.200', html_text)
+        self.assertIn("These rows are mostly about the same runs", page.text)
+        self.write("cards", "card 1 0 main 2 if is true\ntruth 9 first\n")
+        _, err = self.call("cbi-show", "ranking", "--cards", "cards", due=2)
+        self.assertEqual(err, "cbi-show: cards: no cards: line 2 has not the form of one\n")
+
+    def test_pairs_that_no_statement_names_together_stand_apart(self):
+        source = ["int g;", "int f(int a, int b)", "{", "    int i = 0; /* a b i */", "    while (a < b) { a++; i++; }", "    g = i;", "    return a;", "}", "int main(void) { return f(1, 2); }"]
+        bodies = cbi_rows.bodies(source)
+        self.assertEqual(sorted(bodies), ["f", "main"])
+        for text, due in (("a < b", False), ("a < i", True), ("i == g", False), ("a < 3", False), ("b > g", True)):
+            self.assertEqual(cbi_rows.unrelated(cbi_files.Row(1, 0, "pairs", "f", 5, text, 1, 1, 1, 1, 0, 0, 0, 1), bodies), due, text)
+
+    def test_what_is_no_file_of_its_kind_has_status_2(self):
+        self.write("empty", "")
+        for words, said in ((["runs"], "runs: no ranking"), (["missing"], "missing: No such file"), (["ranking", "--program", "prog.c"], "prog.c: no program file"),
+                            (["ranking", "--source", "no.c"], "no.c: No such file"), (["ranking", "--program", "prog.cbi", "--reports", "ranking"], "ranking: no collection"),
+                            (["empty"], "empty: no ranking"), (["--sites", "prog.cbi", "1"], "1 is no site: the program has 1 site")):
+            out, err = self.call("cbi-show", *words, due=2)
+            self.assertEqual(out, "")
+            self.assertTrue(err.startswith("cbi-show: " + said), err)
+        self.write("other", HEADER + "1,0,branches,main,2,if is true,9,1,10,10,900000,500000,400000,563706\n")
+        _, err = self.call("cbi-show", "other", "--program", "prog.cbi", due=2)
+        self.assertIn("isn't of this program", err)
+
+    def test_a_ranking_without_rows(self):
+        self.write("ranking", HEADER)
+        self.assertIn("No predicate passes the test", self.show("ranking", due=1))
+        self.assertIn("No predicate passes the test", self.call("cbi-show", "ranking", "--format", "html", due=1)[0])
+
+    def test_sites_of_the_worked_text(self):
+        self.transform("int x;\nint main(void)\n{\n    int y = 1;\n    { char x; x = getchar(); }\n    while (y < 3)\n        y += x;\n    return 0;\n}\n")
+        lines = self.show("--sites", "prog.cbi").split("\n")
+        self.assertEqual(len(lines), 14)
+        self.assertEqual(lines[0], "site 0, line 4, main: the new value of `y` beside `x`; predicates 0 to 5, `y < x` to `y != x`")
+        self.assertEqual(lines[7], "site 7, line 5, main: what `getchar` returns, beside 0; predicates 42 to 47, `getchar < 0` to `getchar != 0`")
+        self.assertEqual(self.show("--sites", "prog.cbi", "8", "12"), "site 8, line 6, main: whether the condition of `while` is true; predicates 48 to 49, `while is true` to `while is false`\n"
+                         "site 12, line 7, main: the new value of `y` beside the constant `0`; predicates 68 to 73, `y < 0` to `y != 0`\n")
+
+
+# It gives `a` where it should give `A`, and crashes at `!`.
+UPPER = """\
+#include <stdio.h>
+#include <stdlib.h>
+int main(void)
+{
+    int c;
+    while ((c = getchar()) != EOF) {
+        if (c == '!')
+            abort();
+        if (c > 'a' && c <= 'z')
+            c -= 32;
+        putchar(c);
+    }
+    return 0;
+}
+"""
+
+
+class Hunt(Case):
+    def setUp(self):
+        super().setUp()
+        self.write("upper.c", UPPER)
+        words = ["bcd", "xyz", "abc", "q", "zza", "mno", "klm", "b", "caa", "fgh", "w", "rst"]
+        for number, word in enumerate(words):
+            self.write(f"in puts/{number:02} {word}", word)
+            self.write(f"due/{number:02} {word}", word.upper())
+            self.write(f"both/{number:02}", word)
+            self.write(f"both/{number:02}.expected", word.upper())
+        self.write("lines", "".join(word + "\n" for word in words))
+        self.write("due lines", "".join(word.upper() + "\n" for word in words))
+        self.write("judge.py", "import sys\ninput, output = [open(name).read() for name in sys.argv[1:]]\nsys.exit(0 if output == input.upper() else 3)\n")
+
+    def hunt(self, *words, due=0):
+        out, err = self.call("cbi-hunt", "upper.c", "--jobs", "1", *words, due=due)
+        return out if due < 2 else err
+
+    def runs_by_hand(self, count, folder, rate=5, seed=1):
+        """The collection of so many runs as the commands of `cbi` make it, one after another."""
+        self.write("plan.cbi", self.call("cbi", "transform", "--mode", "sampled", "upper.c")[0])
+        names = sorted(os.listdir(self.path(folder)))
+        reports = []
+        for run in range(1, count + 1):
+            name = names[(run - 1) % len(names)]
+            self.write("bank", self.call("cbi", "bank", "--rate", str(rate), "--count", "256", "--seed", str(seed), "--stream", str(run))[0])
+            reports.append(self.path(f"report {run}"))
+            self.call("cbi", "run", "--bank", "bank", "--input", os.path.join(folder, name), "--expect", os.path.join("due", name), "--run", str(run), "--report", reports[-1], "plan.cbi")
+        return self.call("cbi", "collect", "--program", "plan.cbi", *reports)[0].encode()
+
+    def test_its_runs_are_those_that_the_commands_make(self):
+        out = self.hunt("--inputs", "in puts", "--expect", "due", "--runs", "30", "--keep", "kept hunt")
+        self.assertEqual(self.read("kept hunt/runs"), self.runs_by_hand(30, "in puts"))
+        self.assertEqual(self.read("kept hunt/ranking").decode(), self.call("cbi", "rank", "plan.cbi", "kept hunt/runs")[0])
+        self.assertTrue(out.startswith("30 runs on 12 inputs: 8 failed, 22 succeeded\nfailing inputs: 02 abc, 04 zza, 08 caa, in kept hunt/failing\n"), out)
+        self.assertEqual(sorted(os.listdir(self.path("kept hunt/failing"))), ["02 abc", "04 zza", "08 caa"])
+        self.assertEqual(sorted(os.listdir(self.path("kept hunt"))), ["batches", "failing", "hunt.json", "hunt.lock", "page.html", "program", "ranking", "runs"])
+
+    def test_each_way_to_say_what_is_right_ranks_the_same(self):
+        rankings = set()
+        for words in (["--inputs", "in puts", "--expect", "due"], ["--inputs", "both"], ["--inputs", "in puts", "--oracle", "python3 judge.py"],
+                      ["--inputs", "lines", "--expect", "due lines"], ["--inputs", "lines", "--oracle", f"{sys.executable} judge.py"]):
+            folder = f"kept {len(os.listdir(self.room))}"
+            self.hunt(*words, "--runs", "120", "--keep", folder)
+            self.assertNotIn(b"label none", self.read(folder + "/runs"))
+            rankings.add((words[1] == "lines", self.read(folder + "/ranking")))
+        self.assertEqual(len(rankings), 2)
+
+    def test_the_bug_is_in_the_first_row_and_the_page_is_sound(self):
+        out = self.hunt("--inputs", "both", "--runs", "200", "--rate", "2", "--html", "a page.html")
+        first = next(line for line in out.split("\n") if line.startswith("  1. "))
+        self.assertIn(first, ("  1. line 9, main: && is false", "  1. line 6, main: c == 97 'a'", "  1. line 6, main: c <= 97 'a'"))
+        page = Page(self.read("a page.html").decode())
+        self.assertEqual([link for link in page.links if link[1:] not in page.ids], [])
+
+    def test_it_goes_on_where_it_stopped(self):
+        self.hunt("--inputs", "both", "--runs", "300", "--keep", "whole")
+        environment = dict(os.environ, PATH=f"{os.path.dirname(CBI)}:{TOOLS}:{os.environ['PATH']}")
+        words = ["cbi-hunt", "upper.c", "--inputs", "both", "--runs", "300", "--jobs", "2", "--keep", "parts"]
+        begun = subprocess.Popen(words, cwd=self.room, env=environment, stdout=subprocess.PIPE, stderr=subprocess.PIPE, start_new_session=True)
+        limit = time.monotonic() + 60
+        while time.monotonic() < limit and not (os.path.isdir(self.path("parts/batches")) and os.listdir(self.path("parts/batches"))):
+            time.sleep(0.01)
+        os.killpg(begun.pid, signal.SIGINT)
+        out, err = begun.communicate()
+        self.assertEqual((begun.returncode, err), (130, b""))
+        self.assertIn(b"interrupted, so this is what there is", out)
+        made = re.match(rb"(\d+) runs", out)
+        self.assertLess(int(made[1]), 300)
+        self.hunt("--inputs", "both", "--runs", "200", "--keep", "parts")
+        self.hunt("--inputs", "both", "--runs", "300", "--keep", "parts")
+        self.assertEqual(self.read("parts/runs"), self.read("whole/runs"))
+        self.assertEqual([name for name in os.listdir(self.path("parts")) if "worker" in name or "merge" in name], [])
+
+    def test_a_kept_hunt_is_not_mixed_with_another(self):
+        self.hunt("--inputs", "both", "--keep", "kept")
+        for words, said in ((["--rate", "6"], "another rate (5, and not 6)"), (["--seed", "2"], "another seed"), (["--turns", "5"], "another turns")):
+            self.assertIn(said, self.hunt("--inputs", "both", "--keep", "kept", *words, due=2))
+        self.write("both/00.expected", "other")
+        self.assertIn("another inputs", self.hunt("--inputs", "both", "--keep", "kept", due=2))
+        self.write("upper.c", UPPER.replace("32", "30 + 2"))
+        self.assertIn("another program", self.hunt("--inputs", "both", "--keep", "kept", due=2))
+
+    def test_nothing_of_the_progress_is_in_a_pipe(self):
+        _, err = self.call("cbi-hunt", "upper.c", "--inputs", "both", "--runs", "50")
+        self.assertEqual(err, "")
+
+    def test_progress_is_on_a_terminal(self):
+        ours, theirs = pty.openpty()
+        environment = dict(os.environ, PATH=f"{os.path.dirname(CBI)}:{TOOLS}:{os.environ['PATH']}")
+        begun = subprocess.Popen(["cbi-hunt", "upper.c", "--inputs", "both", "--runs", "60"], cwd=self.room, env=environment, stdout=subprocess.DEVNULL, stderr=theirs)
+        os.close(theirs)
+        said = b""
+        try:
+            while True:
+                piece = os.read(ours, 1000)
+                if not piece:
+                    break
+                said += piece
+        except OSError:
+            pass
+        os.close(ours)
+        self.assertEqual(begun.wait(), 0)
+        self.assertRegex(said.decode(), r"\d+ of 60 runs, \d+ failed, 0 cut, 0:\d\d left")
+        self.assertTrue(said.endswith(b"\r\x1b[K"))
+
+    def test_where_no_run_failed_it_says_what_to_do(self):
+        out = self.hunt("--inputs", "in puts", due=1)
+        self.assertTrue(out.startswith("12 runs on 12 inputs: 0 failed, 12 succeeded\nNo run failed"), out)
+        self.assertIn("--expect or --oracle", out)
+        out = self.hunt("--inputs", "in puts", "--turns", "0", due=1)
+        self.assertIn("12 neither (12 cut)", out)
+        self.assertIn("12 runs were cut: allow more turns (--turns).", out)
+
+    def test_where_all_runs_failed_it_says_what_to_do(self):
+        for name in os.listdir(self.path("due")):
+            self.write("crlf/" + name, self.read("due/" + name) + b"\r\n")
+        out = self.hunt("--inputs", "in puts", "--expect", "crlf", due=1)
+        self.assertIn("All runs that count failed", out)
+        self.assertIn("The expected outputs have carriage returns", out)
+
+    def test_crashes_fail_by_themselves(self):
+        self.write("in puts/13 !", "a!")
+        out = self.hunt("--inputs", "in puts", "--rate", "1", "--runs", "65")
+        self.assertIn("failing inputs: 13 !\n", out)
+        self.assertIn("  1. line 6, main: c == 33 '!'\n", out)
+
+    def test_an_oracle_that_cannot_tell_and_one_that_is_none(self):
+        self.write("unsure.py", "import sys\nsys.exit(125)\n")
+        self.assertIn("0 failed, 0 succeeded, 12 neither", self.hunt("--inputs", "in puts", "--oracle", "python3 unsure.py", due=1))
+        self.assertIn("the oracle no-such-command doesn't start", self.hunt("--inputs", "in puts", "--oracle", "no-such-command", due=2))
+        self.write("dead.py", "import os\nos.kill(os.getpid(), 9)\n")
+        self.assertIn("ended with status -9", self.hunt("--inputs", "in puts", "--oracle", "python3 dead.py", due=2))
+
+    def test_bad_input_has_a_line_and_status_2(self):
+        os.makedirs(self.path("none"))
+        self.write("short", "A\n")
+        os.remove(self.path("both/03.expected"))
+        self.write("bad.c", "int main(void)\n{\n    long n;\n}\n")
+        for words, said in ((["upper.c", "--inputs", "missing"], "missing: there is no such file or folder"), (["no.c", "--inputs", "both"], "no.c: there is no such file or folder"),
+                            (["upper.c", "--inputs", "none"], "none has no files"), (["upper.c", "--inputs", "both"], "nothing says what the input 03 should give: there is no both/03.expected"),
+                            (["upper.c", "--inputs", "in puts", "--expect", "none"], "nothing says what the input 00 bcd should give: there is no none/00 bcd, and 11 more inputs have none"),
+                            (["upper.c", "--inputs", "lines", "--expect", "short"], "lines has 12 lines and short 1 line"), (["upper.c", "--inputs", "lines", "--expect", "due"], "--expect due is a folder"),
+                            (["upper.c", "--inputs", "in puts", "--keep", "lines"], "--keep lines: File exists"), (["upper.c", "--inputs", "in puts", "--cbi", "no-cbi"], "no-cbi isn't on the path"),
+                            (["upper.c", "--inputs", "in puts", "--schemes", "all"], "upper.c isn't compiled: cbi: bad value of --schemes"),
+                            (["bad.c", "--inputs", "in puts"], "bad.c isn't compiled: cbi: refusal 12 Syntax line 3")):
+            out, err = self.call("cbi-hunt", *words, due=2)
+            self.assertEqual(out, "")
+            self.assertTrue(err.startswith("cbi-hunt: " + said), err)
+        self.assertIn("    3 |     long n;\n", err)
+        self.assertIn("In its place: `int` or `unsigned`", err)
+        _, err = self.call("cbi-hunt", "upper.c", "--inputs", "both", "--expect", "due", "--oracle", "true", due=2)
+        self.assertIn("not allowed with", err)
+
+    def test_a_farm_makes_the_same_runs(self):
+        if not shutil.which("parallel") or "GNU parallel" not in call("parallel", "--version")[1]:
+            self.skipTest("there is no GNU parallel here")
+        self.write("hosts", "2/:\n")
+        self.hunt("--inputs", "both", "--runs", "60", "--keep", "here")
+        self.hunt("--inputs", "both", "--runs", "60", "--keep", "farm", "--farm", "hosts")
+        self.assertEqual(self.read("farm/runs"), self.read("here/runs"))
+        self.assertIn("there is no such file", self.hunt("--inputs", "both", "--runs", "99", "--keep", "farm", "--farm", "no hosts", due=2))
+        self.assertEqual([name for name in os.listdir(self.path("farm")) if name.startswith("farm-")], [])
+
+
+class Sample(Case):
+    """More runs than a collection holds: with a smaller limit, in this process."""
+
+    def setUp(self):
+        super().setUp()
+        self.hunt = module_of("cbi-hunt")
+
+    def test_it_is_a_sample_only_where_it_must_be(self):
+        self.assertIsNone(self.hunt.sample_of([(run, 5) for run in range(1, 100001)], 1))
+        sample = self.hunt.sample_of([(run, 5) for run in range(1, 100002)], 1)
+        self.assertEqual(len(sample), 100000)
+        self.assertIsNone(self.hunt.sample_of([(1, 16777215), (2, 1)], 1))
+        self.assertEqual(len(self.hunt.sample_of([(1, 16777215), (2, 2)], 1)), 1)
+
+    def test_it_is_uniform_and_stays_the_same(self):
+        self.hunt.MOST_RUNS = 1000
+        marks = [(run, 0) for run in range(1, 10001)]
+        sample = self.hunt.sample_of(marks, 7)
+        self.assertEqual(sample, self.hunt.sample_of(marks[::-1], 7))
+        self.assertNotEqual(sample, self.hunt.sample_of(marks, 8))
+        tenths = [sum(1 for run in sample if (run - 1) // 1000 == part) for part in range(10)]
+        self.assertEqual(sum(tenths), 1000)
+        self.assertTrue(all(60 <= count <= 140 for count in tenths), tenths)  # 100 expected, and more than four deviations off
+        fewer = self.hunt.sample_of(marks[:5000], 7)
+        self.assertTrue({run for run in sample if run <= 5000} <= fewer)
+
+    def test_batches_are_what_is_missing(self):
+        batch, missing = self.hunt.Batch, self.hunt.missing_batches
+        self.assertEqual(missing([], 5, 2), [batch(1, 2), batch(3, 4), batch(5, 5)])
+        self.assertEqual(missing([batch(1, 2), batch(4, 4)], 7, 2), [batch(3, 3), batch(5, 6), batch(7, 7)])
+        self.assertEqual(missing([batch(1, 9)], 5, 2), [])
+        self.assertEqual(missing([batch(3, 9)], 5, 2), [batch(1, 2)])
+
+    def test_a_collection_of_the_sample(self):
+        text = "cbi-collection 2\nprogram " + "0" * 64 + "\n" + "".join(f"run {run} ended 0 label pass work 0 0 0\nsite 0 1 0 0\n" for run in (2, 5, 9)) + "end\n"
+        self.write("runs", text)
+        self.assertEqual(self.hunt.sampled_copy(self.path("runs"), self.path("some"), {2, 9, 11}), 2)
+        self.assertEqual(self.read("some").decode(), text.replace("run 5 ended 0 label pass work 0 0 0\nsite 0 1 0 0\n", ""))
+
+
+class Manual(Case):
+    def options_of(self, text):
+        return set(re.findall(r"--[a-z]+", text))
+
+    def test_the_page_is_sound(self):
+        if not shutil.which("mandoc"):
+            self.skipTest("there is no mandoc here")
+        self.assertEqual(self.call("mandoc", "-Tlint", "-Wstyle", os.path.join(TOP, "docs", "cbi.1")), ("", ""))
+
+    def test_the_page_has_each_command_and_option(self):
+        with open(os.path.join(TOP, "docs", "cbi.1"), encoding="utf-8") as file:
+            page = file.read()
+        with open(os.path.join(TOP, "docs", "COMMANDS.md"), encoding="utf-8") as file:
+            commands = file.read().split("\n## ")[0]
+        for option in self.options_of(commands) - {"--name"}:
+            self.assertRegex(page, rf"\bFl Fl {option[2:]}\b")
+        for command in re.findall(r"^\| `([a-z]+) ", commands, re.MULTILINE):
+            self.assertIn(f"\n.It Ic {command} ", page)
+        for script in SCRIPTS:
+            self.assertIn(script, page)
+
+    def test_completions_offer_each_option(self):
+        completions = os.path.join(TOOLS, "completions")
+        for script in SCRIPTS:
+            options = self.options_of(self.call(script, "--help")[0]) - {"--sshloginfile", "--mode"} | {"--help"}
+            for name in ("cbi.bash", "_cbi"):
+                with open(os.path.join(completions, name), encoding="utf-8") as file:
+                    self.assertEqual(options - self.options_of(file.read()), set(), f"{script} in {name}")
+
+    def completed(self, *words):
+        """What bash offers behind these words."""
+        asked = " ".join(f"'{word}'" for word in words)
+        script = (f". '{TOOLS}/completions/cbi.bash'; COMP_WORDS=({asked}); COMP_CWORD={len(words) - 1}; "
+                  f"named=$(complete -p {words[0]} | sed 's/.*-F \\([^ ]*\\) .*/\\1/'); $named; printf '%s\\n' \"${{COMPREPLY[@]}}\"")
+        return set(self.call("bash", "-c", script)[0].split())
+
+    def test_bash_offers_what_fits(self):
+        self.assertEqual(self.completed("cbi", ""), {"transform", "run", "bank", "collect", "rank", "study"})
+        self.assertEqual(self.completed("cbi", "transform", "--mode", ""), {"plain", "full", "sampled"})
+        self.assertEqual(self.completed("cbi", "rank", "--p"), {"--policy"})
+        self.assertEqual(self.completed("cbi-show", "--format", "s"), {"sarif"})
+        if shutil.which("zsh"):
+            self.call("zsh", "-n", os.path.join(TOOLS, "completions", "_cbi"))
+
+
+class Result(unittest.TextTestResult):
+    def addSkip(self, test, reason):
+        super().addSkip(test, reason)
+        print(f"checks/tools: {test.id().split('.')[-1]} skipped: {reason}")
+
+
+def main():
+    global CBI
+    CBI = os.path.abspath(sys.argv.pop(1))
+    program = unittest.main(module=__name__, exit=False, verbosity=0, argv=sys.argv, testRunner=unittest.TextTestRunner(stream=sys.stdout, verbosity=0, resultclass=Result))
+    result = program.result
+    failed = len(result.failures) + len(result.errors)
+    print(f"checks/tools: {result.testsRun - failed - len(result.skipped)} passed, {failed} failed, {len(result.skipped)} skipped")
+    sys.exit(1 if failed else 0)
+
+
+if __name__ == "__main__":
+    main()

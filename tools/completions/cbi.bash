@@ -1,0 +1,69 @@
+# What bash offers behind cbi, cbi-hunt, cbi-show and cbi-explain. To have it: . cbi.bash, in ~/.bashrc.
+
+# _cbi_offer WORDS: those of the words that begin as the word at the cursor; files too, where there are no words.
+_cbi_offer() {
+    if [ -n "$1" ]; then
+        COMPREPLY=($(compgen -W "$1" -- "${COMP_WORDS[COMP_CWORD]}"))
+    else
+        COMPREPLY=($(compgen -f -- "${COMP_WORDS[COMP_CWORD]}"))
+    fi
+}
+
+# _cbi_value OPTION: what the option takes, in the variable value; it fails where the option takes nothing.
+_cbi_value() {
+    value=
+    case $1 in
+    --mode) value='plain full sampled' ;;
+    --schemes) value='branches returns pairs branches,returns branches,pairs returns,pairs branches,returns,pairs' ;;
+    --policy) value='all failing relabel' ;;
+    --format) value='text html sarif quickfix' ;;
+    --rate) value='1 2 5 10 20 50 100 1000' ;;
+    --turns | --run | --runs | --count | --seed | --stream | --jobs | --oracle) value=' ' ;;
+    --bank | --input | --expect | --report | --program | --inputs | --keep | --html | --farm | --cbi | --source | --cards | --reports | --output | --sites) ;;
+    *) return 1 ;;
+    esac
+}
+
+# _cbi_options OPTIONS: the options, or what the one before the cursor takes, or files.
+_cbi_options() {
+    local value
+    if _cbi_value "${COMP_WORDS[COMP_CWORD - 1]}"; then
+        _cbi_offer "$value"
+    elif [[ ${COMP_WORDS[COMP_CWORD]} == -* ]]; then
+        _cbi_offer "$1"
+    else
+        _cbi_offer ''
+    fi
+}
+
+_cbi() {
+    if [ "$COMP_CWORD" -eq 1 ]; then
+        _cbi_offer 'transform run bank collect rank study'
+        return
+    fi
+    case ${COMP_WORDS[1]} in
+    transform) _cbi_options '--mode --schemes' ;;
+    run) _cbi_options '--bank --input --expect --turns --run --report' ;;
+    bank) _cbi_options '--rate --count --seed --stream' ;;
+    collect) _cbi_options '--program' ;;
+    rank) _cbi_options '--policy' ;;
+    study) _cbi_options '--runs --seed --rate --turns --policy' ;;
+    esac
+}
+
+_cbi_hunt() {
+    _cbi_options '--inputs --expect --oracle --rate --runs --seed --turns --schemes --jobs --policy --keep --html --farm --cbi --help'
+}
+
+_cbi_show() {
+    _cbi_options '--source --program --cards --reports --format --output --sites --help'
+}
+
+_cbi_explain() {
+    _cbi_options '--program --table --help'
+}
+
+complete -o filenames -F _cbi cbi
+complete -o filenames -F _cbi_hunt cbi-hunt
+complete -o filenames -F _cbi_show cbi-show
+complete -o filenames -F _cbi_explain cbi-explain
