@@ -541,7 +541,7 @@ class Hunt(Case):
         self.hunt("--inputs", "both", "--runs", "60", "--keep", "farm", "--farm", "hosts")
         self.assertEqual(self.read("farm/runs"), self.read("here/runs"))
         self.assertIn("there is no such file", self.hunt("--inputs", "both", "--runs", "99", "--keep", "farm", "--farm", "no hosts", due=2))
-        self.assertEqual([name for name in os.listdir(self.path("farm")) if name.startswith("farm-")], [])
+        self.assertEqual([name for name in os.listdir(os.path.expanduser("~")) if name.startswith(".cbi-hunt-")], [])
 
 
 class Sample(Case):

@@ -11,7 +11,7 @@ import tempfile
 import zipfile
 from typing import Callable, List, NamedTuple, Optional, Tuple
 
-from cbi_files import Fault
+from cbi_files import FOUND, Fault
 
 # How many numbers a run's bank has. It is drawn round and round.
 BANK_NUMBERS = 256
@@ -127,19 +127,31 @@ class Runner:
 
 # Batches that are sent to other hosts
 
+HERE = os.path.dirname(os.path.realpath(__file__))
+MODULES = ("cbi_files.py", "cbi_runs.py")
+BEGIN = """\
+import sys
+import cbi_files
+import cbi_runs
+cbi_files.call_main("cbi-hunt", lambda: cbi_runs.make_packed(sys.path[0]))
+"""
+
+
 def pack(plan: Plan, batch: Batch, path: str) -> None:
-    """Writes all that a batch needs into one file: the plan, the program, and its inputs under their places."""
+    """Writes all that a batch needs into one file that `python3` runs: these modules, the plan, the program, and inputs."""
     places = sorted({plan.input_of(run) for run in range(batch.first, batch.last + 1)})
     about = {"cbi": plan.cbi, "rate": plan.rate, "seed": plan.seed, "turns": plan.turns, "oracle": plan.oracle,
              "count": len(plan.inputs), "expected": bool(plan.expected), "first": batch.first, "last": batch.last}
-    with zipfile.ZipFile(path + ".part", "w", zipfile.ZIP_DEFLATED) as packed:
+    with zipfile.ZipFile(path, "w", zipfile.ZIP_DEFLATED) as packed:
+        packed.writestr("__main__.py", BEGIN)
         packed.writestr("plan.json", json.dumps(about))
         packed.write(plan.program, "program")
+        for module in MODULES:
+            packed.write(os.path.join(HERE, module), module)
         for place in places:
             packed.write(plan.inputs[place], f"input{place}")
             if plan.expected:
                 packed.write(plan.expected[place], f"expected{place}")
-    os.replace(path + ".part", path)
 
 
 def unpack(path: str, folder: str) -> Tuple[Plan, Batch]:
@@ -155,8 +167,9 @@ def unpack(path: str, folder: str) -> Tuple[Plan, Batch]:
     return plan, Batch(about["first"], about["last"])
 
 
-def make_packed(path: str) -> None:
+def make_packed(path: str) -> int:
     """Makes the batch of a packed file, on whatever host this is; its collection stands beside it, as PATH.runs."""
     with tempfile.TemporaryDirectory(prefix="cbi-hunt-") as folder:
         plan, batch = unpack(path, folder)
         Runner(plan, folder, lambda: False).make_batch(batch, lambda made: path + ".runs")
+    return FOUND
