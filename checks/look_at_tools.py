@@ -9,6 +9,7 @@ import importlib.util
 import json
 import os
 import pty
+import random
 import re
 import shutil
 import signal
@@ -582,6 +583,36 @@ class Sample(Case):
         self.write("runs", text)
         self.assertEqual(self.hunt.sampled_copy(self.path("runs"), self.path("some"), {2, 9, 11}), 2)
         self.assertEqual(self.read("some").decode(), text.replace("run 5 ended 0 label pass work 0 0 0\nsite 0 1 0 0\n", ""))
+
+
+class Port(Case):
+    """The worked port of docs/PORTING.md: both programs write the same and end the same, on made inputs."""
+
+    def commands(self, chance):
+        things = ["nuts", "bolts", "washers", "screws", "abcdefghijkl", "abcdefghijklm", "n2"]
+        for _ in range(chance.randrange(1, 25)):
+            word = chance.choice(["in"] * 5 + ["out"] * 4 + ["show", "sum"] * 2 + (["away"] if chance.random() < 0.2 else []))
+            yield word if word in ("show", "sum", "away") else f"{word} {chance.choice(things[:5] * 4 + things)} {chance.randrange(2000)}"
+
+    def test_it_does_what_the_program_did(self):
+        compiler = shutil.which("cc") or shutil.which("gcc")
+        if not compiler:
+            self.skipTest("there is no C compiler here")
+        ported = os.path.join(EXAMPLES, "ported")
+        self.call(compiler, "-w", "-o", "stock", os.path.join(ported, "stock.c"))
+        self.write("prog.cbi", self.call("cbi", "transform", "--mode", "plain", os.path.join(ported, "stock_ported.c"))[0])
+        _, err = self.call("cbi", "transform", "--mode", "plain", os.path.join(ported, "stock.c"), due=5)
+        self.assertEqual(err, "cbi: refusal 11 BadToken line 3\n")
+        chance, statuses = random.Random(5), set()
+        for _ in range(40):
+            few, text = chance.randrange(1000), "".join(line + "\n" for line in self.commands(chance))
+            status, due, _ = call("./stock", str(few), given=text.encode(), folder=self.room)
+            self.write("input", f"{few}\n{text}")
+            out, _ = self.call("cbi", "run", "--input", "input", "--report", "report", "prog.cbi")
+            self.assertEqual(out, due, text)
+            self.assertIn(f"outcome ended {status}\n".encode(), self.read("report"))
+            statuses.add(status)
+        self.assertEqual(statuses, {0, 1})
 
 
 class Manual(Case):

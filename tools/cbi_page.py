@@ -25,7 +25,7 @@ code, pre { font: 14px/1.5 ui-monospace, "Liberation Mono", monospace; }
 a { color: var(--link); } a:focus-visible { outline: 3px solid var(--link); outline-offset: 2px; }
 .skip { position: absolute; left: -100rem; } .skip:focus { left: 1rem; top: 1rem; background: var(--paper); padding: .5rem; }
 nav a { margin-right: 1rem; } .quiet { color: var(--quiet); }
-.row { border-top: 1px solid var(--line); padding: .6rem 0; display: grid; gap: .2rem 1rem; grid-template-columns: 3rem 20rem 1fr; }
+.row { border-top: 1px solid var(--line); padding: .6rem 0; display: grid; gap: .2rem 1rem; grid-template-columns: 2.5rem 18rem 1fr; }
 .row:target, tr:target td { background: var(--mark); }
 .rank { font-size: 1.3rem; text-align: right; color: var(--quiet); }
 .together { border-left: 4px solid var(--line); padding-left: .5rem; margin: .5rem 0; }
@@ -33,14 +33,16 @@ nav a { margin-right: 1rem; } .quiet { color: var(--quiet); }
                print-color-adjust: exact; -webkit-print-color-adjust: exact; }
 .thermometer span { display: block; height: 100%; } .thermometer span + span { border-left: 1px solid #fff; }
 .context { background: #000; }
-.sure { background: repeating-linear-gradient(45deg, #a50f15 0 5px, #c9474c 5px 7px); }
+.sure { background: repeating-linear-gradient(45deg, #b2182b 0 5px, #d1495b 5px 7px); }
 .unsure { background: repeating-linear-gradient(-45deg, #fbb4c4 0 6px, #fde0e6 6px 9px); }
 .successful { background: #fff; }
 .key { display: inline-block; width: 2rem; height: 1rem; border: 1px solid var(--ink); vertical-align: middle; margin-right: .5rem; }
-.said { font-weight: 600; } .said code { font-size: 15px; }
+.said code { font-size: 16px; font-weight: 700; }
+.keys { display: flex; flex-wrap: wrap; gap: .2rem 1.5rem; margin: .5rem 0; padding: 0; list-style: none; font-size: 14px; }
+.text { display: block; margin-top: .2rem; padding: .15rem .5rem; background: #f3f3f3; overflow-x: auto; white-space: pre-wrap; }
 table { border-collapse: collapse; width: 100%; } td { padding: 0 .6rem; vertical-align: top; }
 td.number { text-align: right; color: var(--quiet); width: 4rem; } td pre { margin: 0; white-space: pre-wrap; }
-tr.marked td { background: var(--mark); } tr.marked td.number { border-left: 6px solid #a50f15; font-weight: 700; color: var(--ink); }
+tr.marked td { background: var(--mark); } tr.marked td.number { border-left: 6px solid #b2182b; font-weight: 700; color: var(--ink); }
 @media (max-width: 50rem) { .row { grid-template-columns: 2rem 1fr; } .row > div:last-child { grid-column: 2; } }
 @media print { .skip, nav { display: none; } body { max-width: none; } }
 """
@@ -57,7 +59,7 @@ def code(text: object) -> str:
 # Thermometers
 
 BANDS = (("context", "how often runs fail that come to the place"),
-         ("sure", "what the predicate adds to that for sure: the lower bound of a 95 % interval"),
+         ("sure", "what the predicate adds to that for sure (95 %)"),
          ("unsure", "what it may add beyond that"),
          ("successful", "how often runs succeed in which it was true"))
 
@@ -100,11 +102,11 @@ def row_lines(shown: Shown, rows: Iterable[int], lines: int) -> Iterator[str]:
     yield (f"<div>True in {count_of(row.f, 'failing run')} and {count_of(row.s, 'successful run')}; "
            f"looked at in {row.fobs} failing and {row.sobs} successful.</div>")
     if shown.truth and shown.truth != (row.f, row.s):
-        yield f"<div>Among all runs: {count_of(shown.truth[0], 'failing run')} and {count_of(shown.truth[1], 'successful run')}.</div>"
+        yield f"<div class=\"quiet\">Among all runs: {count_of(shown.truth[0], 'failing run')} and {count_of(shown.truth[1], 'successful run')}.</div>"
     if shown.first:
-        yield f"<div>The first failing run in which it was true is run {shown.first}.</div>"
+        yield f"<div class=\"quiet\">The first failing run in which it was true is run {shown.first}.</div>"
     if shown.source is not None:
-        yield f"<div>{code(shown.source.strip())}</div>"
+        yield f'<code class="text">{escaped(shown.source.strip())}</code>'
     if shown.near:
         yield "<div>These fall with it:</div><ul>" + "".join(near_items(shown, rows, lines)) + "</ul>"
     yield "</div></article>"
@@ -112,6 +114,7 @@ def row_lines(shown: Shown, rows: Iterable[int], lines: int) -> Iterator[str]:
 
 def section(name: str, title: str, rows: List[List[Shown]], every: Iterable[int], lines: int) -> Iterator[str]:
     yield f'<section id="{name}"><h2>{escaped(title)}</h2>'
+    yield from keys() if name == "rows" and rows else ()
     for group in rows:
         if len(group) > 1:
             yield '<div class="together"><div class="quiet">These rows are mostly about the same runs:</div>'
@@ -138,15 +141,22 @@ def source_lines(view: View, lines: List[str]) -> Iterator[str]:
     yield "</tbody></table></section>"
 
 
+def keys() -> Iterator[str]:
+    """What the bands of a bar are."""
+    yield '<ul class="keys">'
+    for name, meaning in BANDS:
+        yield f'<li><span class="key {name}"></span>{escaped(meaning)}</li>'
+    yield "</ul>"
+
+
 def reading() -> Iterator[str]:
     yield '<section id="reading"><h2>How to read this page</h2>'
     yield "<p>A row names a predicate: a fact that was seen at a line in some runs. It is listed because runs fail more often where it was"
     yield "true than where its line was merely reached, beyond chance. Each row is about the runs that no row above it explains, so the first"
     yield "row often is the bug, and a later one may be another bug. A predicate shows where a bug can be seen; why it is one, the line says.</p>"
-    yield "<p>The bar of a row is the longer the more runs it is about (by the logarithm of the runs in which the predicate was true). Its bands:</p><ul>"
-    for name, meaning in BANDS:
-        yield f'<li><span class="key {name}"></span>{escaped(meaning)}</li>'
-    yield "</ul><p class=\"quiet\">The ranking is that of <code>cbi rank</code>, which is proved to be the elimination of the collected runs; this page is not proved.</p></section>"
+    yield "<p>The bar of a row is the longer the more runs it is about (by the logarithm of the runs in which the predicate was true). Its bands:</p>"
+    yield from keys()
+    yield "<p class=\"quiet\">The ranking is that of <code>cbi rank</code>, which is proved to be the elimination of the collected runs; this page is not proved.</p></section>"
 
 
 def page_of(view: View, chosen) -> Iterator[str]:
