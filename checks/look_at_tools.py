@@ -523,7 +523,7 @@ class Hunt(Case):
                             (["upper.c", "--inputs", "none"], "none has no files"), (["upper.c", "--inputs", "both"], "nothing says what the input 03 should give: there is no both/03.expected"),
                             (["upper.c", "--inputs", "in puts", "--expect", "none"], "nothing says what the input 00 bcd should give: there is no none/00 bcd, and 11 more inputs have none"),
                             (["upper.c", "--inputs", "lines", "--expect", "short"], "lines has 12 lines and short 1 line"), (["upper.c", "--inputs", "lines", "--expect", "due"], "--expect due is a folder"),
-                            (["upper.c", "--inputs", "in puts", "--keep", "lines"], "--keep lines: File exists"), (["upper.c", "--inputs", "in puts", "--cbi", "no-cbi"], "no-cbi isn't on the path"),
+                            (["upper.c", "--inputs", "in puts", "--keep", "lines"], "--keep lines: File exists"), (["upper.c", "--inputs", "in puts", "--keep", "due"], "--keep due has other files"), (["upper.c", "--inputs", "in puts", "--cbi", "no-cbi"], "no-cbi isn't on the path"),
                             (["upper.c", "--inputs", "in puts", "--schemes", "all"], "upper.c isn't compiled: cbi: bad value of --schemes"),
                             (["bad.c", "--inputs", "in puts"], "bad.c isn't compiled: cbi: refusal 12 Syntax line 3")):
             out, err = self.call("cbi-hunt", *words, due=2)

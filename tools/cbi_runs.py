@@ -44,7 +44,7 @@ class Batch(NamedTuple):
         return f"{self.first}-{self.last}"
 
 
-def call(words: List[str], out=subprocess.DEVNULL) -> None:
+def call(words: List[str], out) -> None:
     """Calls `cbi`; what it refuses is a fault, in its own words."""
     done = subprocess.run(words, stdin=subprocess.DEVNULL, stdout=out, stderr=subprocess.PIPE, close_fds=False, check=False)
     if done.returncode:
@@ -73,18 +73,17 @@ class Runner:
         """Makes a run; answers the name of its report."""
         plan, place = self.plan, self.plan.input_of(run)
         report = os.path.join(self.folder, f"report{run}")
-        with open(self.bank, "wb") as out:
-            call([plan.cbi, "bank", f"--rate={plan.rate}", f"--count={BANK_NUMBERS}", f"--seed={plan.seed}", f"--stream={run}"], out)
         words = [plan.cbi, "run", f"--bank={self.bank}", f"--input={plan.inputs[place]}", f"--turns={plan.turns}", f"--run={run}", f"--report={report}"]
-        if plan.expected:
-            words.append(f"--expect={plan.expected[place]}")
-        words += ["--", plan.program]
-        if not plan.oracle:
-            call(words)
-            return report
-        with open(self.output, "wb") as out:
-            call(words, out)
-        self.label(report, place)
+        words += ([f"--expect={plan.expected[place]}"] if plan.expected else []) + ["--", plan.program]
+        try:
+            with open(self.bank, "wb") as out:
+                call([plan.cbi, "bank", f"--rate={plan.rate}", f"--count={BANK_NUMBERS}", f"--seed={plan.seed}", f"--stream={run}"], out)
+            with open(self.output if plan.oracle else os.devnull, "wb") as out:
+                call(words, out)
+        except Fault as fault:
+            raise Fault(f"run {run}, on the input {plan.names[place]}: {fault}")
+        if plan.oracle:
+            self.label(report, place)
         return report
 
     def label(self, report: str, place: int) -> None:
