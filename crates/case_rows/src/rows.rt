@@ -1,73 +1,118 @@
-//! The rows of a file, and what is answered of them.
-use cbi_base::Memory;
-use std::alloc::Global;
+//! The rows of files, and what is answered of them.
+use crate::form::bad_text_line;
+use crate::page::Page;
+use std::process::ExitCode;
+use std::{env, fs, io};
+
+/// What a program of cases looks at.
+pub trait Rows {
+    /// Which of a row's lines can't be read, or what else keeps it from being looked at; nothing where it can be.
+    fn unread<'a>(&self, texts: &str, row: &'a str) -> Option<&'a str>;
+
+    /// Tells what doesn't come as the row says. Where all does, nothing is told.
+    fn tell(&self, rt: &HostRuntime, texts: &str, row: &str, told: &mut Page);
+}
+
+/// What stands before each row but the first of a file. A row begins with its name.
+const ROW_START: &str = "\ncase ";
 
 /// What stands before the first row, and the rows, which `ROW_START` parts; nothing where the file has no row.
-pub fn parts_of(file: &str) -> Option<(&str, &str)> {
+fn parts_of(file: &str) -> Option<(&str, &str)> {
     match file.strip_prefix("case ") {
         Some(rows) => Some(("", rows)),
         None => file.split_once(ROW_START),
     }
 }
 
-/// What stands before each row but the first of a file. A row begins with its name.
-pub const ROW_START: &str = "\ncase ";
-
-/// A row's name, and its lines.
-pub fn name_of(row: &str) -> (&str, &str) {
-    row.split_once('\n').unwrap_or((row, ""))
-}
-
-/// Answers a row: `ok NAME` where there is no difference, else `differs NAME` and what came.
-pub fn answer(name: &str, differences: &str, told: &mut String) -> Result<(), Memory> {
-    told.push_str(if differences.is_empty() {
-        "ok "
-    } else {
-        "differs "
-    })?;
-    told.push_str(name)?;
-    told.push_str(differences)?;
-    Ok(())
-}
-
-/// Answers a row that can't be read: `unread NAME` and its line.
-pub fn answer_unread(name: &str, line: &str, told: &mut String) -> Result<(), Memory> {
-    told.push_str("unread ")?;
-    told.push_str(name)?;
-    told.push('\n')?;
-    told.push_str(line)?;
-    Ok(())
-}
-
 /// How many rows were answered `ok`, and how many otherwise.
-#[derive(Debug, Clone, Copy)]
-pub struct Tally {
+#[derive(Clone, Copy)]
+struct Tally {
     ok: u64,
     not: u64,
 }
 
-impl Tally {
-    /// No row was answered.
-    pub fn new() -> Tally {
-        Tally { ok: 0, not: 0 }
-    }
+/// Answers a row or a file that can't be read: `unread NAME` and why.
+fn print_unread(rt: &HostRuntime, name: &str, why: &str, tally: &mut Tally) -> io::Result<()> {
+    tally.not = tally.not.saturating_add(1);
+    println!(rt; "unread {name}\n{why}")
+}
 
-    /// Counts an answer.
-    pub fn count(&mut self, answer: &str) {
-        if answer.starts_with("ok ") {
-            self.ok = self.ok.saturating_add(1);
-        } else {
-            self.not = self.not.saturating_add(1);
-        }
+/// Answers a row: `ok NAME` where there is no difference, else `differs NAME` and what came.
+fn print_row(rt: &HostRuntime, name: &str, told: &Page, tally: &mut Tally) -> io::Result<()> {
+    let text = told.text();
+    if text == Some("") {
+        tally.ok = tally.ok.saturating_add(1);
+        return println!(rt; "ok {name}");
     }
+    tally.not = tally.not.saturating_add(1);
+    let differences = text.unwrap_or("\nno memory");
+    println!(rt; "differs {name}{differences}")
+}
 
-    /// Whether some row was answered, and each `ok`.
-    pub fn is_good(&self) -> bool {
-        self.ok > 0 && self.not == 0
+/// Looks at a row, which begins with its name.
+fn look_at_row<R: Rows>(
+    rt: &HostRuntime,
+    rows: &R,
+    texts: &str,
+    row: &str,
+    tally: &mut Tally,
+) -> io::Result<()> {
+    let (name, lines) = row.split_once('\n').unwrap_or((row, ""));
+    if let Some(why) = rows.unread(texts, lines) {
+        return print_unread(rt, name, why, tally);
     }
+    let mut told = Page::new(rt.alloc());
+    rows.tell(rt, texts, lines, &mut told);
+    print_row(rt, name, &told, tally)
+}
 
-    /// The line that sums up.
-    pub fn line(&self, alloc: Global) -> Result<String, Memory> {
-        Ok(format!(in alloc; "{} ok, {} not", self.ok, self.not)?)
+/// Looks at each row of a file, in order.
+fn look_at_rows<R: Rows>(
+    rt: &HostRuntime,
+    rows: &R,
+    name: &str,
+    file: &str,
+    tally: &mut Tally,
+) -> io::Result<()> {
+    let Some((texts, lines)) = parts_of(file) else {
+        return print_unread(rt, name, "no row", tally);
+    };
+    if let Some(line) = bad_text_line(texts) {
+        return print_unread(rt, name, line, tally);
+    }
+    for row in lines.split(ROW_START) {
+        look_at_row(rt, rows, texts, row, tally)?;
+    }
+    Ok(())
+}
+
+fn look_at_file<R: Rows>(
+    rt: &HostRuntime,
+    rows: &R,
+    name: &str,
+    tally: &mut Tally,
+) -> io::Result<()> {
+    match fs::read_to_string(rt, name) {
+        Ok(file) => look_at_rows(rt, rows, name, file.as_str(), tally),
+        Err(_) => print_unread(rt, name, "no file", tally),
+    }
+}
+
+/// Looks at each row of the files that the program's words name; whether there is some row, and each is `ok`.
+fn look_at_files<R: Rows>(rt: &HostRuntime, rows: &R) -> io::Result<bool> {
+    let mut tally = Tally { ok: 0, not: 0 };
+    for name in env::args(rt)?.skip(1) {
+        look_at_file(rt, rows, name.as_str(), &mut tally)?;
+    }
+    println!(rt; "{} ok, {} not", tally.ok, tally.not)?;
+    Ok(tally.ok > 0 && tally.not == 0)
+}
+
+/// Looks at each row of the files that the program's words name, and answers a line of each and one that sums up. The status isn't 0 where there is no row, or
+/// one isn't `ok`.
+pub fn look<R: Rows>(rt: &HostRuntime, rows: &R) -> ExitCode {
+    match look_at_files(rt, rows) {
+        Ok(true) => ExitCode::SUCCESS,
+        _ => ExitCode::FAILURE,
     }
 }

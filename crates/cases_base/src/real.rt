@@ -1,54 +1,52 @@
 //! The files of the system.
 use crate::devices::{ask_read, ask_write};
-use cbi_base::{FileStore, Memory, Store, push_decimal};
+use case_rows::Page;
+use cbi_base::{FileStore, Store};
 use std::fs;
 
-/// Writes so many bytes, and appends how many of them are read up to this limit and one.
-fn ask_long<S: Store>(
-    rt: &HostRuntime,
-    store: &mut S,
-    name: &str,
-    count: u64,
-    most: u64,
-    out: &mut Vec<u8>,
-) -> Result<(), Memory> {
-    let mut bytes = Vec::new(rt.alloc());
+/// Writes so many bytes, and adds how many of them are read up to this limit and one.
+fn ask_long<S: Store>(store: &mut S, name: &str, count: u64, most: u64, out: &mut Page) {
+    let mut bytes = Page::new(out.alloc());
     for _ in 0..count {
-        bytes.push(7)?;
+        bytes.byte(7);
     }
-    if store.write(rt.alloc(), name, bytes.as_slice()).is_err() {
-        return Ok(());
+    out.heed(&bytes);
+    if store.write(out.alloc(), name, bytes.bytes()).is_err() {
+        return;
     }
-    if let Ok(bytes) = store.read(rt.alloc(), name, most) {
-        push_decimal(out, bytes.len() as u128)?;
+    if let Ok(read) = store.read(out.alloc(), name, most) {
+        out.debug(read.len());
     }
-    Ok(out.push(b'\n')?)
+    out.say("\n");
 }
 
-fn ask_with(rt: &HostRuntime, head: &str, text: &str, out: &mut Vec<u8>) -> Result<(), Memory> {
-    let mut store = FileStore::new(rt.clone()?);
-    match head.split_once(' ') {
-        Some(("read", most)) => ask_read(rt.alloc(), &mut store, text, most, out),
-        Some(("write", name)) => ask_write(rt.alloc(), &mut store, name, text.as_bytes(), out),
-        Some(("long", count)) => {
-            let count = count.parse::<u64>().unwrap_or(0);
-            ask_long(rt, &mut store, text, count, count.saturating_sub(2), out)
+fn ask_with<S: Store>(store: &mut S, head: &str, text: &str, out: &mut Page) {
+    let (word, rest) = head.split_once(' ').unwrap_or((head, ""));
+    match word {
+        "read" => ask_read(store, text, rest, out),
+        "write" => ask_write(store, rest, text.as_bytes(), out),
+        "long" => {
+            let count = rest.parse::<u64>().unwrap_or(0);
+            ask_long(store, text, count, count.saturating_sub(2), out);
         }
-        _ => Ok(()),
+        _ => (),
     }
 }
 
-/// Answers a line that asks the files of the system: `real read MOST:NAME`, `real write NAME:BYTES`, `real long COUNT:NAME` or `real remove:NAME`.
-pub fn ask_files(rt: &HostRuntime, line: &str, out: &mut Vec<u8>) -> Result<(), Memory> {
-    let Some(asked) = line.strip_prefix("real ") else {
-        return Ok(());
-    };
-    match asked.split_once(':') {
-        Some(("remove", name)) => match fs::remove_file(rt, name) {
-            Ok(()) => Ok(out.extend_from_slice(b"done\n")?),
-            Err(_) => Ok(out.extend_from_slice(b"fault\n")?),
-        },
-        Some((head, text)) => ask_with(rt, head, text, out),
-        None => Ok(()),
+fn ask_remove(rt: &HostRuntime, name: &str, out: &mut Page) {
+    out.say(if fs::remove_file(rt, name).is_ok() {
+        "done\n"
+    } else {
+        "fault\n"
+    });
+}
+
+/// Answers what asks the files of the system: `read MOST:NAME`, `write NAME:BYTES`, `long COUNT:NAME` or `remove:NAME`.
+pub fn ask_files(rt: &HostRuntime, head: &str, text: &str, out: &mut Page) {
+    if head == "remove" {
+        return ask_remove(rt, text, out);
+    }
+    if let Some(files) = out.done(rt.clone()) {
+        ask_with(&mut FileStore::new(files), head, text, out);
     }
 }

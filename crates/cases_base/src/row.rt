@@ -3,10 +3,8 @@ use crate::devices::{ask_sink, ask_store};
 use crate::real::ask_files;
 use crate::tables::ask_table;
 use crate::texts::ask_text;
-use case_rows::{
-    Head, Place, Rest, answer, answer_unread, bad_line, expect, name_of, numbers_of, store_of,
-};
-use cbi_base::{MemSink, Memory};
+use case_rows::{Head, Page, Place, Rest, Rows, bad_line, expect, numbers_of, store_of};
+use cbi_base::{MemSink, MemStore};
 
 /// The lines of a row. Its files, the calls of its store and the puts of its sink that fail are given, and then it asks, line by line. A line that asks
 /// ends in a text behind a colon, the bytes or the name that it asks with. Out is what is answered.
@@ -35,35 +33,48 @@ const FORM: [Head; 22] = [
     ("out", Rest::Way, Place::Any),
 ];
 
-/// What the row's lines answer.
-fn answers(rt: &HostRuntime, texts: &str, row: &str) -> Result<Vec<u8>, Memory> {
-    let alloc = rt.alloc();
-    let mut store = store_of(alloc, texts, row)?;
-    let mut sink = MemSink::new(numbers_of(alloc, row, "puts fail ", 0)?);
-    let mut out = Vec::new(alloc);
+/// Answers a line that asks with a text.
+fn ask(rt: &HostRuntime, line: &str, store: &mut MemStore, sink: &mut MemSink, out: &mut Page) {
+    let Some((head, text)) = line.split_once(':') else {
+        return ask_table(line, out);
+    };
+    match head.strip_prefix("real ") {
+        Some(head) => ask_files(rt, head, text, out),
+        None => {
+            ask_text(head, text, out);
+            ask_store(head, text, store, out);
+            ask_sink(head, text, sink, out);
+        }
+    }
+}
+
+/// Tells of the answers to a row's lines, where they aren't as it says.
+fn tell_answers(
+    rt: &HostRuntime,
+    row: &str,
+    store: &mut MemStore,
+    sink: &mut MemSink,
+    told: &mut Page,
+) {
+    let mut out = Page::new(rt.alloc());
     for line in row.split('\n') {
-        ask_text(alloc, line, &mut out)?;
-        ask_table(alloc, line, &mut out)?;
-        ask_store(alloc, line, &mut store, &mut out)?;
-        ask_sink(alloc, line, &mut sink, &mut out)?;
-        ask_files(rt, line, &mut out)?;
+        ask(rt, line, store, sink, &mut out);
     }
-    Ok(out)
+    told.heed(&out);
+    expect(row, "out", out.bytes(), told);
 }
 
-fn differences(rt: &HostRuntime, texts: &str, row: &str) -> Result<String, Memory> {
-    let came = answers(rt, texts, row)?;
-    let mut told = String::new(rt.alloc());
-    expect(rt.alloc(), row, "out", came.as_slice(), &mut told)?;
-    Ok(told)
-}
+/// The rows of the shared types.
+pub struct Asked;
 
-/// Answers a row, which begins with its name.
-pub fn tell(rt: &HostRuntime, texts: &str, row: &str, told: &mut String) -> Result<(), Memory> {
-    let (name, lines) = name_of(row);
-    if let Some(line) = bad_line(&FORM, texts, lines) {
-        return answer_unread(name, line, told);
+impl Rows for Asked {
+    fn unread<'a>(&self, texts: &str, row: &'a str) -> Option<&'a str> {
+        bad_line(&FORM, texts, row)
     }
-    let differences = differences(rt, texts, lines)?;
-    answer(name, differences.as_str(), told)
+
+    fn tell(&self, rt: &HostRuntime, texts: &str, row: &str, told: &mut Page) {
+        let mut store = store_of(texts, row, told);
+        let mut sink = MemSink::new(numbers_of(row, "puts fail ", 0, told));
+        tell_answers(rt, row, &mut store, &mut sink, told);
+    }
 }

@@ -1,6 +1,6 @@
 //! The tables of traps and refusals, and a list.
-use cbi_base::{Memory, ProgramId, Refusal, Seq, Trap};
-use std::alloc::Global;
+use case_rows::Page;
+use cbi_base::{ProgramId, Refusal, Seq, Trap};
 
 const TRAPS: [Trap; 15] = [
     Trap::Overflow,
@@ -53,48 +53,59 @@ const REFUSALS: [Refusal; 19] = [
 ];
 
 /// Each trap and its number.
-fn push_traps(alloc: Global, out: &mut Vec<u8>) -> Result<(), Memory> {
+fn push_traps(out: &mut Page) {
     for trap in TRAPS {
-        let line = format!(in alloc; "{trap:?} {}\n", trap.number())?;
-        out.extend_from_slice(line.as_str().as_bytes())?;
+        out.debug(trap);
+        out.say(" ");
+        out.number(trap.number());
+        out.say("\n");
     }
-    Ok(())
+}
+
+fn push_refusal(refusal: Refusal, out: &mut Page) {
+    let mut line = Vec::new(out.alloc());
+    out.done(refusal.push_line(&mut line));
+    out.number(refusal.number());
+    out.say(" ");
+    out.put(line.as_slice());
 }
 
 /// The number of each refusal, and its line.
-fn push_refusals(alloc: Global, out: &mut Vec<u8>) -> Result<(), Memory> {
+fn push_refusals(out: &mut Page) {
     for refusal in REFUSALS {
-        let number = format!(in alloc; "{} ", refusal.number())?;
-        out.extend_from_slice(number.as_str().as_bytes())?;
-        refusal.push_line(out)?;
+        push_refusal(refusal, out);
     }
-    Ok(())
+}
+
+/// A list of these numbers, which are pushed one by one.
+fn list_of(numbers: &str, out: &mut Page) -> Seq<u32> {
+    let mut list = Seq::new(out.alloc());
+    for number in numbers.split(' ') {
+        out.done(list.push(number.parse::<u32>().unwrap_or(0)));
+    }
+    list
 }
 
 /// A list to which these numbers were added, as it is once it was taken apart and put together.
-fn push_items(alloc: Global, numbers: &str, out: &mut Vec<u8>) -> Result<(), Memory> {
-    let mut list = Seq::new(alloc);
-    for number in numbers.split(' ') {
-        list.push(number.parse::<u32>().unwrap_or(0))?;
-    }
-    let list = Seq::from_vec(list.into_vec());
-    let line = format!(in alloc;
-        "{} {} {:?}\n",
-        list.is_empty(),
-        list.len(),
-        list.as_slice()
-    )?;
-    Ok(out.extend_from_slice(line.as_str().as_bytes())?)
+fn push_items(numbers: &str, out: &mut Page) {
+    let list = Seq::from_vec(list_of(numbers, out).into_vec());
+    out.debug(list.is_empty());
+    out.say(" ");
+    out.debug(list.len());
+    out.say(" ");
+    out.debug(list.as_slice());
+    out.say("\n");
 }
 
 /// Answers a line that asks for a table or a list.
-pub fn ask_table(alloc: Global, line: &str, out: &mut Vec<u8>) -> Result<(), Memory> {
+pub fn ask_table(line: &str, out: &mut Page) {
     match line {
-        "traps" => push_traps(alloc, out),
-        "refusals" => push_refusals(alloc, out),
-        _ => match line.strip_prefix("items ") {
-            Some(numbers) => push_items(alloc, numbers, out),
-            None => Ok(()),
-        },
+        "traps" => push_traps(out),
+        "refusals" => push_refusals(out),
+        _ => {
+            if let Some(numbers) = line.strip_prefix("items ") {
+                push_items(numbers, out);
+            }
+        }
     }
 }

@@ -1,50 +1,45 @@
 //! What is read of texts: decimals, lines, fields, formats, names and identities.
-use case_rows::push_text;
+use case_rows::{Page, push_text};
 use cbi_base::{
-    Fields, Memory, Name, count_conversions, id_text, is_name, line_end, push_decimal,
-    read_decimal, read_id, read_signed,
+    Fields, Name, count_conversions, id_text, is_name, line_end, read_decimal, read_id, read_signed,
 };
-use std::alloc::Global;
 
 /// The longest format of which the conversions are counted.
 const FORMAT_LIMIT: usize = 2097152;
 
-fn push_number(number: Option<u64>, out: &mut Vec<u8>) -> Result<(), Memory> {
+fn push_number(number: Option<u64>, out: &mut Page) {
     match number {
-        Some(number) => push_decimal(out, u128::from(number)),
-        None => Ok(out.extend_from_slice(b"none")?),
+        Some(number) => out.number(number),
+        None => out.say("none"),
     }
 }
 
-fn push_signed(alloc: Global, text: &[u8], out: &mut Vec<u8>) -> Result<(), Memory> {
+fn push_signed(text: &[u8], out: &mut Page) {
     match read_signed(text) {
-        Some(number) => {
-            Ok(out.extend_from_slice(format!(in alloc; "{number}")?.as_str().as_bytes())?)
-        }
-        None => Ok(out.extend_from_slice(b"none")?),
+        Some(number) => out.debug(number),
+        None => out.say("none"),
     }
 }
 
 /// Writes the number that the text spells, which may be larger than those that are read.
-fn push_written(text: &str, out: &mut Vec<u8>) -> Result<(), Memory> {
-    match text.parse::<u128>() {
-        Ok(number) => push_decimal(out, number),
-        Err(_) => Ok(()),
+fn push_written(text: &str, out: &mut Page) {
+    if let Ok(number) = text.parse::<u128>() {
+        out.number(number);
     }
 }
 
-fn push_line_end(from: &str, text: &[u8], out: &mut Vec<u8>) -> Result<(), Memory> {
-    match from.parse::<usize>() {
-        Ok(from) if from <= text.len() => push_number(
-            line_end(text, from).map(|it| it as u64),
-            out,
-        ),
-        _ => Ok(()),
+fn push_line_end(from: &str, text: &[u8], out: &mut Page) {
+    let from = from.parse::<usize>().unwrap_or(usize::MAX);
+    if from <= text.len() {
+        match line_end(text, from) {
+            Some(end) => out.debug(end),
+            None => out.say("none"),
+        }
     }
 }
 
 /// Each field between brackets, and a full stop once the fields are at their end.
-fn push_fields(text: &[u8], out: &mut Vec<u8>) -> Result<(), Memory> {
+fn push_fields(text: &[u8], out: &mut Page) {
     let mut fields = Fields::new(text);
     for _ in 0..u64::MAX {
         if fields.is_empty() {
@@ -53,92 +48,80 @@ fn push_fields(text: &[u8], out: &mut Vec<u8>) -> Result<(), Memory> {
         let Some(field) = fields.next() else {
             break;
         };
-        out.push(b'[')?;
-        out.extend_from_slice(field)?;
-        out.push(b']')?;
+        out.say("[");
+        out.put(field);
+        out.say("]");
     }
     if fields.is_empty() && fields.next().is_none() {
-        out.push(b'.')?;
+        out.say(".");
     }
-    Ok(())
 }
 
-fn push_conversions(format: &[u8], out: &mut Vec<u8>) -> Result<(), Memory> {
-    if format.len() > FORMAT_LIMIT {
-        return Ok(());
+fn push_conversions(format: &[u8], out: &mut Page) {
+    if format.len() <= FORMAT_LIMIT {
+        match count_conversions(format) {
+            Some(count) => out.number(count),
+            None => out.say("none"),
+        }
     }
-    push_number(count_conversions(format).map(u64::from), out)
 }
 
-/// A copy of the name, where it is one.
-fn push_name(alloc: Global, text: &[u8], out: &mut Vec<u8>) -> Result<(), Memory> {
-    out.extend_from_slice(if is_name(text) {
-        b"yes ".as_slice()
-    } else {
-        b"no ".as_slice()
-    })?;
-    let Some(name) = Name::new(alloc, text)? else {
-        return Ok(out.extend_from_slice(b"none")?);
-    };
-    let copy = name.try_clone()?;
-    if copy.same(&name) {
-        out.extend_from_slice(copy.bytes())?;
+/// A copy of the name, where it equals the name.
+fn push_copy(name: &Name, out: &mut Page) {
+    if let Some(copy) = out.done(name.try_clone()) {
+        if copy.same(name) {
+            out.put(copy.bytes());
+        }
     }
-    Ok(())
+}
+
+/// Whether the text is a name, and a copy of it where it is one.
+fn push_name(text: &[u8], out: &mut Page) {
+    out.say(if is_name(text) { "yes " } else { "no " });
+    match Name::new(out.alloc(), text) {
+        Ok(Some(name)) => push_copy(&name, out),
+        Ok(None) => out.say("none"),
+        Err(_) => out.want(),
+    }
 }
 
 /// The bytes of the identity, and its spelling.
-fn push_identity(text: &[u8], out: &mut Vec<u8>) -> Result<(), Memory> {
+fn push_identity(text: &[u8], out: &mut Page) {
     let Some(id) = read_id(text) else {
-        return Ok(out.extend_from_slice(b"none")?);
+        return out.say("none");
     };
     for byte in id.bytes {
-        push_decimal(out, u128::from(byte))?;
-        out.push(b' ')?;
+        out.number(byte);
+        out.say(" ");
     }
-    Ok(out.extend_from_slice(id_text(&id).as_slice())?)
+    out.put(id_text(&id).as_slice());
 }
 
-/// Asks with the number that the head ends in.
-fn ask_with(head: &str, text: &[u8], out: &mut Vec<u8>) -> Result<(), Memory> {
-    if let Some(most) = head.strip_prefix("decimal ") {
-        return push_number(read_decimal(text, most.parse::<u64>().unwrap_or(0)), out);
+/// Adds what a text's bytes read as; whether the head asks for that.
+fn push_read(head: &str, text: &[u8], out: &mut Page) -> bool {
+    let (word, rest) = head.split_once(' ').unwrap_or((head, ""));
+    match word {
+        "signed" => push_signed(text, out),
+        "fields" => push_fields(text, out),
+        "conversions" => push_conversions(text, out),
+        "name" => push_name(text, out),
+        "identity" => push_identity(text, out),
+        "decimal" => push_number(read_decimal(text, rest.parse::<u64>().unwrap_or(0)), out),
+        "line" => push_line_end(rest.strip_prefix("from ").unwrap_or(""), text, out),
+        _ => return false,
     }
-    match head.strip_prefix("line from ") {
-        Some(from) => push_line_end(from, text, out),
-        None => Ok(()),
-    }
+    true
 }
 
-fn ask(alloc: Global, head: &str, text: &str, out: &mut Vec<u8>) -> Result<(), Memory> {
-    let mut bytes = Vec::new(alloc);
-    push_text(text, &mut bytes)?;
-    match head {
-        "signed" => push_signed(alloc, bytes.as_slice(), out),
-        "written" => push_written(text, out),
-        "fields" => push_fields(bytes.as_slice(), out),
-        "conversions" => push_conversions(bytes.as_slice(), out),
-        "name" => push_name(alloc, bytes.as_slice(), out),
-        "identity" => push_identity(bytes.as_slice(), out),
-        _ => ask_with(head, bytes.as_slice(), out),
-    }
-}
-
-fn is_asked(head: &str) -> bool {
-    matches!(
-        head,
-        "signed" | "written" | "fields" | "conversions" | "name" | "identity"
-    ) || head.starts_with("decimal ")
-        || head.starts_with("line from ")
-}
-
-/// Answers a line that asks what a text reads as.
-pub fn ask_text(alloc: Global, line: &str, out: &mut Vec<u8>) -> Result<(), Memory> {
-    match line.split_once(':') {
-        Some((head, text)) if is_asked(head) => {
-            ask(alloc, head, text, out)?;
-            Ok(out.push(b'\n')?)
-        }
-        _ => Ok(()),
+/// Answers what asks what a text reads as, or how a number is written.
+pub fn ask_text(head: &str, text: &str, out: &mut Page) {
+    let mut bytes = Page::new(out.alloc());
+    push_text(text, &mut bytes);
+    out.heed(&bytes);
+    if head == "written" {
+        push_written(text, out);
+        out.say("\n");
+    } else if push_read(head, bytes.bytes(), out) {
+        out.say("\n");
     }
 }

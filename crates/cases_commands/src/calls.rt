@@ -1,66 +1,69 @@
 //! A call of the tool, or of what reads its words alone.
 use crate::few::Few;
-use case_rows::has_line;
-use cbi_base::{MemSink, MemStore, Memory, Sink, SinkError};
+use case_rows::{Page, has_line, rest_of};
+use cbi_base::{MemSink, MemStore, Sink, SinkError};
 use cbi_words::{WordsError, read_words};
 use probes::{FirstSeen, Hottest, LastSeen, Probe};
-use std::alloc::Global;
 use top_call::cbi;
 
-/// After how many observations the step's own watcher wants memory; nothing where it has none.
-fn few_of(step: &str) -> Option<u64> {
-    for line in step.split('\n') {
-        if let Some(most) = line.strip_prefix("watched few ") {
-            return most.parse::<u64>().ok();
-        }
-    }
-    None
-}
-
-/// Calls the tool, with the watchers that the step asks for.
+/// Calls the tool, with the watchers that the step asks for; the status.
 pub fn call<O: Sink, E: Sink>(
-    alloc: Global,
     step: &str,
     words: &Vec<String>,
     store: &mut MemStore,
     out: &mut O,
     err: &mut E,
-) -> Result<u8, Memory> {
+    told: &mut Page,
+) -> u8 {
+    let alloc = told.alloc();
+    let most = rest_of(step, "watched few ");
+    let is_watched = most.is_some() || has_line(step, "watched");
     let mut probes: Vec<Box<dyn Probe>> = Vec::new(alloc);
-    if has_line(step, "watched") {
-        probes.push(Box::new(alloc, FirstSeen::new(alloc))?)?;
-        probes.push(Box::new(alloc, Hottest::new(alloc))?)?;
-        probes.push(Box::new(alloc, LastSeen::new(alloc))?)?;
+    if is_watched {
+        if let Some(probe) = told.done(Box::new(alloc, FirstSeen::new(alloc))) {
+            told.done(probes.push(probe));
+        }
     }
-    if let Some(most) = few_of(step) {
-        probes.push(Box::new(alloc, FirstSeen::new(alloc))?)?;
-        probes.push(Box::new(alloc, Few::new(alloc, most))?)?;
-        probes.push(Box::new(alloc, LastSeen::new(alloc))?)?;
+    if let Some(most) = most {
+        let few = Few::new(alloc, most.parse::<u64>().unwrap_or(0));
+        if let Some(probe) = told.done(Box::new(alloc, few)) {
+            told.done(probes.push(probe));
+        }
+    } else if is_watched {
+        if let Some(probe) = told.done(Box::new(alloc, Hottest::new(alloc))) {
+            told.done(probes.push(probe));
+        }
     }
-    Ok(cbi(alloc, words, store, out, err, &mut probes))
+    if is_watched {
+        if let Some(probe) = told.done(Box::new(alloc, LastSeen::new(alloc))) {
+            told.done(probes.push(probe));
+        }
+    }
+    cbi(alloc, words, store, out, err, &mut probes)
 }
 
 /// Puts a text into a sink, and answers the status.
-fn put(sink: &mut MemSink, text: &str, status: u8) -> u8 {
-    match sink.put(text.as_bytes()) {
+fn put(sink: &mut MemSink, text: &[u8], status: u8) -> u8 {
+    match sink.put(text) {
         Err(SinkError::Memory) => 7,
         _ => status,
     }
 }
 
-/// Reads the words alone: out takes the command, or err what it is told.
-pub fn read(
-    alloc: Global,
-    words: &Vec<String>,
-    out: &mut MemSink,
-    err: &mut MemSink,
-) -> Result<u8, Memory> {
-    match read_words(alloc, words) {
+/// Reads the words alone: out takes the command, or err what it is told; the status.
+pub fn read(words: &Vec<String>, out: &mut MemSink, err: &mut MemSink, told: &mut Page) -> u8 {
+    let mut text = Page::new(told.alloc());
+    match read_words(told.alloc(), words) {
         Ok(command) => {
-            let text = format!(in alloc; "{command:?}\n")?;
-            Ok(put(out, text.as_str(), 0))
+            text.debug(command);
+            text.say("\n");
+            told.heed(&text);
+            put(out, text.bytes(), 0)
         }
-        Err(WordsError::Usage { text }) => Ok(put(err, text.as_str(), 2)),
-        Err(WordsError::Memory) => Err(Memory),
+        Err(WordsError::Usage { text }) => put(err, text.as_str().as_bytes(), 2),
+        Err(WordsError::Memory) => {
+            told.want();
+            7
+        }
     }
 }

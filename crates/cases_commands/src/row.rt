@@ -2,11 +2,10 @@
 use crate::calls::{call, read};
 use crate::no_memory::NoMemory;
 use case_rows::{
-    Head, Place, Rest, answer, answer_unread, bad_line, expect, expect_files, expect_status,
-    has_line, keep, name_of, numbers_of, store_of, words_of,
+    Head, Page, Place, Rest, Rows, bad_line, expect, expect_files, expect_status, has_line, keep,
+    numbers_of, store_of, words_of,
 };
-use cbi_base::{MemSink, MemStore, Memory};
-use std::alloc::Global;
+use cbi_base::{MemSink, MemStore};
 
 /// The lines of a row. Its files and the calls of the store that fail are given for all its calls together. A call has its words, `watched` where the
 /// tool's three watchers are to see it, `watched few N` where the second of them is one that wants memory after N observations, the puts that fail, and
@@ -33,80 +32,64 @@ const FORM: [Head; 18] = [
     ("then", Rest::Nothing, Place::Any),
 ];
 
-/// Calls the tool, or reads the words alone, as a step says.
+/// Calls the tool, or reads the words alone, as a step says; the status.
 fn call_as_said(
-    alloc: Global,
     step: &str,
     words: &Vec<String>,
     store: &mut MemStore,
     out: &mut MemSink,
     err: &mut MemSink,
-) -> Result<u8, Memory> {
+    told: &mut Page,
+) -> u8 {
     if has_line(step, "reading") {
-        return read(alloc, words, out, err);
+        return read(words, out, err, told);
     }
     if has_line(step, "out wants memory") {
-        return call(alloc, step, words, store, &mut NoMemory, err);
+        return call(step, words, store, &mut NoMemory, err, told);
     }
     if has_line(step, "err wants memory") {
-        return call(alloc, step, words, store, out, &mut NoMemory);
+        return call(step, words, store, out, &mut NoMemory, told);
     }
-    call(alloc, step, words, store, out, err)
+    call(step, words, store, out, err, told)
 }
 
 /// Calls the tool as a step says, and tells what didn't come as it says.
-fn call_with_sinks(
-    alloc: Global,
-    step: &str,
-    words: &Vec<String>,
-    store: &mut MemStore,
-    told: &mut String,
-) -> Result<(), Memory> {
-    let mut out = MemSink::new(numbers_of(alloc, step, "out fails ", 0)?);
-    let mut err = MemSink::new(numbers_of(alloc, step, "err fails ", 0)?);
-    let status = call_as_said(alloc, step, words, store, &mut out, &mut err)?;
-    expect_status(alloc, step, status, told)?;
-    expect(alloc, step, "out", out.taken(), told)?;
-    expect(alloc, step, "err", err.taken(), told)?;
-    keep(alloc, step, out.taken(), store)
+fn call_with_words(step: &str, words: &Vec<String>, store: &mut MemStore, told: &mut Page) {
+    let mut out = MemSink::new(numbers_of(step, "out fails ", 0, told));
+    let mut err = MemSink::new(numbers_of(step, "err fails ", 0, told));
+    let status = call_as_said(step, words, store, &mut out, &mut err, told);
+    expect_status(step, status, told);
+    expect(step, "out", out.taken(), told);
+    expect(step, "err", err.taken(), told);
+    keep(step, out.taken(), store, told);
 }
 
 /// Does a step, and tells its number too where something didn't come as it says.
-fn tell_step(
-    alloc: Global,
-    number: u64,
-    step: &str,
-    store: &mut MemStore,
-    told: &mut String,
-) -> Result<(), Memory> {
-    let before = told.len();
-    let words = words_of(alloc, step)?;
-    call_with_sinks(alloc, step, &words, store, told)?;
-    expect_files(alloc, step, store, told)?;
-    if told.len() == before {
-        return Ok(());
+fn tell_step(number: u64, step: &str, store: &mut MemStore, told: &mut Page) {
+    let before = told.bytes().len();
+    let words = words_of(step, told);
+    call_with_words(step, &words, store, told);
+    expect_files(step, store, told);
+    if told.bytes().len() != before {
+        told.say("\nin step ");
+        told.number(number);
     }
-    Ok(told.push_str(format!(in alloc; "\nin step {number}")?.as_str())?)
 }
 
-/// What doesn't come as the row says, of all its steps.
-fn differences(alloc: Global, texts: &str, row: &str) -> Result<String, Memory> {
-    let mut store = store_of(alloc, texts, row)?;
-    let mut told = String::new(alloc);
-    let mut number = 0u64;
-    for step in row.split("\nthen\n") {
-        number = number.saturating_add(1);
-        tell_step(alloc, number, step, &mut store, &mut told)?;
-    }
-    Ok(told)
-}
+/// The rows of calls.
+pub struct Asked;
 
-/// Answers a row, which begins with its name.
-pub fn tell(alloc: Global, texts: &str, row: &str, told: &mut String) -> Result<(), Memory> {
-    let (name, lines) = name_of(row);
-    if let Some(line) = bad_line(&FORM, texts, lines) {
-        return answer_unread(name, line, told);
+impl Rows for Asked {
+    fn unread<'a>(&self, texts: &str, row: &'a str) -> Option<&'a str> {
+        bad_line(&FORM, texts, row)
     }
-    let differences = differences(alloc, texts, lines)?;
-    answer(name, differences.as_str(), told)
+
+    fn tell(&self, _rt: &HostRuntime, texts: &str, row: &str, told: &mut Page) {
+        let mut store = store_of(texts, row, told);
+        let mut number = 0u64;
+        for step in row.split("\nthen\n") {
+            number = number.saturating_add(1);
+            tell_step(number, step, &mut store, told);
+        }
+    }
 }

@@ -1,63 +1,46 @@
 //! The bytes that a row gives, in parts of which some come once for each number.
-use case_rows::block;
-use cbi_base::{Memory, push_decimal};
-use std::alloc::Global;
+use case_rows::{Page, piece_of};
 
 /// The numbers of a part that says ` each FROM TO`.
 fn range_of(rest: &str) -> Option<(u32, u32)> {
     let (from, to) = rest.strip_prefix(" each ")?.split_once(' ')?;
-    match (from.parse::<u32>(), to.parse::<u32>()) {
-        (Ok(from), Ok(to)) => Some((from, to)),
-        _ => None,
-    }
+    Some((from.parse::<u32>().ok()?, to.parse::<u32>().ok()?))
 }
 
-/// Appends the bytes, with this number for each `#`.
-fn push_numbered(piece: &[u8], number: u32, bytes: &mut Vec<u8>) -> Result<(), Memory> {
+/// Adds the bytes, with this number for each `#`.
+fn push_numbered(piece: &[u8], number: u32, bytes: &mut Page) {
     for byte in piece {
         if *byte == b'#' {
-            push_decimal(bytes, u128::from(number))?;
+            bytes.number(number);
         } else {
-            bytes.push(*byte)?;
+            bytes.byte(*byte);
         }
     }
-    Ok(())
 }
 
-fn push_each(rest: &str, piece: &[u8], bytes: &mut Vec<u8>) -> Result<(), Memory> {
-    match range_of(rest) {
-        Some((from, to)) => {
-            for number in from..=to {
-                push_numbered(piece, number, bytes)?;
-            }
-        }
-        None => bytes.extend_from_slice(piece)?,
+fn push_each(rest: &str, piece: &[u8], bytes: &mut Page) {
+    let Some((from, to)) = range_of(rest) else {
+        return bytes.put(piece);
+    };
+    for number in from..=to {
+        push_numbered(piece, number, bytes);
     }
-    Ok(())
 }
 
-/// What a part stands for: a text that all rows share, or the block below it.
-fn piece_of(
-    alloc: Global,
-    texts: &str,
-    step: &str,
-    head: &str,
-    rest: &str,
-) -> Result<Vec<u8>, Memory> {
-    match rest.strip_prefix(" is ") {
-        Some(name) => block(alloc, texts, "text ", name),
-        None => block(alloc, step, head, rest),
-    }
+/// Adds what a part stands for that has this head and this rest.
+fn push_part(texts: &str, step: &str, head: &str, rest: &str, bytes: &mut Page) {
+    let piece = piece_of(texts, step, head, rest, bytes);
+    push_each(rest, piece.bytes(), bytes);
 }
 
 /// The bytes of all parts with this head, in their order. No two of them may say the same behind it.
-pub fn bytes_of(alloc: Global, texts: &str, step: &str, head: &str) -> Result<Vec<u8>, Memory> {
-    let mut bytes = Vec::new(alloc);
+pub fn bytes_of(texts: &str, step: &str, head: &str, told: &mut Page) -> Page {
+    let mut bytes = Page::new(told.alloc());
     for line in step.split('\n') {
         if let Some(rest) = line.strip_prefix(head) {
-            let piece = piece_of(alloc, texts, step, head, rest)?;
-            push_each(rest, piece.as_slice(), &mut bytes)?;
+            push_part(texts, step, head, rest, &mut bytes);
         }
     }
-    Ok(bytes)
+    told.heed(&bytes);
+    bytes
 }

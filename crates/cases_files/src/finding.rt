@@ -1,10 +1,8 @@
 //! The lines of a run that stand at a place of a text.
-use crate::row::rest_of;
-use case_rows::expect;
-use cbi_base::{Memory, ProgramId, read_id};
+use case_rows::{Page, expect, rest_of};
+use cbi_base::{ProgramId, read_id};
 use collector::{RunText, read_run};
 use report_file::report_lines;
-use std::alloc::Global;
 
 /// The identity in the texts of reports and collections.
 const IDENTITY: &str = "e3b0c44298fc1c149afbf4c8996fb92427ae41e4649b934ca495991b7852b855";
@@ -15,42 +13,46 @@ pub fn program() -> Option<ProgramId> {
 }
 
 /// The run whose lines stand at this place.
-fn run_at(alloc: Global, bytes: &[u8], place: &str) -> Result<Option<RunText>, Memory> {
-    let (Some(program), Ok(place)) = (program(), place.parse::<usize>()) else {
-        return Ok(None);
-    };
+fn run_at(bytes: &[u8], place: &str, told: &mut Page) -> Option<RunText> {
+    let program = program()?;
+    let place = place.parse::<usize>().ok()?;
     if place > bytes.len() {
-        return Ok(None);
+        return None;
     }
-    read_run(alloc, &program, bytes, place)
+    told.done(read_run(told.alloc(), &program, bytes, place))?
 }
 
-fn tell_none(alloc: Global, bytes: &[u8], place: &str, told: &mut String) -> Result<(), Memory> {
-    match run_at(alloc, bytes, place)? {
-        Some(_) => Ok(told.push_str(format!(in alloc; "\na run at {place}")?.as_str())?),
-        None => Ok(()),
+fn expect_run(row: &str, run: &RunText, told: &mut Page) {
+    if let Some(lines) = told.done(report_lines(told.alloc(), &run.report)) {
+        expect(row, "lines", lines.as_slice(), told);
+    }
+    if rest_of(row, "end ").unwrap_or("").parse::<usize>() != Ok(run.end) {
+        told.say("\nend ");
+        told.debug(run.end);
     }
 }
 
-fn expect_run(alloc: Global, row: &str, run: &RunText, told: &mut String) -> Result<(), Memory> {
-    let lines = report_lines(alloc, &run.report)?;
-    expect(alloc, row, "lines", lines.as_slice(), told)?;
-    match rest_of(row, "end ") {
-        Some(end) if end.parse::<usize>() == Ok(run.end) => Ok(()),
-        _ => Ok(told.push_str(format!(in alloc; "\nend {}", run.end)?.as_str())?),
+/// Tells where no run stands at the place, or another one than the row says.
+fn tell_run(row: &str, bytes: &[u8], place: &str, told: &mut Page) {
+    match run_at(bytes, place, told) {
+        Some(run) => expect_run(row, &run, told),
+        None => told.say("\nno run"),
+    }
+}
+
+fn tell_none(bytes: &[u8], place: &str, told: &mut Page) {
+    if run_at(bytes, place, told).is_some() {
+        told.say("\na run at ");
+        told.say(place);
     }
 }
 
 /// Tells where no run stands at the row's place, or another one than it says, or one at a place where there is none.
-pub fn tell_found(alloc: Global, row: &str, bytes: &[u8], told: &mut String) -> Result<(), Memory> {
+pub fn tell_found(row: &str, bytes: &[u8], told: &mut Page) {
     for place in rest_of(row, "no run at ").unwrap_or("").split(' ') {
-        tell_none(alloc, bytes, place, told)?;
+        tell_none(bytes, place, told);
     }
-    let Some(place) = rest_of(row, "run at ") else {
-        return Ok(());
-    };
-    match run_at(alloc, bytes, place)? {
-        Some(run) => expect_run(alloc, row, &run, told),
-        None => Ok(told.push_str("\nno run")?),
+    if let Some(place) = rest_of(row, "run at ") {
+        tell_run(row, bytes, place, told);
     }
 }

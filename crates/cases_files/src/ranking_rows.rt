@@ -1,19 +1,17 @@
 //! Eliminations of a collection's runs: the quick one beside the reference, the predicates that they list, and the text of a ranking.
-ghost use Rattle.std.specs.Prelude.{◌≡◌, IfOk, IfSome};
+ghost use Rattle.std.specs.Prelude.{◌≡◌, IfSome};
 ghost use Rattle.collector.specs.Sites.{branches_of};
 ghost use Rattle.report_file.specs.Report.{IsReport};
 
 use crate::finding::program;
-use crate::row::rest_of;
-use case_rows::expect;
-use cbi_base::{Memory, Policy, ProgramId};
+use case_rows::{Page, expect, expect_rest, has_head};
+use cbi_base::{Policy, ProgramId};
 use collector::{Added, Collection, RunText, read_collection, read_run};
 use elimination::{Listed, elimination};
 use elimination_reference::plain_elimination;
 use flow::SiteTable;
 use ranking::ranking_of;
 use report_file::Report;
-use std::alloc::Global;
 
 /// The policies, with the heads of what a row says of each: the predicates that are listed, and the ranking's text.
 const POLICIES: [(Policy, &str, &str); 3] = [
@@ -23,184 +21,154 @@ const POLICIES: [(Policy, &str, &str); 3] = [
 ];
 
 /// The report of the run whose lines stand behind this place.
-fn run_behind(
-    alloc: Global,
-    program: &ProgramId,
-    bytes: &[u8],
-    place: usize,
-) -> Result<Option<Report>, Memory>
-    ensures { IfOk result (λ found. IfSome found IsReport) }
+fn run_behind(program: &ProgramId, bytes: &[u8], place: usize, told: &mut Page) -> Option<Report>
+    ensures { IfSome result IsReport }
 {
     if place >= bytes.len() {
-        return Ok(None);
+        return None;
     }
-    match read_run(alloc, program, bytes, place + 1)? {
-        Some(found) => {
+    match read_run(told.alloc(), program, bytes, place + 1) {
+        Ok(Some(found)) => {
             let RunText { report, .. } = found;
-            Ok(Some(report))
+            Some(report)
         }
-        None => Ok(None),
+        Ok(None) => None,
+        Err(_) => {
+            told.want();
+            None
+        }
     }
 }
 
-/// Adds a report of a run that isn't held yet; None where it is refused.
-fn add(collection: &mut Collection, report: Report) -> Option<()>
+/// Adds a report of a run that isn't held yet; where it is refused, that is told.
+fn add(collection: &mut Collection, report: Report, told: &mut Page)
     requires { IsReport report }
-    ensures { IfSome result (λ _. collection.new.branches ≡ collection.old.branches) }
+    ensures { collection.new.branches ≡ collection.old.branches }
 {
     match collection.add(report) {
-        Ok(Added::New) => Some(()),
-        Ok(Added::Repeated) | Err(_) => None,
+        Ok(Added::New) => (),
+        Ok(Added::Repeated) | Err(_) => told.say("\na run is refused"),
     }
 }
 
-/// Adds the run whose lines stand behind this place, where some do; None where it is refused.
-fn add_behind(
-    alloc: Global,
-    collection: &mut Collection,
-    program: &ProgramId,
-    bytes: &[u8],
-    place: usize,
-) -> Result<Option<()>, Memory>
-    ensures { IfOk result (λ added. IfSome added (λ _. collection.new.branches ≡ collection.old.branches)) }
+/// Adds the runs of a text.
+fn add_runs(collection: &mut Collection, program: &ProgramId, bytes: &[u8], told: &mut Page)
+    ensures { collection.new.branches ≡ collection.old.branches }
 {
-    match run_behind(alloc, program, bytes, place)? {
-        Some(report) => Ok(add(collection, report)),
-        None => Ok(Some(())),
-    }
-}
-
-/// The collection of the runs of a text, of the program with this table; None where one is refused.
-fn collected(
-    alloc: Global,
-    table: &SiteTable,
-    program: ProgramId,
-    bytes: &[u8],
-) -> Result<Option<Collection>, Memory>
-    ensures { IfOk result (λ found. IfSome found (λ c. c.branches ≡ branches_of table.now.sites)) }
-{
-    let mut collection = Collection::new(alloc, program, table)?;
     for (place, byte) in bytes.iter().enumerate() {
         if *byte == b'\n' {
-            let Some(()) = add_behind(alloc, &mut collection, &program, bytes, place)? else {
-                return Ok(None);
-            };
+            if let Some(report) = run_behind(program, bytes, place, told) {
+                add(collection, report, told);
+            }
         }
     }
-    Ok(Some(collection))
 }
 
 /// How many runs a text has; None where it is that of no collection.
-fn count_runs(alloc: Global, bytes: &[u8]) -> Option<usize> {
-    match read_collection(alloc, bytes) {
+fn count_runs(bytes: &[u8], told: &mut Page) -> Option<usize> {
+    match read_collection(told.alloc(), bytes) {
         Ok(bundle) => Some(bundle.reports.len()),
         Err(_) => None,
     }
 }
 
-fn push_leader(alloc: Global, row: &Listed, text: &mut String) -> Result<(), Memory> {
-    text.push_str(format!(in alloc; " {}", row.predicate)?.as_str())?;
-    Ok(())
-}
-
 /// Tells the predicates of the leaders where the row's line with this head says others.
-fn expect_leaders(
-    alloc: Global,
-    row: &str,
-    head: &str,
-    listed: &[Listed],
-    told: &mut String,
-) -> Result<(), Memory> {
-    let mut came = String::new(alloc);
+fn expect_leaders(row: &str, head: &str, listed: &[Listed], told: &mut Page) {
+    let mut came = Page::new(told.alloc());
     for each in listed {
-        push_leader(alloc, each, &mut came)?;
+        came.say(" ");
+        came.number(each.predicate);
     }
-    match rest_of(row, head) {
-        Some(due) if due != came.as_str() => {
-            Ok(told.push_str(format!(in alloc; "\n{head}{came}")?.as_str())?)
-        }
-        _ => Ok(()),
-    }
+    expect_rest(row, head, &came, told);
 }
 
 /// Tells where the reference lists other leaders under a policy, or the row says others; how many are listed.
 fn tell_policy(
-    alloc: Global,
     row: &str,
     table: &SiteTable,
     collection: &Collection,
-    policy: (Policy, &str, &str),
-    told: &mut String,
-) -> Result<usize, Memory>
+    policy: (Policy, &str),
+    told: &mut Page,
+) -> usize
     requires { collection.now.branches ≡ branches_of table.now.sites }
 {
-    let (policy, head, _) = policy;
-    let quick = elimination(alloc, collection, table, policy)?;
-    let reference = plain_elimination(alloc, collection, table, policy)?;
-    if quick.as_slice() != reference.as_slice() {
-        told.push_str("\nthe reference lists others")?;
+    let (policy, head) = policy;
+    let quick = elimination(told.alloc(), collection, table, policy);
+    let plain = plain_elimination(told.alloc(), collection, table, policy);
+    let (Ok(quick), Ok(plain)) = (quick, plain) else {
+        told.want();
+        return 0;
+    };
+    if quick.as_slice() != plain.as_slice() {
+        told.say("\nthe reference lists others");
     }
-    expect_leaders(alloc, row, head, quick.as_slice(), told)?;
-    Ok(quick.len())
+    expect_leaders(row, head, quick.as_slice(), told);
+    quick.len()
 }
 
 /// Tells a ranking's text where the row says another one.
 fn tell_ranking(
-    alloc: Global,
     row: &str,
     table: &SiteTable,
     collection: &Collection,
-    policy: (Policy, &str, &str),
-    told: &mut String,
-) -> Result<(), Memory>
+    policy: (Policy, &str),
+    told: &mut Page,
+)
     requires { collection.now.branches ≡ branches_of table.now.sites }
 {
-    let (policy, _, head) = policy;
-    if rest_of(row, head).is_none() {
-        return Ok(());
+    let (policy, head) = policy;
+    if has_head(row, head) {
+        match ranking_of(told.alloc(), collection, table, policy) {
+            Ok(text) => expect(row, head, text.as_slice(), told),
+            Err(_) => told.want(),
+        }
     }
-    let text = ranking_of(alloc, collection, table, policy)?;
-    expect(alloc, row, head, text.as_slice(), told)
 }
 
-fn tell_collection(
-    alloc: Global,
-    row: &str,
-    table: &SiteTable,
-    collection: &Collection,
-    told: &mut String,
-) -> Result<u32, Memory>
+fn tell_collection(row: &str, table: &SiteTable, collection: &Collection, told: &mut Page) -> u32
     requires { collection.now.branches ≡ branches_of table.now.sites }
 {
     let mut several = 0u32;
-    for policy in POLICIES {
-        if tell_policy(alloc, row, table, collection, policy, told)? > 1 {
+    for (policy, leaders, ranking) in POLICIES {
+        if tell_policy(row, table, collection, (policy, leaders), told) > 1 {
             several = several.saturating_add(1);
         }
-        tell_ranking(alloc, row, table, collection, policy, told)?;
+        tell_ranking(row, table, collection, (policy, ranking), told);
     }
-    Ok(several)
+    several
+}
+
+/// Tells what doesn't come as the row says of the eliminations of these runs, which the collection takes; how many of them list several leaders.
+fn tell_runs(
+    row: &str,
+    table: &SiteTable,
+    collection: &mut Collection,
+    program: &ProgramId,
+    bytes: &[u8],
+    told: &mut Page,
+) -> u32
+    requires { collection.old.branches ≡ branches_of table.now.sites }
+{
+    let runs = count_runs(bytes, told);
+    add_runs(collection, program, bytes, told);
+    if runs != Some(collection.reports_held() as usize) {
+        told.say("\nother runs");
+        return 0;
+    }
+    tell_collection(row, table, collection, told)
 }
 
 /// Tells what doesn't come as the row says of the eliminations of a collection's runs; how many of them list several leaders.
-pub fn tell_eliminations(
-    alloc: Global,
-    row: &str,
-    table: &SiteTable,
-    bytes: &[u8],
-    told: &mut String,
-) -> Result<u32, Memory> {
-    let (Some(program), Some(runs)) = (program(), count_runs(alloc, bytes)) else {
-        told.push_str("\nno collection")?;
-        return Ok(0);
+pub fn tell_eliminations(row: &str, table: &SiteTable, bytes: &[u8], told: &mut Page) -> u32 {
+    let Some(program) = program() else {
+        told.say("\nno collection");
+        return 0;
     };
-    match collected(alloc, table, program, bytes)? {
-        Some(collection) if collection.reports_held() as usize == runs => {
-            tell_collection(alloc, row, table, &collection, told)
-        }
-        _ => {
-            told.push_str("\nother runs")?;
-            Ok(0)
+    match Collection::new(told.alloc(), program, table) {
+        Ok(mut collection) => tell_runs(row, table, &mut collection, &program, bytes, told),
+        Err(_) => {
+            told.want();
+            0
         }
     }
 }

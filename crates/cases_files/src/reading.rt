@@ -1,188 +1,171 @@
 //! Texts that are read: the line at which each goes wrong, or what is written of what was read.
-use crate::row::{has_head, rest_of};
-use case_rows::{expect, has_line};
+use case_rows::{Page, expect, has_head, has_line, rest_of};
 use cbi_base::{Memory, id_text};
 use collector::{CollectionError, read_collection};
 use countdown_bank::{Bank, BankError, make_bank, read_bank, write_bank};
 use program_file::{ProgramError, program_id, read_program, write_program};
 use rand_pcg::Lcg64Xsh32;
 use report_file::{ReportError, read_report, write_report};
-use std::alloc::Global;
 
-/// What comes of a text: what is written of what was read, or the line at which it goes wrong.
-type Answer = Result<Vec<u8>, u32>;
-
-fn program_answer(alloc: Global, bytes: &[u8]) -> Result<Answer, Memory> {
-    match read_program(alloc, bytes) {
-        Ok(program) => Ok(Ok(write_program(alloc, &program)?)),
-        Err(ProgramError::BadProgram { line }) => Ok(Err(line)),
-        Err(ProgramError::Memory) => Err(Memory),
+/// Adds what is written.
+fn put(written: Result<Vec<u8>, Memory>, page: &mut Page) {
+    if let Some(bytes) = page.done(written) {
+        page.put(bytes.as_slice());
     }
 }
 
-fn bank_answer(alloc: Global, bytes: &[u8]) -> Result<Answer, Memory> {
-    match read_bank(alloc, bytes) {
-        Ok(bank) => Ok(Ok(write_bank(alloc, &bank)?)),
-        Err(BankError::BadBank { line }) => Ok(Err(line)),
-        Err(BankError::Memory) => Err(Memory),
+/// Adds what is written of the program; the line at which its text goes wrong, if it does.
+fn read_as_program(bytes: &[u8], written: &mut Page) -> Option<u32> {
+    match read_program(written.alloc(), bytes) {
+        Ok(program) => put(write_program(written.alloc(), &program), written),
+        Err(ProgramError::BadProgram { line }) => return Some(line),
+        Err(ProgramError::Memory) => written.want(),
     }
+    None
 }
 
-fn report_answer(alloc: Global, bytes: &[u8]) -> Result<Answer, Memory> {
-    match read_report(alloc, bytes) {
-        Ok(report) => Ok(Ok(write_report(alloc, &report)?)),
-        Err(ReportError::BadReport { line }) => Ok(Err(line)),
-        Err(ReportError::Memory) => Err(Memory),
+fn read_as_bank(bytes: &[u8], written: &mut Page) -> Option<u32> {
+    match read_bank(written.alloc(), bytes) {
+        Ok(bank) => put(write_bank(written.alloc(), &bank), written),
+        Err(BankError::BadBank { line }) => return Some(line),
+        Err(BankError::Memory) => written.want(),
     }
+    None
+}
+
+fn read_as_report(bytes: &[u8], written: &mut Page) -> Option<u32> {
+    match read_report(written.alloc(), bytes) {
+        Ok(report) => put(write_report(written.alloc(), &report), written),
+        Err(ReportError::BadReport { line }) => return Some(line),
+        Err(ReportError::Memory) => written.want(),
+    }
+    None
 }
 
 /// A collection is written of what was merged, so nothing is written of it here.
-fn collection_answer(alloc: Global, bytes: &[u8]) -> Result<Answer, Memory> {
-    match read_collection(alloc, bytes) {
-        Ok(_) => Ok(Ok(Vec::new(alloc))),
-        Err(CollectionError::BadCollection { line }) => Ok(Err(line)),
-        Err(CollectionError::Memory) => Err(Memory),
-    }
-}
-
-/// What comes of a text that is read as this word says.
-fn answer_to(alloc: Global, word: &str, bytes: &[u8]) -> Result<Answer, Memory> {
-    match word {
-        "program" => program_answer(alloc, bytes),
-        "bank" => bank_answer(alloc, bytes),
-        "report" => report_answer(alloc, bytes),
-        _ => collection_answer(alloc, bytes),
-    }
-}
-
-/// How many lines end in the bytes.
-fn lines_in(bytes: &[u8]) -> u32 {
-    let mut lines = 0u32;
-    for byte in bytes {
-        if *byte == b'\n' {
-            lines = lines.saturating_add(1);
+fn read_as_collection(bytes: &[u8], written: &mut Page) -> Option<u32> {
+    match read_collection(written.alloc(), bytes) {
+        Ok(_) => None,
+        Err(CollectionError::BadCollection { line }) => Some(line),
+        Err(CollectionError::Memory) => {
+            written.want();
+            None
         }
     }
-    lines
+}
+
+/// Adds what is written of a text that is read as this word says; the line at which it goes wrong, if it does.
+fn read_as(word: &str, bytes: &[u8], written: &mut Page) -> Option<u32> {
+    match word {
+        "program" => read_as_program(bytes, written),
+        "bank" => read_as_bank(bytes, written),
+        "report" => read_as_report(bytes, written),
+        _ => read_as_collection(bytes, written),
+    }
+}
+
+/// The line on which the bytes stop.
+fn last_line_of(bytes: &[u8]) -> u32 {
+    let mut line = 1u32;
+    for byte in bytes {
+        if *byte == b'\n' {
+            line = line.saturating_add(1);
+        }
+    }
+    line
 }
 
 /// Whether the first bytes, with these behind them, go wrong at the line where they stop.
-fn goes_wrong(alloc: Global, word: &str, bytes: &[u8], behind: &[u8]) -> Result<bool, Memory> {
-    let mut cut = Vec::from_slice(alloc, bytes)?;
-    cut.extend_from_slice(behind)?;
-    let line = lines_in(bytes).saturating_add(1);
-    match answer_to(alloc, word, cut.as_slice())? {
-        Ok(_) => Ok(false),
-        Err(came) => Ok(came == line),
-    }
+fn goes_wrong(word: &str, bytes: &[u8], behind: &str, told: &mut Page) -> bool {
+    let mut cut = Page::new(told.alloc());
+    cut.put(bytes);
+    cut.say(behind);
+    told.heed(&cut);
+    let mut written = Page::new(told.alloc());
+    let line = read_as(word, cut.bytes(), &mut written);
+    told.heed(&written);
+    line == Some(last_line_of(bytes))
 }
 
 /// Tells each place where a cut, with these bytes behind it, doesn't go wrong at the line where it stops.
-fn tell_cuts(
-    alloc: Global,
-    word: &str,
-    bytes: &[u8],
-    behind: &[u8],
-    told: &mut String,
-) -> Result<(), Memory> {
+fn tell_cuts(word: &str, bytes: &[u8], behind: &str, told: &mut Page) {
     for (place, _) in bytes.iter().enumerate() {
         let cut = bytes.get(..place).unwrap_or(bytes);
-        if !goes_wrong(alloc, word, cut, behind)? {
-            told.push_str(format!(in alloc; "\ncut at {place}")?.as_str())?;
+        if !goes_wrong(word, cut, behind, told) {
+            told.say("\ncut at ");
+            told.debug(place);
         }
     }
-    Ok(())
 }
 
-fn expect_bad(alloc: Global, row: &str, line: u32, told: &mut String) -> Result<(), Memory> {
-    match rest_of(row, "bad ") {
-        Some(due) if due.parse::<u32>() == Ok(line) => Ok(()),
-        _ => Ok(told.push_str(format!(in alloc; "\nbad {line}")?.as_str())?),
+fn expect_bad(row: &str, line: u32, told: &mut Page) {
+    if rest_of(row, "bad ").unwrap_or("").parse::<u32>() != Ok(line) {
+        told.say("\nbad ");
+        told.number(line);
     }
 }
 
 /// Tells what is written where it isn't the same text, or the one that the row says.
-fn expect_written(
-    alloc: Global,
-    row: &str,
-    bytes: &[u8],
-    written: &[u8],
-    told: &mut String,
-) -> Result<(), Memory> {
+fn expect_written(row: &str, bytes: &[u8], written: &[u8], told: &mut Page) {
     if has_head(row, "bad ") || has_line(row, "same") && written != bytes {
-        told.push_str("\nit is read")?;
+        told.say("\nit is read");
     }
     if has_head(row, "writes") {
-        expect(alloc, row, "writes", written, told)?;
-    }
-    Ok(())
-}
-
-fn tell_answer(
-    alloc: Global,
-    row: &str,
-    word: &str,
-    bytes: &[u8],
-    told: &mut String,
-) -> Result<(), Memory> {
-    match answer_to(alloc, word, bytes)? {
-        Ok(written) => expect_written(alloc, row, bytes, written.as_slice(), told),
-        Err(line) => expect_bad(alloc, row, line, told),
+        expect(row, "writes", written, told);
     }
 }
 
-/// Tells what isn't as the row says of its text, which is read as this word says.
-pub fn tell_text(
-    alloc: Global,
-    row: &str,
-    word: &str,
-    bytes: &[u8],
-    told: &mut String,
-) -> Result<(), Memory> {
-    tell_answer(alloc, row, word, bytes, told)?;
-    if has_line(row, "cuts") {
-        tell_cuts(alloc, word, bytes, b"", told)?;
+fn tell_read(row: &str, word: &str, bytes: &[u8], told: &mut Page) {
+    let mut written = Page::new(told.alloc());
+    let line = read_as(word, bytes, &mut written);
+    told.heed(&written);
+    match line {
+        Some(line) => expect_bad(row, line, told),
+        None => expect_written(row, bytes, written.bytes(), told),
     }
-    if has_line(row, "cuts before x") {
-        tell_cuts(alloc, word, bytes, b"x", told)?;
-    }
-    if word == "bank" && has_head(row, "draws ") {
-        tell_draws(alloc, row, bytes, told)?;
-    }
-    Ok(())
 }
 
-fn expect_draws(row: &str, bank: &mut Bank, told: &mut String) -> Result<(), Memory> {
-    for word in rest_of(row, "draws ").unwrap_or("").split(' ') {
+/// Tells where the bank isn't drawn as the row says.
+fn expect_draws(row: &str, words: &str, bank: &mut Bank, told: &mut Page) {
+    for word in words.split(' ') {
         if word.parse::<u32>() != Ok(bank.draw()) {
-            told.push_str("\nother draws")?;
+            told.say("\nother draws");
         }
     }
     if let Some(due) = rest_of(row, "position ") {
         if due.parse::<usize>() != Ok(bank.position()) {
-            told.push_str("\nanother position")?;
+            told.say("\nanother position");
         }
     }
-    Ok(())
 }
 
-/// Tells where the bank of a text isn't drawn as the row says.
-fn tell_draws(alloc: Global, row: &str, bytes: &[u8], told: &mut String) -> Result<(), Memory> {
-    match read_bank(alloc, bytes) {
-        Ok(mut bank) => expect_draws(row, &mut bank, told),
-        Err(_) => Ok(told.push_str("\nno bank")?),
+fn tell_draws(row: &str, words: &str, bytes: &[u8], told: &mut Page) {
+    match read_bank(told.alloc(), bytes) {
+        Ok(mut bank) => expect_draws(row, words, &mut bank, told),
+        Err(_) => told.say("\nno bank"),
+    }
+}
+
+/// Tells what isn't as the row says of its text, which is read as this word says.
+pub fn tell_text(row: &str, word: &str, bytes: &[u8], told: &mut Page) {
+    tell_read(row, word, bytes, told);
+    if has_line(row, "cuts") {
+        tell_cuts(word, bytes, "", told);
+    }
+    if has_line(row, "cuts before x") {
+        tell_cuts(word, bytes, "x", told);
+    }
+    if word == "bank" {
+        if let Some(words) = rest_of(row, "draws ") {
+            tell_draws(row, words, bytes, told);
+        }
     }
 }
 
 /// Tells the identity of the bytes where it isn't the row's.
-pub fn tell_identity(
-    alloc: Global,
-    row: &str,
-    bytes: &[u8],
-    told: &mut String,
-) -> Result<(), Memory> {
+pub fn tell_identity(row: &str, bytes: &[u8], told: &mut Page) {
     let text = id_text(&program_id(bytes));
-    expect(alloc, row, "identity", text.as_slice(), told)
+    expect(row, "identity", text.as_slice(), told);
 }
 
 /// The numbers with which a bank is made.
@@ -190,23 +173,29 @@ fn four_numbers(words: &str) -> Option<(u64, u64, u32, u32)> {
     let (seed, words) = words.split_once(' ')?;
     let (stream, words) = words.split_once(' ')?;
     let (rate, count) = words.split_once(' ')?;
-    let (seed, stream) = (seed.parse::<u64>().ok()?, stream.parse::<u64>().ok()?);
     Some((
-        seed,
-        stream,
+        seed.parse::<u64>().ok()?,
+        stream.parse::<u64>().ok()?,
         rate.parse::<u32>().ok()?,
         count.parse::<u32>().ok()?,
     ))
 }
 
+/// Tells the text of the bank where it isn't the row's.
+fn expect_bank(row: &str, bank: &Bank, told: &mut Page) {
+    if let Some(text) = told.done(write_bank(told.alloc(), bank)) {
+        expect(row, "writes", text.as_slice(), told);
+    }
+}
+
 /// Tells the text of the bank that the generator makes from these numbers, where it isn't the row's.
-pub fn tell_made(alloc: Global, row: &str, words: &str, told: &mut String) -> Result<(), Memory> {
+pub fn tell_made(row: &str, words: &str, told: &mut Page) {
     let (seed, stream, rate, count) = four_numbers(words).unwrap_or((0, 0, 0, 0));
     if rate < 1 || rate > 65536 || count < 1 || count > 65536 {
-        return Ok(told.push_str("\nno such bank is made")?);
+        return told.say("\nno such bank is made");
     }
     let mut generator = Lcg64Xsh32::new(seed, stream);
-    let bank = make_bank(alloc, &mut generator, rate, count)?;
-    let text = write_bank(alloc, &bank)?;
-    expect(alloc, row, "writes", text.as_slice(), told)
+    if let Some(bank) = told.done(make_bank(told.alloc(), &mut generator, rate, count)) {
+        expect_bank(row, &bank, told);
+    }
 }

@@ -2,15 +2,15 @@
 use crate::bytes::bytes_of;
 use crate::collecting::tell_steps;
 use crate::finding::tell_found;
-use crate::numbers::tell_value;
+use crate::numbers::answer;
 use crate::ranking_rows::tell_eliminations;
 use crate::reading::{tell_identity, tell_made, tell_text};
 use crate::thrown::tell_thrown;
-use case_rows::{Head, Place, Rest, answer, answer_unread, bad_line, has_line, name_of};
-use cbi_base::Memory;
+use case_rows::{
+    Answers, Head, Page, Place, Rest, Rows, bad_line, expect_values, has_any, has_line, rest_of,
+};
 use flow::Program;
 use program_file::read_program;
-use std::alloc::Global;
 
 /// The lines of a row. A text, or the file of a program, is given in parts: a block, a text that all rows share, or a block that comes once for each number
 /// from one to another, with the number for `#`.
@@ -68,34 +68,6 @@ const FORM: [Head; 42] = [
     ("several from ", Rest::Number, Place::Any),
 ];
 
-/// Whether a line of the row begins so.
-pub fn has_head(row: &str, head: &str) -> bool {
-    row.split('\n').any(|line| line.starts_with(head))
-}
-
-/// What stands behind this head, in its first line.
-pub fn rest_of<'a>(row: &'a str, head: &str) -> Option<&'a str> {
-    for line in row.split('\n') {
-        if let Some(rest) = line.strip_prefix(head) {
-            return Some(rest);
-        }
-    }
-    None
-}
-
-/// Tells what came where a line with this head says something else.
-pub fn expect_rest(row: &str, head: &str, came: &str, told: &mut String) -> Result<(), Memory> {
-    match rest_of(row, head) {
-        Some(due) if due != came => {
-            told.push('\n')?;
-            told.push_str(head)?;
-            told.push_str(came)?;
-        }
-        _ => (),
-    }
-    Ok(())
-}
-
 /// What a row may ask for.
 const KINDS: [&str; 8] = [
     "reads ", "identity", "makes ", "value ", "finds", "collects", "ranks", "throws ",
@@ -118,104 +90,74 @@ const DUE: [&str; 13] = [
     "several from ",
 ];
 
-fn has_one(row: &str, heads: &[&str]) -> bool {
-    heads.iter().any(|head| has_head(row, *head))
-}
-
-/// Whether something is asked for, and something must come.
-fn asks(row: &str) -> bool {
-    has_one(row, &KINDS) && has_one(row, &DUE)
-}
-
-fn tell_values(alloc: Global, row: &str, told: &mut String) -> Result<(), Memory> {
-    for line in row.split('\n') {
-        if let Some(question) = line.strip_prefix("value ") {
-            tell_value(alloc, question, told)?;
-        }
-    }
-    Ok(())
-}
-
 /// Does what the row asks for of its text alone.
-fn tell_bytes(alloc: Global, texts: &str, row: &str, told: &mut String) -> Result<(), Memory> {
-    let bytes = bytes_of(alloc, texts, row, "text")?;
+fn tell_bytes(texts: &str, row: &str, told: &mut Page) {
+    let bytes = bytes_of(texts, row, "text", told);
     if let Some(word) = rest_of(row, "reads ") {
-        tell_text(alloc, row, word, bytes.as_slice(), told)?;
+        tell_text(row, word, bytes.bytes(), told);
     }
     if has_line(row, "identity") {
-        tell_identity(alloc, row, bytes.as_slice(), told)?;
+        tell_identity(row, bytes.bytes(), told);
     }
     if has_line(row, "finds") {
-        tell_found(alloc, row, bytes.as_slice(), told)?;
+        tell_found(row, bytes.bytes(), told);
     }
-    Ok(())
 }
 
-fn tell_ranks(
-    alloc: Global,
-    texts: &str,
-    row: &str,
-    program: &Program,
-    told: &mut String,
-) -> Result<(), Memory> {
-    let bytes = bytes_of(alloc, texts, row, "text")?;
-    let _several = tell_eliminations(alloc, row, program.table(), bytes.as_slice(), told)?;
-    Ok(())
+fn tell_ranks(texts: &str, row: &str, program: &Program, told: &mut Page) {
+    let bytes = bytes_of(texts, row, "text", told);
+    let _several = tell_eliminations(row, program.table(), bytes.bytes(), told);
 }
 
 /// Does what the row asks for of its program's runs.
-fn tell_runs(
-    alloc: Global,
-    texts: &str,
-    row: &str,
-    program: &Program,
-    told: &mut String,
-) -> Result<(), Memory> {
+fn tell_runs(texts: &str, row: &str, program: &Program, told: &mut Page) {
     if has_line(row, "collects") {
-        tell_steps(alloc, texts, row, program.table(), told)?;
+        tell_steps(texts, row, program.table(), told);
     }
     if has_line(row, "ranks") {
-        tell_ranks(alloc, texts, row, program, told)?;
+        tell_ranks(texts, row, program, told);
     }
     if let Some(words) = rest_of(row, "throws ") {
-        tell_thrown(alloc, row, program.table(), words, told)?;
-    }
-    Ok(())
-}
-
-fn tell_program(alloc: Global, texts: &str, row: &str, told: &mut String) -> Result<(), Memory> {
-    let file = bytes_of(alloc, texts, row, "program")?;
-    match read_program(alloc, file.as_slice()) {
-        Ok(program) => tell_runs(alloc, texts, row, &program, told),
-        Err(_) => Ok(told.push_str("\nno program")?),
+        tell_thrown(row, program.table(), words, told);
     }
 }
 
-/// Tells what doesn't come as the row says.
-fn differences(alloc: Global, texts: &str, row: &str, told: &mut String) -> Result<(), Memory> {
-    tell_values(alloc, row, told)?;
-    if let Some(words) = rest_of(row, "makes ") {
-        tell_made(alloc, row, words, told)?;
+fn tell_program(texts: &str, row: &str, told: &mut Page) {
+    let file = bytes_of(texts, row, "program", told);
+    match read_program(told.alloc(), file.bytes()) {
+        Ok(program) => tell_runs(texts, row, &program, told),
+        Err(_) => told.say("\nno program"),
     }
-    if has_one(row, &["reads ", "identity", "finds"]) {
-        tell_bytes(alloc, texts, row, told)?;
-    }
-    if has_one(row, &["collects", "ranks", "throws "]) {
-        tell_program(alloc, texts, row, told)?;
-    }
-    Ok(())
 }
 
-/// Answers a row, which begins with its name.
-pub fn tell(alloc: Global, texts: &str, row: &str, told: &mut String) -> Result<(), Memory> {
-    let (name, lines) = name_of(row);
-    if let Some(line) = bad_line(&FORM, texts, lines) {
-        return answer_unread(name, line, told);
+/// The rows of files and of rankings.
+pub struct Asked;
+
+impl Answers for Asked {
+    fn answer(&self, question: &str, came: &mut Page) -> bool {
+        answer(question, came)
     }
-    if !asks(lines) {
-        return answer_unread(name, "it asks for nothing", told);
+}
+
+impl Rows for Asked {
+    /// Something has to be asked for, and something must come.
+    fn unread<'a>(&self, texts: &str, row: &'a str) -> Option<&'a str> {
+        match bad_line(&FORM, texts, row) {
+            None if !has_any(row, &KINDS) || !has_any(row, &DUE) => Some("it asks for nothing"),
+            bad => bad,
+        }
     }
-    let mut came = String::new(alloc);
-    differences(alloc, texts, lines, &mut came)?;
-    answer(name, came.as_str(), told)
+
+    fn tell(&self, _rt: &HostRuntime, texts: &str, row: &str, told: &mut Page) {
+        expect_values(self, row, told);
+        if let Some(words) = rest_of(row, "makes ") {
+            tell_made(row, words, told);
+        }
+        if has_any(row, &["reads ", "identity", "finds"]) {
+            tell_bytes(texts, row, told);
+        }
+        if has_any(row, &["collects", "ranks", "throws "]) {
+            tell_program(texts, row, told);
+        }
+    }
 }

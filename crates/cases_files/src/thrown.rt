@@ -1,9 +1,7 @@
 //! Collections of runs that are thrown by dice.
 use crate::ranking_rows::tell_eliminations;
-use crate::row::rest_of;
-use cbi_base::Memory;
+use case_rows::{Page, rest_of};
 use flow::SiteTable;
-use std::alloc::Global;
 
 /// The first lines of a collection.
 const TITLE: &str =
@@ -69,44 +67,37 @@ fn counts_of(side: u32, is_branch: bool) -> Option<&'static str> {
     }
 }
 
-fn push_site(name: &str, side: u32, is_branch: bool, text: &mut String) -> Result<(), Memory> {
+fn push_site(name: &str, side: u32, is_branch: bool, text: &mut Page) {
     if let Some(counts) = counts_of(side, is_branch) {
-        text.push_str(name)?;
-        text.push_str(counts)?;
+        text.say(name);
+        text.say(counts);
     }
-    Ok(())
 }
 
-fn push_run(alloc: Global, run: u32, dice: &mut Dice, text: &mut String) -> Result<(), Memory> {
+fn push_run(run: u32, dice: &mut Dice, text: &mut Page) {
     let sides = throw(dice);
     let label = label_of(dice, sides);
-    let line = format!(in alloc; "run {run} ended 0 label {label} work 0 0 0\n")?;
-    text.push_str(line.as_str())?;
-    push_site("site 0", sides.truth, true, text)?;
-    push_site("site 1", sides.sign, false, text)?;
-    push_site("site 2", sides.pair, false, text)?;
-    push_site("site 3", sides.last, true, text)
+    text.say("run ");
+    text.number(run);
+    text.say(" ended 0 label ");
+    text.say(label);
+    text.say(" work 0 0 0\n");
+    push_site("site 0", sides.truth, true, text);
+    push_site("site 1", sides.sign, false, text);
+    push_site("site 2", sides.pair, false, text);
+    push_site("site 3", sides.last, true, text);
 }
 
-/// The text of a collection of thrown runs.
-fn thrown(alloc: Global, dice: &mut Dice) -> Result<String, Memory> {
-    let mut text = String::from_str(alloc, TITLE)?;
+/// Tells where the eliminations of a collection of thrown runs differ from the reference; how many of them list several leaders.
+fn tell_round(row: &str, table: &SiteTable, dice: &mut Dice, told: &mut Page) -> u32 {
+    let mut text = Page::new(told.alloc());
+    text.say(TITLE);
     for run in 1..=RUNS {
-        push_run(alloc, run, dice, &mut text)?;
+        push_run(run, dice, &mut text);
     }
-    text.push_str("end\n")?;
-    Ok(text)
-}
-
-fn tell_round(
-    alloc: Global,
-    row: &str,
-    table: &SiteTable,
-    dice: &mut Dice,
-    told: &mut String,
-) -> Result<u32, Memory> {
-    let text = thrown(alloc, dice)?;
-    tell_eliminations(alloc, row, table, text.as_str().as_bytes(), told)
+    text.say("end\n");
+    told.heed(&text);
+    tell_eliminations(row, table, text.bytes(), told)
 }
 
 fn numbers_of(words: &str) -> Option<(u64, u32)> {
@@ -115,23 +106,20 @@ fn numbers_of(words: &str) -> Option<(u64, u32)> {
 }
 
 /// Tells where the eliminations of thrown runs differ from the reference, or fewer of them than the row says list several leaders.
-pub fn tell_thrown(
-    alloc: Global,
-    row: &str,
-    table: &SiteTable,
-    words: &str,
-    told: &mut String,
-) -> Result<(), Memory> {
+pub fn tell_thrown(row: &str, table: &SiteTable, words: &str, told: &mut Page) {
     let Some((state, rounds)) = numbers_of(words) else {
-        return Ok(told.push_str("\nno throws")?);
+        return told.say("\nno throws");
     };
     let mut dice = Dice { state };
     let mut several = 0u32;
     for _ in 0..rounds {
-        several = several.saturating_add(tell_round(alloc, row, table, &mut dice, told)?);
+        several = several.saturating_add(tell_round(row, table, &mut dice, told));
     }
     match rest_of(row, "several from ").unwrap_or("").parse::<u32>() {
-        Ok(due) if due <= several => Ok(()),
-        _ => Ok(told.push_str(format!(in alloc; "\nseveral {several}")?.as_str())?),
+        Ok(due) if due <= several => (),
+        _ => {
+            told.say("\nseveral ");
+            told.number(several);
+        }
     }
 }

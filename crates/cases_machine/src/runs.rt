@@ -1,274 +1,208 @@
 //! Runs of a program, or of its sampled one, and what is known of a program without a run.
-ghost use Rattle.std.specs.Prelude.{◌≤◌, IfSome, length};
+ghost use Rattle.std.specs.Prelude.{◌≤◌, IfSome};
 
-use crate::row::{expect_rest, has_head, rest_of};
-use case_rows::{block, expect, has_line};
-use cbi_base::{Counts, Memory, Outcome, Work};
+use case_rows::{
+    Page, block, expect, expect_rest, has_head, has_line, numbers_in, piece_of, rest_of,
+};
+use cbi_base::{Counts, Outcome, Work};
 use countdown_bank::Bank;
 use flow::{Node, Program, RunResult, predicate_count, predicate_name};
 use machine::run;
-use probes::{FirstSeen, Hottest, LastSeen, Probe, push_lines};
+use probes::{Probe, push_lines};
 use program_file::read_program;
 use sampling::{may_clone, sample};
-use std::alloc::Global;
-
-/// The numbers of these words; None where one is none.
-fn numbers_in(alloc: Global, words: &str) -> Result<Option<Vec<u32>>, Memory> {
-    let mut numbers = Vec::new(alloc);
-    for word in words.split(' ') {
-        match word.parse::<u32>() {
-            Ok(number) => numbers.push(number)?,
-            Err(_) => return Ok(None),
-        }
-    }
-    Ok(Some(numbers))
-}
-
-/// The row's bank.
-fn bank_of(alloc: Global, row: &str) -> Result<Option<Bank>, Memory> {
-    match numbers_in(alloc, rest_of(row, "bank ").unwrap_or(""))? {
-        Some(numbers) => Ok(Bank::new(numbers)),
-        None => Ok(None),
-    }
-}
 
 /// The row's turns, where a run may have so many.
 fn turns_of(row: &str) -> Option<u32>
     ensures { IfSome result (λ turns. turns ≤ 100000000) }
 {
-    match rest_of(row, "turns ")?.parse::<u32>() {
+    match rest_of(row, "turns ").unwrap_or("").parse::<u32>() {
         Ok(turns) if turns <= 100_000_000 => Some(turns),
         _ => None,
     }
 }
 
-fn expect_outcome(
-    alloc: Global,
-    row: &str,
-    outcome: Outcome,
-    told: &mut String,
-) -> Result<(), Memory> {
-    let came = match outcome {
-        Outcome::Ended { status } => format!(in alloc; "ended {status}")?,
-        Outcome::Trapped { trap } => format!(in alloc; "trapped {trap:?}")?,
-        Outcome::CutTurns => String::from_str(alloc, "cut turns")?,
-        Outcome::CutOutput => String::from_str(alloc, "cut output")?,
-    };
-    expect_rest(row, "outcome ", came.as_str(), told)
-}
-
-fn push_counts(alloc: Global, counts: Counts, text: &mut String) -> Result<(), Memory> {
-    if !text.is_empty() {
-        text.push_str(", ")?;
-    }
-    let three = format!(in alloc; "{} {} {}", counts.first, counts.second, counts.third)?;
-    text.push_str(three.as_str())?;
-    Ok(())
-}
-
-fn expect_counts(
-    alloc: Global,
-    row: &str,
-    counts: &[Counts],
-    told: &mut String,
-) -> Result<(), Memory> {
-    let mut came = String::new(alloc);
-    for each in counts {
-        push_counts(alloc, *each, &mut came)?;
-    }
-    expect_rest(row, "counts ", came.as_str(), told)
-}
-
-fn expect_work(alloc: Global, row: &str, work: Work, told: &mut String) -> Result<(), Memory> {
-    let came = format!(in alloc; "{} {} {}", work.fast, work.slow, work.tests)?;
-    expect_rest(row, "work ", came.as_str(), told)
-}
-
-/// Runs the program, with the three watchers where the row asks for them, and appends what they say.
-fn ran(
-    alloc: Global,
-    row: &str,
-    program: &Program,
-    bank: &mut Bank,
-    input: &[u8],
-    turns: u32,
-    lines: &mut Vec<u8>,
-) -> Result<RunResult, Memory>
-    requires turns { turns ≤ 100000000 }
-    requires input { length input.now ≤ 16777216 }
-{
-    let mut probes: Vec<Box<dyn Probe>> = Vec::new(alloc);
-    if has_line(row, "watched") {
-        probes.push(Box::new(alloc, FirstSeen::new(alloc))?)?;
-        probes.push(Box::new(alloc, Hottest::new(alloc))?)?;
-        probes.push(Box::new(alloc, LastSeen::new(alloc))?)?;
-    }
-    let result = run(alloc, program, input, bank, turns, &mut probes)?;
-    push_lines(&probes, lines)?;
-    Ok(result)
-}
-
-fn expect_result(
-    alloc: Global,
-    row: &str,
-    came: &RunResult,
-    told: &mut String,
-) -> Result<(), Memory> {
-    expect_outcome(alloc, row, came.outcome, told)?;
-    expect(alloc, row, "output", came.output.as_slice(), told)?;
-    expect_counts(alloc, row, came.counts.as_slice(), told)?;
-    expect_work(alloc, row, came.work, told)
-}
-
-/// Runs the program on this input, and tells what of its result isn't as the row says.
-fn tell_result(
-    alloc: Global,
-    row: &str,
-    program: &Program,
-    bank: &mut Bank,
-    input: &[u8],
-    told: &mut String,
-) -> Result<(), Memory> {
-    if input.len() > 16_777_216 {
-        return Ok(told.push_str("\ntoo much input")?);
-    }
-    let Some(turns) = turns_of(row) else {
-        return Ok(told.push_str("\nno turns")?);
-    };
-    let mut lines = Vec::new(alloc);
-    let result = ran(alloc, row, program, bank, input, turns, &mut lines)?;
-    expect(alloc, row, "lines", lines.as_slice(), told)?;
-    expect_result(alloc, row, &result, told)
-}
-
-fn tell_with_input(
-    alloc: Global,
-    row: &str,
-    program: &Program,
-    bank: &mut Bank,
-    told: &mut String,
-) -> Result<(), Memory> {
-    let input = block(alloc, row, "input", "")?;
-    tell_result(alloc, row, program, bank, input.as_slice(), told)
-}
-
-fn tell_run(alloc: Global, row: &str, program: &Program, told: &mut String) -> Result<(), Memory> {
-    match bank_of(alloc, row)? {
-        Some(mut bank) => tell_with_input(alloc, row, program, &mut bank, told),
-        None => Ok(told.push_str("\nno bank")?),
+/// The row's bank.
+fn bank_of(row: &str, told: &mut Page) -> Option<Bank> {
+    match numbers_in(rest_of(row, "bank ").unwrap_or(""), told) {
+        Some(numbers) => Bank::new(numbers),
+        None => None,
     }
 }
 
-fn push_skip(alloc: Global, by: u32, text: &mut String) -> Result<(), Memory> {
-    let word = format!(in alloc; "{by}")?;
-    if !text.is_empty() {
-        text.push(' ')?;
-    }
-    text.push_str(word.as_str())?;
-    Ok(())
-}
-
-fn push_skips(alloc: Global, nodes: &[Node], text: &mut String) -> Result<(), Memory> {
-    for node in nodes {
-        if let Node::Skip { by, .. } = node {
-            push_skip(alloc, *by, text)?;
+fn push_outcome(outcome: Outcome, came: &mut Page) {
+    match outcome {
+        Outcome::Ended { status } => {
+            came.say("ended ");
+            came.debug(status);
         }
+        Outcome::Trapped { trap } => {
+            came.say("trapped ");
+            came.debug(trap);
+        }
+        Outcome::CutTurns => came.say("cut turns"),
+        Outcome::CutOutput => came.say("cut output"),
     }
-    Ok(())
+}
+
+fn push_counts(counts: Counts, came: &mut Page) {
+    if !came.is_empty() {
+        came.say(", ");
+    }
+    came.number(counts.first);
+    came.say(" ");
+    came.number(counts.second);
+    came.say(" ");
+    came.number(counts.third);
+}
+
+fn push_work(work: Work, came: &mut Page) {
+    came.number(work.fast);
+    came.say(" ");
+    came.number(work.slow);
+    came.say(" ");
+    came.number(work.tests);
+}
+
+fn expect_outcome(row: &str, outcome: Outcome, told: &mut Page) {
+    let mut came = Page::new(told.alloc());
+    push_outcome(outcome, &mut came);
+    expect_rest(row, "outcome ", &came, told);
+}
+
+fn expect_counts(row: &str, counts: &[Counts], told: &mut Page) {
+    let mut came = Page::new(told.alloc());
+    for each in counts {
+        push_counts(*each, &mut came);
+    }
+    expect_rest(row, "counts ", &came, told);
+}
+
+fn expect_work(row: &str, work: Work, told: &mut Page) {
+    let mut came = Page::new(told.alloc());
+    push_work(work, &mut came);
+    expect_rest(row, "work ", &came, told);
+}
+
+fn expect_result(row: &str, came: &RunResult, told: &mut Page) {
+    expect_outcome(row, came.outcome, told);
+    expect(row, "output", came.output.as_slice(), told);
+    expect_counts(row, came.counts.as_slice(), told);
+    expect_work(row, came.work, told);
+}
+
+/// Tells the lines of the watchers where they aren't what the row says.
+pub fn expect_lines(row: &str, probes: &Vec<Box<dyn Probe>>, told: &mut Page) {
+    let mut text = Vec::new(told.alloc());
+    told.done(push_lines(probes, &mut text));
+    expect(row, "lines", text.as_slice(), told);
+}
+
+/// Runs the program on this input, with the watchers, and tells what of its result isn't as the row says.
+fn tell_result(
+    row: &str,
+    program: &Program,
+    bank: &mut Bank,
+    input: &[u8],
+    probes: &mut Vec<Box<dyn Probe>>,
+    told: &mut Page,
+) {
+    let Some(turns) = turns_of(row) else {
+        return told.say("\nno turns");
+    };
+    if input.len() > 16_777_216 {
+        return told.say("\ntoo much input");
+    }
+    if let Some(result) = told.done(run(told.alloc(), program, input, bank, turns, probes)) {
+        expect_result(row, &result, told);
+    }
+    expect_lines(row, probes, told);
+}
+
+fn tell_run(row: &str, program: &Program, probes: &mut Vec<Box<dyn Probe>>, told: &mut Page) {
+    let Some(mut bank) = bank_of(row, told) else {
+        return told.say("\nno bank");
+    };
+    let input = block(row, "input", "", told);
+    tell_result(row, program, &mut bank, input.bytes(), probes, told);
+}
+
+fn push_skip(node: &Node, came: &mut Page) {
+    if let Node::Skip { by, .. } = node {
+        if !came.is_empty() {
+            came.say(" ");
+        }
+        came.number(*by);
+    }
+}
+
+fn push_skips(nodes: &[Node], came: &mut Page) {
+    for node in nodes {
+        push_skip(node, came);
+    }
 }
 
 /// Tells by how much each node lowers the countdown that does, where the row says something else.
-fn tell_skips(
-    alloc: Global,
-    row: &str,
-    program: &Program,
-    told: &mut String,
-) -> Result<(), Memory> {
-    let mut came = String::new(alloc);
+fn tell_skips(row: &str, program: &Program, told: &mut Page) {
+    let mut came = Page::new(told.alloc());
     for function in program.functions() {
-        push_skips(alloc, function.nodes.as_slice(), &mut came)?;
+        push_skips(function.nodes.as_slice(), &mut came);
     }
-    expect_rest(row, "skips ", came.as_str(), told)
+    expect_rest(row, "skips ", &came, told);
 }
 
-fn push_predicate(
-    alloc: Global,
-    program: &Program,
-    predicate: u32,
-    text: &mut Vec<u8>,
-) -> Result<(), Memory> {
+fn push_predicate(program: &Program, predicate: u32, came: &mut Page) {
     if predicate < predicate_count(program.table()) {
-        let name = predicate_name(alloc, program.table(), predicate)?;
-        text.extend_from_slice(name.as_slice())?;
+        if let Some(name) = came.done(predicate_name(came.alloc(), program.table(), predicate)) {
+            came.put(name.as_slice());
+        }
     }
-    text.push(b'\n')?;
-    Ok(())
+    came.say("\n");
 }
 
-fn tell_predicates(
-    alloc: Global,
-    row: &str,
-    program: &Program,
-    told: &mut String,
-) -> Result<(), Memory> {
-    let mut text = Vec::new(alloc);
+fn tell_predicates(row: &str, program: &Program, told: &mut Page) {
+    let mut came = Page::new(told.alloc());
     for predicate in 0..predicate_count(program.table()) {
-        push_predicate(alloc, program, predicate, &mut text)?;
+        push_predicate(program, predicate, &mut came);
     }
-    expect(alloc, row, "predicates", text.as_slice(), told)
+    told.heed(&came);
+    expect(row, "predicates", came.bytes(), told);
 }
 
 /// Tells what isn't as the row says of what it asks for.
-fn tell_asked(
-    alloc: Global,
-    row: &str,
-    program: &Program,
-    told: &mut String,
-) -> Result<(), Memory> {
+fn tell_asked(row: &str, program: &Program, probes: &mut Vec<Box<dyn Probe>>, told: &mut Page) {
     if has_head(row, "outcome ") {
-        tell_run(alloc, row, program, told)?;
+        tell_run(row, program, probes, told);
     }
     if has_head(row, "skips ") {
-        tell_skips(alloc, row, program, told)?;
+        tell_skips(row, program, told);
     }
     if has_head(row, "predicates") {
-        tell_predicates(alloc, row, program, told)?;
+        tell_predicates(row, program, told);
     }
-    Ok(())
 }
 
-fn tell_sampled(
-    alloc: Global,
-    row: &str,
-    program: &Program,
-    told: &mut String,
-) -> Result<(), Memory> {
+fn tell_sampled(row: &str, program: &Program, probes: &mut Vec<Box<dyn Probe>>, told: &mut Page) {
     if !may_clone(program) {
-        return Ok(told.push_str("\nit may not be sampled")?);
+        return told.say("\nit may not be sampled");
     }
-    let clone = sample(alloc, program)?;
-    tell_asked(alloc, row, &clone, told)
-}
-
-/// The bytes of the row's program file.
-fn file_of(alloc: Global, texts: &str, row: &str) -> Result<Vec<u8>, Memory> {
-    match rest_of(row, "program is ") {
-        Some(name) => block(alloc, texts, "text ", name),
-        None => block(alloc, row, "program", ""),
+    if let Some(clone) = told.done(sample(told.alloc(), program)) {
+        tell_asked(row, &clone, probes, told);
     }
 }
 
 /// Tells what isn't as the row says of its program, or that it has none.
 pub fn tell_program(
-    alloc: Global,
     texts: &str,
     row: &str,
-    told: &mut String,
-) -> Result<(), Memory> {
-    let file = file_of(alloc, texts, row)?;
-    match read_program(alloc, file.as_slice()) {
-        Ok(program) if has_line(row, "sampled") => tell_sampled(alloc, row, &program, told),
-        Ok(program) => tell_asked(alloc, row, &program, told),
-        Err(_) => Ok(told.push_str("\nno program")?),
+    rest: &str,
+    probes: &mut Vec<Box<dyn Probe>>,
+    told: &mut Page,
+) {
+    let file = piece_of(texts, row, "program", rest, told);
+    match read_program(told.alloc(), file.bytes()) {
+        Ok(program) if has_line(row, "sampled") => tell_sampled(row, &program, probes, told),
+        Ok(program) => tell_asked(row, &program, probes, told),
+        Err(_) => told.say("\nno program"),
     }
 }

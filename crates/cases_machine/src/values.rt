@@ -3,9 +3,8 @@ ghost use Rattle.std.specs.Prelude.{IfSome};
 ghost use Rattle.cbi_base.specs.Scalars.{IsInRange};
 
 use c_values::{apply_binary, apply_unary, convert, relate, sign, truth};
-use cbi_base::{Binary, Kind, Memory, Scalar, Unary};
-use std::alloc::{AllocError, Global};
-use std::fmt::Debug;
+use case_rows::Page;
+use cbi_base::{Binary, Kind, Scalar, Unary};
 
 fn small(value: i8) -> Scalar
     ensures { IsInRange result }
@@ -62,116 +61,83 @@ fn scalar_in(word: &str) -> Option<Scalar>
     }
 }
 
+const BINARIES: [(&str, Binary); 16] = [
+    ("add", Binary::Add),
+    ("sub", Binary::Sub),
+    ("mul", Binary::Mul),
+    ("div", Binary::Div),
+    ("rem", Binary::Rem),
+    ("shl", Binary::Shl),
+    ("shr", Binary::Shr),
+    ("and", Binary::And),
+    ("or", Binary::Or),
+    ("xor", Binary::Xor),
+    ("lt", Binary::Lt),
+    ("le", Binary::Le),
+    ("gt", Binary::Gt),
+    ("ge", Binary::Ge),
+    ("eq", Binary::Eq),
+    ("ne", Binary::Ne),
+];
+
 fn binary_in(word: &str) -> Option<Binary> {
-    match word {
-        "add" => Some(Binary::Add),
-        "sub" => Some(Binary::Sub),
-        "mul" => Some(Binary::Mul),
-        "div" => Some(Binary::Div),
-        "rem" => Some(Binary::Rem),
-        "shl" => Some(Binary::Shl),
-        "shr" => Some(Binary::Shr),
-        "and" => Some(Binary::And),
-        "or" => Some(Binary::Or),
-        "xor" => Some(Binary::Xor),
-        "lt" => Some(Binary::Lt),
-        "le" => Some(Binary::Le),
-        "gt" => Some(Binary::Gt),
-        "ge" => Some(Binary::Ge),
-        "eq" => Some(Binary::Eq),
-        "ne" => Some(Binary::Ne),
-        _ => None,
+    for (name, operation) in BINARIES {
+        if name == word {
+            return Some(operation);
+        }
     }
+    None
 }
 
-fn unary_in(word: &str) -> Option<Unary> {
-    match word {
-        "neg" => Some(Unary::Neg),
-        "com" => Some(Unary::Com),
-        "not" => Some(Unary::Not),
-        _ => None,
-    }
-}
-
-fn kind_in(word: &str) -> Option<Kind> {
-    match word {
-        "char" => Some(Kind::Char),
-        "int" => Some(Kind::Int),
-        "unsigned" => Some(Kind::Unsigned),
-        _ => None,
-    }
-}
-
-fn shown<T: Debug>(alloc: Global, answer: T) -> Result<Option<String>, AllocError>
-where
-    T: Drop,
-{
-    Ok(Some(format!(in alloc; "{answer:?}")?))
-}
-
-/// The answer to an operation's word with one value.
-fn of_one(alloc: Global, word: &str, value: Scalar) -> Result<Option<String>, AllocError>
+/// Adds the answer to an operation's word with one value; whether there is one.
+fn of_one(word: &str, value: Scalar, came: &mut Page) -> bool
     requires { IsInRange value }
 {
-    if let Some(op) = unary_in(word) {
-        return shown(alloc, apply_unary(op, value));
-    }
-    if let Some(kind) = kind_in(word) {
-        return shown(alloc, convert(kind, value));
-    }
     match word {
-        "truth" => shown(alloc, truth(value)),
-        "sign" => shown(alloc, sign(value)),
-        _ => Ok(None),
+        "neg" => came.debug(apply_unary(Unary::Neg, value)),
+        "com" => came.debug(apply_unary(Unary::Com, value)),
+        "not" => came.debug(apply_unary(Unary::Not, value)),
+        "char" => came.debug(convert(Kind::Char, value)),
+        "int" => came.debug(convert(Kind::Int, value)),
+        "unsigned" => came.debug(convert(Kind::Unsigned, value)),
+        "truth" => came.debug(truth(value)),
+        "sign" => came.debug(sign(value)),
+        _ => return false,
     }
+    true
 }
 
-fn of_two(
-    alloc: Global,
-    word: &str,
-    left: &str,
-    right: &str,
-) -> Result<Option<String>, AllocError> {
-    let Some(op) = binary_in(word) else {
-        return Ok(None);
+/// Adds the answer to an operation's word with two values; whether there is one.
+fn of_two(word: &str, left: &str, right: &str, came: &mut Page) -> bool {
+    let (Some(operation), Some(left), Some(right)) = (
+        binary_in(word),
+        scalar_in(left),
+        scalar_in(right),
+    ) else {
+        return false;
     };
-    match (scalar_in(left), scalar_in(right)) {
-        (Some(left), Some(right)) => shown(alloc, apply_binary(op, left, right)),
-        _ => Ok(None),
-    }
+    came.debug(apply_binary(operation, left, right));
+    true
 }
 
-/// How two whole numbers stand to one another.
-fn related(alloc: Global, left: &str, right: &str) -> Result<Option<String>, AllocError> {
-    match (left.parse::<i64>(), right.parse::<i64>()) {
-        (Ok(left), Ok(right)) => shown(alloc, relate(left, right)),
-        _ => Ok(None),
-    }
-}
-
-/// The answer to a question; None where it isn't one.
-fn answered(alloc: Global, question: &str) -> Result<Option<String>, AllocError> {
-    let Some((word, values)) = question.split_once(' ') else {
-        return Ok(None);
+/// Adds how two whole numbers stand to one another; whether they are such.
+fn related(left: &str, right: &str, came: &mut Page) -> bool {
+    let (Ok(left), Ok(right)) = (left.parse::<i64>(), right.parse::<i64>()) else {
+        return false;
     };
+    came.debug(relate(left, right));
+    true
+}
+
+/// Adds the answer to a question; whether it is one.
+pub fn answer(question: &str, came: &mut Page) -> bool {
+    let (word, values) = question.split_once(' ').unwrap_or((question, ""));
     match values.split_once(' ') {
-        Some((left, right)) if word == "relate" => related(alloc, left, right),
-        Some((left, right)) => of_two(alloc, word, left, right),
+        Some((left, right)) if word == "relate" => related(left, right, came),
+        Some((left, right)) => of_two(word, left, right, came),
         None => match scalar_in(values) {
-            Some(value) => of_one(alloc, word, value),
-            None => Ok(None),
+            Some(value) => of_one(word, value, came),
+            None => false,
         },
-    }
-}
-
-/// Tells the answer to `QUESTION is ANSWER` where it is another one.
-pub fn tell_value(alloc: Global, text: &str, told: &mut String) -> Result<(), Memory> {
-    let (question, due) = text.split_once(" is ").unwrap_or((text, ""));
-    match answered(alloc, question)? {
-        Some(came) if came.as_str() == due => Ok(()),
-        Some(came) => {
-            Ok(told.push_str(format!(in alloc; "\nvalue {question} is {came}")?.as_str())?)
-        }
-        None => Ok(told.push_str(format!(in alloc; "\nno value {question}")?.as_str())?),
     }
 }

@@ -1,24 +1,35 @@
-//! What three watchers say of the sites that they see.
-use crate::row::rest_of;
-use case_rows::expect;
-use cbi_base::{Memory, Observation, Seen};
-use probes::{FirstSeen, Hottest, LastSeen, Probe, push_lines, see_all};
-use std::alloc::Global;
+//! What isn't as a row says of its program, or of the sites that three watchers see.
+use crate::runs::{expect_lines, tell_program};
+use case_rows::{Page, has_any, has_head, rest_of};
+use cbi_base::{Observation, Seen};
+use probes::{FirstSeen, Hottest, LastSeen, Probe, see_all};
 
-/// Tells what the watchers say of the sites of the row, where it isn't what the row says.
-pub fn tell_watchers(alloc: Global, row: &str, told: &mut String) -> Result<(), Memory> {
+/// Tells what isn't as the row says of its program, or of the sites that it lets three watchers see.
+pub fn tell_watched(texts: &str, row: &str, told: &mut Page) {
+    let alloc = told.alloc();
     let mut probes: Vec<Box<dyn Probe>> = Vec::new(alloc);
-    probes.push(Box::new(alloc, FirstSeen::new(alloc))?)?;
-    probes.push(Box::new(alloc, Hottest::new(alloc))?)?;
-    probes.push(Box::new(alloc, LastSeen::new(alloc))?)?;
-    if let Some(sites) = rest_of(row, "sees ") {
-        for word in sites.split(' ') {
-            let site = word.parse::<u32>().unwrap_or(u32::MAX);
-            let seen = Seen::First;
-            see_all(&mut probes, Observation { site, seen })?;
+    if has_any(row, &["watched", "sees"]) {
+        if let Some(probe) = told.done(Box::new(alloc, FirstSeen::new(alloc))) {
+            told.done(probes.push(probe));
+        }
+        if let Some(probe) = told.done(Box::new(alloc, Hottest::new(alloc))) {
+            told.done(probes.push(probe));
+        }
+        if let Some(probe) = told.done(Box::new(alloc, LastSeen::new(alloc))) {
+            told.done(probes.push(probe));
         }
     }
-    let mut text = Vec::new(alloc);
-    push_lines(&probes, &mut text)?;
-    expect(alloc, row, "lines", text.as_slice(), told)
+    for word in rest_of(row, "sees ").unwrap_or("").split(' ') {
+        if let Ok(site) = word.parse::<u64>() {
+            let site = u32::try_from(site).unwrap_or(u32::MAX);
+            let seen = Seen::First;
+            told.done(see_all(&mut probes, Observation { site, seen }));
+        }
+    }
+    if has_head(row, "sees") {
+        expect_lines(row, &probes, told);
+    }
+    if let Some(rest) = rest_of(row, "program") {
+        tell_program(texts, row, rest, &mut probes, told);
+    }
 }

@@ -1,50 +1,53 @@
 //! What comes of a question.
-use crate::ask::Ask;
+use crate::ask::{Ask, number_of, two_of};
+use crate::read::checked_of;
 use crate::runs::{Given, push_compiled, push_ends, push_fills, push_full, push_sampled};
-use crate::{lexed, shown_items, sited, typed};
-use cbi_base::Memory;
-use std::alloc::Global;
+use crate::{lexed, sited, typed};
+use c_types::Checked;
+use case_rows::Page;
 
-/// Appends what comes of a question about a text's tokens or its tree.
-fn push_read(alloc: Global, text: &[u8], ask: Ask<'_>, out: &mut Vec<u8>) -> Result<(), Memory> {
+/// Adds what comes of a question about what is known of an accepted text.
+fn push_known(known: &Checked, ask: Ask, rest: &str, out: &mut Page) {
     match ask {
-        Ask::Tokens => lexed::push_tokens(alloc, text, out),
-        Ask::Length => lexed::push_length(alloc, text, out),
-        Ask::Line { token } => lexed::push_line(alloc, text, token, out),
-        Ask::Tree => shown_items::push_tree(alloc, text, out),
-        Ask::Copy => shown_items::push_copy(alloc, text, out),
-        _ => Ok(()),
+        Ask::Types => out.say("accepted"),
+        Ask::Type => typed::push_if_known(known.type_at(number_of(rest)), out),
+        Ask::Declared => typed::push_if_known(known.declared_type(number_of(rest)), out),
+        Ask::Notes => typed::push_notes(known, two_of(rest), out),
+        Ask::Scope => typed::push_scope(known, two_of(rest), out),
+        Ask::Definitions => typed::push_definitions(known, out),
+        Ask::Sites => sited::push_sites(known, rest, out),
+        Ask::Numbers => sited::push_numbers(known, rest, out),
+        _ => (),
     }
 }
 
-/// Appends what comes of a question about a text's types or its sites.
-fn push_checked(alloc: Global, text: &[u8], ask: Ask<'_>, out: &mut Vec<u8>) -> Result<(), Memory> {
-    match ask {
-        Ask::Types => typed::push_types(alloc, text, out),
-        Ask::Type { token } => typed::push_type(alloc, text, token, out),
-        Ask::Declared { token } => typed::push_declared(alloc, text, token, out),
-        Ask::Notes { first, end } => typed::push_notes(alloc, text, first, end, out),
-        Ask::Scope { place, token } => typed::push_scope(alloc, text, place, token, out),
-        Ask::Definitions => typed::push_definitions(alloc, text, out),
-        Ask::Sites { schemes } => sited::push_sites(alloc, text, schemes, out),
-        Ask::Numbers { schemes } => sited::push_numbers(alloc, text, schemes, out),
-        _ => push_read(alloc, text, ask, out),
+/// Adds what comes of a question about a text's types or its sites, or its first fault.
+fn push_checked(text: &[u8], ask: Ask, rest: &str, out: &mut Page) {
+    if let Some(known) = checked_of(text, out) {
+        push_known(&known, ask, rest, out);
     }
 }
 
-/// Appends what comes of a question.
-pub(crate) fn push_answer(
-    alloc: Global,
-    given: Given<'_>,
-    ask: Ask<'_>,
-    out: &mut Vec<u8>,
-) -> Result<(), Memory> {
+/// Adds what comes of a question about what a text's programs do, or what is known of it.
+fn push_done(given: Given<'_>, ask: Ask, rest: &str, out: &mut Page) {
     match ask {
-        Ask::Ends => push_ends(alloc, given, out),
-        Ask::Fills => push_fills(alloc, given, out),
-        Ask::Full { schemes } => push_full(alloc, given, schemes, out),
-        Ask::Sampled { schemes, bank } => push_sampled(alloc, given, schemes, bank, out),
-        Ask::Compiled { schemes } => push_compiled(alloc, given.text, schemes, out),
-        _ => push_checked(alloc, given.text, ask, out),
+        Ask::Ends => push_ends(given, out),
+        Ask::Fills => push_fills(given, out),
+        Ask::Full => push_full(given, rest, out),
+        Ask::Sampled => push_sampled(given, rest, out),
+        Ask::Compiled => push_compiled(given.text, rest, out),
+        _ => push_checked(given.text, ask, rest, out),
+    }
+}
+
+/// Adds what comes of a question.
+pub(crate) fn push_answer(given: Given<'_>, ask: Ask, rest: &str, out: &mut Page) {
+    match ask {
+        Ask::Tokens => lexed::push_tokens(given.text, out),
+        Ask::Length => lexed::push_length(given.text, out),
+        Ask::Line => lexed::push_line(given.text, number_of(rest), out),
+        Ask::Tree => lexed::push_tree(given.text, out),
+        Ask::Copy => lexed::push_copy(given.text, out),
+        _ => push_done(given, ask, rest, out),
     }
 }

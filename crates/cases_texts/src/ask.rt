@@ -1,14 +1,15 @@
 //! What may be asked of a text.
+use case_rows::are_numbers;
 
-/// A question. Schemes are named by their first letters, `b`, `r` and `p`, or by `-` where there is none.
+/// A question. Schemes S are named by their first letters, `b`, `r` and `p`, or by `-` where there is none.
 #[derive(Debug, Clone, Copy)]
-pub(crate) enum Ask<'a> {
+pub(crate) enum Ask {
     /// `tokens`: each with its line.
     Tokens,
     /// `length`: how many tokens there are.
     Length,
     /// `line I`: the line of this token.
-    Line { token: usize },
+    Line,
     /// `tree`: each operator with its operands in parentheses.
     Tree,
     /// `copy`: the tree's copy, in the same way.
@@ -16,125 +17,108 @@ pub(crate) enum Ask<'a> {
     /// `types`: `accepted`, or the kind of the first fault and its token.
     Types,
     /// `type I`: the type of the expression of this token.
-    Type { token: usize },
+    Type,
     /// `declared I`: the type of the variable of this token.
-    Declared { token: usize },
+    Declared,
     /// `notes I J`: the variable (`l` of a function, `g` of all), the offset (`+`), the called function (`f`) and whether there is a type (`t`), of each token
     /// from I up to J.
-    Notes { first: usize, end: usize },
+    Notes,
     /// `scope P I`: whether token I is in the scope of the variable that was declared as the P-th.
-    Scope { place: usize, token: usize },
+    Scope,
     /// `definitions`: of each, its function, its first local among all variables, and how many it has.
     Definitions,
     /// `sites S`: each with its function, line and token, and what it looks at.
-    Sites { schemes: &'a str },
+    Sites,
     /// `numbers S`: how many sites, predicates and functions there are.
-    Numbers { schemes: &'a str },
+    Numbers,
     /// `ends`: how the plain program ends, and `after` what output. The one that observes each visit of all schemes and the sampled one, with each visit drawn
     /// and with one in a thousand, come to the same; where each visit is drawn they count the same.
     Ends,
     /// `fills`: how the plain program ends, and how many bytes it writes.
     Fills,
     /// `full S`: how the program ends that observes each visit, its work, and the counters above zero.
-    Full { schemes: &'a str },
+    Full,
     /// `sampled S N ..`: the same of the sampled program, with this bank of countdowns.
-    Sampled { schemes: &'a str, bank: &'a str },
+    Sampled,
     /// `compiled S`: how many sites the program has that observes each visit.
-    Compiled { schemes: &'a str },
+    Compiled,
 }
+
+/// What stands behind a question's word.
+#[derive(Debug, Clone, Copy)]
+enum Behind {
+    Nothing,
+    Number,
+    TwoNumbers,
+    Schemes,
+    SchemesAndBank,
+}
+
+const ASKS: [(&str, Ask, Behind); 18] = [
+    ("tokens", Ask::Tokens, Behind::Nothing),
+    ("length", Ask::Length, Behind::Nothing),
+    ("line", Ask::Line, Behind::Number),
+    ("tree", Ask::Tree, Behind::Nothing),
+    ("copy", Ask::Copy, Behind::Nothing),
+    ("types", Ask::Types, Behind::Nothing),
+    ("type", Ask::Type, Behind::Number),
+    ("declared", Ask::Declared, Behind::Number),
+    ("notes", Ask::Notes, Behind::TwoNumbers),
+    ("scope", Ask::Scope, Behind::TwoNumbers),
+    ("definitions", Ask::Definitions, Behind::Nothing),
+    ("sites", Ask::Sites, Behind::Schemes),
+    ("numbers", Ask::Numbers, Behind::Schemes),
+    ("ends", Ask::Ends, Behind::Nothing),
+    ("fills", Ask::Fills, Behind::Nothing),
+    ("full", Ask::Full, Behind::Schemes),
+    ("sampled", Ask::Sampled, Behind::SchemesAndBank),
+    ("compiled", Ask::Compiled, Behind::Schemes),
+];
 
 /// Whether these are letters of schemes.
 fn are_schemes(letters: &str) -> bool {
-    !letters.is_empty() && letters.chars().all(|x| matches!(x, '-' | 'b' | 'r' | 'p'))
-}
-
-fn number_of(word: &str) -> Option<usize> {
-    match word.parse::<usize>() {
-        Ok(number) => Some(number),
-        Err(_) => None,
+    for letter in letters.as_bytes() {
+        if !matches!(*letter, b'-' | b'b' | b'r' | b'p') {
+            return false;
+        }
     }
+    !letters.is_empty()
 }
 
-fn numbers_of(words: &str) -> Option<(usize, usize)> {
-    let (first, second) = words.split_once(' ')?;
-    Some((number_of(first)?, number_of(second)?))
+/// The number of this word.
+pub(crate) fn number_of(word: &str) -> usize {
+    word.parse::<usize>().unwrap_or(usize::MAX)
 }
 
-fn ask_of_word(word: &str) -> Option<Ask<'static>> {
-    match word {
-        "tokens" => Some(Ask::Tokens),
-        "length" => Some(Ask::Length),
-        "tree" => Some(Ask::Tree),
-        "copy" => Some(Ask::Copy),
-        "types" => Some(Ask::Types),
-        "definitions" => Some(Ask::Definitions),
-        "ends" => Some(Ask::Ends),
-        "fills" => Some(Ask::Fills),
-        _ => None,
-    }
+fn is_number(word: &str) -> bool {
+    word.parse::<usize>().is_ok()
 }
 
-fn ask_of_token(head: &str, token: usize) -> Option<Ask<'static>> {
-    match head {
-        "line" => Some(Ask::Line { token }),
-        "type" => Some(Ask::Type { token }),
-        "declared" => Some(Ask::Declared { token }),
-        _ => None,
+/// The two numbers of these words.
+pub(crate) fn two_of(words: &str) -> (usize, usize) {
+    let (first, second) = words.split_once(' ').unwrap_or((words, ""));
+    (number_of(first), number_of(second))
+}
+
+/// Whether this may stand behind a question's word.
+fn fits(behind: Behind, rest: &str) -> bool {
+    let (first, more) = rest.split_once(' ').unwrap_or((rest, ""));
+    match behind {
+        Behind::Nothing => rest.is_empty(),
+        Behind::Number => is_number(rest),
+        Behind::TwoNumbers => is_number(first) && is_number(more),
+        Behind::Schemes => are_schemes(rest),
+        Behind::SchemesAndBank => are_schemes(first) && are_numbers(more),
     }
 }
 
-fn ask_of_pair(head: &str, pair: (usize, usize)) -> Option<Ask<'static>> {
-    let (first, second) = pair;
-    match head {
-        "notes" => Some(Ask::Notes { first, end: second }),
-        "scope" => Some(Ask::Scope {
-            place: first,
-            token: second,
-        }),
-        _ => None,
+/// The question of these words, if they are one, and what stands behind its word.
+pub(crate) fn ask_of(words: &str) -> Option<(Ask, &str)> {
+    let (head, rest) = words.split_once(' ').unwrap_or((words, ""));
+    for (word, ask, behind) in ASKS {
+        if word == head && fits(behind, rest) {
+            return Some((ask, rest));
+        }
     }
-}
-
-fn ask_of_schemes<'a>(head: &str, schemes: &'a str) -> Option<Ask<'a>> {
-    match head {
-        "sites" => Some(Ask::Sites { schemes }),
-        "numbers" => Some(Ask::Numbers { schemes }),
-        "full" => Some(Ask::Full { schemes }),
-        "compiled" => Some(Ask::Compiled { schemes }),
-        _ => None,
-    }
-}
-
-fn ask_of_sampled(words: &str) -> Option<Ask<'_>> {
-    let (schemes, bank) = words.split_once(' ')?;
-    if are_schemes(schemes) && bank.split(' ').all(|word| word.parse::<u32>().is_ok()) {
-        Some(Ask::Sampled { schemes, bank })
-    } else {
-        None
-    }
-}
-
-fn ask_of_words<'a>(head: &str, words: &'a str) -> Option<Ask<'a>> {
-    if head == "sampled" {
-        return ask_of_sampled(words);
-    }
-    if let Some(token) = number_of(words) {
-        return ask_of_token(head, token);
-    }
-    if let Some(pair) = numbers_of(words) {
-        return ask_of_pair(head, pair);
-    }
-    if are_schemes(words) {
-        ask_of_schemes(head, words)
-    } else {
-        None
-    }
-}
-
-/// The question of these words, if they are one.
-pub(crate) fn ask_of(words: &str) -> Option<Ask<'_>> {
-    match words.split_once(' ') {
-        Some((head, rest)) => ask_of_words(head, rest),
-        None => ask_of_word(words),
-    }
+    None
 }

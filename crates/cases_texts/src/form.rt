@@ -1,8 +1,6 @@
 //! Which lines a row may have, and what of it is read.
 use crate::ask::{Ask, ask_of};
-
-/// What stands before each line of a block.
-const INDENT: &str = "    ";
+use case_rows::{INDENT, is_shared, rest_of};
 
 /// What parts the texts of a row.
 pub(crate) const NEXT_TEXT: &str = "\ntext";
@@ -15,59 +13,48 @@ pub(crate) fn texts_of(row: &str) -> (&str, &str) {
     }
 }
 
-/// What a line asks, the words of it, and what must come of it where that stands on the line.
-pub(crate) fn check_of(line: &str) -> Option<(Ask<'_>, &str, &str)> {
+/// A text's own line, and those below it.
+pub(crate) fn lines_of(step: &str) -> (&str, &str) {
+    step.split_once('\n').unwrap_or((step, ""))
+}
+
+/// What a line asks.
+#[derive(Debug, Clone, Copy)]
+pub(crate) struct Check<'a> {
+    pub(crate) ask: Ask,
+    /// What stands behind the question's word.
+    pub(crate) rest: &'a str,
+    /// The whole question.
+    pub(crate) words: &'a str,
+    /// What must come of it, where that stands on the line.
+    pub(crate) due: &'a str,
+}
+
+/// What a line asks, if it asks something.
+pub(crate) fn check_of(line: &str) -> Option<Check<'_>> {
     let (words, due) = line.split_once(':')?;
-    let ask = ask_of(words)?;
-    Some((ask, words, due.strip_prefix(' ').unwrap_or(due)))
+    let (ask, rest) = ask_of(words)?;
+    Some(Check {
+        ask,
+        rest,
+        words,
+        due: due.strip_prefix(' ').unwrap_or(due),
+    })
 }
 
-/// What stands behind this word in the first of these lines that begins so.
-fn said_of<'a>(lines: &'a str, word: &str) -> Option<&'a str> {
-    for line in lines.split('\n') {
-        if let Some(said) = line.strip_prefix(word) {
-            return Some(said);
-        }
-    }
-    None
-}
-
-/// What stands behind this word in a text's lines, below the line of the text, or else before the first text; nothing where it stands nowhere.
+/// What stands behind this word in the lines below a text's own, or else before the first text; nothing where it stands nowhere.
 pub(crate) fn given_of<'a>(head: &'a str, step: &'a str, word: &str) -> &'a str {
-    let own = match step.split_once('\n') {
-        Some((_, lines)) => said_of(lines, word),
-        None => None,
-    };
-    match own {
+    let (_, lines) = lines_of(step);
+    match rest_of(lines, word) {
         Some(said) => said,
-        None => match said_of(head, word) {
-            Some(said) => said,
-            None => "",
-        },
+        None => rest_of(head, word).unwrap_or(""),
     }
-}
-
-/// How many turns a run has: 1,000 where the row doesn't say.
-pub(crate) fn turns_of(head: &str, step: &str) -> u32 {
-    given_of(head, step, "turns ")
-        .parse::<u32>()
-        .unwrap_or(1000)
 }
 
 /// How often a text goes on with what.
 pub(crate) fn times_of(line: &str) -> Option<(u32, &str)> {
     let (count, unit) = line.strip_prefix("times ")?.split_once(' ')?;
-    match count.parse::<u32>() {
-        Ok(count) => Some((count, unit)),
-        Err(_) => None,
-    }
-}
-
-/// Whether all rows share a text of this name.
-fn is_shared(texts: &str, name: &str) -> bool {
-    texts
-        .split('\n')
-        .any(|line| line.strip_prefix("text ") == Some(name))
+    Some((count.parse::<u32>().ok()?, unit))
 }
 
 /// Whether a line gives a text or a run something.
@@ -77,45 +64,60 @@ fn is_given(texts: &str, line: &str) -> bool {
         Some(("turns", count)) => count.parse::<u32>().is_ok(),
         Some(("times", _)) => times_of(line).is_some(),
         Some((word, _)) => matches!(word, "text" | "input"),
-        None => false,
+        None => line.is_empty(),
     }
 }
 
 /// Whether a block may stand below a line; nothing where it is none of a row's.
 fn has_block(texts: &str, line: &str) -> Option<bool> {
-    if line.is_empty() || line.starts_with('#') || is_given(texts, line) {
+    if line.starts_with('#') || is_given(texts, line) {
         return Some(false);
     }
     if line == "text" {
         return Some(true);
     }
-    let (_, _, due) = check_of(line)?;
-    Some(due.is_empty())
+    Some(check_of(line)?.due.is_empty())
+}
+
+/// Whether a block may go on below a line; nothing where the line is none of a row's, or is a block's where none may be.
+fn block_below(is_block: bool, texts: &str, line: &str) -> Option<bool> {
+    if !line.starts_with(INDENT) {
+        return has_block(texts, line);
+    }
+    if is_block { Some(true) } else { None }
 }
 
 /// The first line that is none of a row's, or is a block's where none may be.
 fn bad_own_line<'a>(texts: &str, row: &'a str) -> Option<&'a str> {
     let mut is_block = false;
     for line in row.split('\n') {
-        if line.starts_with(INDENT) {
-            if !is_block {
-                return Some(line);
-            }
-            continue;
-        }
-        match has_block(texts, line) {
-            Some(is_head) => is_block = is_head,
+        match block_below(is_block, texts, line) {
+            Some(is_below) => is_block = is_below,
             None => return Some(line),
         }
     }
     None
 }
 
-/// Whether something is asked of a text.
-fn is_asked(step: &str) -> bool {
-    step.split('\n')
-        .skip(1)
-        .any(|line| check_of(line).is_some())
+/// Whether a line asks something.
+fn is_asked(lines: &str) -> bool {
+    for line in lines.split('\n') {
+        if check_of(line).is_some() {
+            return true;
+        }
+    }
+    false
+}
+
+/// The first text of which nothing is asked.
+fn unasked(steps: &str) -> Option<&str> {
+    for step in steps.split(NEXT_TEXT) {
+        let (_, lines) = lines_of(step);
+        if !is_asked(lines) {
+            return Some(step);
+        }
+    }
+    None
 }
 
 /// The first line that is none of a row's, or the first text of which nothing is asked, or what stands before the texts where something is asked there.
@@ -124,8 +126,8 @@ pub(crate) fn bad_line<'a>(texts: &str, row: &'a str) -> Option<&'a str> {
         return Some(line);
     }
     let (head, steps) = texts_of(row);
-    if head.split('\n').any(|line| check_of(line).is_some()) {
+    if is_asked(head) {
         return Some(head);
     }
-    steps.split(NEXT_TEXT).find(|step| !is_asked(step))
+    unasked(steps)
 }

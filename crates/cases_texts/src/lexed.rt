@@ -1,58 +1,76 @@
-//! Tokens, each with its line.
-use crate::read::{line_at, tokens_of};
-use crate::written::{say, say_count, say_number};
-use c_syntax::{Token, TokenKind};
-use cbi_base::Memory;
-use std::alloc::Global;
+//! Tokens, each with its line, and the tree of a text.
+use crate::read::{line_at, tokens_of, tree_of};
+use c_copies::TryClone;
+use c_syntax::{Token, TokenKind, Tree};
+use case_rows::Page;
+use tree_shown::show_tree;
 
-/// What a token is. Of a name its length stands there.
-fn words_of(alloc: Global, kind: &TokenKind) -> Result<String, Memory> {
-    Ok(match kind {
-        TokenKind::Word { word } => format!(in alloc; "{word:?}")?,
-        TokenKind::Punctuator { sign } => format!(in alloc; "{sign:?}")?,
-        TokenKind::Name { name } => format!(in alloc; "name {}", name.bytes().len())?,
-        TokenKind::Constant { kind, value } => format!(in alloc; "{kind:?} {value}")?,
-        TokenKind::Text { bytes } => format!(in alloc; "{:?}", bytes.as_slice())?,
-    })
-}
-
-fn push_token(alloc: Global, token: &Token, out: &mut Vec<u8>) -> Result<(), Memory> {
-    if !out.is_empty() {
-        say(out, " ")?;
+/// Adds what a token is. Of a name its length stands there.
+fn push_kind(kind: &TokenKind, out: &mut Page) {
+    match kind {
+        TokenKind::Word { word } => out.debug(*word),
+        TokenKind::Punctuator { sign } => out.debug(*sign),
+        TokenKind::Name { name } => {
+            out.say("name ");
+            out.debug(name.bytes().len());
+        }
+        TokenKind::Constant { kind, value } => {
+            out.debug(*kind);
+            out.say(" ");
+            out.debug(*value);
+        }
+        TokenKind::Text { bytes } => out.debug(bytes.as_slice()),
     }
-    say_number(out, u64::from(token.line))?;
-    say(out, ":")?;
-    let words = words_of(alloc, &token.kind)?;
-    say(out, words.as_str())
 }
 
-/// Appends the tokens of a text.
-pub(crate) fn push_tokens(alloc: Global, text: &[u8], out: &mut Vec<u8>) -> Result<(), Memory> {
-    if let Some(tokens) = tokens_of(alloc, text, out)? {
+fn push_token(token: &Token, out: &mut Page) {
+    if !out.is_empty() {
+        out.say(" ");
+    }
+    out.number(token.line);
+    out.say(":");
+    push_kind(&token.kind, out);
+}
+
+/// Adds the tokens of a text.
+pub(crate) fn push_tokens(text: &[u8], out: &mut Page) {
+    if let Some(tokens) = tokens_of(text, out) {
         for token in tokens.as_slice() {
-            push_token(alloc, token, out)?;
+            push_token(token, out);
         }
     }
-    Ok(())
 }
 
-/// Appends how many tokens a text has.
-pub(crate) fn push_length(alloc: Global, text: &[u8], out: &mut Vec<u8>) -> Result<(), Memory> {
-    match tokens_of(alloc, text, out)? {
-        Some(tokens) => say_count(alloc, out, tokens.as_slice().len()),
-        None => Ok(()),
+/// Adds how many tokens a text has.
+pub(crate) fn push_length(text: &[u8], out: &mut Page) {
+    if let Some(tokens) = tokens_of(text, out) {
+        out.debug(tokens.as_slice().len());
     }
 }
 
-/// Appends the line of a token.
-pub(crate) fn push_line(
-    alloc: Global,
-    text: &[u8],
-    token: usize,
-    out: &mut Vec<u8>,
-) -> Result<(), Memory> {
-    match tokens_of(alloc, text, out)? {
-        Some(tokens) => say_number(out, u64::from(line_at(&tokens, token))),
-        None => Ok(()),
+/// Adds the line of a token.
+pub(crate) fn push_line(text: &[u8], token: usize, out: &mut Page) {
+    if let Some(tokens) = tokens_of(text, out) {
+        out.number(line_at(&tokens, token));
+    }
+}
+
+/// Adds the tree of a text.
+pub(crate) fn push_tree(text: &[u8], out: &mut Page) {
+    if let Some(tree) = tree_of(text, out) {
+        show_tree(out, &tree);
+    }
+}
+
+fn show_copy(tree: &Tree, out: &mut Page) {
+    if let Some(copy) = out.done(tree.try_clone(out.alloc())) {
+        show_tree(out, &copy);
+    }
+}
+
+/// Adds a copy of the tree of a text.
+pub(crate) fn push_copy(text: &[u8], out: &mut Page) {
+    if let Some(tree) = tree_of(text, out) {
+        show_copy(&tree, out);
     }
 }

@@ -1,28 +1,17 @@
 //! How far a text is read, with an answer where it isn't.
-use crate::written::say;
-use c_lexer::{LexError, lex};
+use c_lexer::lex;
 use c_parser::{ParseError, parse};
 use c_syntax::{Tokens, Tree, line_of};
 use c_types::{Checked, TypeFault, check};
-use cbi_base::Memory;
-use std::alloc::Global;
-
-fn push_lexing(alloc: Global, error: LexError, out: &mut Vec<u8>) -> Result<(), Memory> {
-    let words = format!(in alloc; "{error:?}")?;
-    say(out, words.as_str())
-}
+use case_rows::Page;
 
 /// The tokens of a text, or why it has none.
-pub(crate) fn tokens_of(
-    alloc: Global,
-    text: &[u8],
-    out: &mut Vec<u8>,
-) -> Result<Option<Tokens>, Memory> {
-    match lex(alloc, text) {
-        Ok(tokens) => Ok(Some(tokens)),
+pub(crate) fn tokens_of(text: &[u8], out: &mut Page) -> Option<Tokens> {
+    match lex(out.alloc(), text) {
+        Ok(tokens) => Some(tokens),
         Err(error) => {
-            push_lexing(alloc, error, out)?;
-            Ok(None)
+            out.debug(error);
+            None
         }
     }
 }
@@ -36,64 +25,62 @@ pub(crate) fn line_at(tokens: &Tokens, index: usize) -> u32 {
     }
 }
 
-fn push_syntax(
-    alloc: Global,
-    line: u32,
-    index: usize,
-    item: usize,
-    out: &mut Vec<u8>,
-) -> Result<(), Memory> {
-    let words = format!(in alloc; "line {line}, index {index}, item {item}")?;
-    say(out, words.as_str())
+fn push_syntax(tokens: &Tokens, index: usize, item: usize, out: &mut Page) {
+    out.say("line ");
+    out.number(line_at(tokens, index));
+    out.say(", index ");
+    out.debug(index);
+    out.say(", item ");
+    out.debug(item);
 }
 
-fn tree_with(alloc: Global, tokens: &Tokens, out: &mut Vec<u8>) -> Result<Option<Tree>, Memory> {
-    match parse(alloc, tokens) {
-        Ok(tree) => Ok(Some(tree)),
-        Err(ParseError::Memory) => Err(Memory),
+fn tree_with(tokens: &Tokens, out: &mut Page) -> Option<Tree> {
+    match parse(out.alloc(), tokens) {
+        Ok(tree) => Some(tree),
+        Err(ParseError::Memory) => {
+            out.want();
+            None
+        }
         Err(ParseError::Syntax { index, item }) => {
-            push_syntax(alloc, line_at(tokens, index), index, item, out)?;
-            Ok(None)
+            push_syntax(tokens, index, item, out);
+            None
         }
     }
 }
 
 /// The tree of a text, or why it has none.
-pub(crate) fn tree_of(
-    alloc: Global,
-    text: &[u8],
-    out: &mut Vec<u8>,
-) -> Result<Option<Tree>, Memory> {
-    match tokens_of(alloc, text, out)? {
-        Some(tokens) => tree_with(alloc, &tokens, out),
-        None => Ok(None),
+pub(crate) fn tree_of(text: &[u8], out: &mut Page) -> Option<Tree> {
+    match tokens_of(text, out) {
+        Some(tokens) => tree_with(&tokens, out),
+        None => None,
     }
 }
 
-fn push_fault(alloc: Global, kind: u8, index: usize, out: &mut Vec<u8>) -> Result<(), Memory> {
-    let words = format!(in alloc; "fault {kind} at {index}")?;
-    say(out, words.as_str())
+fn push_fault(kind: u8, index: usize, out: &mut Page) {
+    out.say("fault ");
+    out.number(kind);
+    out.say(" at ");
+    out.debug(index);
 }
 
-fn checked_tree(alloc: Global, tree: Tree, out: &mut Vec<u8>) -> Result<Option<Checked>, Memory> {
-    match check(alloc, tree) {
-        Ok(checked) => Ok(Some(checked)),
-        Err(TypeFault::Memory) => Err(Memory),
+fn checked_tree(tree: Tree, out: &mut Page) -> Option<Checked> {
+    match check(out.alloc(), tree) {
+        Ok(checked) => Some(checked),
+        Err(TypeFault::Memory) => {
+            out.want();
+            None
+        }
         Err(TypeFault::BadType { kind, index }) => {
-            push_fault(alloc, kind, index, out)?;
-            Ok(None)
+            push_fault(kind, index, out);
+            None
         }
     }
 }
 
 /// What is known of a text, or why it isn't accepted.
-pub(crate) fn checked_of(
-    alloc: Global,
-    text: &[u8],
-    out: &mut Vec<u8>,
-) -> Result<Option<Checked>, Memory> {
-    match tree_of(alloc, text, out)? {
-        Some(tree) => checked_tree(alloc, tree, out),
-        None => Ok(None),
+pub(crate) fn checked_of(text: &[u8], out: &mut Page) -> Option<Checked> {
+    match tree_of(text, out) {
+        Some(tree) => checked_tree(tree, out),
+        None => None,
     }
 }

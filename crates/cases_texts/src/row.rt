@@ -1,181 +1,146 @@
 //! A row: its texts, and what comes of what is asked of them.
 use crate::answers::push_answer;
-use crate::form::{NEXT_TEXT, bad_line, check_of, given_of, texts_of, times_of, turns_of};
+use crate::form::{Check, NEXT_TEXT, bad_line, check_of, given_of, lines_of, texts_of, times_of};
 use crate::runs::Given;
-use case_rows::{answer, answer_unread, block, name_of, push_shown, push_text};
-use cbi_base::{Memory, push_decimal};
-use std::alloc::Global;
+use case_rows::{Page, Rows, block, push_shown, push_text};
 
-/// Appends a copy of a unit, in which `#` is its number.
-fn push_copy(unit: &str, number: u32, text: &mut Vec<u8>) -> Result<(), Memory> {
-    let mut is_first = true;
-    for part in unit.split('#') {
-        if !is_first {
-            push_decimal(text, u128::from(number))?;
+/// Adds a copy of a unit, in which `#` is its number.
+fn push_copy(unit: &str, number: u32, text: &mut Page) {
+    for byte in unit.as_bytes() {
+        if *byte == b'#' {
+            text.number(number);
+        } else {
+            text.byte(*byte);
         }
-        text.extend_from_slice(part.as_bytes())?;
-        is_first = false;
     }
-    Ok(())
 }
 
-fn push_copies(count: u32, unit: &str, text: &mut Vec<u8>) -> Result<(), Memory> {
+fn push_copies(count: u32, unit: &str, text: &mut Page) {
     for number in 0..count {
-        push_copy(unit, number.saturating_add(1), text)?;
+        push_copy(unit, number.saturating_add(1), text);
     }
-    Ok(())
 }
 
 /// The text of the first line, or of the block below it.
-fn text_begun(alloc: Global, step: &str) -> Result<Vec<u8>, Memory> {
-    match step.strip_prefix(' ') {
-        Some(rest) => {
-            let (line, _) = rest.split_once('\n').unwrap_or((rest, ""));
-            Ok(Vec::from_slice(alloc, line.as_bytes())?)
-        }
-        None => block(alloc, step, "", ""),
+fn text_begun(step: &str, told: &mut Page) -> Page {
+    let (line, _) = lines_of(step);
+    if line.is_empty() {
+        return block(step, "", "", told);
     }
+    let mut text = Page::new(told.alloc());
+    text.say(line.strip_prefix(' ').unwrap_or(line));
+    text
 }
 
 /// A text by its own lines.
-fn own_text(alloc: Global, step: &str) -> Result<Vec<u8>, Memory> {
-    let mut text = text_begun(alloc, step)?;
-    for line in step.split('\n').skip(1) {
+fn own_text(step: &str, told: &mut Page) -> Page {
+    let mut text = text_begun(step, told);
+    let (_, lines) = lines_of(step);
+    for line in lines.split('\n') {
         if let Some((count, unit)) = times_of(line) {
-            push_copies(count, unit, &mut text)?;
+            push_copies(count, unit, &mut text);
         }
     }
-    Ok(text)
+    told.heed(&text);
+    text
 }
 
-/// Appends a shared text, in which this one stands for each `@`.
-fn push_within(shared: &[u8], own: &[u8], text: &mut Vec<u8>) -> Result<(), Memory> {
+/// Adds a shared text, in which this one stands for each `@`.
+fn push_within(shared: &[u8], own: &[u8], text: &mut Page) {
     for byte in shared {
         if *byte == b'@' {
-            text.extend_from_slice(own)?;
+            text.put(own);
         } else {
-            text.push(*byte)?;
+            text.byte(*byte);
         }
     }
-    Ok(())
 }
 
-fn text_within(alloc: Global, texts: &str, name: &str, own: &[u8]) -> Result<Vec<u8>, Memory> {
-    let shared = block(alloc, texts, "text ", name)?;
-    let mut text = Vec::new(alloc);
-    push_within(shared.as_slice(), own, &mut text)?;
-    Ok(text)
+fn text_within(texts: &str, name: &str, own: &[u8], told: &mut Page) -> Page {
+    let shared = block(texts, "text ", name, told);
+    let mut text = Page::new(told.alloc());
+    push_within(shared.bytes(), own, &mut text);
+    told.heed(&text);
+    text
 }
 
 /// A text by its lines, or by the shared text that it stands within.
-fn text_of(alloc: Global, texts: &str, head: &str, step: &str) -> Result<Vec<u8>, Memory> {
-    let own = own_text(alloc, step)?;
+fn text_of(texts: &str, head: &str, step: &str, told: &mut Page) -> Page {
+    let own = own_text(step, told);
     match given_of(head, step, "within ") {
-        "" => Ok(own),
-        name => text_within(alloc, texts, name, own.as_slice()),
+        "" => own,
+        name => text_within(texts, name, own.bytes(), told),
     }
 }
 
-fn input_of(alloc: Global, head: &str, step: &str) -> Result<Vec<u8>, Memory> {
-    let mut input = Vec::new(alloc);
-    push_text(given_of(head, step, "input "), &mut input)?;
-    Ok(input)
+/// Adds what must come of a question: what stands on its line, or else the block below it.
+fn due_of(step: &str, check: Check<'_>, told: &mut Page) -> Page {
+    if check.due.is_empty() {
+        return block(step, check.words, ":", told);
+    }
+    let mut due = Page::new(told.alloc());
+    push_text(check.due, &mut due);
+    told.heed(&due);
+    due
 }
 
-/// What must come of a question: what stands on its line, or else the block below it.
-fn due_of(alloc: Global, step: &str, words: &str, due: &str) -> Result<Vec<u8>, Memory> {
-    if due.is_empty() {
-        return block(alloc, step, words, ":");
-    }
-    let mut bytes = Vec::new(alloc);
-    push_text(due, &mut bytes)?;
-    Ok(bytes)
-}
-
-/// Tells of a line what came, where something else must.
-fn tell_other(
-    alloc: Global,
-    step: &str,
-    line: &str,
-    came: &[u8],
-    told: &mut String,
-) -> Result<(), Memory> {
-    let Some((_, words, due)) = check_of(line) else {
-        return Ok(());
-    };
-    if came == due_of(alloc, step, words, due)?.as_slice() {
-        return Ok(());
-    }
-    let (text, _) = step.split_once('\n').unwrap_or((step, ""));
+/// Tells of a question what came.
+fn tell_other(step: &str, line: &str, came: &[u8], told: &mut Page) {
+    let (text, _) = lines_of(step);
     for part in ["\ntext", text, "\n", line] {
-        told.push_str(part)?;
+        told.say(part);
     }
-    push_shown(came, told)
+    push_shown(came, told);
 }
 
-fn tell_line(
-    alloc: Global,
-    step: &str,
-    line: &str,
-    given: Given<'_>,
-    told: &mut String,
-) -> Result<(), Memory> {
-    let Some((ask, _, _)) = check_of(line) else {
-        return Ok(());
-    };
-    let mut came = Vec::new(alloc);
-    push_answer(alloc, given, ask, &mut came)?;
-    tell_other(alloc, step, line, came.as_slice(), told)
+/// Tells of a line what came of its question, where something else must.
+fn tell_line(step: &str, line: &str, check: Check<'_>, given: Given<'_>, told: &mut Page) {
+    let due = due_of(step, check, told);
+    let mut came = Page::new(told.alloc());
+    push_answer(given, check.ask, check.rest, &mut came);
+    told.heed(&came);
+    if came.bytes() != due.bytes() {
+        tell_other(step, line, came.bytes(), told);
+    }
 }
 
-fn tell_lines(
-    alloc: Global,
-    step: &str,
-    given: Given<'_>,
-    told: &mut String,
-) -> Result<(), Memory> {
-    for line in step.split('\n').skip(1) {
-        tell_line(alloc, step, line, given, told)?;
+fn tell_lines(step: &str, given: Given<'_>, told: &mut Page) {
+    let (_, lines) = lines_of(step);
+    for line in lines.split('\n') {
+        if let Some(check) = check_of(line) {
+            tell_line(step, line, check, given, told);
+        }
     }
-    Ok(())
 }
 
 /// Tells what of a text doesn't come as its lines say.
-fn tell_text(
-    alloc: Global,
-    texts: &str,
-    head: &str,
-    step: &str,
-    told: &mut String,
-) -> Result<(), Memory> {
-    let text = text_of(alloc, texts, head, step)?;
-    let input = input_of(alloc, head, step)?;
+fn tell_text(texts: &str, head: &str, step: &str, told: &mut Page) {
+    let text = text_of(texts, head, step, told);
+    let mut input = Page::new(told.alloc());
+    push_text(given_of(head, step, "input "), &mut input);
+    told.heed(&input);
     let given = Given {
-        text: text.as_slice(),
-        input: input.as_slice(),
-        turns: turns_of(head, step),
+        text: text.bytes(),
+        input: input.bytes(),
+        turns: given_of(head, step, "turns ")
+            .parse::<u32>()
+            .unwrap_or(1000),
     };
-    tell_lines(alloc, step, given, told)
+    tell_lines(step, given, told);
 }
 
-/// What doesn't come as a row says, of all its texts.
-fn differences(alloc: Global, texts: &str, row: &str) -> Result<String, Memory> {
-    let (head, steps) = texts_of(row);
-    let mut told = String::new(alloc);
-    for step in steps.split(NEXT_TEXT) {
-        tell_text(alloc, texts, head, step, &mut told)?;
+/// The rows of texts.
+pub(crate) struct Texts;
+
+impl Rows for Texts {
+    fn unread<'a>(&self, texts: &str, row: &'a str) -> Option<&'a str> {
+        bad_line(texts, row)
     }
-    Ok(told)
-}
 
-/// Answers a row, which begins with its name.
-pub(crate) fn tell(alloc: Global, texts: &str, row: &str, told: &mut String) -> Result<(), Memory> {
-    let (name, lines) = name_of(row);
-    match bad_line(texts, lines) {
-        Some(line) => answer_unread(name, line, told),
-        None => {
-            let differences = differences(alloc, texts, lines)?;
-            answer(name, differences.as_str(), told)
+    fn tell(&self, _rt: &HostRuntime, texts: &str, row: &str, told: &mut Page) {
+        let (head, steps) = texts_of(row);
+        for step in steps.split(NEXT_TEXT) {
+            tell_text(texts, head, step, told);
         }
     }
 }

@@ -1,13 +1,11 @@
 //! What the programs of a text do.
 use crate::sited::schemes_of;
-use crate::written::{put, say, say_count, say_number, say_signed};
-use cbi_base::{Counts, Memory, Outcome};
+use case_rows::{Page, numbers_in};
+use cbi_base::{Counts, Outcome};
 use compiler::{CompileError, Plan, compile};
 use countdown_bank::Bank;
 use flow::{Program, RunResult};
 use machine::run;
-use probes::Probe;
-use std::alloc::Global;
 
 /// A text, and what a run of its program is given.
 #[derive(Debug, Clone, Copy)]
@@ -21,250 +19,172 @@ pub(crate) struct Given<'a> {
 const ALL: &str = "brp";
 
 /// The program of a text by a plan, or why there is none.
-fn program_of(
-    alloc: Global,
-    text: &[u8],
-    plan: Plan,
-    out: &mut Vec<u8>,
-) -> Result<Option<Program>, Memory> {
-    match compile(alloc, text, plan) {
-        Ok(program) => Ok(Some(program)),
-        Err(CompileError::Memory) => Err(Memory),
+fn program_of(text: &[u8], plan: Plan, out: &mut Page) -> Option<Program> {
+    match compile(out.alloc(), text, plan) {
+        Ok(program) => Some(program),
+        Err(CompileError::Memory) => {
+            out.want();
+            None
+        }
         Err(CompileError::Refused { refusal }) => {
-            let words = format!(in alloc; "{refusal:?}")?;
-            say(out, words.as_str())?;
-            Ok(None)
+            out.debug(refusal);
+            None
         }
     }
 }
 
 /// What a run of the program comes to; nothing where it is given too much.
-fn result_with(
-    alloc: Global,
-    given: Given<'_>,
-    program: &Program,
-    bank: Option<Bank>,
-) -> Result<Option<RunResult>, Memory> {
-    let Some(mut bank) = bank else {
-        return Ok(None);
-    };
+fn ran(given: Given<'_>, program: &Program, bank: &mut Bank, out: &mut Page) -> Option<RunResult> {
     if given.turns > 100_000_000 || given.input.len() > 16_777_216 {
-        return Ok(None);
+        return None;
     }
-    let mut probes: Vec<Box<dyn Probe>> = Vec::new(alloc);
-    let result = run(
-        alloc,
-        program,
-        given.input,
-        &mut bank,
-        given.turns,
-        &mut probes,
-    )?;
-    Ok(Some(result))
+    let alloc = out.alloc();
+    let mut probes = Vec::new(alloc);
+    out.done(run(alloc, program, given.input, bank, given.turns, &mut probes))
 }
 
-/// What a run of the text's program by a plan comes to, with this bank; where there is none, why is appended.
-fn result_of(
-    alloc: Global,
-    given: Given<'_>,
-    plan: Plan,
-    numbers: &[u32],
-    out: &mut Vec<u8>,
-) -> Result<Option<RunResult>, Memory> {
-    let bank = Bank::new(Vec::from_slice(alloc, numbers)?);
-    match program_of(alloc, given.text, plan, out)? {
-        Some(program) => result_with(alloc, given, &program, bank),
-        None => Ok(None),
+/// The bank of these numbers.
+fn bank_of(words: &str, out: &mut Page) -> Option<Bank> {
+    match numbers_in(words, out) {
+        Some(numbers) => Bank::new(numbers),
+        None => None,
     }
 }
 
-/// Appends how a run ended: its status, its trap, or what it was cut for.
-fn push_outcome(alloc: Global, outcome: Outcome, out: &mut Vec<u8>) -> Result<(), Memory> {
+/// What a run of the text's program by a plan comes to, with the bank of these numbers; where there is none, why is added.
+fn result_of(given: Given<'_>, plan: Plan, numbers: &str, out: &mut Page) -> Option<RunResult> {
+    let mut bank = bank_of(numbers, out)?;
+    match program_of(given.text, plan, out) {
+        Some(program) => ran(given, &program, &mut bank, out),
+        None => None,
+    }
+}
+
+/// Adds how a run ended: its status, its trap, or what it was cut for.
+fn push_outcome(outcome: Outcome, out: &mut Page) {
     match outcome {
-        Outcome::Ended { status } => say_signed(alloc, out, i64::from(status)),
+        Outcome::Ended { status } => out.debug(status),
         Outcome::Trapped { trap } => {
-            say(out, "trap ")?;
-            say_number(out, u64::from(trap.number()))
+            out.say("trap ");
+            out.number(trap.number());
         }
-        Outcome::CutTurns => say(out, "cut turns"),
-        Outcome::CutOutput => say(out, "cut output"),
+        Outcome::CutTurns => out.say("cut turns"),
+        Outcome::CutOutput => out.say("cut output"),
     }
 }
 
-/// Appends how a run ended, and its output.
-fn push_ending(alloc: Global, seen: &RunResult, out: &mut Vec<u8>) -> Result<(), Memory> {
-    push_outcome(alloc, seen.outcome, out)?;
-    if seen.output.len() == 0 {
-        return Ok(());
+/// Adds how a run ended, and its output.
+fn push_ending(seen: &RunResult, out: &mut Page) {
+    push_outcome(seen.outcome, out);
+    if !seen.output.is_empty() {
+        out.say(" after ");
+        out.put(seen.output.as_slice());
     }
-    say(out, " after ")?;
-    put(out, seen.output.as_slice())
 }
 
-/// Appends how this run ended where it isn't as the plain one did.
-fn push_other(
-    alloc: Global,
-    plain: &RunResult,
-    other: &RunResult,
-    name: &str,
-    out: &mut Vec<u8>,
-) -> Result<(), Memory> {
-    if other.outcome == plain.outcome && other.output.as_slice() == plain.output.as_slice() {
-        return Ok(());
+/// Adds how this run ended where it isn't as the plain one did.
+fn push_other(plain: &RunResult, other: &RunResult, name: &str, out: &mut Page) {
+    if other.outcome != plain.outcome || other.output.as_slice() != plain.output.as_slice() {
+        out.say(name);
+        push_ending(other, out);
     }
-    say(out, name)?;
-    push_ending(alloc, other, out)
 }
 
-/// Compares the sampled runs: with each visit drawn, and with one in a thousand.
-fn push_other_sampled(
-    alloc: Global,
-    given: Given<'_>,
-    plain: &RunResult,
-    full: &RunResult,
-    out: &mut Vec<u8>,
-) -> Result<(), Memory> {
+/// Compares the run of the sampled program with each visit drawn.
+fn push_other_drawn(given: Given<'_>, plain: &RunResult, full: &RunResult, out: &mut Page) {
     let schemes = schemes_of(ALL);
-    if let Some(each) = result_of(alloc, given, Plan::Sampled { schemes }, &[1], out)? {
-        push_other(alloc, plain, &each, "; sampled ", out)?;
+    if let Some(each) = result_of(given, Plan::Sampled { schemes }, "1", out) {
+        push_other(plain, &each, "; sampled ", out);
         if each.counts.as_slice() != full.counts.as_slice() {
-            say(out, "; sampled counts otherwise")?;
+            out.say("; sampled counts otherwise");
         }
-    }
-    match result_of(alloc, given, Plan::Sampled { schemes }, &[1000], out)? {
-        Some(few) => push_other(alloc, plain, &few, "; seldom sampled ", out),
-        None => Ok(()),
     }
 }
 
-fn push_others(
-    alloc: Global,
-    given: Given<'_>,
-    plain: &RunResult,
-    out: &mut Vec<u8>,
-) -> Result<(), Memory> {
+/// Compares the run of the sampled program with one visit in a thousand drawn.
+fn push_other_seldom(given: Given<'_>, plain: &RunResult, out: &mut Page) {
     let schemes = schemes_of(ALL);
-    match result_of(alloc, given, Plan::Full { schemes }, &[1], out)? {
-        Some(full) => {
-            push_other(alloc, plain, &full, "; full ", out)?;
-            push_other_sampled(alloc, given, plain, &full, out)
-        }
-        None => Ok(()),
+    if let Some(few) = result_of(given, Plan::Sampled { schemes }, "1000", out) {
+        push_other(plain, &few, "; seldom sampled ", out);
     }
 }
 
-/// Appends how the runs of a text's programs end.
-pub(crate) fn push_ends(alloc: Global, given: Given<'_>, out: &mut Vec<u8>) -> Result<(), Memory> {
-    match result_of(alloc, given, Plan::Plain, &[1], out)? {
-        Some(plain) => {
-            push_ending(alloc, &plain, out)?;
-            push_others(alloc, given, &plain, out)
-        }
-        None => Ok(()),
+/// Compares the runs of the program that observes each visit, and of the sampled one.
+fn push_others(given: Given<'_>, plain: &RunResult, out: &mut Page) {
+    let schemes = schemes_of(ALL);
+    if let Some(full) = result_of(given, Plan::Full { schemes }, "1", out) {
+        push_other(plain, &full, "; full ", out);
+        push_other_drawn(given, plain, &full, out);
+        push_other_seldom(given, plain, out);
     }
 }
 
-/// Appends how the plain program ends, and how much it writes.
-pub(crate) fn push_fills(alloc: Global, given: Given<'_>, out: &mut Vec<u8>) -> Result<(), Memory> {
-    match result_of(alloc, given, Plan::Plain, &[1], out)? {
-        Some(plain) => {
-            push_outcome(alloc, plain.outcome, out)?;
-            say(out, " after ")?;
-            say_count(alloc, out, plain.output.len())
-        }
-        None => Ok(()),
+/// Adds how the runs of a text's programs end.
+pub(crate) fn push_ends(given: Given<'_>, out: &mut Page) {
+    if let Some(plain) = result_of(given, Plan::Plain, "1", out) {
+        push_ending(&plain, out);
+        push_others(given, &plain, out);
     }
 }
 
-/// Appends a site's counters where one of them is above zero.
-fn push_counts(
-    alloc: Global,
-    site: usize,
-    counts: Counts,
-    out: &mut Vec<u8>,
-) -> Result<(), Memory> {
-    let (first, second, third) = (counts.first, counts.second, counts.third);
-    if first == 0 && second == 0 && third == 0 {
-        return Ok(());
+/// Adds how the plain program ends, and how much it writes.
+pub(crate) fn push_fills(given: Given<'_>, out: &mut Page) {
+    if let Some(plain) = result_of(given, Plan::Plain, "1", out) {
+        push_outcome(plain.outcome, out);
+        out.say(" after ");
+        out.debug(plain.output.len());
     }
-    let words = format!(in alloc; "; site {site} {first} {second} {third}")?;
-    say(out, words.as_str())
 }
 
-/// Appends how a run ended, its work, and its counters.
-fn push_report(alloc: Global, seen: &RunResult, out: &mut Vec<u8>) -> Result<(), Memory> {
-    push_outcome(alloc, seen.outcome, out)?;
-    say(out, "; work")?;
+/// Adds a site's counters where one of them is above zero.
+fn push_counts(site: usize, counts: Counts, out: &mut Page) {
+    let numbers = [counts.first, counts.second, counts.third];
+    if numbers == [0, 0, 0] {
+        return;
+    }
+    out.say("; site ");
+    out.debug(site);
+    for number in numbers {
+        out.say(" ");
+        out.number(number);
+    }
+}
+
+/// Adds how a run ended, its work, and its counters.
+fn push_report(seen: &RunResult, out: &mut Page) {
+    push_outcome(seen.outcome, out);
+    out.say("; work");
     for number in [seen.work.fast, seen.work.slow, seen.work.tests] {
-        say(out, " ")?;
-        say_number(out, number)?;
+        out.say(" ");
+        out.number(number);
     }
     for (site, counts) in seen.counts.as_slice().iter().enumerate() {
-        push_counts(alloc, site, *counts, out)?;
+        push_counts(site, *counts, out);
     }
-    Ok(())
 }
 
-/// Appends the report of the program that observes each visit.
-pub(crate) fn push_full(
-    alloc: Global,
-    given: Given<'_>,
-    schemes: &str,
-    out: &mut Vec<u8>,
-) -> Result<(), Memory> {
+/// Adds the report of the program that observes each visit of these schemes.
+pub(crate) fn push_full(given: Given<'_>, schemes: &str, out: &mut Page) {
     let schemes = schemes_of(schemes);
-    match result_of(alloc, given, Plan::Full { schemes }, &[1], out)? {
-        Some(result) => push_report(alloc, &result, out),
-        None => Ok(()),
+    if let Some(seen) = result_of(given, Plan::Full { schemes }, "1", out) {
+        push_report(&seen, out);
     }
 }
 
-/// The numbers of a bank.
-fn numbers_of(alloc: Global, words: &str) -> Result<Vec<u32>, Memory> {
-    let mut numbers = Vec::new(alloc);
-    for word in words.split(' ') {
-        if let Ok(number) = word.parse::<u32>() {
-            numbers.push(number)?;
-        }
-    }
-    Ok(numbers)
-}
-
-/// Appends the report of the sampled program.
-pub(crate) fn push_sampled(
-    alloc: Global,
-    given: Given<'_>,
-    schemes: &str,
-    bank: &str,
-    out: &mut Vec<u8>,
-) -> Result<(), Memory> {
+/// Adds the report of the sampled program, by its schemes and the numbers of its bank.
+pub(crate) fn push_sampled(given: Given<'_>, words: &str, out: &mut Page) {
+    let (schemes, bank) = words.split_once(' ').unwrap_or((words, ""));
     let schemes = schemes_of(schemes);
-    let numbers = numbers_of(alloc, bank)?;
-    match result_of(
-        alloc,
-        given,
-        Plan::Sampled { schemes },
-        numbers.as_slice(),
-        out,
-    )? {
-        Some(result) => push_report(alloc, &result, out),
-        None => Ok(()),
+    if let Some(seen) = result_of(given, Plan::Sampled { schemes }, bank, out) {
+        push_report(&seen, out);
     }
 }
 
-/// Appends how many sites the program has that observes each visit.
-pub(crate) fn push_compiled(
-    alloc: Global,
-    text: &[u8],
-    schemes: &str,
-    out: &mut Vec<u8>,
-) -> Result<(), Memory> {
+/// Adds how many sites the program has that observes each visit.
+pub(crate) fn push_compiled(text: &[u8], schemes: &str, out: &mut Page) {
     let schemes = schemes_of(schemes);
-    match program_of(alloc, text, Plan::Full { schemes }, out)? {
-        Some(program) => {
-            say_count(alloc, out, program.table().sites().len())?;
-            say(out, " sites")
-        }
-        None => Ok(()),
+    if let Some(program) = program_of(text, Plan::Full { schemes }, out) {
+        out.debug(program.table().sites().len());
+        out.say(" sites");
     }
 }
