@@ -398,6 +398,12 @@ class Hunt(Case):
         out, err = self.call("cbi-hunt", "upper.c", "--jobs", "1", *words, due=due)
         return out if due < 2 else err
 
+    def wait_for(self, come):
+        """Waits until it is there, a minute at most."""
+        limit = time.monotonic() + 60
+        while time.monotonic() < limit and not come():
+            time.sleep(0.01)
+
     def runs_by_hand(self, count, folder, rate=5, seed=1):
         """The collection of so many runs as the commands of `cbi` make it, one after another."""
         self.write("plan.cbi", self.call("cbi", "transform", "--mode", "sampled", "upper.c")[0])
@@ -440,9 +446,7 @@ class Hunt(Case):
         environment = dict(os.environ, PATH=f"{os.path.dirname(CBI)}:{TOOLS}:{os.environ['PATH']}")
         words = ["cbi-hunt", "upper.c", "--inputs", "both", "--runs", "300", "--jobs", "2", "--keep", "parts"]
         begun = subprocess.Popen(words, cwd=self.room, env=environment, stdout=subprocess.PIPE, stderr=subprocess.PIPE, start_new_session=True)
-        limit = time.monotonic() + 60
-        while time.monotonic() < limit and not (os.path.isdir(self.path("parts/batches")) and os.listdir(self.path("parts/batches"))):
-            time.sleep(0.01)
+        self.wait_for(lambda: os.path.isdir(self.path("parts/batches")) and os.listdir(self.path("parts/batches")))
         os.killpg(begun.pid, signal.SIGINT)
         out, err = begun.communicate()
         self.assertEqual((begun.returncode, err), (130, b""))
@@ -454,12 +458,25 @@ class Hunt(Case):
         self.assertEqual(self.read("parts/runs"), self.read("whole/runs"))
         self.assertEqual([name for name in os.listdir(self.path("parts")) if "worker" in name or "merge" in name], [])
 
+    def test_a_hunt_that_is_ended_by_force_leaves_its_folder_free(self):
+        environment = dict(os.environ, PATH=f"{os.path.dirname(CBI)}:{TOOLS}:{os.environ['PATH']}")
+        begun = subprocess.Popen(["cbi-hunt", "upper.c", "--inputs", "both", "--runs", "3000", "--jobs", "2", "--keep", "kept"], cwd=self.room, env=environment)
+        self.wait_for(lambda: os.path.isdir(self.path("kept")) and [name for name in os.listdir(self.path("kept")) if name.startswith("worker-")])
+        _, err = self.call("cbi-hunt", "upper.c", "--inputs", "both", "--runs", "12", "--keep", "kept", due=2)
+        self.assertIn("another hunt is at work", err)
+        begun.kill()
+        begun.wait()
+        self.hunt("--inputs", "both", "--runs", "12", "--keep", "kept")
+        self.hunt("--inputs", "both", "--runs", "12", "--keep", "anew")
+        if os.listdir(self.path("kept/batches")) == os.listdir(self.path("anew/batches")):
+            self.assertEqual(self.read("kept/runs"), self.read("anew/runs"))
+
     def test_a_kept_hunt_is_not_mixed_with_another(self):
         self.hunt("--inputs", "both", "--keep", "kept")
         for words, said in ((["--rate", "6"], "another rate (5, and not 6)"), (["--seed", "2"], "another seed"), (["--turns", "5"], "another turns")):
             self.assertIn(said, self.hunt("--inputs", "both", "--keep", "kept", *words, due=2))
         self.write("both/00.expected", "other")
-        self.assertIn("another inputs", self.hunt("--inputs", "both", "--keep", "kept", due=2))
+        self.assertIn("other inputs or expected outputs", self.hunt("--inputs", "both", "--keep", "kept", due=2))
         self.write("upper.c", UPPER.replace("32", "30 + 2"))
         self.assertIn("another program", self.hunt("--inputs", "both", "--keep", "kept", due=2))
 
