@@ -1,36 +1,16 @@
 -- Words that break the rule by a value alone: the command has all that it wants and nothing else, and an option is given a value that it doesn't take.
-use Rattle.std.specs.Prelude.{ℕ, Bool, true, if◌then◌else◌, List, [], ◌∷◌, Option, None, Some, is_some, codes}
+use Rattle.std.specs.Prelude.{ℕ, Bool, if◌then◌else◌, List, [], ◌∷◌, Option, None, Some, codes}
 use Rattle.cbi_base.specs.Numbers.{is_word, ◌>>=◌}
-use Rattle.cbi_words.specs.declared.given.Given.{Given}
-use Rattle.cbi_words.specs.declared.given.Choice.{Choice}
-use Rattle.cbi_words.specs.Options.{number_in, policy_of, value_of}
-use Rattle.cbi_words.specs.Schemes.{mode_of, schemes_of}
+use Rattle.cbi_options.specs.declared.given.Choice.{Choice}
+use Rattle.cbi_options.specs.Options.{value_of}
+use Rattle.cbi_options.specs.Values.{fits, is_mode, is_number, is_policy, is_schemes}
+use Rattle.cbi_options.specs.declared.given.Given.{Given}
 use Rattle.cbi_words.specs.Reading.{asked, bank_options, no_positional, only, rank_options, run_options, study_options, transform_options, two}
 
 -- an option that doesn't take every value, and the values that it takes
 pub record Rule : Type 0 where
   pub name : List ℕ
   pub takes : List ℕ → Bool
-
--- a number in these bounds
-abbrev pub is_number : ℕ → ℕ → List ℕ → Bool
-is_number least most value = is_some (number_in least most value)
-
--- the name of a policy
-abbrev pub is_policy : List ℕ → Bool
-is_policy value = is_some (policy_of value)
-
--- the name of a mode, and a list of schemes
-abbrev pub is_mode : List ℕ → Bool
-is_mode value = is_some (mode_of value)
-
-abbrev pub is_schemes : List ℕ → Bool
-is_schemes value = is_some (schemes_of value)
-
--- what is given is taken; so is an option that isn't given
-abbrev pub fits : (List ℕ → Bool) → Option (List ℕ) → Bool
-fits takes None = true
-fits takes (Some value) = takes value
 
 -- the first of these options that is given a value that it doesn't take
 abbrev pub first_bad : List Rule → List Choice → Option (List ℕ)

@@ -2,12 +2,12 @@
 use Rattle.std.specs.Prelude.{ℕ, if◌then◌else◌, List, [], ◌∷◌, Option, None, Some, codes}
 use Rattle.cbi_base.specs.declared.policy.Policy.TheVariants.{All}
 use Rattle.cbi_base.specs.Numbers.{is_word, ◌>>=◌}
-use Rattle.cbi_words.specs.declared.given.Given.{Given}
+use Rattle.cbi_options.specs.WordRule.{cut}
+use Rattle.cbi_options.specs.Options.{are_asked, value_of, number_or, number_wanted, policy_or}
+use Rattle.cbi_options.specs.Schemes.{all_schemes, mode_wanted, schemes_or}
+use Rattle.cbi_options.specs.declared.given.Given.{Given}
 use Rattle.cbi_words.specs.declared.command.Command.{Command}
 use Rattle.cbi_words.specs.declared.command.Command.TheVariants.{Transform, Run, Bank, Collect, Rank, Study}
-use Rattle.cbi_words.specs.WordRule.{cut}
-use Rattle.cbi_words.specs.Options.{are_asked, value_of, number_or, number_wanted, policy_or}
-use Rattle.cbi_words.specs.Schemes.{all_schemes, mode_wanted, schemes_or}
 
 -- the one positional, where there is one alone
 abbrev pub only : List (List ℕ) → Option (List ℕ)

@@ -1,6 +1,5 @@
-use crate::schemes::{Mode, Schemes};
-use crate::word::Word;
 use cbi_base::{Policy, Seq};
+use cbi_options::{Mode, Schemes, Word};
 
 /// What the words ask for. A command that isn't built has no variant.
 #[derive(Debug, Drop)]

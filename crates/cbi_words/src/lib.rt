@@ -3,15 +3,8 @@
 
 mod command;
 mod error;
-mod given;
-mod numbers;
-mod policies;
 mod read;
-mod schemes;
-mod word;
 
 pub use command::Command;
 pub use error::WordsError;
 pub use read::read_words;
-pub use schemes::{Mode, Schemes};
-pub use word::Word;

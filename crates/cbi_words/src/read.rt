@@ -1,18 +1,16 @@
 ghost use Rattle.std.specs.Prelude.{◌≡◌, None, Some, IfOk, map};
 ghost use Rattle.cbi_usage.specs.UsageText.{IsUsageText};
-ghost use Rattle.cbi_words.specs.Answers.{ReadAs, OnUsage};
+ghost use Rattle.cbi_options.specs.Answers.{ReadAs};
+ghost use Rattle.cbi_options.specs.WordRule.{texts_of};
+ghost use Rattle.cbi_words.specs.Answers.{OnUsage};
 ghost use Rattle.cbi_words.specs.BadValue.{bad_bank, bad_in, bad_rank, bad_run, bad_study, bad_transform, bad_value};
 ghost use Rattle.cbi_words.specs.Reading.{asked, bank_of, collect_of, command_in, rank_of, reads, run_of, study_of, transform_of};
 ghost use Rattle.cbi_words.specs.Within.{IsWithin};
-ghost use Rattle.cbi_words.specs.WordRule.{texts_of};
 
 use crate::command::Command;
-use crate::error::{Fault, WordsError};
-use crate::given::{Given, cut};
-use crate::numbers::{Bounds, number_in, number_or};
-use crate::policies::policy_or;
-use crate::schemes::{mode_in, schemes_or};
+use crate::error::WordsError;
 use cbi_base::Policy;
+use cbi_options::{Bounds, Fault, Given, cut, mode_in, number_in, number_or, policy_or, schemes_or};
 use cbi_usage::{bad_value_line, usage};
 use std::alloc::Global;
 

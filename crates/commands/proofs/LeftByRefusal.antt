@@ -4,9 +4,9 @@ use Rattle.cbi_base.specs.declared.observation.Observation.{Observation}
 use Rattle.cbi_base.specs.declared.refusal.Refusal.{Refusal}
 use Rattle.cbi_words.specs.declared.command.Command.{Command}
 use Rattle.cbi_words.specs.declared.command.Command.TheVariants.{Transform, Run, Bank, Collect, Rank, Study}
+use Rattle.command_base.specs.Outside.{IsUnmoved, Outside}
+use Rattle.command_study.proofs.StudyLemmas.{refused-left}
 use Rattle.commands.specs.Commands.{LeftRefused, LeftWithin, study_words}
-use Rattle.commands.specs.Outside.{IsUnmoved, Outside}
-use Rattle.commands.proofs.StudyLemmas.{refused-left}
 
 module _ {B : Type 0} (told : B → List Observation) where
   pub refused-unwritten : (command : Option Command) (refusal : Refusal) (before after : Outside B) → LeftRefused told command refusal before after

@@ -1,14 +1,1 @@
-pub mod DeviceLemmas
-pub mod RunLemmas
-pub mod RefusedBy
-pub mod NameLemmas
-pub mod Adding
-pub mod Holding
-pub mod CollectLemmas
-pub mod FileLemmas
-pub mod GatherLemmas
-pub mod MergeLemmas
-pub mod RankLemmas
-pub mod TransformLemmas
-pub mod StudyLemmas
 pub mod LeftByRefusal

@@ -1,31 +1,33 @@
 -- What each command reads, does, leaves, tells and refuses. Where the words read as none, nothing is done, left, told or refused.
 -- `told` is what one watcher was told.
-use Rattle.std.specs.Prelude.{◌≡◌, ◌⊎◌, ℕ, List, [], ◌++◌, codes, decimal, Option, Some, None, IsSome}
+use Rattle.std.specs.Prelude.{◌≡◌, ◌⊎◌, ℕ, List, [], ◌++◌, codes, decimal, Option, Some, None}
 use Rattle.cbi_base.specs.declared.observation.Observation.{Observation}
 use Rattle.cbi_base.specs.Store.{Held}
 use Rattle.cbi_base.specs.declared.policy.Policy.{Policy}
 use Rattle.cbi_base.specs.declared.refusal.Refusal.{Refusal}
+use Rattle.cbi_options.specs.declared.schemes.Mode.{Mode}
+use Rattle.cbi_options.specs.declared.schemes.Schemes.{Schemes}
 use Rattle.cbi_words.specs.declared.command.Command.{Command}
 use Rattle.cbi_words.specs.declared.command.Command.TheVariants.{Transform, Run, Bank, Collect, Rank, Study}
-use Rattle.commands.specs.declared.done.Done.{Done}
-use Rattle.commands.specs.declared.done.Done.TheVariants.{Lines, Nothing, Added}
-use Rattle.cbi_words.specs.declared.schemes.Mode.{Mode}
-use Rattle.cbi_words.specs.declared.schemes.Schemes.{Schemes}
-use Rattle.commands.specs.declared.words.TransformWords.{TransformWords}
-use Rattle.commands.specs.declared.words.RunWords.{RunWords}
-use Rattle.commands.specs.declared.words.BankWords.{BankWords}
-use Rattle.commands.specs.declared.words.CollectWords.{CollectWords}
-use Rattle.commands.specs.declared.words.RankWords.{RankWords}
-use Rattle.commands.specs.declared.words.StudyWords.{StudyWords}
-use Rattle.commands.specs.Outside.{IsUnmoved, Outside, Wrote, WroteWithin}
-use Rattle.commands.specs.Files.{run_names}
-use Rattle.commands.specs.Run.{Ran, StoppedWithin, BrokeOff, RunRefused, RunRefusedBy}
-use Rattle.commands.specs.MadeBank.{IsMadeText}
-use Rattle.commands.specs.Collect.{CollectRefused, CollectRefusedBy, IsCollected, IsCollectedText, collect_names}
-use Rattle.commands.specs.Transform.{IsTransformed, TransformRefused, TransformRefusedBy, transform_names}
-use Rattle.commands.specs.Rank.{IsRanked, RankRefused, RankRefusedBy, rank_names}
-use Rattle.commands.specs.Study.{StudyDone, StudyLeft, StudyRefused, StudyRefusedBy, StudyTaken, study_names}
 use Rattle.study.specs.declared.ranked.StudyFault.TheVariants as faults
+use Rattle.command_base.specs.declared.fault.Fault.{Fault}
+use Rattle.command_base.specs.declared.done.Done.{Done}
+use Rattle.command_base.specs.declared.done.Done.TheVariants.{Lines, Nothing, Added}
+use Rattle.command_base.specs.Faults.{LeftBy, WriteFaultOf}
+use Rattle.command_base.specs.Outside.{IsUnmoved, Outside, Wrote, WroteWithin}
+use Rattle.command_bank.specs.declared.words.BankWords.{BankWords}
+use Rattle.command_bank.specs.MadeBank.{IsMadeText}
+use Rattle.command_run.specs.declared.words.RunWords.{RunWords}
+use Rattle.command_run.specs.Files.{run_names}
+use Rattle.command_run.specs.Run.{Ran, StoppedWithin, BrokeOff, RunRefused, RunRefusedBy}
+use Rattle.command_collect.specs.declared.words.CollectWords.{CollectWords}
+use Rattle.command_collect.specs.Collect.{CollectRefused, CollectRefusedBy, IsCollected, IsCollectedText, collect_names}
+use Rattle.command_rank.specs.declared.words.RankWords.{RankWords}
+use Rattle.command_rank.specs.Rank.{IsRanked, RankRefused, RankRefusedBy, rank_names}
+use Rattle.command_transform.specs.declared.words.TransformWords.{TransformWords}
+use Rattle.command_transform.specs.Transform.{IsTransformed, TransformRefused, TransformRefusedBy, transform_names}
+use Rattle.command_study.specs.declared.words.StudyWords.{StudyWords}
+use Rattle.command_study.specs.Study.{StudyDone, StudyLeft, StudyRefused, StudyRefusedBy, StudyTaken, study_names}
 
 -- the words of each command, by their names
 abbrev pub transform_words : Mode → Schemes → (text : List ℕ) → TransformWords
@@ -124,6 +126,12 @@ LeftRefused told (Some (Study runs seed rate turns policy text)) refusal before 
     StudyLeft told (study_words runs seed rate turns policy text) (faults.Refused refusal) before after
 LeftRefused told (Some command) refusal before after = IsUnmoved before after
 
+-- what a fault of it leaves
+abbrev pub LeftByFault : {B : Type 0} → (told : B → List Observation) → Option Command → Fault → (before after : Outside B) → Type 0
+LeftByFault told command fault before after =
+    LeftBy fault (IsUnmoved before after) (LeftOn told command before after) (λ refusal. LeftRefused told command refusal before after)
+    (LeftWithin told command before after)
+
 -- the bytes read are refused
 abbrev pub IsRefused : Option Command → Option Held → Type 0
 IsRefused None held = ⊥
@@ -146,8 +154,5 @@ IsRefusedBy (Some (Rank policy program collection)) held refusal = RankRefusedBy
 IsRefusedBy (Some (Study runs seed rate turns policy text)) held refusal = StudyRefusedBy (study_words runs seed rate turns policy text) held refusal
 
 -- a write met a fault: one to out, or one to the store of a command that writes there
-abbrev pub WriteFaultOf : (report : Option (List ℕ)) → (out store : Type 0) → Type 0
-WriteFaultOf report out store = out ⊎ (IsSome report × store)
-
 abbrev pub WriteFault : Option Command → (out store : Type 0) → Type 0
 WriteFault command out store = WriteFaultOf (written_by command) out store

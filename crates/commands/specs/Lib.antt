@@ -1,12 +1,1 @@
-pub mod Outside
-pub mod Names
-pub mod Files
-pub mod Run
-pub mod MadeBank
-pub mod Collect
-pub mod Gathered
-pub mod Rank
-pub mod Transform
-pub mod Study
 pub mod Commands
-pub mod Faults

@@ -1,23 +1,20 @@
 ghost use Rattle.std.specs.Prelude.{◌≡◌, ◌≤◌, [], IfOk, IfErr, IsErrAnd, IsNone, IsSome, Some};
 ghost use Rattle.cbi_base.specs.Faults.{Rose};
 ghost use Rattle.cbi_words.specs.Within.{IsWithin};
-ghost use Rattle.commands.specs.Outside.{outside, AllStayBut, IsUnmoved};
-ghost use Rattle.commands.specs.Names.{IsOneOf, IsFirstMissing, AreHeld};
-ghost use Rattle.commands.specs.Commands.{names_of, written_by, Did, LeftOn, LeftRefused, LeftWithin, IsRefused, IsRefusedBy, WriteFault};
-ghost use Rattle.commands.specs.Faults.{Caused, LeftBy, OfRead, OfRefusal, Precedes, Passed};
+ghost use Rattle.command_base.specs.Outside.{outside, AllStayBut};
+ghost use Rattle.command_base.specs.Names.{IsOneOf, IsFirstMissing, AreHeld};
+ghost use Rattle.command_base.specs.Faults.{Caused, OfRead, OfRefusal, Precedes, Passed};
+ghost use Rattle.commands.specs.Commands.{names_of, written_by, Did, LeftByFault, IsRefused, IsRefusedBy, WriteFault};
 
-use crate::collect_files::collect_files;
-use crate::done::Done;
-use crate::fault::Fault;
-use crate::make_bank::make_bank;
-use crate::rank_runs::rank_runs;
-use crate::run_file::run_file;
-use crate::study_text::study_text;
-use crate::transform_text::transform_text;
-use crate::words::{BankWords, CollectWords, RankWords, RunWords, StudyWords, TransformWords};
 use cbi_base::{Sink, Store};
 use cbi_words::Command;
-use compiler::refused_texts_are_not_compiled;
+use command_bank::{BankWords, make_bank};
+use command_base::{Done, Fault};
+use command_collect::{CollectWords, collect_files};
+use command_rank::{RankWords, rank_runs};
+use command_run::{RunWords, run_file};
+use command_study::{StudyWords, study_text};
+use command_transform::{TransformWords, transform_text};
 use probes::Probe;
 use std::alloc::Global;
 use study_runs::StudyPlan;
@@ -41,14 +38,8 @@ pub fn obey<S: Store, O: Sink>(
     ensures refused { IsRefused (Some command) (S.holds store.old) → IsSome (S.holds store.old) → IsErrAnd result Precedes }
 
     // What is left after a fault, and which names were held.
-    ensures left { IfErr result (λ e. LeftBy e
-        (IsUnmoved (outside (S.holds store.old) (O.taken out.old) probes.old.items) (outside (S.holds store.new) (O.taken out.new) probes.new.items))
-        (LeftOn (λ b. seen b) (Some command)
-        (outside (S.holds store.old) (O.taken out.old) probes.old.items) (outside (S.holds store.new) (O.taken out.new) probes.new.items))
-        (λ r. LeftRefused (λ b. seen b) (Some command) r
-        (outside (S.holds store.old) (O.taken out.old) probes.old.items) (outside (S.holds store.new) (O.taken out.new) probes.new.items))
-        (LeftWithin (λ b. seen b) (Some command)
-        (outside (S.holds store.old) (O.taken out.old) probes.old.items) (outside (S.holds store.new) (O.taken out.new) probes.new.items))) }
+    ensures left { IfErr result (λ e. LeftByFault (λ b. seen b) (Some command) e
+        (outside (S.holds store.old) (O.taken out.old) probes.old.items) (outside (S.holds store.new) (O.taken out.new) probes.new.items)) }
     ensures was_held { Passed result (AreHeld (S.holds store.old) (names_of (Some command))) }
     ensures missing { S.is_sound store.old → IfErr result (λ e. OfRead e (IsFirstMissing (S.holds store.old) (names_of (Some command)))) }
     ensures held { AllStayBut (written_by (Some command)) (S.holds store.old) (S.holds store.new) }
@@ -65,7 +56,6 @@ pub fn obey<S: Store, O: Sink>(
     ensures writes_stay { S.is_sound store.old → S.write_faults store.new ≡ S.write_faults store.old }
     ensures out_stays { O.is_sound out.old → O.faults out.new ≡ O.faults out.old }
 {
-    refused_texts_are_not_compiled();
     match command {
         Command::Transform {
             mode,

@@ -5,11 +5,11 @@ use Rattle.cbi_base.specs.Refusal.{refusal_line}
 use Rattle.cbi_base.specs.Store.{Held}
 use Rattle.cbi_base.specs.declared.refusal.Refusal.{Refusal}
 use Rattle.cbi_usage.specs.UsageText.{IsUsageText}
+use Rattle.command_base.specs.Names.{IsOneOf, IsFirstMissing}
+use Rattle.command_base.specs.declared.done.Done.{Done}
+use Rattle.command_base.specs.declared.fault.Fault.{Fault}
+use Rattle.command_base.specs.declared.fault.Fault.TheVariants.{Read, Write, Refused, Memory}
 use Rattle.commands.specs.Commands.{done_text}
-use Rattle.commands.specs.Names.{IsOneOf, IsFirstMissing}
-use Rattle.commands.specs.declared.done.Done.{Done}
-use Rattle.commands.specs.declared.fault.Fault.{Fault}
-use Rattle.commands.specs.declared.fault.Fault.TheVariants.{Read, Write, Refused, Memory}
 
 abbrev pub read_line : List ℕ → List ℕ
 read_line name = codes "cbi: read fault " ++ name ++ codes "\n"

@@ -1,0 +1,5 @@
+pub mod Answers
+pub mod Options
+pub mod Schemes
+pub mod Values
+pub mod WordRule

@@ -1,0 +1,24 @@
+-- Which values an option takes.
+use Rattle.std.specs.Prelude.{ℕ, Bool, true, List, Option, None, Some, is_some}
+use Rattle.cbi_options.specs.Options.{number_in, policy_of}
+use Rattle.cbi_options.specs.Schemes.{mode_of, schemes_of}
+
+-- a number in these bounds
+abbrev pub is_number : ℕ → ℕ → List ℕ → Bool
+is_number least most value = is_some (number_in least most value)
+
+-- the name of a policy
+abbrev pub is_policy : List ℕ → Bool
+is_policy value = is_some (policy_of value)
+
+-- the name of a mode, and a list of schemes
+abbrev pub is_mode : List ℕ → Bool
+is_mode value = is_some (mode_of value)
+
+abbrev pub is_schemes : List ℕ → Bool
+is_schemes value = is_some (schemes_of value)
+
+-- what is given is taken; so is an option that isn't given
+abbrev pub fits : (List ℕ → Bool) → Option (List ℕ) → Bool
+fits takes None = true
+fits takes (Some value) = takes value

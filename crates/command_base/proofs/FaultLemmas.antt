@@ -1,0 +1,34 @@
+-- What a fault of one step is to the whole command.
+use Rattle.std.proofs.Common.{◌⊎◌, inl, inr, ℕ, List}
+use Rattle.cbi_base.specs.declared.refusal.Refusal.{Refusal}
+use Rattle.command_base.specs.declared.fault.Fault.{Fault}
+use Rattle.command_base.specs.declared.fault.Fault.TheVariants.{Read, Write, Refused, Memory}
+use Rattle.command_base.specs.Faults.{Caused, LeftBy, OfMemory, OfRefusal}
+
+-- a fault of a look at the bytes is a fault of the command
+pub caused-as : (e : Fault) (read : List ℕ → Type 0) (write : Type 0) (P Q : Refusal → Type 0) → Caused e (λ n. ⊥) ⊥ P → ((r : Refusal) → P r → Q r) → Caused e read write Q
+caused-as (Read name) read write P Q h k = absurd h
+caused-as Write read write P Q h k = absurd h
+caused-as (Refused refusal) read write P Q h k = k refusal h
+caused-as Memory read write P Q h k = tt
+
+-- what a fault of a put leaves
+pub put-left : (e : Fault) (write part same : Type 0) → Caused e (λ n. ⊥) write (λ r. ⊥) → part → OfMemory e same → LeftBy e same part (λ r. same) ⊥
+put-left (Read name) write part same cause p s = absurd cause
+put-left Write write part same cause p s = p
+put-left (Refused refusal) write part same cause p s = absurd cause
+put-left Memory write part same cause p s = inl s
+
+-- a fault of publishing is of a write or of memory
+pub published-part : (e : Fault) (write unmoved stopped broke : Type 0) (refused : Refusal → Type 0) → Caused e (λ n. ⊥) write (λ r. ⊥) → stopped → LeftBy e unmoved stopped refused (broke ⊎ stopped)
+published-part (Read name) write unmoved stopped broke refused cause s = absurd cause
+published-part Write write unmoved stopped broke refused cause s = s
+published-part (Refused refusal) write unmoved stopped broke refused cause s = absurd cause
+published-part Memory write unmoved stopped broke refused cause s = inr (inr s)
+
+-- what follows from each refusal that a fault can be follows from the fault
+pub refused-as : (e : Fault) (read : List ℕ → Type 0) (write : Type 0) (P : Refusal → Type 0) (Q : Type 0) → Caused e read write P → ((r : Refusal) → P r → Q) → OfRefusal e Q
+refused-as (Read name) read write P Q h k = tt
+refused-as Write read write P Q h k = tt
+refused-as (Refused refusal) read write P Q h k = k refusal h
+refused-as Memory read write P Q h k = tt

@@ -1,0 +1,4 @@
+pub mod DeviceLemmas
+pub mod FaultLemmas
+pub mod NameLemmas
+pub mod ReadLemmas

@@ -1,0 +1,4 @@
+pub mod Outside
+pub mod Names
+pub mod Faults
+pub mod Limits

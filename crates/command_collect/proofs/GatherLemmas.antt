@@ -1,0 +1,95 @@
+-- What is gathered of texts, and what a refusal of a file is to the command.
+use Rattle.std.proofs.Common.{◌≡◌, ◌≤◌, inl, inr, ℕ, ◌+◌, ◌-◌, Option, List, [], ◌∷◌, length, refl, ap, sym, subst, ◌∙◌}
+use Rattle.sha2.specs.Sha256.{sha256}
+use Rattle.cbi_base.specs.declared.identity.ProgramId.{ProgramId}
+use Rattle.cbi_base.specs.declared.refusal.Refusal.{Refusal}
+use Rattle.cbi_base.specs.declared.refusal.Refusal.TheVariants.{BadByte, BadToken, Syntax, BadType, TooLarge, TooManySites, BadProgram, BadBank, BadReport, Foreign, Conflict, TooManyReports, TooManyMarks, BadCollection, InputTooLarge, NoSite, BadEdits, Absent, NotPart}
+use Rattle.cbi_base.specs.Sink.{TakesPrefix}
+use Rattle.cbi_base.specs.Store.{Held}
+use Rattle.flow.specs.declared.program.ProgramParts.{ProgramParts}
+use Rattle.flow.specs.declared.site.Site.{Site}
+use Rattle.flow.specs.Spelling.{SpellsProgram}
+use Rattle.collector.specs.declared.collection.Bundle.{Bundle}
+use Rattle.collector.specs.declared.collection.Held.{Held as Collected}
+use Rattle.collector.specs.Sites.{branches_of}
+use Rattle.collector.specs.Spelling.{collection_text}
+use Rattle.command_base.specs.declared.fault.Fault.{Fault}
+use Rattle.command_base.specs.declared.fault.Fault.TheVariants.{Read, Write, Refused, Memory}
+use Rattle.command_base.specs.declared.done.Done.TheVariants.{Added}
+use Rattle.command_base.specs.Outside.{TookWithin}
+use Rattle.command_base.specs.Faults.{Caused, LeftBy, OfMemory}
+use Rattle.command_inputs.specs.Programs.{IsSpelled}
+use Rattle.command_collect.specs.declared.gather.Gathered.{Gathered}
+use Rattle.command_collect.specs.declared.reports.CollectTexts.{CollectTexts}
+use Rattle.command_collect.specs.declared.words.CollectWords.{CollectWords}
+use Rattle.command_collect.specs.Collect.{AreTexts, IsCollectedText, AreSpelled, RefusesFile, RefusesFiles, RefusesTexts, TakesAll, nothing_of, reports_in}
+use Rattle.command_collect.specs.Gathered.{HasGathered}
+use Rattle.command_collect.proofs.Holding.{length-map, taken-whole}
+
+-- no file is refused by a refusal of another kind
+never-files : (refusal : Refusal) (number : ℕ) (texts : List (List ℕ)) → ((n : ℕ) (text : List ℕ) → RefusesFile n text refusal → ⊥) → RefusesFiles number texts refusal → ⊥
+never-files refusal number [] never h = h
+never-files refusal number (text ∷ more) never (inl h) = never number text h
+never-files refusal number (text ∷ more) never (inr h) = never-files refusal (number + 1) more never h.1
+
+-- the refusal of a file is one of the texts
+pub files-refuse : (refusal : Refusal) (texts : CollectTexts) → IsSpelled texts.program → RefusesFiles 1 texts.files refusal → RefusesTexts refusal texts
+files-refuse (BadReport file line) texts spelled h = (spelled, h)
+files-refuse (BadCollection file line) texts spelled h = (spelled, h)
+files-refuse (BadByte line) texts spelled h = absurd (never-files (BadByte line) 1 texts.files (λ n text no. no) h)
+files-refuse (BadToken line) texts spelled h = absurd (never-files (BadToken line) 1 texts.files (λ n text no. no) h)
+files-refuse (Syntax line) texts spelled h = absurd (never-files (Syntax line) 1 texts.files (λ n text no. no) h)
+files-refuse (BadType kind line) texts spelled h = absurd (never-files (BadType kind line) 1 texts.files (λ n text no. no) h)
+files-refuse TooLarge texts spelled h = absurd (never-files TooLarge 1 texts.files (λ n text no. no) h)
+files-refuse TooManySites texts spelled h = absurd (never-files TooManySites 1 texts.files (λ n text no. no) h)
+files-refuse (BadProgram line) texts spelled h = absurd (never-files (BadProgram line) 1 texts.files (λ n text no. no) h)
+files-refuse (BadBank line) texts spelled h = absurd (never-files (BadBank line) 1 texts.files (λ n text no. no) h)
+files-refuse (Foreign ours theirs) texts spelled h = absurd (never-files (Foreign ours theirs) 1 texts.files (λ n text no. no) h)
+files-refuse (Conflict run) texts spelled h = absurd (never-files (Conflict run) 1 texts.files (λ n text no. no) h)
+files-refuse (TooManyReports run) texts spelled h = absurd (never-files (TooManyReports run) 1 texts.files (λ n text no. no) h)
+files-refuse (TooManyMarks run) texts spelled h = absurd (never-files (TooManyMarks run) 1 texts.files (λ n text no. no) h)
+files-refuse InputTooLarge texts spelled h = absurd (never-files InputTooLarge 1 texts.files (λ n text no. no) h)
+files-refuse (NoSite run site) texts spelled h = absurd (never-files (NoSite run site) 1 texts.files (λ n text no. no) h)
+files-refuse (BadEdits line) texts spelled h = absurd (never-files (BadEdits line) 1 texts.files (λ n text no. no) h)
+files-refuse (Absent run) texts spelled h = absurd (never-files (Absent run) 1 texts.files (λ n text no. no) h)
+files-refuse NotPart texts spelled h = absurd (never-files NotPart 1 texts.files (λ n text no. no) h)
+
+-- a collection that held nothing, and took all
+begun-is : (texts : CollectTexts) (parts : ProgramParts) (id : ProgramId) (sites : List Site) (begun : Collected) → begun ≡ record { program = id; branches = branches_of sites; reports = [] }
+    → id.bytes ≡ sha256 texts.program → sites ≡ parts.sites → begun ≡ nothing_of texts.program parts.sites
+begun-is texts parts id sites begun begun_is id_is sites_are =
+    begun_is ∙ ap (λ bytes. let x : Collected = record { program = record { bytes = bytes }; branches = branches_of sites; reports = [] } in x) id_is
+    ∙ ap (λ s. nothing_of texts.program s) sites_are
+
+pub begun-takes : (texts : CollectTexts) (parts : ProgramParts) (bundles : List Bundle) (id : ProgramId) (sites : List Site) (begun after : Collected) → begun ≡ record { program = id; branches = branches_of sites; reports = [] }
+    → id.bytes ≡ sha256 texts.program → sites ≡ parts.sites → TakesAll begun bundles after → TakesAll (nothing_of texts.program parts.sites) bundles after
+begun-takes texts parts bundles id sites begun after begun_is id_is sites_are takes =
+    subst (λ c. TakesAll c bundles after) (begun-is texts parts id sites begun begun_is id_is sites_are) takes
+
+pub all-gathered : (texts : CollectTexts) (parts : ProgramParts) (bundles : List Bundle) (after : Collected) (count : ℕ) → SpellsProgram texts.program parts → AreSpelled texts.files bundles
+    → TakesAll (nothing_of texts.program parts.sites) bundles after → count ≡ length (reports_in bundles) → HasGathered texts (record { collection = after; reports = count })
+all-gathered texts parts bundles after count spells are takes counted =
+    let whole = taken-whole (nothing_of texts.program parts.sites) after bundles refl takes in
+    record {
+      reports = reports_in bundles;
+      gathered = record { parts = parts; bundles = bundles; spells = spells; are_spelled = are; reports_are = refl; alike = whole.alike; holds = whole.held_is };
+      count = counted;
+    }
+
+-- at most as many runs are held as there are reports
+pub said-fits : (texts : CollectTexts) (g : Gathered) → HasGathered texts g → length g.collection.reports ≤ g.reports
+said-fits texts g h =
+    subst (λ n. length g.collection.reports ≤ n) (sym h.count)
+    (subst (λ (c : Collected). length c.reports ≤ length h.reports) (sym h.gathered.holds) (length-map h.reports))
+
+-- a prefix of the text of what was gathered
+pub collected-part : (held : Option Held) (words : CollectWords) (texts : CollectTexts) (g : Gathered) (text piece : List ℕ) (before after : Option (List ℕ)) → AreTexts held words texts → HasGathered texts g
+    → text ≡ collection_text g.collection → piece ≡ text → TakesPrefix before after piece → TookWithin (IsCollectedText held words) before after
+collected-part held words texts g text piece before after are h text_is same took = record {
+  text = piece;
+  is_due = record {
+    said = Added (length g.collection.reports) (length h.reports - length g.collection.reports);
+    is = record { texts = texts; collection = g.collection; reports = h.reports; are_texts = are; gathered = h.gathered; text_is = same ∙ text_is; said_is = refl };
+  };
+  took = took;
+}

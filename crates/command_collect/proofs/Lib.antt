@@ -1,0 +1,5 @@
+pub mod Adding
+pub mod CollectLemmas
+pub mod FileLemmas
+pub mod GatherLemmas
+pub mod Holding

@@ -1,0 +1,8 @@
+//! What the command `rank` does: it ranks the predicates of a program by the runs of a collection.
+#![tactic(auto)]
+
+mod command;
+mod words;
+
+pub use command::rank_runs;
+pub use words::RankWords;

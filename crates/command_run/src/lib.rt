@@ -1,0 +1,10 @@
+//! What the command `run` does: it runs a program file and writes the report of the run.
+#![tactic(auto)]
+
+mod files;
+mod publish;
+mod command;
+mod words;
+
+pub use command::run_file;
+pub use words::RunWords;

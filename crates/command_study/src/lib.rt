@@ -1,0 +1,8 @@
+//! What the command `study` does: it makes runs of a C text and ranks its predicates by them.
+#![tactic(auto)]
+
+mod command;
+mod words;
+
+pub use command::study_text;
+pub use words::StudyWords;

@@ -1,0 +1,12 @@
+use cbi_options::{Mode, Schemes, Word};
+
+/// What `transform` is asked for.
+#[derive(Debug, Drop)]
+pub struct TransformWords {
+    /// To which program the text is compiled.
+    pub mode: Mode,
+    /// Of which schemes its sites are.
+    pub schemes: Schemes,
+    /// The name of the text's file.
+    pub text: Word,
+}

@@ -1,6 +1,0 @@
-use Rattle.std.proofs.Common.{arith}
-use Rattle.commands.proofs.FileLemmas.{all-read}
-use Rattle.commands.proofs.reports.read_each.Goals as goal
-
-pub returns-clause-texts : goal.returns-clause-texts
-returns-clause-texts g c = all-read _ _ _ _ (omega (arith, c.in_default.len_below)) c.loop-rest.invariant.texts
