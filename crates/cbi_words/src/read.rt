@@ -1,6 +1,7 @@
 ghost use Rattle.std.specs.Prelude.{◌≡◌, None, Some, IfOk, map};
 ghost use Rattle.cbi_usage.specs.UsageText.{IsUsageText};
 ghost use Rattle.cbi_options.specs.Answers.{ReadAs};
+ghost use Rattle.cbi_options.specs.Options.{value_of};
 ghost use Rattle.cbi_options.specs.WordRule.{texts_of};
 ghost use Rattle.cbi_words.specs.Answers.{OnUsage};
 ghost use Rattle.cbi_words.specs.BadValue.{bad_bank, bad_in, bad_rank, bad_run, bad_study, bad_transform, bad_value};
@@ -9,8 +10,10 @@ ghost use Rattle.cbi_words.specs.Within.{IsWithin};
 
 use crate::command::Command;
 use crate::error::WordsError;
-use cbi_base::Policy;
-use cbi_options::{Bounds, Fault, Given, cut, mode_in, number_in, number_or, policy_or, schemes_or};
+use cbi_base::{Memory, Policy};
+use cbi_options::{
+    Bounds, Fault, Given, Word, cut, mode_in, number_in, number_or, policy_or, schemes_or,
+};
 use cbi_usage::{bad_value_line, usage};
 use std::alloc::Global;
 
@@ -67,6 +70,23 @@ fn transform_of(given: &Given) -> Result<Command, Fault>
     })
 }
 
+/// The values of two options, where they are given.
+#[derive(Debug, Drop)]
+struct Two {
+    first: Option<Word>,
+    second: Option<Word>,
+}
+
+// Copies of those values.
+fn two_of(alloc: Global, given: &Given, first: &str, second: &str) -> Result<Two, Memory>
+    ensures first { IfOk result (λ two. two.first ≡ value_of first.now given.now.options) }
+    ensures second { IfOk result (λ two. two.second ≡ value_of second.now given.now.options) }
+{
+    let first = given.copy_of(alloc, first)?;
+    let second = given.copy_of(alloc, second)?;
+    Ok(Two { first, second })
+}
+
 // What is given after `run`.
 fn run_of(alloc: Global, given: &Given) -> Result<Command, Fault>
     ensures reads { ReadAs result (run_of given.now) (bad_run given.now) }
@@ -77,14 +97,25 @@ fn run_of(alloc: Global, given: &Given) -> Result<Command, Fault>
     };
     let turns = number_or(given, "--turns", DEFAULT_TURNS, TURNS)?;
     let run = number_or(given, "--run", 1, RUN_NUMBERS)?;
+    let read = two_of(alloc, given, "--bank", "--input")?;
+    let other = two_of(alloc, given, "--expect", "--report")?;
+    let program = program.try_clone()?;
+    let Two {
+        first: bank,
+        second: input,
+    } = read;
+    let Two {
+        first: expect,
+        second: report,
+    } = other;
     Ok(Command::Run {
-        bank: given.copy_of(alloc, "--bank")?,
-        input: given.copy_of(alloc, "--input")?,
-        expect: given.copy_of(alloc, "--expect")?,
+        bank,
+        input,
+        expect,
         turns: turns as u32,
         run: run as u32,
-        report: given.copy_of(alloc, "--report")?,
-        program: program.try_clone()?,
+        report,
+        program,
     })
 }
 

@@ -155,4 +155,3 @@ runs-never-refused texts parts bundle runs one (inr (inr not)) =
     ⊎_elim (λ other. other (subst (IsOfText texts.program) (sym same.1) runs.of_program))
     (λ bad. bad (subst (λ (b : Bundle). HaveSites (branches_of not.parts.sites) b.reports) (sym same.1)
     (subst (λ (p : ProgramParts). HaveSites (branches_of p.sites) bundle.reports) (sym same.0) runs.sites))) not.wrong
-

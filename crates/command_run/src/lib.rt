@@ -1,9 +1,9 @@
 //! What the command `run` does: it runs a program file and writes the report of the run.
 #![tactic(auto)]
 
+mod command;
 mod files;
 mod publish;
-mod command;
 mod words;
 
 pub use command::run_file;
