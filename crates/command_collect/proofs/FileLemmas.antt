@@ -9,8 +9,7 @@ use Rattle.report_file.specs.Report.{IsReport}
 use Rattle.collector.specs.declared.collection.Bundle.{Bundle}
 use Rattle.collector.specs.Merging.{IsBundle}
 use Rattle.collector.specs.Spelling.{SpellsBundle}
-use Rattle.command_inputs.specs.Collections.{IsBadCollection}
-use Rattle.command_collect.specs.Collect.{AreBundles, AreReadOf, AreSpelled, RefusesFile, RefusesFiles, SpellsFile, SpellsOne, is_collection}
+use Rattle.command_collect.specs.Collect.{AreBundles, AreReadOf, AreSpelled, RefusesFiles, SpellsFile, SpellsOne, is_collection}
 
 pub one-bundle : (r : Report) (b : Bundle) → IsReport r → b ≡ record { program = r.program; reports = r ∷ [] } → IsBundle b
 one-bundle r b is same = subst IsBundle (sym same) (record { reports = (is, tt); program = (refl, tt); few = omega arith })
@@ -26,11 +25,6 @@ one-file text b is h = subst (λ t. MatchBool t (SpellsBundle text b) (SpellsOne
 
 pub file-one : (text : List ℕ) (b : Bundle) → is_collection text ≡ false → SpellsFile text b → SpellsOne text b
 file-one text b is h = subst (λ t. MatchBool t (SpellsBundle text b) (SpellsOne text b)) is h
-
--- a text that begins as a collection does and is none is refused so
-pub bad-collection : (number : ℕ) (text : List ℕ) (refusal : Refusal) → is_collection text ≡ true → IsBadCollection number text refusal → RefusesFile number text refusal
-bad-collection number text refusal is h =
-    subst (λ r. RefusesFile number text r) (sym h.told_is) (is, (refl, ((λ b spells. h.none b (file-bundle text b is spells)), h.bad)))
 
 -- the texts from one on, where the rest is that
 only-step : (texts after : List (List ℕ)) (text : List ℕ) (bundles : List Bundle) (bundle : Bundle)
