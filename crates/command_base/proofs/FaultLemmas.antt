@@ -1,9 +1,9 @@
 -- What a fault of one step is to the whole command.
-use Rattle.std.proofs.Common.{◌⊎◌, inl, inr, ℕ, List}
+use Rattle.std.proofs.Common.{◌⊎◌, inl, inr, ℕ, List, Err}
 use Rattle.cbi_base.specs.declared.refusal.Refusal.{Refusal}
 use Rattle.command_base.specs.declared.fault.Fault.{Fault}
 use Rattle.command_base.specs.declared.fault.Fault.TheVariants.{Read, Write, Refused, Memory}
-use Rattle.command_base.specs.Faults.{Caused, LeftBy, OfMemory, OfRefusal}
+use Rattle.command_base.specs.Faults.{Caused, LeftBy, OfMemory, OfRefusal, Passed}
 
 -- a fault of a look at the bytes is a fault of the command
 pub caused-as : (e : Fault) (read : List ℕ → Type 0) (write : Type 0) (P Q : Refusal → Type 0) → Caused e (λ n. ⊥) ⊥ P → ((r : Refusal) → P r → Q r) → Caused e read write Q
@@ -32,3 +32,10 @@ refused-as (Read name) read write P Q h k = tt
 refused-as Write read write P Q h k = tt
 refused-as (Refused refusal) read write P Q h k = k refusal h
 refused-as Memory read write P Q h k = tt
+
+-- a fact that held when the files had been read stands after any fault
+pub passed-as : (A : Type 0) (e : Fault) (P : Type 0) → P → Passed {A = A} (Err e) P
+passed-as A (Read name) P h = tt
+passed-as A Write P h = h
+passed-as A (Refused refusal) P h = h
+passed-as A Memory P h = tt

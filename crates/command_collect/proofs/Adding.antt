@@ -1,7 +1,6 @@
 -- Additions have one answer: what was taken is refused for want of memory alone, and leaves one collection.
 use Rattle.std.specs.Prelude.{is_err}
-use Rattle.std.specs.Option.{unwrap_or}
-use Rattle.std.proofs.Common.{◌≡◌, inl, inr, ℕ, ◌+◌, List, [], ◌∷◌, Result, Ok, Err, Option, Some, None, is_some, refl, ap, sym, subst, ◌∙◌, arith}
+use Rattle.std.proofs.Common.{◌≡◌, inl, inr, ℕ, ◌+◌, List, [], ◌∷◌, Result, Ok, Err, Option, Some, None, refl, ap, sym, subst, ◌∙◌, arith}
 use Rattle.std.proofs.lemmas.Bool.{false≢true}
 use Rattle.cbi_base.proofs.NumberLemmas.{none-some, some-is}
 use Rattle.report_file.specs.declared.report.Report.{Report}

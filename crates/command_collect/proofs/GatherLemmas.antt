@@ -13,11 +13,8 @@ use Rattle.collector.specs.declared.collection.Bundle.{Bundle}
 use Rattle.collector.specs.declared.collection.Held.{Held as Collected}
 use Rattle.collector.specs.Sites.{branches_of}
 use Rattle.collector.specs.Spelling.{collection_text}
-use Rattle.command_base.specs.declared.fault.Fault.{Fault}
-use Rattle.command_base.specs.declared.fault.Fault.TheVariants.{Read, Write, Refused, Memory}
 use Rattle.command_base.specs.declared.done.Done.TheVariants.{Added}
 use Rattle.command_base.specs.Outside.{TookWithin}
-use Rattle.command_base.specs.Faults.{Caused, LeftBy, OfMemory}
 use Rattle.command_inputs.specs.Programs.{IsSpelled}
 use Rattle.command_collect.specs.declared.gather.Gathered.{Gathered}
 use Rattle.command_collect.specs.declared.reports.CollectTexts.{CollectTexts}

@@ -1,5 +1,5 @@
 -- What the command `collect` does: the reports that its files hold are added in their order, and out takes the text of what is held then.
-use Rattle.std.specs.Prelude.{◌≡◌, ◌⊎◌, ℕ, ◌+◌, ◌-◌, Bool, true, false, List, [], ◌∷◌, length, codes, MatchBool, nat_eq, Option, Some, None, Err, Ok}
+use Rattle.std.specs.Prelude.{◌≡◌, ◌⊎◌, ℕ, ◌+◌, ◌-◌, Bool, true, false, List, [], ◌∷◌, length, codes, MatchBool, nat_eq, Option, Some, Err, Ok}
 use Rattle.std.specs.List.{flat_map, starts_with}
 use Rattle.sha2.specs.Sha256.{sha256}
 use Rattle.cbi_base.specs.Lines.{IsBadLine}

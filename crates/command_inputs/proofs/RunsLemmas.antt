@@ -18,7 +18,6 @@ use Rattle.collector.specs.Merging.{Merges}
 use Rattle.collector.specs.Sites.{branches_of}
 use Rattle.collector.specs.Spelling.{IsText, SpellsBundle}
 use Rattle.command_base.specs.Limits.{program_limit}
-use Rattle.command_base.specs.Outside.{TookWithin}
 use Rattle.command_base.proofs.ReadLemmas.{read-once}
 use Rattle.command_inputs.specs.Programs.{IsBadProgram}
 use Rattle.command_inputs.specs.declared.runs.RunsTexts.{RunsTexts}

@@ -1,9 +1,7 @@
 -- What is refused of the files of a run, and what a run leaves.
-use Rattle.std.specs.Option.{unwrap_or}
-use Rattle.std.proofs.Common.{◌≡◌, ◌≤◌, ◌<◌, ◌⊎◌, inl, inr, ℕ, List, [], length, Option, Some, None, IsSome, ap, sym, subst, ◌∙◌, arith}
-use Rattle.std.proofs.lemmas.Bool.{false≢true}
+use Rattle.std.proofs.Common.{◌≡◌, ◌≤◌, ◌<◌, ◌⊎◌, inl, inr, ℕ, List, [], length, Option, Some, None, IsSome, sym, subst, ◌∙◌, arith}
 use Rattle.cbi_base.specs.declared.observation.Observation.{Observation}
-use Rattle.cbi_base.specs.Store.{Held, IsReadOf, read_of}
+use Rattle.cbi_base.specs.Store.{Held}
 use Rattle.cbi_base.specs.declared.refusal.Refusal.{Refusal}
 use Rattle.cbi_base.specs.declared.refusal.Refusal.TheVariants.{BadByte, BadToken, Syntax, BadType, TooLarge, TooManySites, BadProgram, BadBank, BadReport, Foreign, Conflict, TooManyReports, TooManyMarks, BadCollection, InputTooLarge, NoSite, BadEdits, Absent, NotPart}
 use Rattle.cbi_base.specs.Sink.{Takes}
@@ -18,9 +16,6 @@ use Rattle.machine.specs.Going.{HasRun, IsWanting}
 use Rattle.machine.specs.Reached.{went, seen_in}
 use Rattle.report_file.specs.Spelling.{report_text}
 use Rattle.study_runs.proofs.Adding.{length_counts}
-use Rattle.command_base.specs.declared.fault.Fault.{Fault}
-use Rattle.command_base.specs.declared.fault.Fault.TheVariants.{Read, Write, Refused, Memory}
-use Rattle.command_base.specs.Faults.{Caused, LeftBy}
 use Rattle.command_base.specs.Limits.{program_limit}
 use Rattle.command_base.specs.Outside.{Outside}
 use Rattle.command_base.proofs.ReadLemmas.{read-once}

@@ -1,7 +1,8 @@
 use Rattle.std.proofs.Common.{subst}
 use Rattle.elimination.specs.Recount.{runs_of}
 use Rattle.ranking.specs.Ranked.{IsRankingOf}
-use Rattle.command_base.proofs.FaultLemmas.{put-left}
+use Rattle.command_base.specs.declared.done.Done.{Done}
+use Rattle.command_base.proofs.FaultLemmas.{passed-as, put-left}
 use Rattle.command_rank.proofs.RankLemmas.{due-part, is-due}
 use Rattle.command_rank.proofs.command.rank_runs.Goals as goal
 
@@ -13,3 +14,6 @@ returns-clause-left g c =
     (subst (λ table. IsRankingOf table c.args.words.now.policy (runs_of c.in-Ok.runs.1.reports) c.in-Ok-ranking_of.text.items) c.table.ensures.value c.in-Ok-ranking_of.ensures) c.as_slice.ensures.value)
     c.in-Err-put.ensures.part)
     c.in-Err-put.ensures.wanting
+
+pub returns-clause-was_held : goal.returns-clause-was_held
+returns-clause-was_held g c = passed-as Done c.in-Err-put.fault _ c.in-Ok.ensures.was_held
