@@ -1,14 +1,10 @@
 pub mod Assembling
 pub mod Bodying
 pub mod Graphing
-pub mod Initialising
 pub mod Keeping
 pub mod Kept
-pub mod Looping
 pub mod Naming
 pub mod Readying
 pub mod Rooms
 pub mod Siting
-pub mod Spelling
 pub mod Texts
-pub mod Zeroing

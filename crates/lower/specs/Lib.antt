@@ -1,5 +1,3 @@
-pub mod Exits
-pub mod Strings
 pub mod Bodies
 pub mod Ready
 pub mod Keeps

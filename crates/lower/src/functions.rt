@@ -3,7 +3,7 @@ ghost use Rattle.std.specs.Option.{option_copied};
 ghost use Rattle.c_syntax.specs.Plain.{plain_entries};
 ghost use Rattle.lower_relation.specs.Functions.{BodyDoes};
 ghost use Rattle.lower.specs.Bodies.{BodyNodes, ComesPart, EndPart, GivesPart, LeavesPart};
-ghost use Rattle.lower.specs.Exits.{exits_of};
+ghost use Rattle.lower_statements.specs.Exits.{exits_of};
 ghost use Rattle.lower.specs.Fits.{HasFitting, bounds_with};
 ghost use Rattle.lower.specs.Ready.{AllMayStand};
 ghost use Rattle.lower_relation.specs.Room.{body_room, function_room};
@@ -13,16 +13,14 @@ ghost use Rattle.lower_nodes.specs.Reach.{LeadOn};
 ghost use Rattle.flow.specs.Nodes.{NodesFit};
 ghost use Rattle.lower_facts.specs.Facts.{facts_in, sites_in, source_in};
 
-use crate::exits::{Exits, next_at};
 use crate::keep::keep;
-use crate::names::number_of;
-use crate::statements::emit_entries;
 use c_meaning::ValueType;
 use c_syntax::Entry;
 use cbi_base::{Kind, Memory};
 use flow::{Bounds, Names, Node};
 use lower_facts::{Signature, TreeFacts};
 use lower_nodes::{Graph, finish, put_stuck};
+use lower_statements::{Exits, emit_entries, next_at, number_of};
 use lower_trees::has_value;
 use std::alloc::Global;
 

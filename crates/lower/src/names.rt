@@ -6,17 +6,8 @@ ghost use Rattle.lower_facts.specs.Facts.{facts_in, known_in, tree_in};
 use cbi_base::{Memory, Seq};
 use flow::{Names, SiteTable, conversions};
 use lower_facts::TreeFacts;
+use lower_statements::number_of;
 use std::alloc::Global;
-
-/// A count of a text's things as a number: a text has far fewer than there are numbers.
-pub fn number_of(count: usize) -> Result<u32, Memory>
-    ensures { IfOk result (λ n. n ≡ count) }
-{
-    match u32::try_from(count) {
-        Ok(number) => Ok(number),
-        Err(_) => Err(Memory),
-    }
-}
 
 /// What the nodes of the text's functions may name, with this table.
 pub fn names_of(alloc: Global, facts: &TreeFacts<'_>, table: &SiteTable) -> Result<Names, Memory>

@@ -10,12 +10,13 @@ ghost use Rattle.lower_relation.specs.Room.{function_room, functions_room};
 ghost use Rattle.lower.specs.Fits.{AreFitting, IsFitting, NodesStand};
 ghost use Rattle.lower.specs.Means.{MeansText};
 ghost use Rattle.lower.specs.Programs.{AreFunctionsOf, HasNoMore, IsFunctionOf, node_count};
+ghost use Rattle.lower_nodes_fit.specs.TextNames.{names_of_text};
 ghost use Rattle.lower_parts_fit.specs.Ready.{IsReadyText};
 ghost use Rattle.lower_facts.specs.Facts.{known_in, sites_in, source_in, table_in, tree_in};
 ghost use Rattle.c_syntax.specs.Spelling.{tree_kinds};
 
 use crate::functions::emit_function;
-use crate::names::{names_of, number_of};
+use crate::names::names_of;
 use c_types::Checked;
 use cbi_base::{Memory, Name, Seq};
 use flow::{Function, Names, Program, ProgramParts, SiteTable, copy_of, copy_sites, copy_texts};
@@ -23,6 +24,7 @@ use lower_facts::TreeFacts;
 use lower_globals::globals_of_text;
 use lower_nodes_fit::an_accepted_text_has_few_nodes;
 use lower_parts_fit::parts_of_an_accepted_text_are_a_program;
+use lower_statements::number_of;
 use lower_trees::has_value;
 use std::alloc::Global;
 
@@ -77,6 +79,25 @@ fn functions_of(
     Ok(functions)
 }
 
+/// The functions of the text, each under its name in the table.
+fn named_functions(
+    alloc: Global,
+    facts: &TreeFacts<'_>,
+    table: &SiteTable,
+) -> Result<Vec<Function>, Memory>
+    requires sites { table_in facts.now ≡ table.now.sites }
+    requires ready { IsReadyText (tree_in facts.now) (known_in facts.now) table.now }
+    ensures are { IfOk result (λ fs. AreFunctionsOf (source_in facts.now) fs.items) }
+    ensures all { IfOk result (λ fs. HasNoMore (source_in facts.now) (length fs.items)) }
+    ensures names { IfOk result (λ fs. map (λ f. f.name) fs.items ≡ table.now.functions) }
+    ensures stand { IfOk result (λ fs. (number : ℕ) (f : Function) → slice_get fs.items number ≡ Some f → NodesStand (names_of_text (tree_in facts.now) (known_in facts.now) table.now.sites) number f) }
+    ensures few { IfOk result (λ fs. node_count fs.items ≤ functions_room (sites_in facts.now) (source_in facts.now).body (length (known_in facts.now).definitions)) }
+{
+    let names = names_of(alloc, facts, table)?;
+    let functions = functions_of(alloc, facts, &names, table.functions())?;
+    Ok(functions)
+}
+
 /// The program of the text, with this table.
 fn program_of(alloc: Global, facts: &TreeFacts<'_>, table: &SiteTable) -> Result<Program, Memory>
     requires sites { table_in facts.now ≡ table.now.sites }
@@ -89,11 +110,10 @@ fn program_of(alloc: Global, facts: &TreeFacts<'_>, table: &SiteTable) -> Result
 {
     an_accepted_text_has_few_nodes();
     parts_of_an_accepted_text_are_a_program();
+    let functions = named_functions(alloc, facts, table)?;
     let Some(globals) = globals_of_text(alloc, facts)? else {
         unreachable!()
     };
-    let names = names_of(alloc, facts, table)?;
-    let functions = functions_of(alloc, facts, &names, table.functions())?;
     let parts = ProgramParts {
         texts: copy_texts(alloc, facts.texts())?,
         globals: Seq::from_vec(globals),

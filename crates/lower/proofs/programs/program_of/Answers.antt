@@ -1,25 +1,15 @@
-use Rattle.std.proofs.Common.{◌∙◌, ◌≤◌, ◌+◌, ◌*◌, length}
+use Rattle.std.proofs.Common.{◌∙◌, ◌≤◌, ◌+◌, ◌*◌, length, refl}
 use Rattle.c_syntax.specs.Spelling.{tree_kinds}
 use Rattle.lower_facts.specs.Facts.{known_in, table_in, tree_in}
+use Rattle.lower_nodes_fit.specs.TextNames.{names_of_text}
 use Rattle.lower.specs.Programs.{node_count}
-use Rattle.lower.proofs.Assembling.{are_parts, fitting_facts, globals_are, names_as_many, none_of, program_graph, program_parts, program_plain, program_ready, texts_are}
+use Rattle.lower.proofs.Assembling.{are_parts, globals_are, none_of, program_graph, program_parts, program_plain, program_ready}
 use Rattle.lower.proofs.Rooms.{few_of}
 use Rattle.lower.proofs.programs.program_of.Goals as goal
 
 pub unreachable-requires : goal.unreachable-requires
 unreachable-requires c =
     globals_are c.args.facts.now c.args.table.now c.requires.ready (none_of c.in_ok-globals.field-0 _ _ c.in_default.not-Some c.in_ok-globals.ensures.objects)
-
-pub names_of-requires : goal.names_of-requires
-names_of-requires c = texts_are c.args.facts.now c.args.table.now c.requires.ready
-
-pub functions_of-requires-clause-fitting : goal.functions_of-requires-clause-fitting
-functions_of-requires-clause-fitting c =
-    fitting_facts c.args.facts.now c.args.table.now c.in_ok-names.names _ c.requires.sites c.requires.ready c.in_ok-names.ensures
-    (names_as_many c.args.facts.now c.args.table.now _ c.requires.ready c.functions.ensures)
-
-pub functions_of-requires-clause-as_many : goal.functions_of-requires-clause-as_many
-functions_of-requires-clause-as_many c = names_as_many c.args.facts.now c.args.table.now _ c.requires.ready c.functions.ensures
 
 pub of-requires : goal.of-requires
 of-requires c =
@@ -31,8 +21,8 @@ of-requires c =
     c.in_ok-copy_sites.field-0 (c.in_ok-copy_texts.ensures ∙ c.texts.ensures) c.main.ensures (c.in_ok-copy_sites.ensures ∙ c.sites.ensures.value)
     (c.parts_of_an_accepted_text_are_a_program.ensures (tree_in c.args.facts.now) (known_in c.args.facts.now) c.args.table.now c.in-Some.globals.items
     c.in_ok-functions.functions.items c.requires.ready
-    (are_parts c.args.facts.now c.args.table.now c.in_ok-names.names c.in-Some.globals.items c.in_ok-functions.functions.items c.requires.sites c.in_ok-names.ensures
-    (rw c.in-Some.is at c.in_ok-globals.ensures.objects) (rw c.in-Some.is at c.in_ok-globals.ensures.count) (c.in_ok-functions.ensures.names ∙ c.functions.ensures)
+    (are_parts c.args.facts.now c.args.table.now (names_of_text (tree_in c.args.facts.now) (known_in c.args.facts.now) c.args.table.now.sites) c.in-Some.globals.items c.in_ok-functions.functions.items c.requires.sites refl
+    (rw c.in-Some.is at c.in_ok-globals.ensures.objects) (rw c.in-Some.is at c.in_ok-globals.ensures.count) c.in_ok-functions.ensures.names
     c.in_ok-functions.ensures.are c.in_ok-functions.ensures.stand few) c.sites.ensures.is_table.few))
 
 pub returns-clause-graph : goal.returns-clause-graph

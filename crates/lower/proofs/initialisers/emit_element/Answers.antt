@@ -1,9 +1,0 @@
-use Rattle.c_syntax.specs.Plain.{plain_expr}
-use Rattle.lower_facts.specs.Facts.{facts_in, sites_in}
-use Rattle.lower.proofs.Initialising.{element_made}
-use Rattle.lower.proofs.initialisers.emit_element.Goals as goal
-
-pub returns-clause-made : goal.returns-clause-made
-returns-clause-made c =
-    element_made (facts_in c.args.facts.now) (sites_in c.args.facts.now) c.args.token c.args.index (plain_expr c.args.x.now) _ _ _ _ _ _ _ _ _ _ _ _ _ _ c.element_at.ensures c.slot_at.ensures c.in_ok-drop.ensures.number c.in_ok-drop.ensures.added
-    c.in_ok-store.ensures.number c.in_ok-store.ensures.added c.in_ok-wanted.ensures.made c.in_ok-member.ensures.made c.in_ok-i.ensures.made

@@ -1,0 +1,4 @@
+pub mod Initialising
+pub mod Looping
+pub mod Rooms
+pub mod Zeroing

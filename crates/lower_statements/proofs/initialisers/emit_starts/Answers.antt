@@ -1,0 +1,24 @@
+use Rattle.std.proofs.Common.{◌≡◌, ◌+◌, ◌-◌, ◌<◌, arith, length}
+use Rattle.lower_facts.specs.Facts.{facts_in, sites_in}
+use Rattle.lower_statements.proofs.Initialising.{starts_none, starts_step}
+use Rattle.lower_statements.proofs.Rooms.{starts_more}
+use Rattle.lower_statements.proofs.initialisers.emit_starts.Goals as goal
+
+pub loop-place-init : goal.loop-place-init
+loop-place-init c =
+    (omega arith, starts_none (facts_in c.args.facts.now) (sites_in c.args.facts.now) c.args.starts.now _ _, omega arith)
+
+pub loop-place-preserved : goal.loop-place-preserved
+loop-place-preserved c =
+    let next : c.loop-place.place ≡ c.loop-place.place - 1 + 1 = omega (arith, c.loop-place-test.true) in
+    let low : c.loop-place.place - 1 < length c.args.starts.now = omega (arith, c.loop-place.invariant.0, c.loop-place-test.true) in (
+      omega (arith, low),
+      starts_step (facts_in c.args.facts.now) (sites_in c.args.facts.now) c.args.starts.now c.loop-place.place (c.loop-place.place - 1) c.index-starts-place.result
+          _ _ _ _ _ _ next low c.index-starts-place.is c.loop-place.invariant.1 c.in_ok-first.ensures.made,
+      omega (
+        arith,
+        c.in_ok-first.ensures.few,
+        c.loop-place.invariant.2,
+        starts_more (sites_in c.args.facts.now) c.args.starts.now c.loop-place.place (c.loop-place.place - 1) c.index-starts-place.result next low c.index-starts-place.is,
+      ),
+    )
