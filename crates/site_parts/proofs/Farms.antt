@@ -1,0 +1,169 @@
+-- The counters of all parts beside those of the whole.
+use Rattle.std.proofs.Common.{◌≡◌, ◌≢◌, ◌⊎◌, inl, inr, ℕ, zero, suc, ◌+◌, ◌*◌, ◌<◌, ◌≤◌, ◌==◌, ◌&&◌, Bool, true, false, cond, IsTrue, List, [], ◌∷◌, map, Option, None, Some, slice_get, refl, sym, ap, ◌∙◌, subst, arith}
+use Rattle.std.specs.List.{All, count_by}
+use Rattle.std.specs.Option.{option_map}
+use Rattle.std.proofs.lemmas.Bool.{eq-eqb, eqb-true}
+use Rattle.std.proofs.lemmas.List.Sums.{sum_by-cons}
+use Rattle.cbi_base.specs.declared.observation.Observation.{Observation}
+use Rattle.cbi_base.specs.declared.observation.Seen.{Seen}
+use Rattle.cbi_base.specs.declared.outcome.Counts.{Counts}
+use Rattle.flow.specs.declared.program.ProgramParts.{ProgramParts}
+use Rattle.flow.specs.declared.site.Site.{Site}
+use Rattle.flow.specs.Code.{code_of}
+use Rattle.flow.specs.Counting.{counts_at, counts_from, counts_of, is_first, is_second, is_third}
+use Rattle.flow.specs.Machine.{begin}
+use Rattle.flow.specs.State.{Ending}
+use Rattle.flow.proofs.CountLaws.{each_counted}
+use Rattle.flow.proofs.Endings.{one_end_from}
+use Rattle.report_file.specs.declared.report.Entry.{Entry}
+use Rattle.report_file.specs.Report.{Among, entries_of}
+use Rattle.report_file.proofs.Entries.{among-all, among-counts}
+use Rattle.std.proofs.lemmas.Option.{slice_get_within}
+use Rattle.site_parts.specs.declared.part.Part.{Part}
+use Rattle.site_parts.specs.Laws.{AreSideBySide, CountsOfParts, EntriesOfParts, FarmsCountTheWhole, part_at}
+use Rattle.site_parts.specs.Part.{PartFits, has, number_in, part_of, part_visits, whole_number}
+use Rattle.site_parts.specs.Program.{part_program}
+use Rattle.site_parts.specs.Runs.{part_ending}
+use Rattle.site_parts.specs.Widened.{widened, widened_entry}
+use Rattle.site_parts.proofs.Lists.{item_at}
+use Rattle.site_parts.proofs.Numbers.{has_whole, number_back, whole_back}
+use Rattle.site_parts.proofs.Once.{is_part_at, stands_once}
+use Rattle.site_parts.proofs.Visits.{first_kept, first_left, in_part}
+use Rattle.site_parts.proofs.Whole.{runs_in_part}
+
+-- the visits of a site that saw such a thing
+abbrev counted : ℕ → (Seen → Bool) → List Observation → ℕ
+counted site such visits = count_by (λ o. o.site == site && such o.seen) visits
+
+counted_more : (site : ℕ) (such : Seen → Bool) (v : Observation) (more : List Observation) →
+    counted site such (v ∷ more) ≡ cond (v.site == site && such v.seen) 1 0 + counted site such more
+counted_more site such v more = sum_by-cons (λ (o : Observation). cond (o.site == site && such o.seen) 1 0) v more
+
+same_tests : (a b : Bool) → (a ≡ true → b ≡ true) → (b ≡ true → a ≡ true) → a ≡ b
+same_tests true b h k = sym (h refl)
+same_tests false true h k = k refl
+same_tests false false h k = refl
+
+-- a kept visit is of the site exactly where it is of that site's number in the part
+same_number : (part : Part) (site number : ℕ) → PartFits part → has part site ≡ true → (number_in part site == number) ≡ (site == whole_number part number)
+same_number part site number is h =
+    let back = whole_back part site is h in
+    same_tests (number_in part site == number) (site == whole_number part number)
+    (λ e. eq-eqb site (whole_number part number) (sym back ∙ ap (whole_number part) (eqb-true (number_in part site) number e)))
+    (λ e. eq-eqb (number_in part site) number (ap (number_in part) (eqb-true site (whole_number part number) e) ∙ number_back part number is))
+
+other_site : (part : Part) (site number : ℕ) (b : Bool) → PartFits part → has part site ≡ false → (site == whole_number part number) ≡ b → b ≡ false
+other_site part site number false is h e = refl
+other_site part site number true is h e =
+    let same = eqb-true site (whole_number part number) e in
+    let yes : has part site ≡ true = ap (has part) same ∙ has_whole part number is in
+    absurd cc
+
+counted_by : (part : Part) (number : ℕ) (such : Seen → Bool) (v : Observation) (more : List Observation) (b : Bool) → PartFits part → has part v.site ≡ b →
+    counted number such (part_visits part more) ≡ counted (whole_number part number) such more →
+    counted number such (part_visits part (v ∷ more)) ≡ counted (whole_number part number) such (v ∷ more)
+counted_by part number such v more true is h rest =
+    ap (counted number such) (first_kept part v more h)
+    ∙ counted_more number such (in_part part v) (part_visits part more)
+    ∙ ap (λ (t : Bool). cond (t && such v.seen) 1 0 + counted number such (part_visits part more)) (same_number part v.site number is h)
+    ∙ ap (λ (n : ℕ). cond (v.site == whole_number part number && such v.seen) 1 0 + n) rest
+    ∙ sym (counted_more (whole_number part number) such v more)
+counted_by part number such v more false is h rest =
+    let other = other_site part v.site number (v.site == whole_number part number) is h refl in
+    ap (counted number such) (first_left part v more h)
+    ∙ rest
+    ∙ sym (counted_more (whole_number part number) such v more
+    ∙ ap (λ (t : Bool). cond (t && such v.seen) 1 0 + counted (whole_number part number) such more) other ∙ omega arith)
+
+same_count : (part : Part) (number : ℕ) (such : Seen → Bool) (visits : List Observation) → PartFits part →
+    counted number such (part_visits part visits) ≡ counted (whole_number part number) such visits
+same_count part number such [] is = refl
+same_count part number such (v ∷ more) is = counted_by part number such v more (has part v.site) is refl (same_count part number such more is)
+
+counts_same : (part : Part) (number : ℕ) (visits : List Observation) → PartFits part → counts_at (part_visits part visits) number ≡ counts_at visits (whole_number part number)
+counts_same part number visits is =
+    let make = λ (a b d : ℕ). let c : Counts = record { first = a; second = b; third = d } in c in
+    let seen = part_visits part visits in
+    ap (λ (n : ℕ). make n (counted number is_second seen) (counted number is_third seen)) (same_count part number is_first visits is)
+    ∙ ap (λ (n : ℕ). make (counted (whole_number part number) is_first visits) n (counted number is_third seen)) (same_count part number is_second visits is)
+    ∙ ap (λ (n : ℕ). make (counted (whole_number part number) is_first visits) (counted (whole_number part number) is_second visits) n) (same_count part number is_third visits is)
+
+-- the counters of a site are there where the site is
+none_counted : (start : ℕ) (sites : List Site) (seen : List Observation) (place : ℕ) → slice_get sites place ≡ None → slice_get (counts_from start sites seen) place ≡ None
+none_counted start [] seen place e = refl
+none_counted start (s ∷ sites) seen zero e = absurd cc
+none_counted start (s ∷ sites) seen (suc place) e = none_counted (suc start) sites seen place e
+
+counted_at : (sites : List Site) (seen : List Observation) (place : ℕ) (found : Option Site) → slice_get sites place ≡ found →
+    slice_get (counts_of sites seen) place ≡ option_map (λ (s : Site). counts_at seen place) found
+counted_at sites seen place None e = none_counted 0 sites seen place e
+counted_at sites seen place (Some s) e = each_counted sites seen place (slice_get_within sites place s e)
+
+pub counts_of_parts : CountsOfParts
+counts_of_parts part sites visits number is =
+    let whole = whole_number part number in
+    counted_at (part_of part sites) (part_visits part visits) number (slice_get sites whole) (item_at part sites number is)
+    ∙ ap (λ (c : Counts). option_map (λ (s : Site). c) (slice_get sites whole)) (counts_same part number visits is)
+    ∙ sym (counted_at sites visits whole (slice_get sites whole) refl)
+
+-- entries that are widened
+among_widened : (part : Part) (e : Entry) (entries : List Entry) → Among e entries → Among (widened_entry part e) (widened part entries)
+among_widened part e [] among = absurd among
+among_widened part e (x ∷ more) (inl same) = inl (ap (widened_entry part) same)
+among_widened part e (x ∷ more) (inr later) = inr (among_widened part e more later)
+
+before_widened : (part : Part) (e : Entry) (entries : List Entry) → Among e (widened part entries) → (x : Entry) × Among x entries × (e ≡ widened_entry part x)
+before_widened part e [] among = absurd among
+before_widened part e (x ∷ more) (inl same) = (x, inl refl, same)
+before_widened part e (x ∷ more) (inr later) = let b = before_widened part e more later in (b.0, inr b.1, b.2)
+
+-- the entries of a part's run
+abbrev part_entries : Part → List Site → List Observation → List Entry
+part_entries part sites visits = entries_of (counts_of (part_of part sites) (part_visits part visits))
+
+pub entries_of_parts : EntriesOfParts
+entries_of_parts count sites visits some few = record {
+  each = λ e among.
+      let is = among-counts (counts_of sites visits) e among in
+      let once = stands_once count e.site some in
+      let part = part_at count once.index in
+      let there = counts_of_parts part sites visits once.number (is_part_at count once.index few once.within) ∙ ap (slice_get (counts_of sites visits)) once.is ∙ is.0 in
+      let x : Entry = record { site = once.number; counts = e.counts } in
+      let all = among-all (counts_of (part_of part sites) (part_visits part visits)) once.number e.counts there is.1 in (
+        once.index,
+        once.within,
+        subst (λ (n : ℕ). let y : Entry = record { site = n; counts = e.counts } in Among y (widened (part_at count once.index) (part_entries (part_at count once.index) sites visits))) once.is
+            (among_widened part x (part_entries part sites visits) all),
+      );
+  only = λ e index within among.
+      let part = part_at count index in
+      let b = before_widened part e (part_entries part sites visits) among in
+      let is = among-counts (counts_of (part_of part sites) (part_visits part visits)) b.0 b.1 in
+      let there = sym (counts_of_parts part sites visits b.0.site (is_part_at count index few within)) ∙ is.0 in
+      subst (λ (y : Entry). Among y (entries_of (counts_of sites visits))) (sym b.2)
+      (among-all (counts_of sites visits) (whole_number part b.0.site) b.0.counts there is.1);
+}
+
+-- the same entries of each part, side by side
+side_by_side : (count : ℕ) (f g : ℕ → List Entry) (whole : List Entry) → ((index : ℕ) → index < count → f index ≡ g index) → AreSideBySide count f whole → AreSideBySide count g whole
+side_by_side count f g whole same are = record {
+  each = λ e among.
+      let a = are.each e among in
+      (a.0, a.1, subst (λ (entries : List Entry). Among e (widened (part_at count a.0) entries)) (same a.0 a.1) a.2);
+  only = λ e index within among.
+      are.only e index within (subst (λ (entries : List Entry). Among e (widened (part_at count index) entries)) (sym (same index within)) among);
+}
+
+pub farms_count : FarmsCountTheWhole
+farms_count p count input bank turns whole of_part plain ready some few ends sound each =
+    let seen : (index : ℕ) → index < count → part_visits (part_at count index) whole.seen ≡ (of_part index).seen = λ index within.
+    let part = part_at count index in
+    let q = part_program part p in
+    ap (λ (e : Ending). e.seen)
+    (one_end_from (code_of q bank) (begin q input bank turns) (part_ending part whole) (of_part index)
+    ((runs_in_part part p (is_part_at count index few within) plain ready).there input bank turns whole ends sound) (each index within))
+    in
+    side_by_side count (λ index. part_entries (part_at count index) p.sites whole.seen)
+    (λ index. entries_of (counts_of (part_of (part_at count index) p.sites) (of_part index).seen)) (entries_of (counts_of p.sites whole.seen))
+    (λ index within. ap (λ (visits : List Observation). entries_of (counts_of (part_of (part_at count index) p.sites) visits)) (seen index within))
+    (entries_of_parts count p.sites whole.seen some few)

@@ -1,0 +1,58 @@
+-- The parts share no site, and have each once.
+use Rattle.std.proofs.Common.{◌≡◌, ◌≢◌, ℕ, ◌+◌, ◌*◌, ◌<◌, ◌≤◌, Bool, true, false, List, ◌∷◌, ◌++◌, ap, ◌∙◌, refl, subst, sym, arith}
+use Rattle.std.specs.Prelude.{◌/◌, ◌%◌}
+use Rattle.std.proofs.lemmas.Nat.{div-add-mod', mod_below, same_from_place}
+use Rattle.cbi_base.specs.declared.observation.Observation.{Observation}
+use Rattle.site_parts.specs.declared.part.Part.{Part}
+use Rattle.site_parts.specs.Laws.{EachSiteOnce, EachVisitOnce, StandsOnce, part_at}
+use Rattle.site_parts.specs.Part.{PartFits, has, number_in, part_limit, part_visits, whole_number}
+use Rattle.site_parts.proofs.Numbers.{has_whole, number_back, whole_back}
+use Rattle.site_parts.proofs.Visits.{in_part, visit_kept, visit_left}
+
+pub stands_once : EachSiteOnce
+stands_once count site some =
+    let split = div-add-mod' site count in
+    let small : site % count < count = mod_below site count (omega arith) in
+    record {
+      index = site % count;
+      number = site / count;
+      within = small;
+      is = split;
+      only = λ other place within e.
+          let same = same_from_place place other (site / count) (site % count) count within small (e ∙ sym split) in (same.1, same.0);
+    }
+
+pub is_part_at : (count index : ℕ) → count ≤ part_limit → index < count → PartFits (part_at count index)
+is_part_at count index few within = record { some = omega arith; few = few; index = within }
+
+pub has_at : (part : Part) (site number : ℕ) → PartFits part → whole_number part number ≡ site → has part site ≡ true
+has_at part site number is e = subst (λ (s : ℕ). has part s ≡ true) e (has_whole part number is)
+
+lacks_by : (part : Part) (site : ℕ) (b : Bool) → has part site ≡ b → (has part site ≡ true → ⊥) → has part site ≡ false
+lacks_by part site true e absent = absurd (absent e)
+lacks_by part site false e absent = e
+
+pub has_not : (part : Part) (site : ℕ) → (has part site ≡ true → ⊥) → has part site ≡ false
+has_not part site absent = lacks_by part site (has part site) refl absent
+
+pub seen_once : EachVisitOnce
+seen_once count before after visit some few =
+    let once = stands_once count visit.site some in
+    let part = part_at count once.index in
+    let is = is_part_at count once.index few once.within in
+    let number : number_in (part_at count once.index) visit.site ≡ once.number =
+    ap (number_in (part_at count once.index)) (sym once.is) ∙ number_back (part_at count once.index) once.number is
+    in
+    record {
+      index = once.index;
+      number = once.number;
+      within = once.within;
+      is = once.is;
+      seen = visit_kept part before visit after (has_at part visit.site once.number is once.is)
+          ∙ ap (λ (n : ℕ). let o : Observation = record visit { site = n } in part_visits (part_at count once.index) before ++ o ∷ part_visits (part_at count once.index) after) number;
+      others = λ other within differs.
+          visit_left (part_at count other) before visit after
+          (has_not (part_at count other) visit.site (λ h.
+          differs (once.only other (number_in (part_at count other) visit.site) within
+          (whole_back (part_at count other) visit.site (is_part_at count other few within) h)).0));
+    }

@@ -1,0 +1,5 @@
+pub mod Part
+pub mod Program
+pub mod Runs
+pub mod Widened
+pub mod Laws

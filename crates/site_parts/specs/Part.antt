@@ -1,0 +1,43 @@
+-- A part of the sites of a program: those whose number modulo the count of the parts is the part's index, in order, numbered anew.
+use Rattle.std.specs.Prelude.{ℕ, ◌+◌, ◌-◌, ◌*◌, ◌/◌, ◌%◌, ◌==◌, ◌<◌, ◌≤◌, Bool, List, filter_map, Option, None, Some, if◌then◌else◌}
+use Rattle.std.specs.List.{enumerate_from}
+use Rattle.cbi_base.specs.declared.observation.Observation.{Observation}
+use Rattle.site_parts.specs.declared.part.Part.{Part}
+
+-- the most parts of a table
+abbrev pub part_limit : ℕ
+part_limit = 65536
+
+-- the part is one of so many, and these are not too many
+pub record PartFits (part : Part) : Type 0 where
+  pub some : 1 ≤ part.count
+  pub few : part.count ≤ part_limit
+  pub index : part.index < part.count
+
+-- whether the part has the site with this number
+abbrev pub has : Part → ℕ → Bool
+has part site = site % part.count == part.index
+
+-- the number that a site of the part has in it
+abbrev pub number_in : Part → ℕ → ℕ
+number_in part site = (site - part.index) / part.count
+
+-- the number in the whole table of the site that has this number in the part
+abbrev pub whole_number : Part → ℕ → ℕ
+whole_number part number = number * part.count + part.index
+
+-- an item that stands at a site's number, where the part has the site
+abbrev pub item_in : {A : Type 0} → Part → ℕ × A → Option A
+item_in part item = if has part item.0 then Some item.1 else None
+
+-- those items of a list that stand at the numbers of the part's sites, in order
+abbrev pub part_of : {A : Type 0} → Part → List A → List A
+part_of part items = filter_map (item_in part) (enumerate_from 0 items)
+
+-- a visit, where the part has its site
+abbrev pub visit_in : Part → Observation → Option Observation
+visit_in part visit = if has part visit.site then Some (record visit { site = number_in part visit.site }) else None
+
+-- the visits of the part's sites, in order
+abbrev pub part_visits : Part → List Observation → List Observation
+part_visits part visits = filter_map (visit_in part) visits

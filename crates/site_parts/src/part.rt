@@ -1,0 +1,26 @@
+ghost use Rattle.std.specs.Prelude.{◌≡◌, true};
+ghost use Rattle.site_parts.specs.Part.{PartFits, has, number_in};
+
+/// A part of the sites of a program: those whose number modulo the count is the index.
+#[derive(Clone, Copy, Debug, PartialEq, Eq)]
+pub struct Part {
+    pub index: u32,
+    pub count: u32,
+}
+
+/// Whether the part has the site with this number.
+pub(crate) fn has(part: Part, site: u32) -> bool
+    requires { PartFits part }
+    ensures { result ≡ has part site }
+{
+    site % part.count == part.index
+}
+
+/// The number in the part of one of its sites.
+pub(crate) fn number_in(part: Part, site: u32) -> u32
+    requires part { PartFits part }
+    requires has { has part site ≡ true }
+    ensures { result ≡ number_in part site }
+{
+    (site - part.index) / part.count
+}
