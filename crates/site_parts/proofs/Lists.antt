@@ -1,5 +1,5 @@
 -- The items of a list at the numbers of a part.
-use Rattle.std.proofs.Common.{◌≡◌, ℕ, zero, suc, ◌+◌, ◌-◌, ◌*◌, ◌<◌, ◌≤◌, Bool, true, false, if◌then◌else◌, List, [], ◌∷◌, length, map, Option, Some, None, slice_get, refl, sym, ap, ◌∙◌, subst, arith}
+use Rattle.std.proofs.Common.{◌≡◌, ℕ, zero, suc, ◌+◌, ◌-◌, ◌*◌, ◌<◌, ◌≤◌, Bool, true, false, if◌then◌else◌, List, [], ◌∷◌, length, Some, None, slice_get, refl, ap, subst, arith}
 use Rattle.std.specs.Prelude.{filter_map}
 use Rattle.std.specs.List.{All, cons_option, enumerate_from}
 use Rattle.std.proofs.Math.Nat.{add-mul, suc-mul}

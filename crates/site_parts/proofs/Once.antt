@@ -1,13 +1,13 @@
 -- The parts share no site, and have each once.
-use Rattle.std.proofs.Common.{◌≡◌, ◌≢◌, ℕ, ◌+◌, ◌*◌, ◌<◌, ◌≤◌, Bool, true, false, List, ◌∷◌, ◌++◌, ap, ◌∙◌, refl, subst, sym, arith}
+use Rattle.std.proofs.Common.{◌≡◌, ℕ, ◌<◌, ◌≤◌, Bool, true, false, ◌∷◌, ◌++◌, ap, ◌∙◌, refl, subst, sym, arith}
 use Rattle.std.specs.Prelude.{◌/◌, ◌%◌}
 use Rattle.std.proofs.lemmas.Nat.{div-add-mod', mod_below, same_from_place}
 use Rattle.cbi_base.specs.declared.observation.Observation.{Observation}
 use Rattle.site_parts.specs.declared.part.Part.{Part}
-use Rattle.site_parts.specs.Laws.{EachSiteOnce, EachVisitOnce, StandsOnce, part_at}
+use Rattle.site_parts.specs.Laws.{EachSiteOnce, EachVisitOnce, part_at}
 use Rattle.site_parts.specs.Part.{PartFits, has, number_in, part_limit, part_visits, whole_number}
 use Rattle.site_parts.proofs.Numbers.{has_whole, number_back, whole_back}
-use Rattle.site_parts.proofs.Visits.{in_part, visit_kept, visit_left}
+use Rattle.site_parts.proofs.Visits.{visit_kept, visit_left}
 
 pub stands_once : EachSiteOnce
 stands_once count site some =

@@ -1,5 +1,5 @@
 -- The program of a part: it is a program, and as the machine sees it.
-use Rattle.std.proofs.Common.{◌≡◌, ℕ, zero, suc, ◌+◌, ◌<◌, ◌≤◌, Bool, true, false, ◌&&◌, if◌then◌else◌, IsTrue, List, [], ◌∷◌, length, map, Option, Some, None, slice_get, refl, sym, ap, ◌∙◌, subst, arith}
+use Rattle.std.proofs.Common.{◌≡◌, ℕ, zero, suc, Bool, true, false, ◌&&◌, if◌then◌else◌, IsTrue, List, [], ◌∷◌, length, map, Option, Some, None, slice_get, refl, sym, ap, ◌∙◌, subst, arith}
 use Rattle.std.specs.List.{All, sum_by}
 use Rattle.std.specs.Option.{option_map}
 use Rattle.std.proofs.Math.Path.{fun_ext}
@@ -10,7 +10,7 @@ use Rattle.std.proofs.lemmas.Option.{get_or_from_slice_get, slice_get-map, slice
 use Rattle.flow.specs.declared.node.Node.{Node}
 use Rattle.flow.specs.declared.node.Node.TheVariants.{Mark, Pass, Test}
 use Rattle.flow.specs.declared.node.View.{View}
-use Rattle.flow.specs.declared.node.View.TheVariants.{Marks, Forks}
+use Rattle.flow.specs.declared.node.View.TheVariants.{Marks}
 use Rattle.flow.specs.declared.program.Function.{Function}
 use Rattle.flow.specs.declared.program.Global.{Global}
 use Rattle.flow.specs.declared.program.ProgramParts.{ProgramParts}
@@ -20,7 +20,7 @@ use Rattle.flow.specs.declared.scope.Names.{Names}
 use Rattle.flow.specs.declared.site.Site.{Site}
 use Rattle.flow.specs.Code.{Callee, Code, callee_of, code_of, node_of, view_at}
 use Rattle.flow.specs.Nodes.{NodesFit, is_own, leads_rightly, names_fit, node_fits}
-use Rattle.flow.specs.Program.{AreDistinct, AreFew, AreSites, FunctionsFit, HasMain, IsFunction, IsProgram, bounds_of, names_of, parts_of}
+use Rattle.flow.specs.Program.{AreSites, IsFunction, IsProgram, bounds_of, names_of, parts_of}
 use Rattle.flow.specs.Ready.{ArePlain, BranchesFork, IsBranch, IsPlain, IsReady}
 use Rattle.flow.specs.Sites.{IsSite}
 use Rattle.flow.specs.View.{view}

@@ -1,6 +1,6 @@
 -- Whole runs.
-use Rattle.std.proofs.Common.{◌≡◌, ◌⊎◌, inl, inr, ℕ, zero, suc, List, [], ◌∷◌, Option, None, Some, refl, sym, ap, ◌∙◌, subst}
-use Rattle.cbi_base.specs.Objects.{Objects, no_objects}
+use Rattle.std.proofs.Common.{◌≡◌, ◌⊎◌, inl, inr, ℕ, zero, suc, List, [], Option, None, Some, refl, sym, ap, ◌∙◌, subst}
+use Rattle.cbi_base.specs.Objects.{Objects}
 use Rattle.flow.specs.Code.{Code}
 use Rattle.flow.specs.Machine.{EndsFrom, Ends, at_start, begin_with, run, step}
 use Rattle.flow.specs.Ready.{BranchesFork}

@@ -1,17 +1,15 @@
 -- One step of the part's program beside one of the whole program: their states differ in what was seen alone.
-use Rattle.std.proofs.Common.{◌≡◌, ◌⊎◌, inl, inr, ℕ, zero, suc, ◌+◌, Bool, true, false, not, if◌then◌else◌, nat_lt, List, [], ◌∷◌, ◌++◌, length, Option, None, Some, Ok, Err, Result, ℤ, refl, sym, ap, ◌∙◌, subst}
+use Rattle.std.proofs.Common.{◌≡◌, ◌⊎◌, inl, inr, ℕ, zero, suc, Bool, true, false, if◌then◌else◌, nat_lt, List, [], ◌∷◌, Option, None, Some, Ok, Err, Result, refl, sym, ap, ◌∙◌, subst}
 use Rattle.cbi_base.specs.declared.observation.Observation.{Observation}
 use Rattle.cbi_base.specs.declared.observation.Seen.{Seen}
-use Rattle.cbi_base.specs.declared.outcome.Outcome.{Outcome}
-use Rattle.cbi_base.specs.declared.outcome.Outcome.TheVariants.{Trapped, Ended, CutTurns}
+use Rattle.cbi_base.specs.declared.outcome.Outcome.TheVariants.{Trapped}
 use Rattle.cbi_base.specs.declared.scalar.Kind.TheVariants as kind
 use Rattle.cbi_base.specs.declared.scalar.Scalar.{Scalar}
-use Rattle.cbi_base.specs.declared.scalar.Scalar.TheVariants.{Number, Place, Null, Undefined}
+use Rattle.cbi_base.specs.declared.scalar.Scalar.TheVariants.{Number, Undefined}
 use Rattle.cbi_base.specs.declared.trap.Trap.{Trap}
-use Rattle.cbi_base.specs.declared.trap.Trap.TheVariants.{Internal, StackOverflow}
+use Rattle.cbi_base.specs.declared.trap.Trap.TheVariants.{StackOverflow}
 use Rattle.cbi_base.specs.Objects.{Objects}
 use Rattle.cbi_base.specs.Scalars.{truth_of}
-use Rattle.flow.specs.declared.node.Node.{Node}
 use Rattle.flow.specs.declared.node.Node.TheVariants.{Pass}
 use Rattle.flow.specs.declared.node.View.{View}
 use Rattle.flow.specs.declared.node.View.TheVariants.{Row, Halts, Forks, Turns, Calls, Gives, Quits, Marks, Nowhere, Skips, Tests, Picks, Imports, Exports}
@@ -23,7 +21,7 @@ use Rattle.flow.specs.Machine.{EndsFrom, Ends, branch, fork, go_on, halt, next_o
 use Rattle.flow.specs.Now.{Effect, Goes, Lacks, Now, Stops, Taken, Takes, any, several}
 use Rattle.flow.specs.Ready.{BranchesFork, IsPlain}
 use Rattle.flow.specs.Rows.{act}
-use Rattle.flow.specs.State.{Ending, Frame, Next, On, Over, State, over}
+use Rattle.flow.specs.State.{Frame, Next, On, Over, State, over}
 use Rattle.flow.specs.Truths.{looked}
 use Rattle.flow.proofs.Endings.{ends_over}
 use Rattle.site_parts.specs.declared.part.Part.{Part}
@@ -31,7 +29,7 @@ use Rattle.site_parts.specs.Part.{PartFits, has, number_in, part_visits, whole_n
 use Rattle.site_parts.specs.Runs.{IsFaulty, part_ending}
 use Rattle.site_parts.proofs.Faults.{Unlooked, unlooked}
 use Rattle.site_parts.proofs.Numbers.{whole_back}
-use Rattle.site_parts.proofs.Visits.{in_part, last_left, visit_kept}
+use Rattle.site_parts.proofs.Visits.{last_left, visit_kept}
 
 abbrev pub view_by : Bool → Part → ℕ → ℕ → View
 view_by true part site next = Marks (number_in part site) next

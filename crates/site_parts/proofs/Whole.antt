@@ -10,7 +10,7 @@ use Rattle.flow.specs.State.{Ending, Next}
 use Rattle.site_parts.specs.declared.part.Part.{Part}
 use Rattle.site_parts.specs.Part.{PartFits}
 use Rattle.site_parts.specs.Program.{part_program}
-use Rattle.site_parts.specs.Runs.{IsFaulty, RunsInPart, part_ending}
+use Rattle.site_parts.specs.Runs.{RunsInPart, part_ending}
 use Rattle.site_parts.proofs.Programs.{plain_code, same_code}
 use Rattle.site_parts.proofs.Runs.{Fit, begins, from_back, from_there}
 use Rattle.site_parts.proofs.Steps.{kept_next, part_code}

@@ -1,5 +1,5 @@
 -- What the parts of a table are to one another and to the whole, in the subject's own words.
-use Rattle.std.specs.Prelude.{◌≡◌, ◌≢◌, ◌↔◌, ℕ, ◌<◌, ◌≤◌, List, ◌∷◌, ◌++◌, length, None, slice_get}
+use Rattle.std.specs.Prelude.{◌≡◌, ◌≢◌, ℕ, ◌<◌, ◌≤◌, List, ◌∷◌, ◌++◌, length, None, slice_get}
 use Rattle.std.specs.List.{All}
 use Rattle.cbi_base.specs.declared.observation.Observation.{Observation}
 use Rattle.flow.specs.declared.program.ProgramParts.{ProgramParts}

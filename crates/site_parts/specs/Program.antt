@@ -1,5 +1,5 @@
 -- The program that looks at a part of the sites alone.
-use Rattle.std.specs.Prelude.{ℕ, List, map, if◌then◌else◌}
+use Rattle.std.specs.Prelude.{map, if◌then◌else◌}
 use Rattle.flow.specs.declared.node.Node.{Node}
 use Rattle.flow.specs.declared.node.Node.TheVariants.{Mark, Pass}
 use Rattle.flow.specs.declared.program.Function.{Function}

@@ -1,5 +1,5 @@
 -- Reports of a part's program, as reports of the whole one.
-use Rattle.std.specs.Prelude.{ℕ, ◌≤◌, List, map}
+use Rattle.std.specs.Prelude.{◌≤◌, List, map}
 use Rattle.std.specs.List.{All}
 use Rattle.cbi_base.specs.declared.identity.ProgramId.{ProgramId}
 use Rattle.report_file.specs.declared.report.Entry.{Entry}

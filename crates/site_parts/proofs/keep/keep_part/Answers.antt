@@ -1,12 +1,11 @@
-use Rattle.std.proofs.Common.{◌≡◌, ◌∙◌, List, length, map, ap, sym, subst, rules}
+use Rattle.std.proofs.Common.{◌≡◌, ◌∙◌, length, map, ap, sym, subst, rules}
 use Rattle.std.specs.List.{All, sum_by}
-use Rattle.flow.specs.declared.program.Function.{Function}
 use Rattle.flow.specs.declared.program.ProgramParts.{ProgramParts}
 use Rattle.flow.specs.declared.site.TableParts.{TableParts}
 use Rattle.flow.specs.Program.{IsProgram, table_of}
 use Rattle.flow.specs.Ready.{ArePlain, IsReady}
 use Rattle.site_parts.specs.Part.{part_of}
-use Rattle.site_parts.specs.Program.{part_function, part_program, part_table}
+use Rattle.site_parts.specs.Program.{part_function, part_program}
 use Rattle.site_parts.specs.Runs.{RunsInPart}
 use Rattle.site_parts.proofs.Programs.{made_of, names_same, nodes_kept, part_is_program, plain_functions, ready_part}
 use Rattle.site_parts.proofs.Whole.{runs_in_part}
