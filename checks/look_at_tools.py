@@ -380,6 +380,11 @@ int main(void)
 """
 
 
+def heed_interrupts():
+    """Has a process heed ^C, which one that begins in the background of a shell script ignores."""
+    signal.signal(signal.SIGINT, signal.SIG_DFL)
+
+
 class Hunt(Case):
     def setUp(self):
         super().setUp()
@@ -445,7 +450,7 @@ class Hunt(Case):
         self.hunt("--inputs", "both", "--runs", "300", "--keep", "whole")
         environment = dict(os.environ, PATH=f"{os.path.dirname(CBI)}:{TOOLS}:{os.environ['PATH']}")
         words = ["cbi-hunt", "upper.c", "--inputs", "both", "--runs", "300", "--jobs", "2", "--keep", "parts"]
-        begun = subprocess.Popen(words, cwd=self.room, env=environment, stdout=subprocess.PIPE, stderr=subprocess.PIPE, start_new_session=True)
+        begun = subprocess.Popen(words, cwd=self.room, env=environment, stdout=subprocess.PIPE, stderr=subprocess.PIPE, start_new_session=True, preexec_fn=heed_interrupts)
         self.wait_for(lambda: os.path.isdir(self.path("parts/batches")) and os.listdir(self.path("parts/batches")))
         os.killpg(begun.pid, signal.SIGINT)
         out, err = begun.communicate()
