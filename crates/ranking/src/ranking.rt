@@ -1,4 +1,4 @@
-ghost use Rattle.std.specs.Prelude.{◌≡◌, ◌<◌, ◌-◌, ◌^◌, ℕ, length, IfOk, map};
+ghost use Rattle.std.specs.Prelude.{◌≡◌, IfOk};
 ghost use Rattle.std.specs.List.{enumerate_from, join_with_byte};
 ghost use Rattle.cbi_base.specs.Text.{ended, text_of};
 ghost use Rattle.ranking.specs.Ranking.{AreRowsOf, IsRowOf, header_fields, ranking_text, row_fields};
@@ -17,13 +17,13 @@ const HEADER: &[u8] =
     b"rank,predicate,scheme,function,line,text,f,s,fobs,sobs,failure,context,increase,importance\n";
 
 // The line of a row.
-fn row_line(alloc: Global, rank: u32, row: &Listed, table: &SiteTable) -> Result<Vec<u8>, Memory>
+fn row_line(alloc: Global, rank: u64, row: &Listed, table: &SiteTable) -> Result<Vec<u8>, Memory>
     requires { IsRowOf table.now row.now }
     ensures { IfOk result (λ line. line.items ≡ ended (join_with_byte 44 (row_fields table.now rank row.now))) }
 {
     place_is_plain(table, row.predicate);
     let mut record = ByteRecord::new(alloc);
-    push_number(&mut record, u64::from(rank))?;
+    push_number(&mut record, rank)?;
     push_number(&mut record, u64::from(row.predicate))?;
     push_place(alloc, &mut record, table, row.predicate)?;
     push_tally(&mut record, row.tally)?;
@@ -34,12 +34,11 @@ fn row_line(alloc: Global, rank: u32, row: &Listed, table: &SiteTable) -> Result
 
 /// The text of a ranking: the header, and a row for each of these in turn, the first with rank 1.
 pub fn ranking_text(alloc: Global, rows: &[Listed], table: &SiteTable) -> Result<Vec<u8>, Memory>
-    requires rows { AreRowsOf table.now rows.now }
-    requires few { length rows.now < 2 ^ 32 - 1 }
+    requires { AreRowsOf table.now rows.now }
     ensures { IfOk result (λ text. text.items ≡ ranking_text table.now rows.now) }
 {
     let mut text = Vec::from_slice(alloc, HEADER)?;
-    let mut rank = 1u32;
+    let mut rank = 1u64;
     for row in rows {
         let line = row_line(alloc, rank, row, table)?;
         text.extend_from_slice(line.as_slice())?;

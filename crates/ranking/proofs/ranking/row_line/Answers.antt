@@ -15,15 +15,14 @@ returns c =
     let place = place_fields t.functions (site_at t.sites row.predicate) (predicate_text t.sites row.predicate) in
     let tally = tally_fields row.tally in
     let shares = share_fields row.tally row.failing in
-    let first = c.in_ok-push_number.ensures.fields ∙ ap (λ (fs : List (List ℕ)). fs ++ decimal c.from.result ∷ []) c.new-record.ensures.fields in
-    let second = c.in_ok-push_number-2.ensures.fields ∙ ap (λ (fs : List (List ℕ)). fs ++ decimal c.from-2.result ∷ []) first in
+    let first = c.in_ok-push_number.ensures.fields ∙ ap (λ (fs : List (List ℕ)). fs ++ decimal c.args.rank ∷ []) c.new-record.ensures.fields in
+    let second = c.in_ok-push_number-2.ensures.fields ∙ ap (λ (fs : List (List ℕ)). fs ++ decimal c.from.result ∷ []) first in
     let third = c.in_ok-push_place.ensures.fields ∙ ap (λ (fs : List (List ℕ)). fs ++ place) second in
     let fourth = c.in_ok-push_tally.ensures.fields ∙ ap (λ (fs : List (List ℕ)). fs ++ tally) third in
     let fifth = c.in_ok-push_shares.ensures.fields ∙ ap (λ (fs : List (List ℕ)). fs ++ shares) fourth in
-    let rank : IsPlain (decimal c.from.result) = c.in_ok-push_number.ensures.plain in
-    let predicate : IsPlain (decimal c.from-2.result) = c.in_ok-push_number-2.ensures.plain in
+    let rank : IsPlain (decimal c.args.rank) = c.in_ok-push_number.ensures.plain in
+    let predicate : IsPlain (decimal c.from.result) = c.in_ok-push_number-2.ensures.plain in
     let rest = are-plain-append (place ++ tally) shares (are-plain-append place tally c.place_is_plain.ensures c.in_ok-push_tally.ensures.plain) c.in_ok-push_shares.ensures.plain in
-    let line = row-line (decimal c.from.result) (decimal c.from-2.result) (place ++ tally ++ shares) (rank, (predicate, rest)) in
+    let line = row-line (decimal c.args.rank) (decimal c.from.result) (place ++ tally ++ shares) (rank, (predicate, rest)) in
     c.in_ok-line.ensures ∙ ap (row_text default_writer) fifth ∙ line
-    ∙ ap (λ (n : ℕ). ended (join_with_byte 44 (decimal n ∷ decimal c.from-2.result ∷ (place ++ tally ++ shares)))) c.from.ensures
-    ∙ ap (λ (n : ℕ). ended (join_with_byte 44 (decimal c.args.rank ∷ decimal n ∷ (place ++ tally ++ shares)))) c.from-2.ensures
+    ∙ ap (λ (n : ℕ). ended (join_with_byte 44 (decimal c.args.rank ∷ decimal n ∷ (place ++ tally ++ shares)))) c.from.ensures
