@@ -1,0 +1,10 @@
+pub mod BoundLemmas
+pub mod TallyLemmas
+pub mod OrderLemmas
+pub mod PairLists
+pub mod ListingLemmas
+pub mod PlaceLemmas
+pub mod ScanLemmas
+pub mod FoundLemmas
+pub mod LookLemmas
+pub mod TextLemmas

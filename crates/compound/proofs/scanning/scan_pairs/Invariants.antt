@@ -1,0 +1,14 @@
+use Rattle.std.proofs.Common.{◌≡◌, ◌+◌, take}
+use Rattle.elimination.specs.Recount.{failing_runs, recount, runs_of}
+use Rattle.pair_counts.specs.Truth.{pair_recount}
+use Rattle.compound.specs.Listing.{predicates_of}
+use Rattle.compound.specs.Pairs.{pairs_of}
+use Rattle.compound.specs.Scanning.{IsScan}
+use Rattle.compound.proofs.scanning.scan_pairs.Given as goal
+
+abbrev pub invariant-loop-places : goal.invariant-loop-places
+invariant-loop-places l = record {
+  scan : IsScan (recount l.collection.branches (runs_of l.collection.reports)) (pair_recount l.collection.branches (runs_of l.collection.reports)) (failing_runs (runs_of l.collection.reports))
+      (take l.places-index (pairs_of (predicates_of l.candidates))) l.scan;
+  all : l.scan.counted + l.scan.skipped ≡ l.places-index;
+}

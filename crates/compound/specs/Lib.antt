@@ -1,0 +1,10 @@
+pub mod Bound
+pub mod Candidates
+pub mod Pairs
+pub mod Best
+pub mod Found
+pub mod Text
+pub mod Laws
+pub mod Listing
+pub mod Scanning
+pub mod Steps
