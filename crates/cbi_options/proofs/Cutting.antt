@@ -1,6 +1,6 @@
 -- What was given so far, and what the words that are left give.
 use Rattle.std.specs.Option.{option_map}
-use Rattle.std.specs.List.{list_any, position_or_len}
+use Rattle.std.specs.List.{list_any, position_or_len, before_first, after_first}
 use Rattle.std.specs.Prelude.{String, string_bytes}
 use Rattle.std.specs.Global.{Global}
 use Rattle.std.proofs.Common.{◌≡◌, ℕ, ◌+◌, ◌-◌, ◌<◌, ◌≤◌, drop, Bool, true, false, not, ◌||◌, cond, if◌then◌else◌, ltb, MatchOption, Bor, List, [], ◌∷◌, ◌++◌, length, get_or, take, Option, None, Some, ap, sym, ◌∙◌, refl, append_assoc, arith}
@@ -9,7 +9,7 @@ use Rattle.std.proofs.lemmas.List.{append-nil, map-append, take_more, take_all}
 use Rattle.cbi_options.specs.declared.given.Choice.{Choice}
 use Rattle.cbi_options.specs.declared.given.Shape.{Shape}
 use Rattle.cbi_options.specs.declared.given.Shape.TheVariants as shape
-use Rattle.cbi_options.specs.WordRule.{none_given, is_value, with_option, with_positional, texts_of, cut, shape_of, has_value, name_in, value_in, is_equals}
+use Rattle.cbi_options.specs.WordRule.{none_given, is_value, with_option, with_positional, texts_of, cut, shape_of, has_value, name_in, value_in}
 use Rattle.cbi_options.specs.declared.given.Given.{Given}
 
 -- one list of what is given behind another
@@ -88,9 +88,12 @@ list_any-position : (p : ℕ → Bool) (xs : List ℕ) → list_any p xs ≡ ltb
 list_any-position p [] = refl
 list_any-position p (x ∷ xs) = any-first p x xs (p x) (list_any-position p xs)
 
-pub parts-are : (word : List ℕ) (r : Option (Bor (List ℕ) × Bor (List ℕ))) → MatchOption r (position_or_len is_equals word ≡ length word) (λ x. (position_or_len is_equals word < length word) × (x.0.now ≡ name_in word) × (x.1.now ≡ value_in word)) → MatchOption r (has_value word ≡ false) (λ x. (has_value word ≡ true) × (x.0.now ≡ name_in word) × (x.1.now ≡ value_in word))
-parts-are word None h = let e = list_any-position is_equals word in grind (arith, nat_tests)
-parts-are word (Some x) h = let e = list_any-position is_equals word in let has : has_value word ≡ true = grind (arith, nat_tests) in (has, h.1, h.2)
+-- what stands before the first that passes, and behind it
+pub parts-are : (p : ℕ → Bool) (word : List ℕ) (r : Option (Bor (List ℕ) × Bor (List ℕ)))
+    → MatchOption r (position_or_len p word ≡ length word) (λ x. (position_or_len p word < length word) × (x.0.now ≡ before_first p word) × (x.1.now ≡ after_first p word))
+    → MatchOption r (list_any p word ≡ false) (λ x. (list_any p word ≡ true) × (x.0.now ≡ before_first p word) × (x.1.now ≡ after_first p word))
+parts-are p word None h = let e = list_any-position p word in grind (arith, nat_tests)
+parts-are p word (Some x) h = let e = list_any-position p word in let has : list_any p word ≡ true = grind (arith, nat_tests) in (has, h.1, h.2)
 
 -- the text of the first word, and of those that are left
 pub texts_of-first : (words : List (String Global)) (word : String Global) (text : List ℕ) → 1 ≤ length words → word ≡ get_or words 0 word → text ≡ string_bytes word → texts_of words ≡ text ∷ texts_of (take (length words - 1) (drop 1 words))

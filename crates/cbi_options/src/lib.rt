@@ -6,6 +6,7 @@ mod given;
 mod numbers;
 mod policies;
 mod schemes;
+mod shares;
 mod word;
 
 pub use fault::Fault;
@@ -13,4 +14,5 @@ pub use given::{Choice, Given, cut};
 pub use numbers::{Bounds, number_in, number_or};
 pub use policies::policy_or;
 pub use schemes::{Mode, Schemes, mode_in, schemes_or};
+pub use shares::{Share, share_in, share_or};
 pub use word::Word;

@@ -15,8 +15,8 @@ pub struct Bounds {
     pub most: u64,
 }
 
-// The number that a decimal spells, at most `most`.
-fn number_of(value: &str, most: u64) -> Option<u64>
+/// The number that a decimal spells, at most `most`.
+pub(crate) fn number_of(value: &str, most: u64) -> Option<u64>
     ensures value { result ≡ number_of most value.now }
     ensures most { IfSome result (λ n. n ≤ most) }
 {
