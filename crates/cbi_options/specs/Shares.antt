@@ -37,3 +37,7 @@ is_share value = is_some (share_of value)
 abbrev pub share_or : Option (List ℕ) → Option (Option Share)
 share_or None = Some None
 share_or (Some value) = share_of value >>= λ share. Some (Some share)
+
+-- the share of an option that must be given
+abbrev pub share_wanted : Option (List ℕ) → Option Share
+share_wanted given = given >>= share_of

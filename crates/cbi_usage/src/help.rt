@@ -21,7 +21,7 @@ enum Row {
 /// What is said of the policy of a ranking.
 const POLICY: &str = "What is done after each leader: all, failing or relabel [default: all]";
 
-const TRANSFORM: [Row; 3] = [
+const TRANSFORM: [Row; 4] = [
     Row::Needed(
         "mode",
         "MODE",
@@ -31,6 +31,11 @@ const TRANSFORM: [Row; 3] = [
         "schemes",
         "LIST",
         "Which sites: some of branches,returns,pairs [default: all]",
+    ),
+    Row::Option(
+        "part",
+        "I/N",
+        "Only a part of the sites: every Nth from the Ith on",
     ),
     Row::Positional("C", "The text's file"),
 ];
@@ -77,6 +82,32 @@ const RANK: [Row; 3] = [
     Row::Option("policy", "POLICY", POLICY),
     Row::Positional("PROG", "The program file"),
     Row::Positional("COLL", "The collection's file"),
+];
+
+const PAIRS: [Row; 2] = [
+    Row::Positional("PROG", "The program file"),
+    Row::Positional("COLL", "The collection's file"),
+];
+
+const CARDS: [Row; 2] = [
+    Row::Positional("PROG", "The program file"),
+    Row::Positional("COLL", "The collection's file"),
+];
+
+const SESSION: [Row; 3] = [
+    Row::Needed("program", "PROG", "The program file"),
+    Row::Option("policy", "POLICY", POLICY),
+    Row::Positional("EDITS", "The file of the edits"),
+];
+
+const WIDEN: [Row; 4] = [
+    Row::Needed("whole", "WHOLE", "The file of the whole program"),
+    Row::Needed("part", "I/N", "Which part of the sites the program has"),
+    Row::Positional(
+        "PARTPROG",
+        "The file of the program with a part of the sites",
+    ),
+    Row::Positional("COLL", "The file of a collection of its runs"),
 ];
 
 const STUDY: [Row; 6] = [
@@ -147,7 +178,7 @@ fn command(
 /// A command: its name, what is said of it, its words, and its name behind the tool's.
 type Line = (&'static str, &'static str, &'static [Row], &'static str);
 
-const LINES: [Line; 6] = [
+const LINES: [Line; 10] = [
     (
         "transform",
         "Compile a C text to a program file",
@@ -172,6 +203,30 @@ const LINES: [Line; 6] = [
         "Rank the predicates of a program by the runs of a collection",
         &RANK,
         "cbi rank",
+    ),
+    (
+        "pairs",
+        "Find the two predicates that point best together",
+        &PAIRS,
+        "cbi pairs",
+    ),
+    (
+        "cards",
+        "Deal a card for each ranked predicate, with those nearest to it",
+        &CARDS,
+        "cbi cards",
+    ),
+    (
+        "session",
+        "Follow a file of edits of a collection, and rank where it says so",
+        &SESSION,
+        "cbi session",
+    ),
+    (
+        "widen",
+        "Turn a collection of a part's program into one of the whole program",
+        &WIDEN,
+        "cbi widen",
     ),
     (
         "study",

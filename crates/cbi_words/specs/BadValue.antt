@@ -3,9 +3,10 @@ use Rattle.std.specs.Prelude.{ℕ, Bool, if◌then◌else◌, List, [], ◌∷�
 use Rattle.cbi_base.specs.Numbers.{is_word, ◌>>=◌}
 use Rattle.cbi_options.specs.declared.given.Choice.{Choice}
 use Rattle.cbi_options.specs.Options.{value_of}
+use Rattle.cbi_options.specs.Shares.{is_share}
 use Rattle.cbi_options.specs.Values.{fits, is_mode, is_number, is_policy, is_schemes}
 use Rattle.cbi_options.specs.declared.given.Given.{Given}
-use Rattle.cbi_words.specs.Reading.{asked, bank_options, no_positional, only, rank_options, run_options, study_options, transform_options, two}
+use Rattle.cbi_words.specs.Reading.{asked, bank_options, no_positional, only, rank_options, run_options, session_options, study_options, transform_options, two, widen_options}
 
 -- an option that doesn't take every value, and the values that it takes
 pub record Rule : Type 0 where
@@ -55,16 +56,38 @@ abbrev pub bad_transform : Given → Option (List ℕ)
 bad_transform given = do
   text ← only given.positionals
   mode ← value_of (codes "--mode") given.options
-  first_bad (record { name = codes "--mode"; takes = is_mode } ∷ record { name = codes "--schemes"; takes = is_schemes } ∷ []) given.options
+  first_bad (record { name = codes "--mode"; takes = is_mode } ∷ record { name = codes "--schemes"; takes = is_schemes } ∷ record { name = codes "--part"; takes = is_share } ∷ []) given.options
 
--- `collect` takes every value of its option
+-- of `session` with its program and its edits
+abbrev pub bad_session : Given → Option (List ℕ)
+bad_session given = do
+  edits ← only given.positionals
+  program ← value_of (codes "--program") given.options
+  first_bad (record { name = codes "--policy"; takes = is_policy } ∷ []) given.options
+
+-- of `widen` with its two programs, its part and its collection
+abbrev pub bad_widen : Given → Option (List ℕ)
+bad_widen given = do
+  files ← two given.positionals
+  whole ← value_of (codes "--whole") given.options
+  part ← value_of (codes "--part") given.options
+  first_bad (record { name = codes "--part"; takes = is_share } ∷ []) given.options
+
+-- `cards` and `pairs` have no options
+unfoldable pub later_bad_in : List ℕ → List (List ℕ) → Option (List ℕ)
+later_bad_in name words =
+    if is_word name (codes "session") then (asked session_options words >>= bad_session)
+    else (if is_word name (codes "widen") then (asked widen_options words >>= bad_widen) else None)
+
+-- `collect` takes every value of its options
 unfoldable pub bad_in : List ℕ → List (List ℕ) → Option (List ℕ)
 bad_in name words =
     if is_word name (codes "run") then (asked run_options words >>= bad_run)
     else (if is_word name (codes "bank") then (asked bank_options words >>= bad_bank)
+    else (if is_word name (codes "collect") then None
     else (if is_word name (codes "rank") then (asked rank_options words >>= bad_rank)
     else (if is_word name (codes "study") then (asked study_options words >>= bad_study)
-    else (if is_word name (codes "transform") then (asked transform_options words >>= bad_transform) else None))))
+    else (if is_word name (codes "transform") then (asked transform_options words >>= bad_transform) else later_bad_in name words)))))
 
 -- the option whose value alone breaks the rule, the first in the table of the command
 abbrev pub bad_value : List (List ℕ) → Option (List ℕ)

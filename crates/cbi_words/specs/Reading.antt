@@ -5,9 +5,10 @@ use Rattle.cbi_base.specs.Numbers.{is_word, ◌>>=◌}
 use Rattle.cbi_options.specs.WordRule.{cut}
 use Rattle.cbi_options.specs.Options.{are_asked, value_of, number_or, number_wanted, policy_or}
 use Rattle.cbi_options.specs.Schemes.{all_schemes, mode_wanted, schemes_or}
+use Rattle.cbi_options.specs.Shares.{share_or, share_wanted}
 use Rattle.cbi_options.specs.declared.given.Given.{Given}
 use Rattle.cbi_words.specs.declared.command.Command.{Command}
-use Rattle.cbi_words.specs.declared.command.Command.TheVariants.{Transform, Run, Bank, Collect, Rank, Study}
+use Rattle.cbi_words.specs.declared.command.Command.TheVariants.{Transform, Run, Bank, Collect, Rank, Study, Session, Widen, Cards, Pairs}
 
 -- the one positional, where there is one alone
 abbrev pub only : List (List ℕ) → Option (List ℕ)
@@ -15,16 +16,17 @@ only [] = None
 only (word ∷ []) = Some word
 only (word ∷ next ∷ more) = None
 
--- `transform --mode plain|full|sampled [--schemes LIST] C`
+-- `transform --mode plain|full|sampled [--schemes LIST] [--part I/N] C`
 abbrev pub transform_options : List (List ℕ)
-transform_options = codes "--mode" ∷ codes "--schemes" ∷ []
+transform_options = codes "--mode" ∷ codes "--schemes" ∷ codes "--part" ∷ []
 
 abbrev pub transform_of : Given → Option Command
 transform_of given = do
   mode ← mode_wanted (value_of (codes "--mode") given.options)
   schemes ← schemes_or all_schemes (value_of (codes "--schemes") given.options)
+  part ← share_or (value_of (codes "--part") given.options)
   text ← only given.positionals
-  Some (Transform mode schemes text)
+  Some (Transform mode schemes part text)
 
 -- `run [--bank B] [--input I] [--expect FILE] [--turns N] [--run R] [--report F] PROG`
 abbrev pub run_options : List (List ℕ)
@@ -99,11 +101,55 @@ study_of given = do
   text ← only given.positionals
   Some (Study runs seed rate turns policy text)
 
+-- `session --program PROG [--policy all|failing|relabel] EDITS`
+abbrev pub session_options : List (List ℕ)
+session_options = codes "--program" ∷ codes "--policy" ∷ []
+
+abbrev pub session_of : Given → Option Command
+session_of given = do
+  program ← value_of (codes "--program") given.options
+  policy ← policy_or All (value_of (codes "--policy") given.options)
+  edits ← only given.positionals
+  Some (Session program policy edits)
+
+-- `widen --whole WHOLE --part I/N PARTPROG COLL`
+abbrev pub widen_options : List (List ℕ)
+widen_options = codes "--whole" ∷ codes "--part" ∷ []
+
+abbrev pub widen_of : Given → Option Command
+widen_of given = do
+  whole ← value_of (codes "--whole") given.options
+  part ← share_wanted (value_of (codes "--part") given.options)
+  files ← two given.positionals
+  Some (Widen whole part files.0 files.1)
+
+-- `cards PROG COLL`, and `pairs PROG COLL`
+abbrev pub no_options : List (List ℕ)
+no_options = []
+
+abbrev pub cards_of : Given → Option Command
+cards_of given = do
+  files ← two given.positionals
+  Some (Cards files.0 files.1)
+
+abbrev pub pairs_of : Given → Option Command
+pairs_of given = do
+  files ← two given.positionals
+  Some (Pairs files.0 files.1)
+
 -- what is given after a command with these options
 abbrev pub asked : List (List ℕ) → List (List ℕ) → Option Given
 asked options words = cut None words >>= λ given. if are_asked options given then Some given else None
 
--- the commands, by their names, with the words that follow
+-- the commands that look on into collections, by their names, with the words that follow
+unfoldable pub later_command_in : List ℕ → List (List ℕ) → Option Command
+later_command_in name words =
+    if is_word name (codes "session") then (asked session_options words >>= session_of)
+    else (if is_word name (codes "widen") then (asked widen_options words >>= widen_of)
+    else (if is_word name (codes "cards") then (asked no_options words >>= cards_of)
+    else (if is_word name (codes "pairs") then (asked no_options words >>= pairs_of) else None)))
+
+-- all commands, by their names
 unfoldable pub command_in : List ℕ → List (List ℕ) → Option Command
 command_in name words =
     if is_word name (codes "run") then (asked run_options words >>= run_of)
@@ -111,7 +157,7 @@ command_in name words =
     else (if is_word name (codes "collect") then (asked collect_options words >>= collect_of)
     else (if is_word name (codes "rank") then (asked rank_options words >>= rank_of)
     else (if is_word name (codes "study") then (asked study_options words >>= study_of)
-    else (if is_word name (codes "transform") then (asked transform_options words >>= transform_of) else None)))))
+    else (if is_word name (codes "transform") then (asked transform_options words >>= transform_of) else later_command_in name words)))))
 
 -- the command that the words read as
 abbrev pub reads : List (List ℕ) → Option Command

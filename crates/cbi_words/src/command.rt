@@ -1,5 +1,5 @@
 use cbi_base::{Policy, Seq};
-use cbi_options::{Mode, Schemes, Word};
+use cbi_options::{Mode, Schemes, Share, Word};
 
 /// What the words ask for. A command that isn't built has no variant.
 #[derive(Debug, Drop)]
@@ -10,6 +10,8 @@ pub enum Command {
         mode: Mode,
         /// Of which schemes its sites are; a plain program has none.
         schemes: Schemes,
+        /// With which part of these sites; without it with all. A plain program has none.
+        part: Option<Share>,
         /// The name of the text's file.
         text: Word,
     },
@@ -71,5 +73,39 @@ pub enum Command {
         policy: Policy,
         /// The name of the text's file.
         text: Word,
+    },
+    /// `session`: follows the edits of a collection, and ranks where they say so.
+    Session {
+        /// The name of the program file.
+        program: Word,
+        /// What is done after each leader.
+        policy: Policy,
+        /// The name of the file of the edits.
+        edits: Word,
+    },
+    /// `widen`: makes a collection of the whole program from one of a program with a part of its sites.
+    Widen {
+        /// The name of the whole program's file.
+        whole: Word,
+        /// Which part the other program has.
+        part: Share,
+        /// The name of that program's file.
+        program: Word,
+        /// The name of the collection's file.
+        collection: Word,
+    },
+    /// `cards`: deals a card for each ranked predicate.
+    Cards {
+        /// The name of the program file.
+        program: Word,
+        /// The name of the collection's file.
+        collection: Word,
+    },
+    /// `pairs`: finds the best conjunction of two predicates.
+    Pairs {
+        /// The name of the program file.
+        program: Word,
+        /// The name of the collection's file.
+        collection: Word,
     },
 }

@@ -4,8 +4,8 @@ ghost use Rattle.cbi_options.specs.Answers.{ReadAs};
 ghost use Rattle.cbi_options.specs.Options.{value_of};
 ghost use Rattle.cbi_options.specs.WordRule.{texts_of};
 ghost use Rattle.cbi_words.specs.Answers.{OnUsage};
-ghost use Rattle.cbi_words.specs.BadValue.{bad_bank, bad_in, bad_rank, bad_run, bad_study, bad_transform, bad_value};
-ghost use Rattle.cbi_words.specs.Reading.{asked, bank_of, collect_of, command_in, rank_of, reads, run_of, study_of, transform_of};
+ghost use Rattle.cbi_words.specs.BadValue.{bad_bank, bad_in, bad_rank, bad_run, bad_session, bad_study, bad_transform, bad_value, bad_widen, later_bad_in};
+ghost use Rattle.cbi_words.specs.Reading.{asked, bank_of, cards_of, collect_of, command_in, later_command_in, pairs_of, rank_of, reads, run_of, session_of, study_of, transform_of, widen_of};
 ghost use Rattle.cbi_words.specs.Within.{IsWithin};
 
 use crate::command::Command;
@@ -13,6 +13,7 @@ use crate::error::WordsError;
 use cbi_base::{Memory, Policy};
 use cbi_options::{
     Bounds, Fault, Given, Word, cut, mode_in, number_in, number_or, policy_or, schemes_or,
+    share_in, share_or,
 };
 use cbi_usage::{bad_value_line, usage};
 use std::alloc::Global;
@@ -63,9 +64,11 @@ fn transform_of(given: &Given) -> Result<Command, Fault>
     };
     let mode = mode_in("--mode", mode)?;
     let schemes = schemes_or(given, "--schemes")?;
+    let part = share_or(given, "--part")?;
     Ok(Command::Transform {
         mode,
         schemes,
+        part,
         text: text.try_clone()?,
     })
 }
@@ -217,6 +220,76 @@ fn study_of(given: &Given) -> Result<Command, Fault>
     })
 }
 
+// What is given after `session`.
+fn session_of(alloc: Global, given: &Given) -> Result<Command, Fault>
+    ensures reads { ReadAs result (session_of given.now) (bad_session given.now) }
+    ensures within { IfOk result IsWithin }
+{
+    let [edits] = given.positionals.as_slice() else {
+        return Err(Fault::Usage);
+    };
+    let Some(program) = given.copy_of(alloc, "--program")? else {
+        return Err(Fault::Usage);
+    };
+    let policy = policy_or(given, "--policy", Policy::All)?;
+    Ok(Command::Session {
+        program,
+        policy,
+        edits: edits.try_clone()?,
+    })
+}
+
+// What is given after `widen`.
+fn widen_of(alloc: Global, given: &Given) -> Result<Command, Fault>
+    ensures reads { ReadAs result (widen_of given.now) (bad_widen given.now) }
+    ensures within { IfOk result IsWithin }
+{
+    let [program, collection] = given.positionals.as_slice() else {
+        return Err(Fault::Usage);
+    };
+    let Some(part) = given.value_of("--part") else {
+        return Err(Fault::Usage);
+    };
+    let Some(whole) = given.copy_of(alloc, "--whole")? else {
+        return Err(Fault::Usage);
+    };
+    let part = share_in("--part", part)?;
+    Ok(Command::Widen {
+        whole,
+        part,
+        program: program.try_clone()?,
+        collection: collection.try_clone()?,
+    })
+}
+
+// What is given after `cards`.
+fn cards_of(given: &Given) -> Result<Command, Fault>
+    ensures reads { ReadAs result (cards_of given.now) None }
+    ensures within { IfOk result IsWithin }
+{
+    let [program, collection] = given.positionals.as_slice() else {
+        return Err(Fault::Usage);
+    };
+    Ok(Command::Cards {
+        program: program.try_clone()?,
+        collection: collection.try_clone()?,
+    })
+}
+
+// What is given after `pairs`.
+fn pairs_of(given: &Given) -> Result<Command, Fault>
+    ensures reads { ReadAs result (pairs_of given.now) None }
+    ensures within { IfOk result IsWithin }
+{
+    let [program, collection] = given.positionals.as_slice() else {
+        return Err(Fault::Usage);
+    };
+    Ok(Command::Pairs {
+        program: program.try_clone()?,
+        collection: collection.try_clone()?,
+    })
+}
+
 // What the words give after a command with these options.
 fn asked(alloc: Global, options: &[&str], words: &[String]) -> Result<Given, Fault>
     ensures { ReadAs result (asked (map (λ name. name.now) options.now) (texts_of words.now)) None }
@@ -263,8 +336,33 @@ fn command_in(alloc: Global, name: &str, words: &[String]) -> Result<Command, Fa
         return study_of(&given);
     }
     if name == "transform" {
-        let given = asked(alloc, &["--mode", "--schemes"], words)?;
+        let given = asked(alloc, &["--mode", "--schemes", "--part"], words)?;
         return transform_of(&given);
+    }
+    later_command_in(alloc, name, words)
+}
+
+// What is given after the name of a command that looks on into collections.
+#[tactic(auto, unfolding(crate::specs::Reading::later_command_in, crate::specs::BadValue::later_bad_in))]
+fn later_command_in(alloc: Global, name: &str, words: &[String]) -> Result<Command, Fault>
+    ensures reads { ReadAs result (later_command_in name.now (texts_of words.now)) (later_bad_in name.now (texts_of words.now)) }
+    ensures within { IfOk result IsWithin }
+{
+    if name == "session" {
+        let given = asked(alloc, &["--program", "--policy"], words)?;
+        return session_of(alloc, &given);
+    }
+    if name == "widen" {
+        let given = asked(alloc, &["--whole", "--part"], words)?;
+        return widen_of(alloc, &given);
+    }
+    if name == "cards" {
+        let given = asked(alloc, &[], words)?;
+        return cards_of(&given);
+    }
+    if name == "pairs" {
+        let given = asked(alloc, &[], words)?;
+        return pairs_of(&given);
     }
     Err(Fault::Usage)
 }
