@@ -7,11 +7,12 @@ use crate::finding::program;
 use case_rows::{Page, expect, expect_rest, has_head};
 use cbi_base::{Policy, ProgramId};
 use collector::{Added, Collection, RunText, read_collection, read_run};
-use elimination::{Listed, elimination};
+use elimination::elimination;
 use elimination_reference::plain_elimination;
 use flow::SiteTable;
 use ranking::ranking_of;
 use report_file::Report;
+use tallies::Listed;
 
 /// The policies, with the heads of what a row says of each: the predicates that are listed, and the ranking's text.
 const POLICIES: [(Policy, &str, &str); 3] = [

@@ -5,7 +5,7 @@ use Rattle.cbi_base.specs.Store.{Held}
 use Rattle.flow.specs.declared.program.ProgramParts.{ProgramParts}
 use Rattle.flow.specs.Program.{table_of}
 use Rattle.collector.specs.declared.collection.Held.{Held as Collected}
-use Rattle.elimination.specs.Recount.{runs_of}
+use Rattle.tallies.specs.Recount.{runs_of}
 use Rattle.ranking.specs.Ranked.{IsRankingOf}
 use Rattle.command_base.specs.Outside.{TookWithin}
 use Rattle.command_inputs.specs.Runs.{AreRunsOf}

@@ -11,10 +11,10 @@ use Rattle.collector.specs.Sites.{branches_of}
 use Rattle.fractions.specs.declared.tally.Tally.{Tally}
 use Rattle.fractions.specs.Fraction.{IsAtMost}
 use Rattle.fractions.specs.Tally.{IsTally, Passes, importance_of}
-use Rattle.elimination.specs.declared.labelled.LabelledRun.{LabelledRun}
+use Rattle.tallies.specs.declared.labelled.LabelledRun.{LabelledRun}
 use Rattle.elimination.specs.Laws.{PredicatesAreThoseOfTheTable}
-use Rattle.elimination.specs.Predicates.{predicates_in}
-use Rattle.elimination.specs.Recount.{failing_runs, fails, is_observed, is_true, recount, succeeds}
+use Rattle.tallies.specs.Predicates.{predicates_in}
+use Rattle.tallies.specs.Recount.{failing_runs, fails, is_observed, is_true, recount, succeeds}
 use Rattle.pair_counts.specs.Truth.{pair_is_known, pair_is_true, pair_recount}
 use Rattle.compound.specs.declared.chosen.Chosen.{Chosen}
 use Rattle.compound.specs.declared.chosen.PairResult.{PairResult}

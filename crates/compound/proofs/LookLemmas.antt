@@ -7,10 +7,10 @@ use Rattle.std.proofs.lemmas.List.Elements.{All-map, All-weaker}
 use Rattle.std.proofs.lemmas.Option.{same_Some}
 use Rattle.fractions.specs.declared.tally.Tally.{Tally}
 use Rattle.fractions.specs.Tally.{IsTally}
-use Rattle.elimination.specs.declared.labelled.LabelledRun.{LabelledRun}
-use Rattle.elimination.specs.Predicates.{predicates_in}
-use Rattle.elimination.specs.Recount.{failing_runs, recount}
-use Rattle.elimination.specs.Tallies.{AreRecounts, Tallies}
+use Rattle.tallies.specs.declared.labelled.LabelledRun.{LabelledRun}
+use Rattle.tallies.specs.Predicates.{predicates_in}
+use Rattle.tallies.specs.Recount.{failing_runs, recount}
+use Rattle.tallies.specs.Tallies.{AreRecounts, Tallies}
 use Rattle.pair_counts.specs.Numbers.{PairFacts, numbers_at}
 use Rattle.pair_counts.specs.Truth.{pair_recount}
 use Rattle.compound.specs.declared.listing.Candidate.{Candidate}

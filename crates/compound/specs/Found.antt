@@ -1,9 +1,9 @@
 -- What is found of the pairs of predicates over runs.
 use Rattle.std.specs.Prelude.{◌≡◌, ℕ, Bool, not, List, length, count_by, MatchOption}
 use Rattle.fractions.specs.declared.tally.Tally.{Tally}
-use Rattle.elimination.specs.declared.labelled.LabelledRun.{LabelledRun}
-use Rattle.elimination.specs.Predicates.{predicates_in}
-use Rattle.elimination.specs.Recount.{failing_runs, recount}
+use Rattle.tallies.specs.declared.labelled.LabelledRun.{LabelledRun}
+use Rattle.tallies.specs.Predicates.{predicates_in}
+use Rattle.tallies.specs.Recount.{failing_runs, recount}
 use Rattle.pair_counts.specs.Truth.{pair_recount}
 use Rattle.compound.specs.declared.chosen.Chosen.{Chosen}
 use Rattle.compound.specs.declared.chosen.PairResult.{PairResult}

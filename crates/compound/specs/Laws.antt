@@ -2,8 +2,8 @@
 use Rattle.std.specs.Prelude.{◌≡◌, ◌≢◌, ℕ, ◌+◌, ◌-◌, ◌*◌, ◌/◌, ◌≤◌, Bool, List, length, All, IsPermutation}
 use Rattle.fractions.specs.Fraction.{IsAtMost}
 use Rattle.fractions.specs.Tally.{Passes, importance_of}
-use Rattle.elimination.specs.declared.labelled.LabelledRun.{LabelledRun}
-use Rattle.elimination.specs.Recount.{failing_runs, recount}
+use Rattle.tallies.specs.declared.labelled.LabelledRun.{LabelledRun}
+use Rattle.tallies.specs.Recount.{failing_runs, recount}
 use Rattle.pair_counts.specs.Truth.{pair_recount}
 use Rattle.compound.specs.declared.chosen.PairResult.{PairResult}
 use Rattle.compound.specs.Bound.{bound_of}

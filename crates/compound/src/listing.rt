@@ -1,7 +1,7 @@
 ghost use Rattle.std.specs.Prelude.{◌≡◌, ◌≤◌, IfOk, IfSome, OnOk, All, map};
-ghost use Rattle.elimination.specs.Predicates.{predicates_in};
-ghost use Rattle.elimination.specs.Recount.{failing_runs, recount, runs_of};
-ghost use Rattle.elimination.specs.Tallies.{AreRecounts};
+ghost use Rattle.tallies.specs.Predicates.{predicates_in};
+ghost use Rattle.tallies.specs.Recount.{failing_runs, recount, runs_of};
+ghost use Rattle.tallies.specs.Tallies.{AreRecounts};
 ghost use Rattle.fractions.specs.Fraction.{IsFraction};
 ghost use Rattle.fractions.specs.Tally.{IsTally};
 ghost use Rattle.compound.specs.declared.listing.Candidate.{Candidate};

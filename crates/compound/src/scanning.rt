@@ -1,8 +1,8 @@
 ghost use Rattle.std.specs.Prelude.{◌≡◌, ◌+◌, ◌<◌, ◌≤◌, ◌^◌, ℕ, [], ◌∷◌, ◌++◌, List, length, option_map, IfOk, IfSome};
 ghost use Rattle.collector.specs.Sites.{branches_of};
-ghost use Rattle.elimination.specs.Predicates.{predicates_in};
-ghost use Rattle.elimination.specs.Recount.{failing_runs, recount, runs_of};
-ghost use Rattle.elimination.specs.Tallies.{AreRecounts};
+ghost use Rattle.tallies.specs.Predicates.{predicates_in};
+ghost use Rattle.tallies.specs.Recount.{failing_runs, recount, runs_of};
+ghost use Rattle.tallies.specs.Tallies.{AreRecounts};
 ghost use Rattle.fractions.specs.declared.tally.Tally.{Tally};
 ghost use Rattle.fractions.specs.Fraction.{IsFraction};
 ghost use Rattle.fractions.specs.Tally.{IsTally};

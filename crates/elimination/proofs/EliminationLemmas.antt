@@ -7,11 +7,11 @@ use Rattle.cbi_base.specs.declared.policy.Policy.{Policy}
 use Rattle.cbi_base.specs.declared.policy.Policy.TheVariants.{All as Every, Failing, Relabel}
 use Rattle.fractions.specs.declared.tally.Tally.{Tally}
 use Rattle.fractions.specs.Tally.{Passes}
-use Rattle.elimination.specs.declared.labelled.LabelledRun.{LabelledRun}
-use Rattle.elimination.specs.declared.listed.Listed.{Listed}
+use Rattle.tallies.specs.declared.labelled.LabelledRun.{LabelledRun}
+use Rattle.tallies.specs.declared.listed.Listed.{Listed}
 use Rattle.elimination.specs.Elimination.{IsElimination, after, all_entries_taken, entries_taken, passed}
-use Rattle.elimination.specs.Leading.{IsLeader, NonePasses}
-use Rattle.elimination.specs.Recount.{failing_runs, fails, is_true, recount}
+use Rattle.tallies.specs.Leading.{IsLeader, NonePasses}
+use Rattle.tallies.specs.Recount.{failing_runs, fails, is_true, recount}
 
 head-sum : (r : LabelledRun) (rest : List LabelledRun) (keep : Bool) → failing_runs (cond keep (r ∷ rest) rest) ≡ cond keep (cond (fails r.label) 1 0) 0 + failing_runs rest
 head-sum r rest true = sum_by-cons (λ (x : LabelledRun). cond (fails x.label) 1 0) r rest

@@ -1,11 +1,3 @@
-pub mod PredicateLemmas
-pub mod ChangeLemmas
-pub mod ScanLemmas
-pub mod ScanState
-pub mod SiteChanges
-pub mod EntryChanges
-pub mod TotalLemmas
-pub mod RunLemmas
 pub mod StepLemmas
 pub mod BooksLemmas
 pub mod SlotLemmas

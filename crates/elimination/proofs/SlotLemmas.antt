@@ -13,12 +13,12 @@ use Rattle.cbi_base.specs.declared.policy.Policy.TheVariants.{All as Every, Fail
 use Rattle.report_file.specs.declared.report.Entry.{Entry}
 use Rattle.elimination.specs.declared.books.Books.{Books}
 use Rattle.elimination.specs.declared.books.Slot.{Slot}
-use Rattle.elimination.specs.declared.labelled.LabelledRun.{LabelledRun}
+use Rattle.tallies.specs.declared.labelled.LabelledRun.{LabelledRun}
 use Rattle.elimination.specs.Elimination.{after, entries_taken, is_taken, passed}
-use Rattle.elimination.specs.Predicates.{is_of, shows}
-use Rattle.elimination.specs.Recount.{fails, is_true}
+use Rattle.tallies.specs.Predicates.{is_of, shows}
+use Rattle.tallies.specs.Recount.{fails, is_true}
 use Rattle.elimination.specs.Slots.{AreHolders, HaveStepped, IsStepOf, left_of, pending, stepped, taken_slot, takes}
-use Rattle.elimination.proofs.PredicateLemmas.{of-once, shows-of}
+use Rattle.tallies.proofs.PredicateLemmas.{of-once, shows-of}
 use Rattle.elimination.proofs.StepLemmas.{taken-entries}
 
 -- a slot that was taken is taken no more

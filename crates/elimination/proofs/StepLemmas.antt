@@ -1,26 +1,21 @@
 -- The policy's step at one run.
-use Rattle.std.proofs.Common.{◌≡◌, ℕ, zero, suc, ◌+◌, ◌≤◌, Bool, true, false, cond, List, [], ◌∷◌, ◌++◌, length, set, take, drop, Some, refl, sym, ap, subst, ◌∙◌, arith}
-use Rattle.std.specs.Prelude.{All, count_by, slice_get}
+use Rattle.std.proofs.Common.{◌≡◌, ℕ, zero, suc, ◌+◌, ◌≤◌, Bool, true, false, cond, List, [], ◌∷◌, ◌++◌, length, set, take, drop, Some, refl, sym, ap, ◌∙◌, arith}
+use Rattle.std.specs.Prelude.{All, slice_get}
 use Rattle.std.proofs.lemmas.Bool.{and_parts}
 use Rattle.std.proofs.lemmas.List.{length-append}
 use Rattle.std.proofs.lemmas.List.Elements.{All-cons, All-head, All-nil, All-tail}
-use Rattle.std.proofs.lemmas.List.Sums.{sum_by-append, sum_by-cons}
-use Rattle.std.proofs.lemmas.Option.{same_Some, slice_get_within}
 use Rattle.cbi_base.specs.declared.policy.Policy.{Policy}
 use Rattle.cbi_base.specs.declared.policy.Policy.TheVariants.{All as Every, Failing, Relabel}
-use Rattle.fractions.specs.declared.tally.Tally.{Tally}
 use Rattle.report_file.specs.declared.label.Label.{Label}
 use Rattle.report_file.specs.declared.label.Label.TheVariants.{Fail, Pass, Uncounted}
 use Rattle.elimination.specs.declared.books.Slot.{Slot}
-use Rattle.elimination.specs.declared.labelled.LabelledRun.{LabelledRun}
-use Rattle.elimination.specs.declared.tally_table.Change.TheVariants.{PutIn, TakeOut, MoveOver}
+use Rattle.tallies.specs.declared.labelled.LabelledRun.{LabelledRun}
 use Rattle.elimination.specs.Elimination.{is_taken, passed}
-use Rattle.elimination.specs.Predicates.{observes, shows}
-use Rattle.elimination.specs.Recount.{failing_runs, fails, is_true, recount}
-use Rattle.elimination.specs.Runs.{AreEntriesOf, AreRunsOf}
-use Rattle.elimination.specs.Slots.{discards, left_of, taken_slot}
-use Rattle.elimination.specs.Tallies.{Allows, AllowsEntries, AreRecounts, ChangedByAll, IsAllowed, IsMade, Tallies, change_of, changed, counted_as, one_if}
-use Rattle.elimination.proofs.TotalLemmas.{move-allowed, move-moves, recount-below, take-allowed, take-undoes, totals-middle, totals-recount}
+use Rattle.tallies.specs.Recount.{failing_runs, fails, is_true}
+use Rattle.tallies.specs.Runs.{AreEntriesOf, AreRunsOf}
+use Rattle.elimination.specs.Slots.{change_of, discards, left_of, taken_slot}
+use Rattle.tallies.specs.Tallies.{AllowsEntries, AreRecounts, ChangedByAll, Tallies, one_if}
+use Rattle.tallies.proofs.RunChanges.{AreWell, fails-middle, move-over-allowed, move-over-recounts, take-out-allowed, take-out-recounts}
 
 -- the runs with one of them taken
 abbrev pub rest_of : Policy → List LabelledRun → LabelledRun → List LabelledRun → List LabelledRun
@@ -33,84 +28,21 @@ label-fails Fail is = refl
 label-fails Pass is = absurd cc
 label-fails Uncounted is = absurd cc
 
-abbrev pub AreWell : List Bool → LabelledRun → Type 0
-AreWell branches r = AreEntriesOf branches r.entries
-
-well-rest : (branches : List Bool) (xs ys : List LabelledRun) (r q : LabelledRun) → q.entries ≡ r.entries → AreRunsOf branches (xs ++ r ∷ ys) → AreRunsOf branches (xs ++ q ∷ ys)
-well-rest branches [] ys r q same are = All-cons (AreWell branches) q ys (subst (AreEntriesOf branches) (sym same) (All-head (AreWell branches) r ys are)) (All-tail (AreWell branches) r ys are)
-well-rest branches (x ∷ xs) ys r q same are = All-cons (AreWell branches) x (xs ++ q ∷ ys) (All-head (AreWell branches) x (xs ++ r ∷ ys) are) (well-rest branches xs ys r q same (All-tail (AreWell branches) x (xs ++ r ∷ ys) are))
-
-well-without : (branches : List Bool) (xs ys : List LabelledRun) (r : LabelledRun) → AreRunsOf branches (xs ++ r ∷ ys) → AreRunsOf branches (xs ++ ys)
-well-without branches [] ys r are = All-tail (AreWell branches) r ys are
-well-without branches (x ∷ xs) ys r are = All-cons (AreWell branches) x (xs ++ ys) (All-head (AreWell branches) x (xs ++ r ∷ ys) are) (well-without branches xs ys r (All-tail (AreWell branches) x (xs ++ r ∷ ys) are))
-
--- the numbers with a run are those without it, and the run put in
-put-back : (branches : List Bool) (xs ys : List LabelledRun) (r : LabelledRun) (p : ℕ) → AreRunsOf branches (xs ++ r ∷ ys)
-    → recount branches (xs ++ r ∷ ys) p ≡ changed (PutIn (counted_as r.label)) (count_by (observes branches p) r.entries) (count_by (shows branches p) r.entries) (recount branches (xs ++ ys) p)
-put-back branches xs ys r p are =
-    sym (totals-recount branches (xs ++ r ∷ ys) p are) ∙ totals-middle branches xs ys r p
-    ∙ ap (changed (PutIn (counted_as r.label)) (count_by (observes branches p) r.entries) (count_by (shows branches p) r.entries)) (totals-recount branches (xs ++ ys) p (well-without branches xs ys r are))
-
--- what the step makes of the numbers with the run
-numbers-after : (branches : List Bool) (policy : Policy) (leader : ℕ) (xs ys : List LabelledRun) (r : LabelledRun) (p : ℕ) → AreRunsOf branches (xs ++ r ∷ ys) → is_taken branches policy leader r ≡ true
-    → changed (change_of policy r.label) (count_by (observes branches p) r.entries) (count_by (shows branches p) r.entries) (recount branches (xs ++ r ∷ ys) p) ≡ recount branches (rest_of policy xs r ys) p
-numbers-after branches Every leader xs ys r p are taken =
-    ap (changed (TakeOut (counted_as r.label)) (count_by (observes branches p) r.entries) (count_by (shows branches p) r.entries)) (put-back branches xs ys r p are)
-    ∙ take-undoes (counted_as r.label) (count_by (observes branches p) r.entries) (count_by (shows branches p) r.entries) (recount branches (xs ++ ys) p)
-numbers-after branches Failing leader xs ys r p are taken =
-    ap (changed (TakeOut (counted_as r.label)) (count_by (observes branches p) r.entries) (count_by (shows branches p) r.entries)) (put-back branches xs ys r p are)
-    ∙ take-undoes (counted_as r.label) (count_by (observes branches p) r.entries) (count_by (shows branches p) r.entries) (recount branches (xs ++ ys) p)
-numbers-after branches Relabel leader xs ys r p are taken =
-    let failing = label-fails r.label (and_parts (fails r.label) (is_true branches leader r) taken).0 in
-    let m = count_by (observes branches p) r.entries in
-    let n = count_by (shows branches p) r.entries in
-    ap (changed MoveOver m n) (put-back branches xs ys r p are ∙ ap (λ (l : Label). changed (PutIn (counted_as l)) m n (recount branches (xs ++ ys) p)) failing)
-    ∙ move-moves m n (recount branches (xs ++ ys) p)
-    ∙ sym (put-back branches xs ys (passed r) p (well-rest branches xs ys r (passed r) refl are))
-
-numbers-allow : (branches : List Bool) (policy : Policy) (leader : ℕ) (xs ys : List LabelledRun) (r : LabelledRun) (p : ℕ) → AreRunsOf branches (xs ++ r ∷ ys) → length (xs ++ r ∷ ys) ≤ 100000 → is_taken branches policy leader r ≡ true
-    → Allows (change_of policy r.label) (count_by (observes branches p) r.entries) (count_by (shows branches p) r.entries) (recount branches (xs ++ r ∷ ys) p)
-numbers-allow branches Every leader xs ys r p are few taken =
-    subst (Allows (TakeOut (counted_as r.label)) (count_by (observes branches p) r.entries) (count_by (shows branches p) r.entries)) (sym (put-back branches xs ys r p are))
-    (take-allowed (counted_as r.label) (count_by (observes branches p) r.entries) (count_by (shows branches p) r.entries) (recount branches (xs ++ ys) p))
-numbers-allow branches Failing leader xs ys r p are few taken =
-    subst (Allows (TakeOut (counted_as r.label)) (count_by (observes branches p) r.entries) (count_by (shows branches p) r.entries)) (sym (put-back branches xs ys r p are))
-    (take-allowed (counted_as r.label) (count_by (observes branches p) r.entries) (count_by (shows branches p) r.entries) (recount branches (xs ++ ys) p))
-numbers-allow branches Relabel leader xs ys r p are few taken =
-    let failing = label-fails r.label (and_parts (fails r.label) (is_true branches leader r) taken).0 in
-    let m = count_by (observes branches p) r.entries in
-    let n = count_by (shows branches p) r.entries in
-    let moved = put-back branches xs ys (passed r) p (well-rest branches xs ys r (passed r) refl are) in
-    let below = recount-below branches (xs ++ passed r ∷ ys) p (omega (arith, few, length-append xs (r ∷ ys), length-append xs (passed r ∷ ys))) in
-    subst (Allows MoveOver m n) (sym (put-back branches xs ys r p are ∙ ap (λ (l : Label). changed (PutIn (counted_as l)) m n (recount branches (xs ++ ys) p)) failing))
-    (move-allowed m n (recount branches (xs ++ ys) p) (omega (arith, below.b, ap (λ (t : Tally). t.b) moved)) (omega (arith, below.d, ap (λ (t : Tally). t.d) moved)))
-
-recount-at : (branches : List Bool) (runs : List LabelledRun) (table : Tallies) (p : ℕ) (t : Tally) → AreRecounts branches runs table → slice_get table.tallies p ≡ Some t → ◌≡◌ {A = Tally} (recount branches runs p) t
-recount-at branches runs table p t are is =
-    same_Some (recount branches runs p) t (sym (are.numbers p (omega (arith, slice_get_within table.tallies p t is, are.as_many))) ∙ is)
-
 pub taken-allowed : (branches : List Bool) (policy : Policy) (leader : ℕ) (xs ys : List LabelledRun) (r : LabelledRun) (table : Tallies) → AreRunsOf branches (xs ++ r ∷ ys) → length (xs ++ r ∷ ys) ≤ 100000 → is_taken branches policy leader r ≡ true
     → AreRecounts branches (xs ++ r ∷ ys) table → AllowsEntries (change_of policy r.label) r.entries table
-taken-allowed branches policy leader xs ys r table are few taken recounts =
-    subst (λ (bs : List Bool). IsAllowed (change_of policy r.label) (λ p. count_by (observes bs p) r.entries) (λ p. count_by (shows bs p) r.entries) table) (sym recounts.branches_are)
-    (λ p t is. subst (Allows (change_of policy r.label) (count_by (observes branches p) r.entries) (count_by (shows branches p) r.entries)) (recount-at branches (xs ++ r ∷ ys) table p t recounts is)
-    (numbers-allow branches policy leader xs ys r p are few taken))
+taken-allowed branches Every leader xs ys r table are few taken recounts = take-out-allowed branches xs ys r table are recounts
+taken-allowed branches Failing leader xs ys r table are few taken recounts = take-out-allowed branches xs ys r table are recounts
+taken-allowed branches Relabel leader xs ys r table are few taken recounts =
+    move-over-allowed branches xs ys r table (label-fails r.label (and_parts (fails r.label) (is_true branches leader r) taken).0) are few recounts
 
 pub taken-recounts : (branches : List Bool) (policy : Policy) (leader : ℕ) (xs ys : List LabelledRun) (r : LabelledRun) (table new : Tallies) → AreRunsOf branches (xs ++ r ∷ ys) → is_taken branches policy leader r ≡ true
     → AreRecounts branches (xs ++ r ∷ ys) table → ChangedByAll (change_of policy r.label) r.entries table new → AreRecounts branches (rest_of policy xs r ys) new
-taken-recounts branches policy leader xs ys r table new are taken recounts change =
-    let made = subst (λ (bs : List Bool). IsMade (change_of policy r.label) (λ p. count_by (observes bs p) r.entries) (λ p. count_by (shows bs p) r.entries) table new) recounts.branches_are change in record {
-      branches_are = change.branches_stay ∙ recounts.branches_are;
-      as_many = change.as_many ∙ recounts.as_many;
-      numbers = λ p less. made.numbers p (recount branches (xs ++ r ∷ ys) p) (recounts.numbers p less) ∙ ap Some (numbers-after branches policy leader xs ys r p are taken);
-    }
+taken-recounts branches Every leader xs ys r table new are taken recounts change = take-out-recounts branches xs ys r table new are recounts change
+taken-recounts branches Failing leader xs ys r table new are taken recounts change = take-out-recounts branches xs ys r table new are recounts change
+taken-recounts branches Relabel leader xs ys r table new are taken recounts change =
+    move-over-recounts branches xs ys r table new (label-fails r.label (and_parts (fails r.label) (is_true branches leader r) taken).0) are recounts change
 
 -- how many fail and how many there are
-fails-middle : (xs ys : List LabelledRun) (r : LabelledRun) → failing_runs (xs ++ r ∷ ys) ≡ failing_runs (xs ++ ys) + one_if (fails r.label)
-fails-middle xs ys r =
-    let f : LabelledRun → ℕ = λ x. cond (fails x.label) 1 0 in
-    omega (arith, sum_by-append f xs (r ∷ ys), sum_by-append f xs ys, sum_by-cons f r ys)
-
 pub rest-fails : (policy : Policy) (xs ys : List LabelledRun) (r : LabelledRun) → failing_runs (xs ++ r ∷ ys) ≡ failing_runs (rest_of policy xs r ys) + one_if (fails r.label)
 rest-fails Every xs ys r = fails-middle xs ys r
 rest-fails Failing xs ys r = fails-middle xs ys r

@@ -2,22 +2,21 @@
 use Rattle.std.proofs.Common.{◌≡◌, ◌≢◌, ℕ, ◌+◌, ◌≤◌, Bool, true, false, not, ◌&&◌, cond, List, [], ◌∷◌, length, refl, sym, ap, subst, ◌∙◌, arith}
 use Rattle.std.specs.Prelude.{All, IsPermutation, sum_by}
 use Rattle.std.proofs.lemmas.List.Elements.{All-cons, All-nil}
-use Rattle.std.proofs.lemmas.List.Sorted.{sum_by-IsPermutation}
 use Rattle.std.proofs.lemmas.List.Sums.{sum_by-cons, sum_by-le-sum_by}
 use Rattle.cbi_base.specs.declared.policy.Policy.{Policy}
 use Rattle.cbi_base.specs.declared.policy.Policy.TheVariants.{All as Every, Failing, Relabel}
 use Rattle.fractions.specs.declared.tally.Tally.{Tally}
 use Rattle.fractions.specs.Tally.{Passes}
-use Rattle.elimination.specs.declared.labelled.LabelledRun.{LabelledRun}
-use Rattle.elimination.specs.declared.listed.Listed.{Listed}
+use Rattle.tallies.specs.declared.labelled.LabelledRun.{LabelledRun}
+use Rattle.tallies.specs.declared.listed.Listed.{Listed}
 use Rattle.elimination.specs.Elimination.{IsElimination, after, all_entries_taken, entries_in, is_taken, passed}
 use Rattle.elimination.specs.Laws.{AreListedOnce}
-use Rattle.elimination.specs.Leading.{IsLeader, Leads, NonePasses}
-use Rattle.elimination.specs.Predicates.{predicates_in}
-use Rattle.elimination.specs.Recount.{failing_runs, fails, is_observed, is_true, recount, succeeds}
-use Rattle.elimination.proofs.ChangeLemmas.{tally-is}
+use Rattle.tallies.specs.Leading.{IsLeader, Leads, NonePasses}
+use Rattle.tallies.specs.Predicates.{predicates_in}
+use Rattle.tallies.specs.Recount.{failing_runs, fails, is_true, recount}
+use Rattle.tallies.proofs.RunChanges.{SameSums, any-order-sums, same-failing, same-recount}
 use Rattle.elimination.proofs.EliminationLemmas.{passes-positive}
-use Rattle.elimination.proofs.ScanLemmas.{leads-same}
+use Rattle.tallies.proofs.ScanLemmas.{leads-same}
 
 one-predicate : (numbers : ℕ → Tally) (count failing p q : ℕ) → Leads numbers count failing p → Leads numbers count failing q → p ≡ q
 one-predicate numbers count failing p q a b = omega (arith, a.first q b.is_one b.passes (b.greatest p a.is_one a.passes), b.first p a.is_one a.passes (a.greatest q b.is_one b.passes))
@@ -65,19 +64,6 @@ after-sum branches Failing leader f (r ∷ more) =
 after-sum branches Relabel leader f (r ∷ more) =
     omega (arith, sum_by-cons f (cond (is_taken branches Relabel leader r) (passed r) r) (after branches Relabel leader more), after-sum branches Relabel leader f more, sum_by-cons (left_part branches Relabel leader f) r more)
 
--- runs over which every sum is the same
-pub record SameSums (xs ys : List LabelledRun) : Type 0 where
-  pub sums : (f : LabelledRun → ℕ) → sum_by f xs ≡ sum_by f ys
-
-same-recount : (branches : List Bool) (xs ys : List LabelledRun) (p : ℕ) → SameSums xs ys → recount branches xs p ≡ recount branches ys p
-same-recount branches xs ys p same =
-    tally-is (recount branches ys p) (recount branches xs p).a (recount branches xs p).b (recount branches xs p).c (recount branches xs p).d
-    (same.sums (λ (r : LabelledRun). cond (fails r.label && is_true branches p r) 1 0)) (same.sums (λ (r : LabelledRun). cond (succeeds r.label && is_true branches p r) 1 0))
-    (same.sums (λ (r : LabelledRun). cond (fails r.label && is_observed branches p r) 1 0)) (same.sums (λ (r : LabelledRun). cond (succeeds r.label && is_observed branches p r) 1 0))
-
-same-failing : (xs ys : List LabelledRun) → SameSums xs ys → failing_runs xs ≡ failing_runs ys
-same-failing xs ys same = same.sums (λ (r : LabelledRun). cond (fails r.label) 1 0)
-
 same-after : (branches : List Bool) (policy : Policy) (leader : ℕ) (xs ys : List LabelledRun) → SameSums xs ys → SameSums (after branches policy leader xs) (after branches policy leader ys)
 same-after branches policy leader xs ys same = record {
   sums = λ f. after-sum branches policy leader f xs ∙ same.sums (left_part branches policy leader f) ∙ sym (after-sum branches policy leader f ys);
@@ -97,7 +83,7 @@ same-elimination branches policy xs ys (row ∷ more) same is =
     (same-leader branches xs ys row same is.0, same-elimination branches policy (after branches policy row.predicate xs) (after branches policy row.predicate ys) more (same-after branches policy row.predicate xs ys same) is.1)
 
 pub any-order : (branches : List Bool) (policy : Policy) (runs others : List LabelledRun) (rows : List Listed) → IsPermutation runs others → IsElimination branches policy runs rows → IsElimination branches policy others rows
-any-order branches policy runs others rows order is = same-elimination branches policy runs others rows (record { sums = λ f. sym (sum_by-IsPermutation f runs others order) }) is
+any-order branches policy runs others rows order is = same-elimination branches policy runs others rows (any-order-sums runs others order) is
 
 -- the failing runs in which a predicate was true, among those left
 abbrev true_fails : List Bool → ℕ → LabelledRun → ℕ

@@ -6,12 +6,12 @@ use Rattle.flow.specs.declared.site.Site.{Site}
 use Rattle.flow.specs.Predicates.{IsPredicate, predicate_count}
 use Rattle.report_file.specs.declared.report.Entry.{Entry}
 use Rattle.report_file.specs.Report.{is_positive}
-use Rattle.elimination.specs.declared.labelled.LabelledRun.{LabelledRun}
-use Rattle.elimination.specs.declared.listed.Listed.{Listed}
+use Rattle.tallies.specs.declared.labelled.LabelledRun.{LabelledRun}
+use Rattle.tallies.specs.declared.listed.Listed.{Listed}
 use Rattle.elimination.specs.Elimination.{IsElimination, after, all_entries_taken, entries_in}
-use Rattle.elimination.specs.Leading.{IsLeader}
-use Rattle.elimination.specs.Predicates.{makes_true, observes, predicates_in, shows}
-use Rattle.elimination.specs.Recount.{failing_runs}
+use Rattle.tallies.specs.Leading.{IsLeader}
+use Rattle.tallies.specs.Predicates.{makes_true, observes, predicates_in, shows}
+use Rattle.tallies.specs.Recount.{failing_runs}
 
 -- a table has as many predicates, and an entry speaks of a predicate exactly where it is of the predicate's site
 pub record PredicateIs (sites : List Site) (predicate place : ℕ) (site : Site) (number : ℕ) : Type 0 where

@@ -1,10 +1,3 @@
-pub mod Predicates
-pub mod Recount
-pub mod Leading
-pub mod Scanning
 pub mod Elimination
-pub mod Tallies
-pub mod Table
-pub mod Runs
 pub mod Slots
 pub mod Laws

@@ -2,14 +2,17 @@
 use Rattle.std.specs.Prelude.{◌≡◌, ℕ, ◌<◌, ◌≤◌, ◌⊎◌, Bool, false, ◌&&◌, if◌then◌else◌, List, [], ◌∷◌, length, map, Some, slice_get, slice_set, Contains, All}
 use Rattle.cbi_base.specs.declared.policy.Policy.{Policy}
 use Rattle.cbi_base.specs.declared.policy.Policy.TheVariants.{All as Every, Failing, Relabel}
+use Rattle.report_file.specs.declared.label.Label.{Label}
 use Rattle.report_file.specs.declared.report.Entry.{Entry}
-use Rattle.elimination.specs.declared.labelled.LabelledRun.{LabelledRun}
+use Rattle.tallies.specs.declared.labelled.LabelledRun.{LabelledRun}
 use Rattle.elimination.specs.declared.books.Slot.{Slot}
 use Rattle.elimination.specs.declared.books.Books.{Books}
 use Rattle.elimination.specs.Elimination.{is_taken, passed}
-use Rattle.elimination.specs.Recount.{failing_runs}
-use Rattle.elimination.specs.Runs.{AreEntriesOf}
-use Rattle.elimination.specs.Tallies.{AreRecounts}
+use Rattle.tallies.specs.Recount.{failing_runs}
+use Rattle.tallies.specs.Runs.{AreEntriesOf}
+use Rattle.tallies.specs.Tallies.{AreRecounts, counted_as}
+use Rattle.tallies.specs.declared.numbers.Change.{Change}
+use Rattle.tallies.specs.declared.numbers.Change.TheVariants.{MoveOver, TakeOut}
 
 -- the runs that are left
 abbrev pub left_of : List Slot → List LabelledRun
@@ -27,6 +30,12 @@ abbrev pub discards : Policy → ℕ
 discards Every = 1
 discards Failing = 1
 discards Relabel = 0
+
+-- how the policy's step changes the numbers by the entries of a run that it takes
+abbrev pub change_of : Policy → Label → Change
+change_of Every label = TakeOut (counted_as label)
+change_of Failing label = TakeOut (counted_as label)
+change_of Relabel label = MoveOver
 
 -- whether the policy's step takes the run of the slot
 abbrev pub takes : List Bool → Policy → ℕ → Slot → Bool

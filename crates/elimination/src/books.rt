@@ -1,27 +1,23 @@
 ghost use Rattle.std.specs.Prelude.{◌≡◌, ◌+◌, ◌<◌, ℕ, length, sum_by, All, IfOk, IfSome, IfNone, IsTrue, Some, slice_get};
-ghost use Rattle.collector.specs.Sites.{branches_of};
 ghost use Rattle.report_file.specs.Report.{is_positive};
-ghost use Rattle.std.specs.List.{list_any};
 ghost use Rattle.elimination.specs.declared.books.Slot.{Slot};
-ghost use Rattle.elimination.specs.Leading.{IsLeader, NonePasses};
-ghost use Rattle.elimination.specs.Predicates.{shows};
-ghost use Rattle.elimination.specs.Recount.{fails, runs_of};
-ghost use Rattle.elimination.specs.Runs.{AreEntriesOf};
-ghost use Rattle.elimination.specs.Slots.{AreBooks, HaveStepped, IsStepOf, discards, left_of, pending, taken_slot, takes};
-ghost use Rattle.elimination.specs.Tallies.{AllowsEntries, AllowsEntry, ChangedBy, ChangedByAll, change_of, one_if};
+ghost use Rattle.tallies.specs.Leading.{IsLeader, NonePasses};
+ghost use Rattle.tallies.specs.Recount.{runs_of};
+ghost use Rattle.tallies.specs.Runs.{AreEntriesOf};
+ghost use Rattle.elimination.specs.Slots.{AreBooks, HaveStepped, IsStepOf, change_of, discards, left_of, pending, taken_slot, takes};
+ghost use Rattle.tallies.specs.Tallies.{AllowsEntries, AllowsEntry, AreRecounts, ChangedBy, ChangedByAll};
 
-use crate::labelled::LabelledRun;
-use crate::listed::Listed;
-use crate::runs::{labelled_run, report_after};
-use crate::scan::leader_in;
 use crate::steps::Steps;
-use crate::tally_table::{TallyTable, counted_as};
+use crate::tally_table::TallyTable;
 use cbi_base::{Memory, Policy};
 use collector::Collection;
-use flow::SiteTable;
 use report_file::{Entry, Label};
 use std::alloc::Global;
 use std::sync::ledger::Ledger;
+use tallies::{
+    LabelledRun, Listed, counted_as, fails, failures, is_true, labelled_run, leader_in,
+    report_after,
+};
 
 /// A run, and whether it is left.
 #[derive(Drop)]
@@ -47,23 +43,11 @@ fn takes(policy: Policy, leader: u32, tallies: &TallyTable, slot: &Slot) -> bool
         return false;
     }
     match policy {
-        Policy::All => is_true(leader, tallies, slot.run.entries.as_slice()),
+        Policy::All => is_true(leader, tallies.numbers(), slot.run.entries.as_slice()),
         Policy::Failing | Policy::Relabel => {
-            fails(slot.run.label) && is_true(leader, tallies, slot.run.entries.as_slice())
+            fails(slot.run.label) && is_true(leader, tallies.numbers(), slot.run.entries.as_slice())
         }
     }
-}
-
-// Whether one of the entries makes the predicate true.
-fn is_true(predicate: u32, tallies: &TallyTable, entries: &[Entry]) -> bool
-    ensures { result ≡ list_any (shows tallies.now.branches predicate) entries.now }
-{
-    for entry in entries {
-        if tallies.shows(predicate, entry) {
-            return true;
-        }
-    }
-    false
 }
 
 // Changes the numbers by an entry of a run that the policy's step takes.
@@ -104,25 +88,6 @@ fn take_entries<L: Ledger>(
     }
 }
 
-fn fails(label: Label) -> bool
-    ensures { result ≡ fails label }
-{
-    match label {
-        Label::Fail => true,
-        Label::Pass | Label::Uncounted => false,
-    }
-}
-
-// How many failing runs one with this label is.
-fn failures(label: Label) -> u32
-    ensures { result ≡ one_if (fails label) }
-{
-    match label {
-        Label::Fail => 1,
-        Label::Pass | Label::Uncounted => 0,
-    }
-}
-
 // Discards the run of a slot, or counts it as successful.
 fn take_slot(policy: Policy, slot: &mut Slot)
     ensures { slot.new ≡ taken_slot policy slot.old }
@@ -144,16 +109,15 @@ fn discards(policy: Policy) -> u32
 }
 
 impl Books {
-    /// The runs of a collection, all of them left.
-    pub fn new(alloc: Global, collection: &Collection, table: &SiteTable) -> Result<Books, Memory>
-        requires { collection.now.branches ≡ branches_of table.now.sites }
+    /// The runs of a collection, all of them left, with their numbers.
+    pub fn new(alloc: Global, collection: &Collection, tallies: TallyTable) -> Result<Books, Memory>
+        requires { AreRecounts collection.now.branches (runs_of collection.now.reports) tallies }
         ensures books { IfOk result AreBooks }
-        ensures branches { IfOk result (λ b. b.tallies.branches ≡ branches_of table.now.sites) }
+        ensures branches { IfOk result (λ b. b.tallies.branches ≡ collection.now.branches) }
         ensures runs { IfOk result (λ b. left_of b.slots.items ≡ runs_of collection.now.reports) }
     {
         collection.keeps();
         let left = collection.reports_held();
-        let tallies = TallyTable::new(alloc, collection, table)?;
         let mut slots = Vec::new(alloc);
         let mut failing = 0u32;
         let mut run = 0;
@@ -180,7 +144,7 @@ impl Books {
         ensures some { IfSome result (IsLeader self.now.tallies.branches (left_of self.now.slots.items)) }
         ensures none { IfNone result (NonePasses self.now.tallies.branches (left_of self.now.slots.items)) }
     {
-        match leader_in(&self.tallies, self.failing) {
+        match leader_in(self.tallies.numbers(), self.failing) {
             None => None,
             Some(row) => Some(row),
         }

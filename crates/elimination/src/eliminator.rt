@@ -1,16 +1,15 @@
 ghost use Rattle.std.specs.Prelude.{◌≡◌, ◌+◌, ◌<◌, ◌≤◌, [], length, replicate, All, IfOk, IfSome, IfNone, OnOk};
 ghost use Rattle.collector.specs.Sites.{branches_of};
 ghost use Rattle.elimination.specs.Elimination.{IsElimination, all_entries_taken, entries_taken, stepped_on};
-ghost use Rattle.elimination.specs.Leading.{IsLeader, NonePasses};
-ghost use Rattle.elimination.specs.Predicates.{predicates_in};
+ghost use Rattle.tallies.specs.Leading.{IsLeader, NonePasses};
+ghost use Rattle.tallies.specs.Predicates.{predicates_in};
 ghost use Rattle.report_file.specs.declared.report.Entry.{Entry};
 ghost use Rattle.elimination.specs.declared.books.Slot.{Slot};
-ghost use Rattle.elimination.specs.Recount.{runs_of};
+ghost use Rattle.tallies.specs.Recount.{runs_of};
 ghost use Rattle.elimination.specs.Slots.{AreHolders, IsHeldToo};
-ghost use Rattle.elimination.specs.Tallies.{AreRecounts};
+ghost use Rattle.tallies.specs.Tallies.{AreRecounts};
 
 use crate::books::{Books, Slot};
-use crate::listed::Listed;
 use crate::steps::Steps;
 use crate::tally_table::TallyTable;
 use cbi_base::{Memory, Policy, Seq};
@@ -20,6 +19,7 @@ use report_file::Entry;
 use std::alloc::Global;
 use std::marker::{Brand, Model};
 use std::sync::ledger::{Blank, Ledger};
+use tallies::{Listed, Numbers};
 
 /// Lists leaders one after another, by the policy's step after each. It keeps the numbers of all predicates over the runs that are left, and of each
 /// site the runs that have an entry of it. Contracts see it as which sites are branches, the policy, and the runs that are left.
@@ -91,8 +91,23 @@ impl Eliminator {
         requires { collection.now.branches ≡ branches_of table.now.sites }
         ensures { IfOk result (λ e. e ≡ record { branches = branches_of table.now.sites; policy = policy; runs = runs_of collection.now.reports }) }
     {
-        let books = Books::new(alloc, collection, table)?;
-        let holders = holders_of(alloc, table.sites().len(), books.slots.as_slice())?;
+        let tallies = TallyTable::new(alloc, collection, table)?;
+        Eliminator::over(alloc, collection, tallies, policy)
+    }
+
+    // One of these runs, whose numbers are at hand.
+    fn over(
+        alloc: Global,
+        collection: &Collection,
+        tallies: TallyTable,
+        policy: Policy,
+    ) -> Result<Eliminator, Memory>
+        requires { AreRecounts collection.now.branches (runs_of collection.now.reports) tallies }
+        ensures { IfOk result (λ e. e ≡ record { branches = collection.now.branches; policy = policy; runs = runs_of collection.now.reports }) }
+    {
+        let books = Books::new(alloc, collection, tallies)?;
+        let sites = books.tallies.numbers().sites();
+        let holders = holders_of(alloc, sites, books.slots.as_slice())?;
         Ok(Eliminator {
             policy,
             books,
@@ -142,6 +157,22 @@ impl Eliminator {
     }
 }
 
+// All leaders of an eliminator, until none passes.
+fn leaders_of<L: Ledger>(
+    alloc: Global,
+    mut eliminator: Eliminator,
+    steps: &mut Steps<L>,
+) -> Result<Seq<Listed>, Memory>
+    ensures rows { IfOk result (IsElimination eliminator.branches eliminator.policy eliminator.runs) }
+    ensures steps { IfOk result (λ rows. steps.new ≡ steps.old + all_entries_taken eliminator.branches eliminator.policy eliminator.runs rows) }
+{
+    let mut rows = Seq::new(alloc);
+    while let Some(row) = eliminator.next(steps) {
+        rows.push(row)?;
+    }
+    Ok(rows)
+}
+
 /// The elimination of a collection's runs: all leaders, until none passes. The ledger grows by the entries of the runs that were discarded or relabelled.
 pub fn counted_elimination<L: Ledger>(
     alloc: Global,
@@ -154,30 +185,23 @@ pub fn counted_elimination<L: Ledger>(
     ensures rows { IfOk result (IsElimination collection.now.branches policy (runs_of collection.now.reports)) }
     ensures steps { IfOk result (λ rows. steps.new ≡ steps.old + all_entries_taken collection.now.branches policy (runs_of collection.now.reports) rows) }
 {
-    let mut eliminator = Eliminator::new(alloc, collection, table, policy)?;
-    let mut rows = Seq::new(alloc);
-    while let Some(row) = eliminator.next(steps) {
-        rows.push(row)?;
-    }
-    Ok(rows)
+    let eliminator = Eliminator::new(alloc, collection, table, policy)?;
+    leaders_of(alloc, eliminator, steps)
 }
 
 // The same, by a ledger of its own.
-fn elimination_by<L: Ledger>(
+fn leaders_by<L: Ledger>(
     alloc: Global,
-    collection: &Collection,
-    table: &SiteTable,
-    policy: Policy,
+    eliminator: Eliminator,
     blank: Blank,
 ) -> Result<Seq<Listed>, Memory>
     requires name { blank.name ≡ L.name }
     requires parts { blank.parts ≡ L.parts }
     requires some { 0 < blank.parts }
-    requires table { collection.now.branches ≡ branches_of table.now.sites }
-    ensures { IfOk result (IsElimination collection.now.branches policy (runs_of collection.now.reports)) }
+    ensures { IfOk result (IsElimination eliminator.branches eliminator.policy eliminator.runs) }
 {
     let mut steps = Steps::<L>::new(blank);
-    let rows = counted_elimination(alloc, collection, table, policy, &mut steps)?;
+    let rows = leaders_of(alloc, eliminator, &mut steps)?;
     Ok(rows)
 }
 
@@ -191,5 +215,21 @@ pub fn elimination(
     requires { collection.now.branches ≡ branches_of table.now.sites }
     ensures { IfOk result (IsElimination collection.now.branches policy (runs_of collection.now.reports)) }
 {
-    elimination_by::<Brand>(alloc, collection, table, policy, Blank::new(1))
+    let eliminator = Eliminator::new(alloc, collection, table, policy)?;
+    leaders_by::<Brand>(alloc, eliminator, Blank::new(1))
+}
+
+/// The same elimination, which begins with the numbers of the runs, kept by the caller, and recounts nothing.
+pub fn elimination_from(
+    alloc: Global,
+    collection: &Collection,
+    numbers: Numbers,
+    policy: Policy,
+) -> Result<Seq<Listed>, Memory>
+    requires { AreRecounts collection.now.branches (runs_of collection.now.reports) numbers }
+    ensures { IfOk result (IsElimination collection.now.branches policy (runs_of collection.now.reports)) }
+{
+    let tallies = TallyTable::sealed(numbers);
+    let eliminator = Eliminator::over(alloc, collection, tallies, policy)?;
+    leaders_by::<Brand>(alloc, eliminator, Blank::new(1))
 }

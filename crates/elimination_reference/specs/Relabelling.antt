@@ -1,7 +1,7 @@
 -- Relabelling, a run at a time.
 use Rattle.std.specs.Prelude.{ℕ, Bool, if◌then◌else◌, List}
 use Rattle.cbi_base.specs.declared.policy.Policy.TheVariants.{Relabel}
-use Rattle.elimination.specs.declared.labelled.LabelledRun.{LabelledRun}
+use Rattle.tallies.specs.declared.labelled.LabelledRun.{LabelledRun}
 use Rattle.elimination.specs.Elimination.{is_taken, passed}
 
 -- the run after the step of relabelling

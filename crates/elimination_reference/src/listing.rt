@@ -6,9 +6,9 @@ use crate::counting::fails;
 use crate::entries::is_true;
 use crate::leading::leader;
 use cbi_base::{Memory, Policy, Seq};
-use elimination::{LabelledRun, Listed};
 use report_file::Label;
 use std::alloc::Global;
+use tallies::{LabelledRun, Listed};
 
 // Whether the policy's step after this leader discards or relabels the run.
 fn is_taken(branches: &[bool], policy: Policy, leader: u32, run: &LabelledRun) -> bool

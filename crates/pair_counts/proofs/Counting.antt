@@ -4,7 +4,7 @@ use Rattle.std.specs.Prelude.{count_by, filter, replicate, zip}
 use Rattle.std.proofs.lemmas.List.Sums.{sum_by-cons}
 use Rattle.fractions.specs.declared.tally.Tally.{Tally}
 use Rattle.bit_rows.specs.Facts.{Fact, both_hold, decided, holding, no_fact, one_is_refuted}
-use Rattle.elimination.specs.declared.labelled.LabelledRun.{LabelledRun}
+use Rattle.tallies.specs.declared.labelled.LabelledRun.{LabelledRun}
 use Rattle.pair_counts.specs.Rows.{IsRow, fact_of}
 use Rattle.pair_counts.specs.Runs.{counted_runs, counts}
 use Rattle.pair_counts.specs.Numbers.{numbers_by, row_at}

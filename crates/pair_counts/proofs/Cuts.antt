@@ -15,9 +15,9 @@ use Rattle.collector.specs.Spelling.{RunsFrom}
 use Rattle.report_file.specs.declared.report.Entry.{Entry}
 use Rattle.report_file.specs.declared.report.Report.{Report}
 use Rattle.report_file.specs.Report.{AreEntries, IsReport, is_positive}
-use Rattle.elimination.specs.declared.labelled.LabelledRun.{LabelledRun}
-use Rattle.elimination.specs.Recount.{labelled, runs_of}
-use Rattle.elimination.specs.Runs.{AreEntriesOf}
+use Rattle.tallies.specs.declared.labelled.LabelledRun.{LabelledRun}
+use Rattle.tallies.specs.Recount.{labelled, runs_of}
+use Rattle.tallies.specs.Runs.{AreEntriesOf}
 use Rattle.pair_counts.specs.Runs.{IsCounted, IsCut, counts, run_count}
 
 -- nothing up to the run comes after it

@@ -9,8 +9,8 @@ use Rattle.collector.specs.declared.collection.Held.{Held}
 use Rattle.collector.specs.Collected.{next_after}
 use Rattle.collector.specs.Collecting.{IsCollection}
 use Rattle.report_file.specs.declared.report.Report.{Report}
-use Rattle.elimination.specs.declared.labelled.LabelledRun.{LabelledRun}
-use Rattle.elimination.specs.Recount.{labelled, runs_of}
+use Rattle.tallies.specs.declared.labelled.LabelledRun.{LabelledRun}
+use Rattle.tallies.specs.Recount.{labelled, runs_of}
 use Rattle.pair_counts.specs.Rows.{AreRows, AreRowsUpTo, IsRow, fact_in, fact_of}
 use Rattle.pair_counts.specs.Runs.{counted_runs, counts, run_count}
 use Rattle.pair_counts.specs.Numbers.{AreEven}

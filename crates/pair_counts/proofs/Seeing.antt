@@ -8,7 +8,7 @@ use Rattle.std.proofs.lemmas.List.Folds.{list_any-append}
 use Rattle.bit_rows.specs.Facts.{Fact, no_fact, seen}
 use Rattle.report_file.specs.declared.report.Entry.{Entry}
 use Rattle.report_file.specs.Report.{is_positive}
-use Rattle.elimination.specs.Predicates.{is_of, observes, shows}
+use Rattle.tallies.specs.Predicates.{is_of, observes, shows}
 use Rattle.pair_counts.specs.Rows.{fact_in}
 use Rattle.pair_counts.specs.Seeing.{seen_if, seen_row}
 

@@ -7,7 +7,7 @@ use Rattle.std.proofs.lemmas.List.{get_or-replicate, get_or-set_other, get_or-se
 use Rattle.std.proofs.lemmas.List.Elements.{All-head, All-nil, All-push, All-tail, All-weaker}
 use Rattle.std.proofs.lemmas.List.Folds.{list_any-append}
 use Rattle.std.proofs.lemmas.List.Sums.{sum_by-take-le}
-use Rattle.elimination.specs.Predicates.{first_predicate, is_of, predicates_in, width_of}
+use Rattle.tallies.specs.Predicates.{first_predicate, is_of, predicates_in, width_of}
 use Rattle.pair_counts.specs.Rows.{AreWatched}
 
 -- ---- a predicate is one site's

@@ -4,9 +4,9 @@ use Rattle.std.specs.List.{list_any}
 use Rattle.bit_rows.specs.Facts.{Fact, no_fact}
 use Rattle.report_file.specs.declared.report.Entry.{Entry}
 use Rattle.report_file.specs.declared.report.Report.{Report}
-use Rattle.elimination.specs.declared.labelled.LabelledRun.{LabelledRun}
-use Rattle.elimination.specs.Predicates.{is_of, observes, shows}
-use Rattle.elimination.specs.Recount.{runs_of}
+use Rattle.tallies.specs.declared.labelled.LabelledRun.{LabelledRun}
+use Rattle.tallies.specs.Predicates.{is_of, observes, shows}
+use Rattle.tallies.specs.Recount.{runs_of}
 use Rattle.pair_counts.specs.Runs.{IsCut, counted_runs}
 
 -- what entries say of a predicate

@@ -3,8 +3,8 @@ use Rattle.std.specs.Prelude.{◌≡◌, ℕ, ◌+◌, ◌≤◌, Bool, true, fa
 use Rattle.collector.specs.Spelling.{RunsFrom}
 use Rattle.report_file.specs.declared.label.Label.{Label}
 use Rattle.report_file.specs.declared.report.Report.{Report}
-use Rattle.elimination.specs.declared.labelled.LabelledRun.{LabelledRun}
-use Rattle.elimination.specs.Recount.{fails, runs_of, succeeds}
+use Rattle.tallies.specs.declared.labelled.LabelledRun.{LabelledRun}
+use Rattle.tallies.specs.Recount.{fails, runs_of, succeeds}
 
 -- the run counts as failing, or as successful
 abbrev pub counts : Bool → Label → Bool

@@ -1,8 +1,8 @@
 -- What a run says of a predicate and of a pair of predicates: that it is true in it, that it is false in it, or nothing.
 use Rattle.std.specs.Prelude.{ℕ, Bool, not, ◌&&◌, ◌||◌, List, count_by}
 use Rattle.fractions.specs.declared.tally.Tally.{Tally}
-use Rattle.elimination.specs.declared.labelled.LabelledRun.{LabelledRun}
-use Rattle.elimination.specs.Recount.{fails, is_observed, is_true, succeeds}
+use Rattle.tallies.specs.declared.labelled.LabelledRun.{LabelledRun}
+use Rattle.tallies.specs.Recount.{fails, is_observed, is_true, succeeds}
 
 -- a predicate is false in a run that observed its site and in which it wasn't true; where its site wasn't observed it is unknown
 abbrev pub is_false : List Bool → ℕ → LabelledRun → Bool

@@ -1,7 +1,7 @@
 ghost use Rattle.std.specs.Prelude.{◌≡◌, ◌<◌, ◌^◌, ℕ, length, slice_index, All, IfOk};
 ghost use Rattle.collector.specs.Sites.{branches_of};
-ghost use Rattle.elimination.specs.Predicates.{predicates_in};
-ghost use Rattle.elimination.specs.Recount.{runs_of};
+ghost use Rattle.tallies.specs.Predicates.{predicates_in};
+ghost use Rattle.tallies.specs.Recount.{runs_of};
 ghost use Rattle.pair_counts.specs.Numbers.{numbers_at};
 ghost use Rattle.pair_counts.specs.Truth.{pair_recount};
 

@@ -1,5 +1,5 @@
 ghost use Rattle.std.specs.Prelude.{◌≡◌, ◌≤◌, if◌then◌else◌};
-ghost use Rattle.elimination.specs.Recount.{failing_runs, runs_of};
+ghost use Rattle.tallies.specs.Recount.{failing_runs, runs_of};
 ghost use Rattle.pair_counts.specs.Runs.{counts, run_count};
 
 use collector::Collection;

@@ -2,9 +2,9 @@ ghost use Rattle.std.specs.Prelude.{◌≡◌, ◌*◌, ◌==◌, ◌<◌, ◌�
 ghost use Rattle.std.specs.List.{list_any};
 ghost use Rattle.collector.specs.Sites.{branches_of};
 ghost use Rattle.report_file.specs.declared.report.Entry.{Entry};
-ghost use Rattle.elimination.specs.Predicates.{predicates_in, shows};
-ghost use Rattle.elimination.specs.Recount.{runs_of};
-ghost use Rattle.elimination.specs.Runs.{AreEntriesOf};
+ghost use Rattle.tallies.specs.Predicates.{predicates_in, shows};
+ghost use Rattle.tallies.specs.Recount.{runs_of};
+ghost use Rattle.tallies.specs.Runs.{AreEntriesOf};
 ghost use Rattle.bit_rows.specs.Facts.{Fact, no_fact};
 ghost use Rattle.pair_counts.specs.Rows.{AreRows, AreWatched, fact_in, room_for};
 ghost use Rattle.pair_counts.specs.Runs.{counted_runs, run_count};

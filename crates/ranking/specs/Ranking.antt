@@ -10,7 +10,7 @@ use Rattle.flow.specs.Predicates.{predicate_count, predicate_text, site_at}
 use Rattle.fractions.specs.declared.tally.Tally.{Tally}
 use Rattle.fractions.specs.Fraction.{millionths_of}
 use Rattle.fractions.specs.Tally.{IsTally, Passes, importance_of}
-use Rattle.elimination.specs.declared.listed.Listed.{Listed}
+use Rattle.tallies.specs.declared.listed.Listed.{Listed}
 use Rattle.ranking.specs.Shares.{context_of, failure_of, increase_of}
 
 abbrev pub header_fields : List (List ℕ)

@@ -7,9 +7,9 @@ use Rattle.c_types_expressions.specs.declared.walk.Walk.{Walk}
 use Rattle.collector.specs.Collected.{mark_limit}
 use Rattle.collector.specs.Sites.{branches_of}
 use Rattle.cbi_base.specs.declared.policy.Policy.{Policy}
-use Rattle.elimination.specs.declared.labelled.LabelledRun.{LabelledRun}
+use Rattle.tallies.specs.declared.labelled.LabelledRun.{LabelledRun}
 use Rattle.elimination.specs.Laws.{OneElimination}
-use Rattle.elimination.specs.Recount.{runs_of}
+use Rattle.tallies.specs.Recount.{runs_of}
 use Rattle.flow.specs.declared.program.ProgramParts.{ProgramParts}
 use Rattle.flow.specs.declared.site.Site.{Site}
 use Rattle.flow.specs.declared.site.TableParts.{TableParts}

@@ -8,7 +8,7 @@ use Rattle.c_meaning.specs.Runs.{Behaviour}
 use Rattle.c_meaning.specs.Texts.{text_meaning}
 use Rattle.collector.specs.Collected.{mark_limit}
 use Rattle.countdown_bank.specs.Bank.{BankState, number_after}
-use Rattle.elimination.specs.declared.labelled.LabelledRun.{LabelledRun}
+use Rattle.tallies.specs.declared.labelled.LabelledRun.{LabelledRun}
 use Rattle.flow.specs.declared.site.Site.{Site}
 use Rattle.flow.specs.Counting.{counts_of}
 use Rattle.flow.specs.Sampling.{samples}

@@ -1,5 +1,5 @@
 use Rattle.std.proofs.Common.{subst}
-use Rattle.elimination.specs.Recount.{runs_of}
+use Rattle.tallies.specs.Recount.{runs_of}
 use Rattle.ranking.specs.Ranked.{IsRankingOf}
 use Rattle.command_base.specs.declared.done.Done.{Done}
 use Rattle.command_base.proofs.FaultLemmas.{passed-as, put-left}

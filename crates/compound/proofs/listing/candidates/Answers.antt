@@ -2,7 +2,7 @@ use Rattle.std.proofs.Common.{refl, ap, subst, sym, arith}
 use Rattle.std.proofs.lemmas.List.{length-map}
 use Rattle.fractions.specs.declared.tally.Tally.{Tally}
 use Rattle.fractions.specs.Tally.{IsTally}
-use Rattle.elimination.specs.Recount.{failing_runs, labelled, recount, runs_of}
+use Rattle.tallies.specs.Recount.{failing_runs, labelled, recount, runs_of}
 use Rattle.compound.specs.declared.listing.Candidate.{Candidate}
 use Rattle.compound.specs.Listing.{IsCandidate, IsRated}
 use Rattle.compound.proofs.ListingLemmas.{fractions-listed, listed-more, listed-skip, rated-fraction}

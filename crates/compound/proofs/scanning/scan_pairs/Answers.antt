@@ -1,8 +1,8 @@
 use Rattle.std.proofs.Common.{◌≡◌, ℕ, ◌<◌, ◌∷◌, ◌++◌, [], Bool, List, None, length, get_or, take, refl, ap, subst, sym, ◌∙◌, arith}
 use Rattle.std.specs.Prelude.{All}
 use Rattle.std.proofs.lemmas.List.{length-map}
-use Rattle.elimination.specs.Predicates.{predicates_in}
-use Rattle.elimination.specs.Recount.{failing_runs, labelled, recount, runs_of}
+use Rattle.tallies.specs.Predicates.{predicates_in}
+use Rattle.tallies.specs.Recount.{failing_runs, labelled, recount, runs_of}
 use Rattle.pair_counts.specs.Truth.{pair_recount}
 use Rattle.compound.specs.declared.listing.Candidate.{Candidate}
 use Rattle.compound.specs.Listing.{predicates_of}

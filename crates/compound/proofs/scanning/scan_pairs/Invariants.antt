@@ -1,5 +1,5 @@
 use Rattle.std.proofs.Common.{◌≡◌, ◌+◌, take}
-use Rattle.elimination.specs.Recount.{failing_runs, recount, runs_of}
+use Rattle.tallies.specs.Recount.{failing_runs, recount, runs_of}
 use Rattle.pair_counts.specs.Truth.{pair_recount}
 use Rattle.compound.specs.Listing.{predicates_of}
 use Rattle.compound.specs.Pairs.{pairs_of}

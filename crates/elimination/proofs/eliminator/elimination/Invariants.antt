@@ -1,4 +1,4 @@
 use Rattle.elimination.proofs.eliminator.elimination.Given as goal
 
-abbrev pub ghosts-elimination_by : goal.ghosts-elimination_by
-ghosts-elimination_by a = record { name = a.blank.name; parts = a.blank.parts }
+abbrev pub ghosts-leaders_by : goal.ghosts-leaders_by
+ghosts-leaders_by a = record { name = a.blank.name; parts = a.blank.parts }

@@ -1,5 +1,5 @@
 use Rattle.std.proofs.Common.{ap, set, ◌∙◌, arith}
-use Rattle.elimination.specs.declared.labelled.LabelledRun.{LabelledRun}
+use Rattle.tallies.specs.declared.labelled.LabelledRun.{LabelledRun}
 use Rattle.elimination_reference.specs.Relabelling.{relabelled}
 use Rattle.elimination_reference.proofs.PlainLemmas.{changed-more}
 use Rattle.elimination_reference.proofs.listing.relabel.Goals as goal

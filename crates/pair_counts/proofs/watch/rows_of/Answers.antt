@@ -3,8 +3,8 @@ use Rattle.std.specs.Prelude.{replicate}
 use Rattle.std.proofs.lemmas.List.{length-map, with_items_is}
 use Rattle.bit_rows.specs.Facts.{Fact, no_fact}
 use Rattle.report_file.specs.declared.report.Entry.{Entry}
-use Rattle.elimination.specs.Recount.{runs_of}
-use Rattle.elimination.specs.Runs.{AreEntriesOf}
+use Rattle.tallies.specs.Recount.{runs_of}
+use Rattle.tallies.specs.Runs.{AreEntriesOf}
 use Rattle.pair_counts.specs.Rows.{AreRowsUpTo, fact_in, fact_of, room_for}
 use Rattle.pair_counts.specs.Runs.{counted_runs, counts, run_count}
 use Rattle.pair_counts.proofs.Cuts.{are-entries, counted-few, cut-later}

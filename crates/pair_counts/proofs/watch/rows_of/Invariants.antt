@@ -1,5 +1,5 @@
 use Rattle.std.proofs.Common.{◌-◌, ◌^◌, ◌<◌}
-use Rattle.elimination.specs.Recount.{runs_of}
+use Rattle.tallies.specs.Recount.{runs_of}
 use Rattle.pair_counts.specs.Rows.{AreRowsUpTo, room_for}
 use Rattle.pair_counts.specs.Runs.{run_count}
 use Rattle.pair_counts.proofs.watch.rows_of.Given as goal

@@ -3,7 +3,7 @@ use Rattle.std.proofs.lemmas.List.{get_or_default, length-set, take_all}
 use Rattle.std.specs.Prelude.{◌==◌}
 use Rattle.std.specs.List.{list_any}
 use Rattle.bit_rows.specs.Facts.{Fact, no_fact, seen}
-use Rattle.elimination.specs.Predicates.{shows}
+use Rattle.tallies.specs.Predicates.{shows}
 use Rattle.pair_counts.specs.Seeing.{seen_row}
 use Rattle.pair_counts.proofs.Seeing.{seen-next, seen-none, seen-room}
 use Rattle.pair_counts.proofs.watch.see_entry.Goals as goal

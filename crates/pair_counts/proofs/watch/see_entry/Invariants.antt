@@ -1,5 +1,5 @@
 use Rattle.std.proofs.Common.{◌≡◌, ℕ, length, take, get_or}
-use Rattle.elimination.specs.Predicates.{shows}
+use Rattle.tallies.specs.Predicates.{shows}
 use Rattle.pair_counts.proofs.Seeing.{AreSeenBy}
 use Rattle.pair_counts.proofs.watch.see_entry.Given as goal
 

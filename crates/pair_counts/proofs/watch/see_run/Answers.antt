@@ -3,7 +3,7 @@ use Rattle.std.specs.Prelude.{◌==◌, All}
 use Rattle.std.specs.List.{list_any}
 use Rattle.std.proofs.lemmas.List.{get_or_default}
 use Rattle.report_file.specs.declared.report.Entry.{Entry}
-use Rattle.elimination.specs.Predicates.{shows}
+use Rattle.tallies.specs.Predicates.{shows}
 use Rattle.pair_counts.specs.Seeing.{seen_row}
 use Rattle.pair_counts.proofs.Seeing.{run-next}
 use Rattle.pair_counts.proofs.watch.see_run.Goals as goal

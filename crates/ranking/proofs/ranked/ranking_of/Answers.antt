@@ -1,8 +1,8 @@
 use Rattle.std.proofs.Common.{List, length, ap, sym, subst, arith}
 use Rattle.std.proofs.lemmas.List.{length-map}
 use Rattle.flow.specs.declared.site.TableParts.{TableParts}
-use Rattle.elimination.specs.declared.listed.Listed.{Listed}
-use Rattle.elimination.specs.Recount.{labelled, runs_of}
+use Rattle.tallies.specs.declared.listed.Listed.{Listed}
+use Rattle.tallies.specs.Recount.{labelled, runs_of}
 use Rattle.elimination.specs.Elimination.{IsElimination}
 use Rattle.ranking.specs.Ranking.{AreRowsOf}
 use Rattle.ranking.proofs.ranked.ranking_of.Goals as goal

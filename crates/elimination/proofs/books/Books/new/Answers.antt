@@ -3,13 +3,13 @@ use Rattle.std.specs.Prelude.{All}
 use Rattle.std.proofs.lemmas.List.{length-map}
 use Rattle.report_file.specs.declared.report.Report.{Report}
 use Rattle.elimination.specs.declared.books.Slot.{Slot}
-use Rattle.elimination.specs.declared.labelled.LabelledRun.{LabelledRun}
-use Rattle.elimination.specs.Recount.{failing_runs, labelled, runs_of}
-use Rattle.elimination.specs.Runs.{AreEntriesOf, reports_after}
+use Rattle.tallies.specs.declared.labelled.LabelledRun.{LabelledRun}
+use Rattle.tallies.specs.Recount.{failing_runs, labelled, runs_of}
+use Rattle.tallies.specs.Runs.{AreEntriesOf, reports_after}
 use Rattle.elimination.specs.Slots.{left_of}
-use Rattle.elimination.specs.Tallies.{AreRecounts}
+use Rattle.tallies.specs.Tallies.{AreRecounts}
 use Rattle.elimination.proofs.Gathering.{Gathered, gathered-next-fails, gathered-runs, gathered-start, gathered-step, new_slot}
-use Rattle.elimination.proofs.RunLemmas.{all-after, collection-rises}
+use Rattle.tallies.proofs.RunLemmas.{all-after, collection-rises}
 use Rattle.elimination.proofs.books.Books.new.Goals as goal
 
 pub loop-report-init : goal.loop-report-init
@@ -45,10 +45,10 @@ returns-clause-books c =
     let bs = c.args.collection.now.branches in
     let end = subst (λ (rs : List Report). Gathered bs c.loop-report.slots.items c.loop-report.failing (runs_of rs) all) c.in_default.ensures.value c.loop-report.invariant.0 in
     let runs : left_of c.loop-report.slots.items ≡ all = gathered-runs bs c.loop-report.slots.items c.loop-report.failing all end in
-    let table = c.in_ok-tallies.ensures in
-    let same : bs ≡ c.in_ok-tallies.tallies.branches = c.requires ∙ sym table.branches_are in
+    let table = c.requires in
+    let same : bs ≡ c.args.tallies.branches = sym table.branches_are in
     record {
-      recounts = subst (λ (rs : List LabelledRun). AreRecounts c.in_ok-tallies.tallies.branches rs c.in_ok-tallies.tallies) (sym runs) (subst (λ (xs : List Bool). AreRecounts xs all c.in_ok-tallies.tallies) (sym table.branches_are) table);
+      recounts = subst (λ (rs : List LabelledRun). AreRecounts c.args.tallies.branches rs c.args.tallies) (sym runs) (subst (λ (xs : List Bool). AreRecounts xs all c.args.tallies) same table);
       failing = omega (arith, end.failing_are, ap failing_runs runs);
       left = omega (arith, c.reports_held-left.ensures, ap length runs, length-map c.args.collection.now.reports labelled);
       few = omega (arith, c.reports_held-left.ensures, end.as_many, length-map c.args.collection.now.reports labelled);

@@ -7,8 +7,8 @@ use Rattle.report_file.specs.declared.report.Entry.{Entry}
 use Rattle.elimination.specs.declared.books.Books.{Books}
 use Rattle.elimination.specs.declared.books.Slot.{Slot}
 use Rattle.elimination.specs.Elimination.{is_taken}
-use Rattle.elimination.specs.Slots.{pending, stepped, taken_slot, takes}
-use Rattle.elimination.specs.Tallies.{AllowsEntries, ChangedByAll, change_of}
+use Rattle.elimination.specs.Slots.{change_of, pending, stepped, taken_slot, takes}
+use Rattle.tallies.specs.Tallies.{AllowsEntries, ChangedByAll}
 use Rattle.elimination.proofs.BooksLemmas.{IsTaken, step-allowed, step-books, step-fails, step-length}
 use Rattle.elimination.proofs.books.Books.step.Goals as goal
 

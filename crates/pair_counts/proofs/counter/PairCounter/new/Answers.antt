@@ -1,5 +1,5 @@
 use Rattle.std.proofs.Common.{ℕ, true, false, List, get_or, subst, sym, ◌∙◌, arith}
-use Rattle.elimination.specs.Recount.{runs_of}
+use Rattle.tallies.specs.Recount.{runs_of}
 use Rattle.pair_counts.specs.Rows.{AreRows, room_for}
 use Rattle.pair_counts.specs.Runs.{counted_runs, run_count}
 use Rattle.pair_counts.proofs.Counting.{numbers-are}

@@ -1,7 +1,0 @@
-use Rattle.std.proofs.Common.{◌≡◌, false, take}
-use Rattle.std.specs.List.{list_any}
-use Rattle.elimination.specs.Predicates.{shows}
-use Rattle.elimination.proofs.books.is_true.Given as goal
-
-abbrev pub invariant-loop-entry : goal.invariant-loop-entry
-invariant-loop-entry l = list_any (shows l.tallies.branches l.predicate) (take l.entry-index l.entries) ≡ false

@@ -1,0 +1,10 @@
+pub mod PredicateLemmas
+pub mod ChangeLemmas
+pub mod ScanLemmas
+pub mod ScanState
+pub mod SiteChanges
+pub mod EntryChanges
+pub mod TotalLemmas
+pub mod RunLemmas
+pub mod RecountLemmas
+pub mod RunChanges
