@@ -1,5 +1,5 @@
 -- The text of a ranking: a header, and a line for each leader in turn; the fields of a line are parted by commas.
-use Rattle.std.specs.Prelude.{ℕ, ◌-◌, ◌<◌, ◌≤◌, nat_lt, if◌then◌else◌, List, [], ◌∷◌, ◌++◌, map, codes, decimal, Option, None, Some, slice_index_or, All}
+use Rattle.std.specs.Prelude.{ℕ, ◌<◌, ◌≤◌, List, [], ◌∷◌, ◌++◌, map, codes, decimal, Option, None, Some, slice_index_or, All}
 use Rattle.std.specs.List.{enumerate_from, join_with_byte}
 use Rattle.cbi_base.specs.Text.{text_of}
 use Rattle.flow.specs.declared.site.Site.{Site}

@@ -1,6 +1,5 @@
-use Rattle.std.proofs.Common.{List, length, ap, sym, subst, arith}
+use Rattle.std.proofs.Common.{List, sym, subst, arith}
 use Rattle.std.proofs.lemmas.List.{length-map}
-use Rattle.flow.specs.declared.site.TableParts.{TableParts}
 use Rattle.tallies.specs.declared.listed.Listed.{Listed}
 use Rattle.tallies.specs.Recount.{labelled, runs_of}
 use Rattle.elimination.specs.Elimination.{IsElimination}
