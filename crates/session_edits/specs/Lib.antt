@@ -1,0 +1,5 @@
+pub mod Spelling
+pub mod Fields
+pub mod Grammar
+pub mod Answers
+pub mod Held
