@@ -4,7 +4,6 @@ use Rattle.std.specs.List.{All, position_or_len}
 use Rattle.std.proofs.Common.{◌≡◌, ℕ, suc, ◌+◌, Bool, true, false, not, cond, ◌||◌, if◌then◌else◌, List, [], ◌∷◌, ◌++◌, length, take, drop, Option, None, Some, inl, inr, ap, sym, ◌∙◌, refl, arith}
 use Rattle.std.proofs.lemmas.List.{take_at}
 use Rattle.std.proofs.lemmas.List.Elements.{All-head, All-tail}
-use Rattle.cbi_options.specs.declared.given.Given.{Given}
 use Rattle.cbi_options.specs.declared.given.Shape.{Shape}
 use Rattle.cbi_options.specs.declared.given.Shape.TheVariants as shape
 use Rattle.cbi_options.specs.WordRule.{cut, has_value, is_dash, is_equals, is_value, name_in, shape_of, value_in, with_option, with_positional}

@@ -1,3 +1,5 @@
 mod Reading
 mod Joining
 mod Moving
+mod Commands
+mod Bad

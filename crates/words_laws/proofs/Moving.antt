@@ -1,6 +1,6 @@
 -- An option with its value, at another place.
 use Rattle.std.specs.Option.{option_map}
-use Rattle.std.specs.List.{find, list_all, list_any}
+use Rattle.std.specs.List.{find, list_all}
 use Rattle.std.proofs.Common.{◌≡◌, ℕ, Bool, true, false, not, cond, ◌&&◌, ◌||◌, if◌then◌else◌, List, [], ◌∷◌, ◌++◌, Option, None, Some, ap, sym, ◌∙◌, refl}
 use Rattle.cbi_base.specs.Numbers.{is_word, ◌>>=◌}
 use Rattle.cbi_base.proofs.NumberLemmas.{is_word-same, same-word}
@@ -9,7 +9,6 @@ use Rattle.cbi_options.specs.declared.given.Given.{Given}
 use Rattle.cbi_options.specs.declared.given.Shape.TheVariants as shape
 use Rattle.cbi_options.specs.Options.{are_asked, are_single, has_name, is_one_of, value_of}
 use Rattle.cbi_options.specs.WordRule.{cut, has_value, shape_of, with_option, with_positional}
-use Rattle.cbi_words.specs.Reading.{asked}
 use Rattle.words_laws.specs.Laws.{AreWhole, IsOption, OptionsChangePlaces, OptionsStandAnywhere, SaySame, beside}
 use Rattle.words_laws.proofs.Reading.{at_shape, in_order}
 use Rattle.words_laws.proofs.Joining.{cut_given}

@@ -1,7 +1,7 @@
 -- Words that are whole are read before the others.
 use Rattle.std.specs.Option.{option_map}
 use Rattle.std.specs.List.{All}
-use Rattle.std.proofs.Common.{◌≡◌, ℕ, Bool, true, false, if◌then◌else◌, List, [], ◌∷◌, ◌++◌, Option, None, Some, ap, sym, ◌∙◌, refl, append_assoc}
+use Rattle.std.proofs.Common.{◌≡◌, ℕ, Bool, true, false, if◌then◌else◌, List, [], ◌∷◌, ◌++◌, Option, None, Some, ap, ◌∙◌, refl}
 use Rattle.std.proofs.lemmas.List.{append-nil}
 use Rattle.std.proofs.lemmas.List.Elements.{All-head, All-tail}
 use Rattle.cbi_options.specs.declared.given.Choice.{Choice}
@@ -9,7 +9,7 @@ use Rattle.cbi_options.specs.declared.given.Given.{Given}
 use Rattle.cbi_options.specs.declared.given.Shape.{Shape}
 use Rattle.cbi_options.specs.declared.given.Shape.TheVariants as shape
 use Rattle.cbi_options.specs.WordRule.{cut, has_value, is_value, name_in, none_given, shape_of, value_in, with_option, with_positional}
-use Rattle.words_laws.specs.Laws.{AreWhole, EndEndsOptions, GoesOn, ReadInOrder, beside}
+use Rattle.words_laws.specs.Laws.{EndEndsOptions, GoesOn, ReadInOrder, beside}
 
 -- what a word and those behind it give, by what it is
 abbrev pub at_shape : Shape → Bool → List ℕ → List (List ℕ) → Option Given

@@ -5,8 +5,9 @@ use Rattle.std.specs.List.{All}
 use Rattle.cbi_options.specs.declared.given.Given.{Given}
 use Rattle.cbi_options.specs.declared.given.Shape.TheVariants as shape
 use Rattle.cbi_options.specs.Options.{value_of}
-use Rattle.cbi_options.specs.WordRule.{cut, has_value, is_value, shape_of, with_positional}
-use Rattle.cbi_words.specs.Reading.{asked}
+use Rattle.cbi_options.specs.WordRule.{cut, has_value, is_value, shape_of}
+use Rattle.cbi_words.specs.BadValue.{bad_value}
+use Rattle.cbi_words.specs.Reading.{asked, reads}
 
 -- a name of an option that has no value behind a `=`
 abbrev pub IsName : List ℕ → Type 0
@@ -65,3 +66,22 @@ OptionsChangePlaces =
     (names : List (List ℕ)) (name value other its : List ℕ) (one two before after : List (List ℕ)) (given : Given) →
     IsOption name value one → IsOption other its two → AreWhole before given →
     SaySame (asked names (before ++ (one ++ (two ++ after)))) (asked names (before ++ (two ++ (one ++ after))))
+
+-- both are words of the same command, or of none, whatever the command's name
+abbrev pub ReadAlike : List (List ℕ) → List (List ℕ) → Type 0
+ReadAlike one two = (tool command : List ℕ) → reads (tool ∷ command ∷ one) ≡ reads (tool ∷ command ∷ two)
+
+-- A command goes by its positionals and the values of its options: words that say the same of these read as the same command.
+abbrev pub CommandsTakeWhatIsSaid : Type 0
+CommandsTakeWhatIsSaid =
+    (one two : List (List ℕ)) → ((names : List (List ℕ)) → SaySame (asked names one) (asked names two)) → ReadAlike one two
+
+-- so the command stays where two options change places
+abbrev pub CommandStays : Type 0
+CommandStays =
+    (name value other its : List ℕ) (one two before after : List (List ℕ)) (given : Given) → IsOption name value one → IsOption other its two →
+    AreWhole before given → ReadAlike (before ++ (one ++ (two ++ after))) (before ++ (two ++ (one ++ after)))
+
+-- where err is told of a bad value, the words read as no command
+abbrev pub BadValuesAreNoCommand : Type 0
+BadValuesAreNoCommand = (words : List (List ℕ)) (option : List ℕ) → bad_value words ≡ Some option → reads words ≡ None

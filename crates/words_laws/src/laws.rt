@@ -1,5 +1,8 @@
 //! Laws of the definitions, each on a function of its own without a body.
 ghost use Rattle.words_laws.specs.Laws.{
+  BadValuesAreNoCommand,
+  CommandStays,
+  CommandsTakeWhatIsSaid,
   EndEndsOptions,
   JoinedReadsAlike,
   OptionsChangePlaces,
@@ -30,4 +33,19 @@ pub fn options_stand_anywhere()
 /// Two options may change places: the command has the same positionals, and each of its options the same value.
 pub fn options_change_places()
     ensures { OptionsChangePlaces }
+{}
+
+/// A command goes by its positionals and the values of its options, and by nothing else of its words.
+pub fn commands_take_what_is_said()
+    ensures { CommandsTakeWhatIsSaid }
+{}
+
+/// The command stays the same where two options change places.
+pub fn command_stays()
+    ensures { CommandStays }
+{}
+
+/// Words of which it is told that a value alone is bad are no command.
+pub fn bad_values_are_no_command()
+    ensures { BadValuesAreNoCommand }
 {}

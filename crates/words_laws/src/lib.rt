@@ -4,6 +4,6 @@
 mod laws;
 
 pub use laws::{
-    joined_reads_alike, options_change_places, options_stand_anywhere, the_end_ends_options,
-    words_are_read_in_order,
+    bad_values_are_no_command, command_stays, commands_take_what_is_said, joined_reads_alike,
+    options_change_places, options_stand_anywhere, the_end_ends_options, words_are_read_in_order,
 };
