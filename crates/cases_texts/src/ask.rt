@@ -32,7 +32,8 @@ pub(crate) enum Ask {
     /// `numbers S`: how many sites, predicates and functions there are.
     Numbers,
     /// `ends`: how the plain program ends, and `after` what output. The one that observes each visit of all schemes and the sampled one, with each visit drawn
-    /// and with one in a thousand, come to the same; where each visit is drawn they count the same.
+    /// and with one in a thousand, come to the same; where each visit is drawn they count the same. So do the programs with a part of the sites, of 1, 2, 3 and 7
+    /// parts: of their sites they count what the others count.
     Ends,
     /// `fills`: how the plain program ends, and how many bytes it writes.
     Fills,

@@ -15,6 +15,8 @@ mod answers;
 mod ask;
 mod form;
 mod lexed;
+mod parts;
+mod plans;
 mod read;
 mod row;
 mod runs;

@@ -1,5 +1,9 @@
 //! What the programs of a text do.
-use crate::sited::schemes_of;
+ghost use Rattle.compiler.specs.Kept.{MayPart};
+ghost use Rattle.compiler.specs.Planned.{part_in};
+
+use crate::parts::push_parts;
+use crate::plans::{full, sampled};
 use case_rows::{Page, numbers_in};
 use cbi_base::{Counts, Outcome};
 use compiler::{CompileError, Plan, compile};
@@ -19,7 +23,9 @@ pub(crate) struct Given<'a> {
 const ALL: &str = "brp";
 
 /// The program of a text by a plan, or why there is none.
-fn program_of(text: &[u8], plan: Plan, out: &mut Page) -> Option<Program> {
+pub(crate) fn program_of(text: &[u8], plan: Plan, out: &mut Page) -> Option<Program>
+    requires { MayPart (part_in plan) }
+{
     match compile(out.alloc(), text, plan) {
         Ok(program) => Some(program),
         Err(CompileError::Memory) => {
@@ -52,7 +58,14 @@ fn bank_of(words: &str, out: &mut Page) -> Option<Bank> {
 }
 
 /// What a run of the text's program by a plan comes to, with the bank of these numbers; where there is none, why is added.
-fn result_of(given: Given<'_>, plan: Plan, numbers: &str, out: &mut Page) -> Option<RunResult> {
+pub(crate) fn result_of(
+    given: Given<'_>,
+    plan: Plan,
+    numbers: &str,
+    out: &mut Page,
+) -> Option<RunResult>
+    requires { MayPart (part_in plan) }
+{
     let mut bank = bank_of(numbers, out)?;
     match program_of(given.text, plan, out) {
         Some(program) => ran(given, &program, &mut bank, out),
@@ -92,8 +105,7 @@ fn push_other(plain: &RunResult, other: &RunResult, name: &str, out: &mut Page) 
 
 /// Compares the run of the sampled program with each visit drawn.
 fn push_other_drawn(given: Given<'_>, plain: &RunResult, full: &RunResult, out: &mut Page) {
-    let schemes = schemes_of(ALL);
-    if let Some(each) = result_of(given, Plan::Sampled { schemes }, "1", out) {
+    if let Some(each) = result_of(given, sampled(ALL), "1", out) {
         push_other(plain, &each, "; sampled ", out);
         if each.counts.as_slice() != full.counts.as_slice() {
             out.say("; sampled counts otherwise");
@@ -103,19 +115,18 @@ fn push_other_drawn(given: Given<'_>, plain: &RunResult, full: &RunResult, out: 
 
 /// Compares the run of the sampled program with one visit in a thousand drawn.
 fn push_other_seldom(given: Given<'_>, plain: &RunResult, out: &mut Page) {
-    let schemes = schemes_of(ALL);
-    if let Some(few) = result_of(given, Plan::Sampled { schemes }, "1000", out) {
+    if let Some(few) = result_of(given, sampled(ALL), "1000", out) {
         push_other(plain, &few, "; seldom sampled ", out);
     }
 }
 
-/// Compares the runs of the program that observes each visit, and of the sampled one.
+/// Compares the runs of the program that observes each visit, of the sampled one, and of those with a part of the sites.
 fn push_others(given: Given<'_>, plain: &RunResult, out: &mut Page) {
-    let schemes = schemes_of(ALL);
-    if let Some(full) = result_of(given, Plan::Full { schemes }, "1", out) {
-        push_other(plain, &full, "; full ", out);
-        push_other_drawn(given, plain, &full, out);
+    if let Some(seen) = result_of(given, full(ALL), "1", out) {
+        push_other(plain, &seen, "; full ", out);
+        push_other_drawn(given, plain, &seen, out);
         push_other_seldom(given, plain, out);
+        push_parts(given, ALL, &seen, out);
     }
 }
 
@@ -165,8 +176,7 @@ fn push_report(seen: &RunResult, out: &mut Page) {
 
 /// Adds the report of the program that observes each visit of these schemes.
 pub(crate) fn push_full(given: Given<'_>, schemes: &str, out: &mut Page) {
-    let schemes = schemes_of(schemes);
-    if let Some(seen) = result_of(given, Plan::Full { schemes }, "1", out) {
+    if let Some(seen) = result_of(given, full(schemes), "1", out) {
         push_report(&seen, out);
     }
 }
@@ -174,16 +184,14 @@ pub(crate) fn push_full(given: Given<'_>, schemes: &str, out: &mut Page) {
 /// Adds the report of the sampled program, by its schemes and the numbers of its bank.
 pub(crate) fn push_sampled(given: Given<'_>, words: &str, out: &mut Page) {
     let (schemes, bank) = words.split_once(' ').unwrap_or((words, ""));
-    let schemes = schemes_of(schemes);
-    if let Some(seen) = result_of(given, Plan::Sampled { schemes }, bank, out) {
+    if let Some(seen) = result_of(given, sampled(schemes), bank, out) {
         push_report(&seen, out);
     }
 }
 
 /// Adds how many sites the program has that observes each visit.
 pub(crate) fn push_compiled(text: &[u8], schemes: &str, out: &mut Page) {
-    let schemes = schemes_of(schemes);
-    if let Some(program) = program_of(text, Plan::Full { schemes }, out) {
+    if let Some(program) = program_of(text, full(schemes), out) {
         out.debug(program.table().sites().len());
         out.say(" sites");
     }

@@ -1,5 +1,5 @@
 -- What the command `transform` does: out takes the file of the program that a C text is compiled to.
-use Rattle.std.specs.Prelude.{ℕ, List, [], ◌∷◌, Option}
+use Rattle.std.specs.Prelude.{ℕ, List, [], ◌∷◌, Option, None, Some}
 use Rattle.cbi_base.specs.Store.{Held, IsReadOf}
 use Rattle.cbi_base.specs.declared.refusal.Refusal.{Refusal}
 use Rattle.flow.specs.declared.program.ProgramParts.{ProgramParts}
@@ -7,6 +7,8 @@ use Rattle.flow.specs.Spelling.{SpellsProgram}
 use Rattle.cbi_options.specs.declared.schemes.Mode.{Mode}
 use Rattle.cbi_options.specs.declared.schemes.Mode.TheVariants as mode
 use Rattle.cbi_options.specs.declared.schemes.Schemes.{Schemes as Named}
+use Rattle.cbi_options.specs.declared.shares.Share.{Share}
+use Rattle.site_parts.specs.declared.part.Part.{Part}
 use Rattle.sites.specs.declared.schemes.Schemes.{Schemes}
 use Rattle.compiler.specs.declared.plan.Plan.{Plan}
 use Rattle.compiler.specs.declared.plan.Plan.TheVariants as plan
@@ -19,14 +21,19 @@ use Rattle.command_transform.specs.declared.words.TransformWords.{TransformWords
 abbrev pub schemes_of : Named → Schemes
 schemes_of s = record { branches = s.branches; returns = s.returns; pairs = s.pairs }
 
--- what the text is compiled to; a plain program has no sites, whatever schemes are named
-abbrev pub plan_for : Mode → Named → Plan
-plan_for mode.Plain s = plan.Plain
-plan_for mode.Full s = plan.Full (schemes_of s)
-plan_for mode.Sampled s = plan.Sampled (schemes_of s)
+-- the part of the sites that is named
+abbrev pub part_of : Option Share → Option Part
+part_of None = None
+part_of (Some s) = Some (record { index = s.index; count = s.count })
+
+-- what the text is compiled to; a plain program has no sites, whatever schemes and part are named
+abbrev pub plan_for : Mode → Named → Option Share → Plan
+plan_for mode.Plain s part = plan.Plain
+plan_for mode.Full s part = plan.Full (schemes_of s) (part_of part)
+plan_for mode.Sampled s part = plan.Sampled (schemes_of s) (part_of part)
 
 abbrev pub plan_of : TransformWords → Plan
-plan_of r = plan_for r.mode r.schemes
+plan_of r = plan_for r.mode r.schemes r.part
 
 -- the name that is read
 abbrev pub transform_names : TransformWords → List (List ℕ)

@@ -1,39 +1,59 @@
 ghost use Rattle.std.specs.Prelude.{◌≡◌, ◌≤◌, IfOk, OnOk, IfErr, IsErrAnd, IsSome};
 ghost use Rattle.cbi_base.specs.Faults.{Rose};
+ghost use Rattle.cbi_options.specs.Shares.{MayShare};
+ghost use Rattle.compiler.specs.Kept.{MayPart};
+ghost use Rattle.compiler.specs.Planned.{part_in};
 ghost use Rattle.compiler.specs.Refused.{IsRefusedText, RefusesText};
 ghost use Rattle.command_base.specs.Faults.{Caused, LeftOnOut, OfRead, OfRefusal, Precedes, Passed};
 ghost use Rattle.command_base.specs.Names.{IsOneOf, IsFirstMissing, AreHeld};
 ghost use Rattle.command_base.specs.Outside.{TookDue};
 ghost use Rattle.command_base.specs.declared.done.Done.TheVariants.{Nothing};
-ghost use Rattle.command_transform.specs.Transform.{IsFileOf, IsTransformed, TransformRefused, TransformRefusedBy, plan_of, transform_names};
+ghost use Rattle.command_transform.specs.Transform.{IsFileOf, IsTransformed, TransformRefused, TransformRefusedBy, part_of, plan_of, transform_names};
 
 use crate::words::TransformWords;
 use cbi_base::{Memory, Sink, Store};
-use cbi_options::Mode;
+use cbi_options::{Mode, Share};
 use command_base::{Done, Fault, TEXT_LIMIT, put, read_file};
 use compiler::{CompileError, Plan, compile, refused_texts_are_not_compiled};
 use program_file::write_program;
+use site_parts::Part;
 use sites::Schemes;
 use std::alloc::Global;
 
+/// The part of the sites that is named.
+fn part_of(share: Option<Share>) -> Option<Part>
+    requires { MayShare share }
+    ensures value { result ≡ part_of share }
+    ensures may { MayPart result }
+{
+    match share {
+        None => None,
+        Some(Share { index, count }) => Some(Part { index, count }),
+    }
+}
+
 /// What the text is compiled to.
 fn plan_of(words: &TransformWords) -> Plan
-    ensures { result ≡ plan_of words.now }
+    requires { MayShare words.now.part }
+    ensures value { result ≡ plan_of words.now }
+    ensures may { MayPart (part_in result) }
 {
     let schemes = Schemes {
         branches: words.schemes.branches,
         returns: words.schemes.returns,
         pairs: words.schemes.pairs,
     };
+    let part = part_of(words.part);
     match words.mode {
         Mode::Plain => Plan::Plain,
-        Mode::Full => Plan::Full { schemes },
-        Mode::Sampled => Plan::Sampled { schemes },
+        Mode::Full => Plan::Full { schemes, part },
+        Mode::Sampled => Plan::Sampled { schemes, part },
     }
 }
 
 /// The file of the program that a text is compiled to.
 fn file_of(alloc: Global, words: &TransformWords, text: &[u8]) -> Result<Vec<u8>, Fault>
+    requires { MayShare words.now.part }
     ensures is_file { IfOk result (λ file. IsFileOf words.now text.now file.items) }
     ensures fault { IfErr result (λ e. Caused e (λ n. ⊥) ⊥ (λ r. RefusesText (plan_of words.now) r text.now)) }
     ensures refused { IsRefusedText (plan_of words.now) text.now → IsErrAnd result Precedes }
@@ -56,6 +76,7 @@ pub fn transform_text<S: Store, O: Sink>(
     store: &mut S,
     out: &mut O,
 ) -> Result<Done, Fault>
+    requires { MayShare words.now.part }
     ensures took { OnOk result (TookDue (IsTransformed (S.holds store.old) words.now) (O.taken out.old) (O.taken out.new)) }
     ensures said { IfOk result (λ said. said ≡ Nothing) }
     ensures fault { IfErr result (λ e. Caused e

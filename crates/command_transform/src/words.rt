@@ -1,4 +1,4 @@
-use cbi_options::{Mode, Schemes, Word};
+use cbi_options::{Mode, Schemes, Share, Word};
 
 /// What `transform` is asked for.
 #[derive(Debug, Drop)]
@@ -7,6 +7,8 @@ pub struct TransformWords {
     pub mode: Mode,
     /// Of which schemes its sites are.
     pub schemes: Schemes,
+    /// The part of these sites that the program has, where it hasn't all of them.
+    pub part: Option<Share>,
     /// The name of the text's file.
     pub text: Word,
 }

@@ -46,17 +46,17 @@ module _ (one_ending : OneEnding) (same_outcome : SameOutcome) (same_output : Sa
     as_meant : (plan : Plan) (tree : SourceTree) (known : Walk) (p : ProgramParts) (x : Ending) → DoesPlan plan tree known p → IsPositive bank → MachineEnds p input bank turns x
         → Alike x (text_meaning tree known (planned_sites plan tree known) input turns)
     as_meant plan.Plain tree known p x does positive ends = ends_as p _ _ x (does.ends input bank turns) ends
-    as_meant (plan.Full schemes) tree known p x does positive ends = ends_as p _ _ x (does.ends input bank turns) ends
-    as_meant (plan.Sampled schemes) tree known p x does positive ends = ends_as p _ _ x (does.ends input bank turns positive) ends
+    as_meant (plan.Full schemes part) tree known p x does positive ends = ends_as p _ _ x (does.ends input bank turns) ends
+    as_meant (plan.Sampled schemes part) tree known p x does positive ends = ends_as p _ _ x (does.ends input bank turns positive) ends
 
     without : (plan : Plan) (text : List ℕ) (tree : SourceTree) (known : Walk) (x : Ending) → IsAccepted text tree known
         → Alike x (text_meaning tree known (planned_sites plan tree known) input turns) → Alike x (text_meaning tree known [] input turns)
     without plan.Plain text tree known x accepted a = a
-    without (plan.Full schemes) text tree known x accepted a = record {
+    without (plan.Full schemes part) text tree known x accepted a = record {
       outcome = a.outcome ∙ same_outcome text tree known schemes input turns accepted;
       output = a.output ∙ same_output text tree known schemes input turns accepted;
     }
-    without (plan.Sampled schemes) text tree known x accepted a = record {
+    without (plan.Sampled schemes part) text tree known x accepted a = record {
       outcome = a.outcome ∙ same_outcome text tree known schemes input turns accepted;
       output = a.output ∙ same_output text tree known schemes input turns accepted;
     }

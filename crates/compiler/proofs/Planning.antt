@@ -18,8 +18,8 @@ NoneWithout = (t : SourceTree) (w : Walk) → sites_of t w no_schemes ≡ []
 
 pub planned : NoneWithout → (plan : Plan) (tree : SourceTree) (known : Walk) → sites_of tree known (schemes_of plan) ≡ planned_sites plan tree known
 planned none plan.Plain tree known = none tree known
-planned none (plan.Full schemes) tree known = refl
-planned none (plan.Sampled schemes) tree known = refl
+planned none (plan.Full schemes part) tree known = refl
+planned none (plan.Sampled schemes part) tree known = refl
 
 -- a table made for the plan's schemes has the plan's sites
 pub planned_table : NoneWithout → (plan : Plan) (tree : SourceTree) (known : Walk) (schemes : Schemes) → schemes ≡ schemes_of plan → sites_of tree known schemes ≡ planned_sites plan tree known
@@ -36,5 +36,5 @@ many_sites made sites same many = subst (λ (s : List Site). site_limit < length
 -- they are sites of the text, or there are none
 pub planned_are : (plan : Plan) (tree : SourceTree) (known : Walk) (sites : List Site) → sites ≡ planned_sites plan tree known → AreSitesOf tree known sites
 planned_are plan.Plain tree known sites e = inl e
-planned_are (plan.Full schemes) tree known sites e = inr (schemes, e)
-planned_are (plan.Sampled schemes) tree known sites e = inr (schemes, e)
+planned_are (plan.Full schemes part) tree known sites e = inr (schemes, e)
+planned_are (plan.Sampled schemes part) tree known sites e = inr (schemes, e)

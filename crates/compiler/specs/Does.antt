@@ -1,5 +1,5 @@
 -- Programs that do what a text means: the record that each compiled program meets.
-use Rattle.std.specs.Prelude.{◌≡◌, ◌≢◌, ◌≤◌, ◌+◌, ◌*◌, ℕ, List, length}
+use Rattle.std.specs.Prelude.{◌≡◌, ◌≢◌, ◌≤◌, ◌+◌, ◌*◌, ℕ, List, length, Option}
 use Rattle.cbi_base.specs.declared.observation.Observation.{Observation}
 use Rattle.cbi_base.specs.declared.outcome.Outcome.TheVariants.{Trapped}
 use Rattle.cbi_base.specs.declared.trap.Trap.TheVariants.{Internal}
@@ -16,6 +16,8 @@ use Rattle.flow.specs.Sampling.{IsPositive, samples}
 use Rattle.flow.specs.State.{Ending}
 use Rattle.clone_paths.specs.Cloned.{Cloned}
 use Rattle.lower.specs.Programs.{node_count}
+use Rattle.site_parts.specs.declared.part.Part.{Part}
+use Rattle.compiler.specs.Kept.{kept_sites, kept_visits}
 
 -- A run goes as the text means, and what its sites saw is this: outcome and output are the meaning's, and the counters count what was seen.
 pub record GoesAs (meant : Behaviour) (seen : List Observation) (table : List Site) (ending : Ending) : Type 0 where
@@ -30,26 +32,26 @@ pub record EndsAs (p : ProgramParts) (input : List ℕ) (bank : ℕ → ℕ) (tu
   pub ends : MachineEnds p input bank turns ending
   pub goes : GoesAs meant seen p.sites ending
 
--- at most 16 nodes for each token of the text, and one more for each site
-abbrev pub HasFewNodes : SourceTree → ProgramParts → Type 0
-HasFewNodes tree p = node_count p.functions ≤ 16 * length (tree_kinds tree) + length p.sites
+-- at most 16 nodes for each token of the text, and one more for each site of the table
+abbrev pub HasFewNodes : SourceTree → List Site → ProgramParts → Type 0
+HasFewNodes tree table p = node_count p.functions ≤ 16 * length (tree_kinds tree) + length table
 
-module _ (tree : SourceTree) (known : Walk) (table : List Site) where
-  -- On each input, with each bank and within each bound of turns the program ends as the text means, and its sites, those of the table, see
-  -- exactly the visits of the text. It has few nodes.
+module _ (tree : SourceTree) (known : Walk) (table : List Site) (part : Option Part) where
+  -- On each input, with each bank and within each bound of turns the program ends as the text means, and its sites, those of the table that it
+  -- keeps, see exactly the visits that the text makes of them. It has few nodes.
   pub record DoesText (p : ProgramParts) : Type 0 where
-    pub sites : p.sites ≡ table
+    pub sites : p.sites ≡ kept_sites part table
     pub ends : (input : List ℕ) (bank : ℕ → ℕ) (turns : ℕ) →
-        EndsAs p input bank turns (text_meaning tree known table input turns) (text_meaning tree known table input turns).seen
+        EndsAs p input bank turns (text_meaning tree known table input turns) (kept_visits part (text_meaning tree known table input turns).seen)
     pub never : (input : List ℕ) (turns : ℕ) → (text_meaning tree known table input turns).outcome ≢ Trapped Internal
-    pub few : HasFewNodes tree p
+    pub few : HasFewNodes tree table p
 
   -- The program is the cloned form of one that does so. On each input, with each bank and within each bound of turns it ends as the text means, and
-  -- its sites see exactly the samples of the text's visits.
+  -- its sites see exactly the samples of the visits that the text makes of them.
   pub record SamplesText (q : ProgramParts) : Type 0 where
     pub full : ProgramParts
     pub does : DoesText full
     pub cloned : Cloned full q
-    pub sites : q.sites ≡ table
+    pub sites : q.sites ≡ kept_sites part table
     pub ends : (input : List ℕ) (bank : ℕ → ℕ) (turns : ℕ) → IsPositive bank →
-        EndsAs q input bank turns (text_meaning tree known table input turns) (samples bank (text_meaning tree known table input turns).seen)
+        EndsAs q input bank turns (text_meaning tree known table input turns) (samples bank (kept_visits part (text_meaning tree known table input turns).seen))

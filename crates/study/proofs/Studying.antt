@@ -1,5 +1,5 @@
 -- The runs of a study by the machine are those that the text means.
-use Rattle.std.proofs.Common.{◌≡◌, ◌≤◌, ◌<◌, ◌+◌, ◌%◌, ℕ, zero, suc, List, [], ◌∷◌, ◌++◌, length, map, slice_index, ap, ap₂, sym, refl, ◌∙◌, arith}
+use Rattle.std.proofs.Common.{◌≡◌, ◌≤◌, ◌<◌, ◌+◌, ◌%◌, ℕ, zero, suc, None, List, [], ◌∷◌, ◌++◌, length, map, slice_index, ap, ap₂, sym, refl, ◌∙◌, arith}
 use Rattle.std.proofs.lemmas.List.Sums.{sum_by-cons}
 use Rattle.c_syntax.specs.ItemTree.{SourceTree}
 use Rattle.c_types_expressions.specs.declared.walk.Walk.{Walk}
@@ -33,7 +33,7 @@ pub made_positive : (seed rate number : ℕ) (bank : BankState) (input : List �
 made_positive seed rate number bank input made = λ draws.
     made_at _ _ bank.numbers ((bank.position + draws) % length bank.numbers) made.bank_is.made (omega (arith, made.bank_is.as_many))
 
-module _ (one_ending : OneEnding) (tree : SourceTree) (known : Walk) (plan : StudyPlan) (p : ProgramParts) (does : SamplesText tree known (study_sites tree known plan) p) where
+module _ (one_ending : OneEnding) (tree : SourceTree) (known : Walk) (plan : StudyPlan) (p : ProgramParts) (does : SamplesText tree known (study_sites tree known plan) None p) where
   -- a run on the bank and the line of a number is as the text means it
   pub means : (number : ℕ) (bank : BankState) (input : List ℕ) (ending : Ending) → IsMadeRun plan.seed plan.rate number bank input
       → MachineEnds p input (number_after bank) plan.turns ending → IsStudyRun tree known plan number (run_of ending)

@@ -1,5 +1,5 @@
 -- What a study of a text comes to, and the texts and plans that are refused. `told` is what one watcher was told.
-use Rattle.std.specs.Prelude.{◌≡◌, ◌⊎◌, ℕ, ◌≤◌, List, length, map}
+use Rattle.std.specs.Prelude.{◌≡◌, ◌⊎◌, ℕ, ◌≤◌, List, length, map, None}
 use Rattle.cbi_base.specs.declared.observation.Observation.{Observation}
 use Rattle.cbi_base.specs.declared.refusal.Refusal.{Refusal}
 use Rattle.cbi_base.specs.declared.refusal.Refusal.TheVariants.{TooManyMarks}
@@ -28,7 +28,7 @@ use Rattle.study.specs.Study.{AreCrowded, AreStudyRuns, StudyRun, all_seen, labe
 
 -- what a text is compiled to for a study
 abbrev pub study_form : Plan
-study_form = Sampled all_schemes
+study_form = Sampled all_schemes None
 
 -- a run of the machine, as a study sees it
 abbrev pub run_of : Ending → StudyRun

@@ -17,6 +17,7 @@ const SAMPLED: Plan = Plan::Sampled {
         returns: true,
         pairs: true,
     },
+    part: None,
 };
 
 /// What a study comes to.

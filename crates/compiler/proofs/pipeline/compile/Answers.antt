@@ -23,8 +23,8 @@ returns-clause-refused c =
 pub returns-clause-refused_only : goal.returns-clause-refused_only
 returns-clause-refused_only c = refused_fails c.args.plan c.args.text.now _ _ c.compile_checked.result c.in_ok-checked.ensures.accepted c.compile_checked.ensures.fits
 
-pub compile_checked-requires : goal.compile_checked-requires
-compile_checked-requires c = record {
+pub compile_checked-requires-clause-text : goal.compile_checked-requires-clause-text
+compile_checked-requires-clause-text c = record {
   accepted = tree_accepted c.args.text.now _ _ c.in_ok-checked.ensures.accepted;
   sited = c.sites_of_accepted_texts_stand.ensures.sited c.args.text.now _ _ c.in_ok-checked.ensures.accepted;
   constants = c.tokens_of_accepted_texts_fit.ensures.constants c.args.text.now _ _ c.in_ok-checked.ensures.accepted;

@@ -17,17 +17,17 @@ returns-clause-compiled c = λ text accepted.
       names = c.in_ok-planned.ensures.names ∙ ap (λ (t : TableParts). t.functions) c.in_ok-program.ensures.sites ∙ c.in_ok-table.ensures.functions;
       does = c.in_ok-planned.ensures.does tree known
           (looks c.accepted_texts_never_fault.ensures.never c.accepted_texts_never_fault.ensures.never_plain text tree known accepted
-          c.args.plan _ _ c.in_ok-table.ensures.sites c.in_ok-program.ensures.means c.in_ok-program.ensures.sites (few_beside (tree_of c.args.checked.now) _ c.in_ok-program.program c.in_ok-program.ensures.sites c.in_ok-program.ensures.few));
+          c.args.plan _ _ c.in_ok-table.ensures.sites c.in_ok-program.ensures.means c.in_ok-program.ensures.sites (few_beside (tree_of c.args.checked.now) c.in_ok-table.table _ c.in_ok-program.program c.in_ok-table.ensures.sites c.in_ok-program.ensures.few));
     }
 
 pub by_plan-requires-clause-may_clone : goal.by_plan-requires-clause-may_clone
 by_plan-requires-clause-may_clone c =
-    may_clone (tree_of c.args.checked.now) _ _ _ c.in_ok-program.ensures.plain (few_beside (tree_of c.args.checked.now) _ c.in_ok-program.program c.in_ok-program.ensures.sites c.in_ok-program.ensures.few) c.requires.short
-    c.in_ok-program.ensures.sites c.in_ok-table.ensures.sites c.in_ok-table.ensures.fits
+    may_clone (tree_of c.args.checked.now) _ _ c.in_ok-program.ensures.plain (few_beside (tree_of c.args.checked.now) c.in_ok-table.table _ c.in_ok-program.program c.in_ok-table.ensures.sites c.in_ok-program.ensures.few) c.requires.text.short
+    c.in_ok-table.ensures.fits
 
 pub lower-requires : goal.lower-requires
 lower-requires c = record {
-  whole = c.requires;
+  whole = c.requires.text;
   sites = planned_are c.args.plan (tree_of c.args.checked.now) (known_of c.args.checked.now) _ c.in_ok-table.ensures.sites;
   functions = c.in_ok-table.ensures.functions;
 }
