@@ -1,0 +1,8 @@
+//! What the command `cards` does: it deals a card of each predicate that a ranking lists, with its runs and the predicates near it.
+#![tactic(auto)]
+
+mod command;
+mod words;
+
+pub use command::deal_cards;
+pub use words::CardsWords;
