@@ -1,0 +1,8 @@
+//! What the command `pairs` does: it finds the best pair of predicates of a program over the runs of a collection.
+#![tactic(auto)]
+
+mod command;
+mod words;
+
+pub use command::find_pairs;
+pub use words::PairsWords;
