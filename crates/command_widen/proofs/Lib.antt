@@ -1,0 +1,4 @@
+pub mod Checking
+pub mod Refusing
+pub mod Widening
+pub mod WidenLemmas
