@@ -1,5 +1,5 @@
 //! Eliminations of a collection's runs: the quick one beside the reference, the predicates that they list, and the text of a ranking.
-ghost use Rattle.std.specs.Prelude.{◌≡◌, IfSome};
+ghost use Rattle.std.specs.Prelude.{◌≡◌, ◌<◌, IfSome};
 ghost use Rattle.collector.specs.Sites.{branches_of};
 ghost use Rattle.report_file.specs.Report.{IsReport};
 
@@ -7,18 +7,31 @@ use crate::finding::program;
 use case_rows::{Page, expect, expect_rest, has_head};
 use cbi_base::{Policy, ProgramId};
 use collector::{Added, Collection, RunText, read_collection, read_run};
-use elimination::elimination;
+use elimination::{Eliminator, Steps, elimination};
 use elimination_reference::plain_elimination;
 use flow::SiteTable;
+use fractions::Tally;
 use ranking::ranking_of;
 use report_file::Report;
+use std::marker::Brand;
+use std::sync::ledger::{Blank, Ledger};
 use tallies::Listed;
 
-/// The policies, with the heads of what a row says of each: the predicates that are listed, and the ranking's text.
-const POLICIES: [(Policy, &str, &str); 3] = [
-    (Policy::All, "leaders all", "ranking all"),
-    (Policy::Failing, "leaders failing", "ranking failing"),
-    (Policy::Relabel, "leaders relabel", "ranking relabel"),
+/// The policies, with the heads of what a row says of each: the predicates that are listed, what is left behind them, and the ranking's text.
+const POLICIES: [(Policy, &str, &str, &str); 3] = [
+    (Policy::All, "leaders all", "left all", "ranking all"),
+    (
+        Policy::Failing,
+        "leaders failing",
+        "left failing",
+        "ranking failing",
+    ),
+    (
+        Policy::Relabel,
+        "leaders relabel",
+        "left relabel",
+        "ranking relabel",
+    ),
 ];
 
 /// The report of the run whose lines stand behind this place.
@@ -107,6 +120,66 @@ fn tell_policy(
     quick.len()
 }
 
+fn push_numbers(tally: Tally, came: &mut Page) {
+    for number in [tally.a, tally.b, tally.c, tally.d] {
+        came.say(" ");
+        came.number(number);
+    }
+}
+
+/// Adds how many runs are left, and the numbers that are kept of the first predicate.
+fn push_left(eliminator: &Eliminator, came: &mut Page) {
+    came.say(" ");
+    came.number(eliminator.runs_left());
+    let tallies = eliminator.tallies();
+    if tallies.predicates() > 0 {
+        push_numbers(tallies.of(0), came);
+    }
+}
+
+/// Adds what is left behind so many leaders, where no more come, counting steps by a ledger of its own.
+fn push_left_by<L: Ledger>(
+    eliminator: &mut Eliminator,
+    leaders: usize,
+    blank: Blank,
+    came: &mut Page,
+)
+    requires name { blank.name ≡ L.name }
+    requires parts { blank.parts ≡ L.parts }
+    requires some { 0 < blank.parts }
+{
+    let mut steps = Steps::<L>::new(blank);
+    for _ in 0..leaders {
+        let _leader = eliminator.next(&mut steps);
+    }
+    if eliminator.next(&mut steps).is_some() {
+        came.say(" more leaders");
+    }
+    push_left(eliminator, came);
+}
+
+/// Tells the runs that are left behind so many leaders, and the numbers that are kept of the first predicate, where the row says others.
+fn tell_left(
+    row: &str,
+    table: &SiteTable,
+    collection: &Collection,
+    policy: (Policy, &str),
+    leaders: usize,
+    told: &mut Page,
+)
+    requires { collection.now.branches ≡ branches_of table.now.sites }
+{
+    let (policy, head) = policy;
+    let mut came = Page::new(told.alloc());
+    match Eliminator::new(told.alloc(), collection, table, policy) {
+        Ok(mut eliminator) => {
+            push_left_by::<Brand>(&mut eliminator, leaders, Blank::new(1), &mut came);
+        }
+        Err(_) => came.want(),
+    }
+    expect_rest(row, head, &came, told);
+}
+
 /// Tells a ranking's text where the row says another one.
 fn tell_ranking(
     row: &str,
@@ -130,9 +203,13 @@ fn tell_collection(row: &str, table: &SiteTable, collection: &Collection, told: 
     requires { collection.now.branches ≡ branches_of table.now.sites }
 {
     let mut several = 0u32;
-    for (policy, leaders, ranking) in POLICIES {
-        if tell_policy(row, table, collection, (policy, leaders), told) > 1 {
+    for (policy, leaders, left, ranking) in POLICIES {
+        let listed = tell_policy(row, table, collection, (policy, leaders), told);
+        if listed > 1 {
             several = several.saturating_add(1);
+        }
+        if has_head(row, left) {
+            tell_left(row, table, collection, (policy, left), listed, told);
         }
         tell_ranking(row, table, collection, (policy, ranking), told);
     }

@@ -21,9 +21,10 @@ use program_file::read_program;
 /// - `finds`: the run at a place of the text, with its lines and its end, and places at which there is none.
 /// - `collects`: steps, parted by `then`, over a collection of the program's runs: a report that is added, or one for each run, a collection that is merged,
 ///   the next run, another label, a run that is taken away; what that gives, how many reports are held, and what is written.
-/// - `ranks`: under each policy the predicates that the elimination of the text's runs lists, as the reference does, and the ranking.
+/// - `ranks`: under each policy the predicates that the elimination of the text's runs lists, as the reference does; how many runs are left behind the last,
+///   and the four numbers that are kept of predicate 0; and the ranking.
 /// - `throws SEED COUNT`: so many collections of thrown runs, under each policy as the reference; so many eliminations at least list several leaders.
-const FORM: [Head; 42] = [
+const FORM: [Head; 43] = [
     ("program is ", Rest::Some, Place::Given),
     ("program each ", Rest::Named, Place::Given),
     ("program end", Rest::Way, Place::Given),
@@ -63,6 +64,7 @@ const FORM: [Head; 42] = [
     ("then", Rest::Nothing, Place::Any),
     ("ranks", Rest::Nothing, Place::Given),
     ("leaders ", Rest::Some, Place::Any),
+    ("left ", Rest::Some, Place::Any),
     ("ranking ", Rest::Named, Place::Any),
     ("throws ", Rest::Numbers, Place::Given),
     ("several from ", Rest::Number, Place::Any),
@@ -74,7 +76,7 @@ const KINDS: [&str; 8] = [
 ];
 
 /// What must come.
-const DUE: [&str; 13] = [
+const DUE: [&str; 14] = [
     "bad ",
     "same",
     "writes",
@@ -86,6 +88,7 @@ const DUE: [&str; 13] = [
     "gives ",
     "holds ",
     "leaders ",
+    "left ",
     "ranking ",
     "several from ",
 ];
