@@ -7,8 +7,9 @@ use Rattle.cbi_base.specs.declared.policy.Policy.{Policy}
 use Rattle.cbi_base.specs.declared.refusal.Refusal.{Refusal}
 use Rattle.cbi_options.specs.declared.schemes.Mode.{Mode}
 use Rattle.cbi_options.specs.declared.schemes.Schemes.{Schemes}
+use Rattle.cbi_options.specs.declared.shares.Share.{Share}
 use Rattle.cbi_words.specs.declared.command.Command.{Command}
-use Rattle.cbi_words.specs.declared.command.Command.TheVariants.{Transform, Run, Bank, Collect, Rank, Study}
+use Rattle.cbi_words.specs.declared.command.Command.TheVariants.{Transform, Run, Bank, Collect, Rank, Study, Session, Widen, Cards, Pairs}
 use Rattle.study.specs.declared.ranked.StudyFault.TheVariants as faults
 use Rattle.command_base.specs.declared.fault.Fault.{Fault}
 use Rattle.command_base.specs.declared.done.Done.{Done}
@@ -28,10 +29,18 @@ use Rattle.command_transform.specs.declared.words.TransformWords.{TransformWords
 use Rattle.command_transform.specs.Transform.{IsTransformed, TransformRefused, TransformRefusedBy, transform_names}
 use Rattle.command_study.specs.declared.words.StudyWords.{StudyWords}
 use Rattle.command_study.specs.Study.{StudyDone, StudyLeft, StudyRefused, StudyRefusedBy, StudyTaken, study_names}
+use Rattle.command_session.specs.declared.words.SessionWords.{SessionWords}
+use Rattle.command_session.specs.Session.{IsReplayed, SessionRefused, SessionRefusedBy, session_names}
+use Rattle.command_widen.specs.declared.words.WidenWords.{WidenWords}
+use Rattle.command_widen.specs.Widen.{IsWidened, WidenRefused, WidenRefusedBy, widen_names}
+use Rattle.command_cards.specs.declared.words.CardsWords.{CardsWords}
+use Rattle.command_cards.specs.Cards.{CardsRefused, CardsRefusedBy, IsDealt, cards_names}
+use Rattle.command_pairs.specs.declared.words.PairsWords.{PairsWords}
+use Rattle.command_pairs.specs.Pairs.{IsPaired, PairsRefused, PairsRefusedBy, pairs_names}
 
 -- the words of each command, by their names
-abbrev pub transform_words : Mode → Schemes → (text : List ℕ) → TransformWords
-transform_words mode schemes text = record { mode = mode; schemes = schemes; text = text }
+abbrev pub transform_words : Mode → Schemes → (part : Option Share) → (text : List ℕ) → TransformWords
+transform_words mode schemes part text = record { mode = mode; schemes = schemes; part = part; text = text }
 
 abbrev pub run_words : (bank input expect : Option (List ℕ)) → (turns run : ℕ) → (report : Option (List ℕ)) → (program : List ℕ) → RunWords
 run_words bank input expect turns run report program =
@@ -49,31 +58,51 @@ rank_words policy program collection = record { policy = policy; program = progr
 abbrev pub study_words : (runs seed rate turns : ℕ) → Policy → (text : List ℕ) → StudyWords
 study_words runs seed rate turns policy text = record { plan = record { runs = runs; seed = seed; rate = rate; turns = turns; policy = policy }; text = text }
 
+abbrev pub session_words : (program : List ℕ) → Policy → (edits : List ℕ) → SessionWords
+session_words program policy edits = record { program = program; policy = policy; edits = edits }
+
+abbrev pub widen_words : (whole : List ℕ) → Share → (program collection : List ℕ) → WidenWords
+widen_words whole part program collection = record { whole = whole; part = part; program = program; collection = collection }
+
+abbrev pub cards_words : (program collection : List ℕ) → CardsWords
+cards_words program collection = record { program = program; collection = collection }
+
+abbrev pub pairs_words : (program collection : List ℕ) → PairsWords
+pairs_words program collection = record { program = program; collection = collection }
+
 -- the names that it reads, in the order of its reads
 abbrev pub names_of : Option Command → List (List ℕ)
 names_of None = []
-names_of (Some (Transform mode schemes text)) = transform_names (transform_words mode schemes text)
+names_of (Some (Transform mode schemes part text)) = transform_names (transform_words mode schemes part text)
 names_of (Some (Run bank input expect turns run report program)) = run_names (run_words bank input expect turns run report program)
 names_of (Some (Bank rate count seed stream)) = []
 names_of (Some (Collect program files)) = collect_names (collect_words program files)
 names_of (Some (Rank policy program collection)) = rank_names (rank_words policy program collection)
 names_of (Some (Study runs seed rate turns policy text)) = study_names (study_words runs seed rate turns policy text)
+names_of (Some (Session program policy edits)) = session_names (session_words program policy edits)
+names_of (Some (Widen whole part program collection)) = widen_names (widen_words whole part program collection)
+names_of (Some (Cards program collection)) = cards_names (cards_words program collection)
+names_of (Some (Pairs program collection)) = pairs_names (pairs_words program collection)
 
 -- the name that it writes, where there is one
 abbrev pub written_by : Option Command → Option (List ℕ)
 written_by None = None
-written_by (Some (Transform mode schemes text)) = None
+written_by (Some (Transform mode schemes part text)) = None
 written_by (Some (Run bank input expect turns run report program)) = report
 written_by (Some (Bank rate count seed stream)) = None
 written_by (Some (Collect program files)) = None
 written_by (Some (Rank policy program collection)) = None
 written_by (Some (Study runs seed rate turns policy text)) = None
+written_by (Some (Session program policy edits)) = None
+written_by (Some (Widen whole part program collection)) = None
+written_by (Some (Cards program collection)) = None
+written_by (Some (Pairs program collection)) = None
 
 -- what it does where nothing goes wrong, and what it says of it
 abbrev pub Did : {B : Type 0} → (told : B → List Observation) → Option Command → (before after : Outside B) → (said : Done) → Type 0
 Did told None before after said = ⊥
-Did told (Some (Transform mode schemes text)) before after said =
-    Wrote (IsTransformed before.held (transform_words mode schemes text)) before after × (said ≡ Nothing)
+Did told (Some (Transform mode schemes part text)) before after said =
+    Wrote (IsTransformed before.held (transform_words mode schemes part text)) before after × (said ≡ Nothing)
 Did told (Some (Run bank input expect turns run report program)) before after said =
     Ran told (run_words bank input expect turns run report program) before after × (said ≡ Lines)
 Did told (Some (Bank rate count seed stream)) before after said = Wrote (IsMadeText (bank_words rate count seed stream)) before after × (said ≡ Nothing)
@@ -82,6 +111,10 @@ Did told (Some (Rank policy program collection)) before after said =
     Wrote (IsRanked before.held (rank_words policy program collection)) before after × (said ≡ Nothing)
 Did told (Some (Study runs seed rate turns policy text)) before after said =
     StudyDone told (study_words runs seed rate turns policy text) before after × (said ≡ Lines)
+Did told (Some (Session program policy edits)) before after said = Wrote (IsReplayed before.held (session_words program policy edits)) before after × (said ≡ Nothing)
+Did told (Some (Widen whole part program collection)) before after said = Wrote (IsWidened before.held (widen_words whole part program collection)) before after × (said ≡ Nothing)
+Did told (Some (Cards program collection)) before after said = Wrote (IsDealt before.held (cards_words program collection)) before after × (said ≡ Nothing)
+Did told (Some (Pairs program collection)) before after said = Wrote (IsPaired before.held (pairs_words program collection)) before after × (said ≡ Nothing)
 
 -- what err is told of it, of the lines of the watchers
 abbrev pub done_text : (said : Done) → (lines : List ℕ) → List ℕ
@@ -92,18 +125,22 @@ done_text (Added added repeated) lines = codes "added " ++ decimal added ++ code
 -- what it leaves where out or the store doesn't take all that is written
 abbrev pub LeftOn : {B : Type 0} → (told : B → List Observation) → Option Command → (before after : Outside B) → Type 0
 LeftOn told None before after = ⊥
-LeftOn told (Some (Transform mode schemes text)) before after = WroteWithin (IsTransformed before.held (transform_words mode schemes text)) before after
+LeftOn told (Some (Transform mode schemes part text)) before after = WroteWithin (IsTransformed before.held (transform_words mode schemes part text)) before after
 LeftOn told (Some (Run bank input expect turns run report program)) before after =
     StoppedWithin told (run_words bank input expect turns run report program) before after
 LeftOn told (Some (Bank rate count seed stream)) before after = WroteWithin (IsMadeText (bank_words rate count seed stream)) before after
 LeftOn told (Some (Collect program files)) before after = WroteWithin (IsCollectedText before.held (collect_words program files)) before after
 LeftOn told (Some (Rank policy program collection)) before after = WroteWithin (IsRanked before.held (rank_words policy program collection)) before after
 LeftOn told (Some (Study runs seed rate turns policy text)) before after = StudyTaken told (study_words runs seed rate turns policy text) before after
+LeftOn told (Some (Session program policy edits)) before after = WroteWithin (IsReplayed before.held (session_words program policy edits)) before after
+LeftOn told (Some (Widen whole part program collection)) before after = WroteWithin (IsWidened before.held (widen_words whole part program collection)) before after
+LeftOn told (Some (Cards program collection)) before after = WroteWithin (IsDealt before.held (cards_words program collection)) before after
+LeftOn told (Some (Pairs program collection)) before after = WroteWithin (IsPaired before.held (pairs_words program collection)) before after
 
 -- what it leaves where memory is wanting before it is done
 abbrev pub LeftWithin : {B : Type 0} → (told : B → List Observation) → Option Command → (before after : Outside B) → Type 0
 LeftWithin told None before after = ⊥
-LeftWithin told (Some (Transform mode schemes text)) before after = ⊥
+LeftWithin told (Some (Transform mode schemes part text)) before after = ⊥
 LeftWithin told (Some (Run bank input expect turns run report program)) before after =
     BrokeOff told (run_words bank input expect turns run report program) before after
     ⊎ StoppedWithin told (run_words bank input expect turns run report program) before after
@@ -113,6 +150,10 @@ LeftWithin told (Some (Rank policy program collection)) before after = ⊥
 LeftWithin told (Some (Study runs seed rate turns policy text)) before after =
     StudyLeft told (study_words runs seed rate turns policy text) faults.Memory before after
     ⊎ StudyTaken told (study_words runs seed rate turns policy text) before after
+LeftWithin told (Some (Session program policy edits)) before after = ⊥
+LeftWithin told (Some (Widen whole part program collection)) before after = ⊥
+LeftWithin told (Some (Cards program collection)) before after = ⊥
+LeftWithin told (Some (Pairs program collection)) before after = ⊥
 
 -- what it leaves where memory is wanting before it is done, or when what came of it is to be told
 abbrev pub LeftWanting : {B : Type 0} → (told : B → List Observation) → Option Command → (before after : Outside B) → Type 0
@@ -135,23 +176,31 @@ LeftByFault told command fault before after =
 -- the bytes read are refused
 abbrev pub IsRefused : Option Command → Option Held → Type 0
 IsRefused None held = ⊥
-IsRefused (Some (Transform mode schemes text)) held = TransformRefused (transform_words mode schemes text) held
+IsRefused (Some (Transform mode schemes part text)) held = TransformRefused (transform_words mode schemes part text) held
 IsRefused (Some (Run bank input expect turns run report program)) held = RunRefused (run_words bank input expect turns run report program) held
 IsRefused (Some (Bank rate count seed stream)) held = ⊥
 IsRefused (Some (Collect program files)) held = CollectRefused (collect_words program files) held
 IsRefused (Some (Rank policy program collection)) held = RankRefused (rank_words policy program collection) held
 IsRefused (Some (Study runs seed rate turns policy text)) held = StudyRefused (study_words runs seed rate turns policy text) held
+IsRefused (Some (Session program policy edits)) held = SessionRefused (session_words program policy edits) held
+IsRefused (Some (Widen whole part program collection)) held = WidenRefused (widen_words whole part program collection) held
+IsRefused (Some (Cards program collection)) held = CardsRefused (cards_words program collection) held
+IsRefused (Some (Pairs program collection)) held = PairsRefused (pairs_words program collection) held
 
 -- the refusal that is told of them
 abbrev pub IsRefusedBy : Option Command → Option Held → Refusal → Type 0
 IsRefusedBy None held refusal = ⊥
-IsRefusedBy (Some (Transform mode schemes text)) held refusal = TransformRefusedBy (transform_words mode schemes text) held refusal
+IsRefusedBy (Some (Transform mode schemes part text)) held refusal = TransformRefusedBy (transform_words mode schemes part text) held refusal
 IsRefusedBy (Some (Run bank input expect turns run report program)) held refusal =
     RunRefusedBy (run_words bank input expect turns run report program) held refusal
 IsRefusedBy (Some (Bank rate count seed stream)) held refusal = ⊥
 IsRefusedBy (Some (Collect program files)) held refusal = CollectRefusedBy (collect_words program files) held refusal
 IsRefusedBy (Some (Rank policy program collection)) held refusal = RankRefusedBy (rank_words policy program collection) held refusal
 IsRefusedBy (Some (Study runs seed rate turns policy text)) held refusal = StudyRefusedBy (study_words runs seed rate turns policy text) held refusal
+IsRefusedBy (Some (Session program policy edits)) held refusal = SessionRefusedBy (session_words program policy edits) held refusal
+IsRefusedBy (Some (Widen whole part program collection)) held refusal = WidenRefusedBy (widen_words whole part program collection) held refusal
+IsRefusedBy (Some (Cards program collection)) held refusal = CardsRefusedBy (cards_words program collection) held refusal
+IsRefusedBy (Some (Pairs program collection)) held refusal = PairsRefusedBy (pairs_words program collection) held refusal
 
 -- a write met a fault: one to out, or one to the store of a command that writes there
 abbrev pub WriteFault : Option Command → (out store : Type 0) → Type 0

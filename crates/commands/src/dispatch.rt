@@ -10,11 +10,15 @@ use cbi_base::{Sink, Store};
 use cbi_words::Command;
 use command_bank::{BankWords, make_bank};
 use command_base::{Done, Fault};
+use command_cards::{CardsWords, deal_cards};
 use command_collect::{CollectWords, collect_files};
+use command_pairs::{PairsWords, find_pairs};
 use command_rank::{RankWords, rank_runs};
 use command_run::{RunWords, run_file};
+use command_session::{SessionWords, replay_edits};
 use command_study::{StudyWords, study_text};
 use command_transform::{TransformWords, transform_text};
+use command_widen::{WidenWords, widen_runs};
 use probes::Probe;
 use std::alloc::Global;
 use study_runs::StudyPlan;
@@ -60,11 +64,13 @@ pub fn obey<S: Store, O: Sink>(
         Command::Transform {
             mode,
             schemes,
+            part,
             text,
         } => {
             let words = TransformWords {
                 mode,
                 schemes,
+                part,
                 text,
             };
             transform_text(alloc, &words, store, out)
@@ -136,6 +142,52 @@ pub fn obey<S: Store, O: Sink>(
             };
             let words = StudyWords { plan, text };
             study_text(alloc, &words, store, out, probes)
+        }
+        Command::Session {
+            program,
+            policy,
+            edits,
+        } => {
+            let words = SessionWords {
+                program,
+                policy,
+                edits,
+            };
+            replay_edits(alloc, &words, store, out)
+        }
+        Command::Widen {
+            whole,
+            part,
+            program,
+            collection,
+        } => {
+            let words = WidenWords {
+                whole,
+                part,
+                program,
+                collection,
+            };
+            widen_runs(alloc, &words, store, out)
+        }
+        Command::Cards {
+            program,
+            collection,
+        } => {
+            let words = CardsWords {
+                program,
+                collection,
+            };
+            deal_cards(alloc, &words, store, out)
+        }
+        Command::Pairs {
+            program,
+            collection,
+        } => {
+            let words = PairsWords {
+                program,
+                collection,
+            };
+            find_pairs(alloc, &words, store, out)
         }
     }
 }
