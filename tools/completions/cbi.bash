@@ -38,7 +38,7 @@ _cbi_options() {
 
 _cbi() {
     if [ "$COMP_CWORD" -eq 1 ]; then
-        _cbi_offer 'transform run bank collect rank study'
+        _cbi_offer 'transform run bank collect rank pairs study'
         return
     fi
     case ${COMP_WORDS[1]} in
@@ -47,6 +47,7 @@ _cbi() {
     bank) _cbi_options '--rate --count --seed --stream' ;;
     collect) _cbi_options '--program' ;;
     rank) _cbi_options '--policy' ;;
+    pairs) _cbi_options '' ;;
     study) _cbi_options '--runs --seed --rate --turns --policy' ;;
     esac
 }
