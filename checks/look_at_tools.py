@@ -176,6 +176,15 @@ class Explain(Case):
             _, err = self.call("cbi", *words, due=due)
             self.assertIn(said, self.call("cbi-explain", given=err.encode())[0])
 
+    def test_a_part_that_is_another_is_explained(self):
+        self.transform("int main(void){int a=1;if(a);return 0;}")
+        self.write("runs", f"cbi-collection 2\nprogram {cbi_files.read_program(self.path('prog.cbi')).identity}\nend\n")
+        _, err = self.call("cbi", "widen", "--whole", "prog.cbi", "--part", "0/2", "prog.cbi", "runs", due=5)
+        self.assertEqual(err, "cbi: refusal 32 NotPart\n")
+        self.assertIn("hasn't that part of the sites", self.call("cbi-explain", given=err.encode())[0])
+        _, err = self.call("cbi", "transform", "--mode", "plain", "--part", "2/2", "prog.c", due=2)
+        self.assertIn("--part takes two numbers as 0/4", self.call("cbi-explain", given=err.encode())[0])
+
     def test_where_nothing_was_refused_it_says_so(self):
         _, err = self.call("cbi-explain", given=b"added 3 repeated 0\n", due=1)
         self.assertIn("nothing to explain", err)
@@ -409,25 +418,44 @@ class Hunt(Case):
         while time.monotonic() < limit and not come():
             time.sleep(0.01)
 
-    def runs_by_hand(self, count, folder, rate=5, seed=1):
+    def report_by_hand(self, run, name, program):
+        """The report of a run on an input, as the commands of `cbi` make it."""
+        self.write("bank", self.call("cbi", "bank", "--rate", "5", "--count", "256", "--seed", "1", "--stream", str(run))[0])
+        report = self.path(f"report {run}")
+        self.call("cbi", "run", "--bank", "bank", "--input", os.path.join("in puts", name), "--expect", os.path.join("due", name), "--run", str(run), "--report", report, program)
+        return report
+
+    def runs_by_hand(self, count):
         """The collection of so many runs as the commands of `cbi` make it, one after another."""
         self.write("plan.cbi", self.call("cbi", "transform", "--mode", "sampled", "upper.c")[0])
-        names = sorted(os.listdir(self.path(folder)))
-        reports = []
-        for run in range(1, count + 1):
-            name = names[(run - 1) % len(names)]
-            self.write("bank", self.call("cbi", "bank", "--rate", str(rate), "--count", "256", "--seed", str(seed), "--stream", str(run))[0])
-            reports.append(self.path(f"report {run}"))
-            self.call("cbi", "run", "--bank", "bank", "--input", os.path.join(folder, name), "--expect", os.path.join("due", name), "--run", str(run), "--report", reports[-1], "plan.cbi")
+        names = sorted(os.listdir(self.path("in puts")))
+        reports = [self.report_by_hand(run, names[(run - 1) % len(names)], "plan.cbi") for run in range(1, count + 1)]
         return self.call("cbi", "collect", "--program", "plan.cbi", *reports)[0].encode()
 
     def test_its_runs_are_those_that_the_commands_make(self):
         out = self.hunt("--inputs", "in puts", "--expect", "due", "--runs", "30", "--keep", "kept hunt")
-        self.assertEqual(self.read("kept hunt/runs"), self.runs_by_hand(30, "in puts"))
+        self.assertEqual(self.read("kept hunt/runs"), self.runs_by_hand(30))
         self.assertEqual(self.read("kept hunt/ranking").decode(), self.call("cbi", "rank", "plan.cbi", "kept hunt/runs")[0])
         self.assertTrue(out.startswith("30 runs on 12 inputs: 8 failed, 22 succeeded\nfailing inputs: 02 abc, 04 zza, 08 caa, in kept hunt/failing\n"), out)
         self.assertEqual(sorted(os.listdir(self.path("kept hunt/failing"))), ["02 abc", "04 zza", "08 caa"])
         self.assertEqual(sorted(os.listdir(self.path("kept hunt"))), ["batches", "failing", "hunt.json", "hunt.lock", "page.html", "program", "ranking", "runs"])
+
+    def test_runs_of_parts_are_those_that_the_commands_make(self):
+        self.hunt("--inputs", "in puts", "--expect", "due", "--runs", "27", "--parts", "3", "--keep", "kept")
+        self.write("plan.cbi", self.call("cbi", "transform", "--mode", "sampled", "upper.c")[0])
+        names = sorted(os.listdir(self.path("in puts")))
+        # the twelve inputs come round twice, and three of them once more: each time an input has the next part
+        runs_of = {0: [1, 4, 7, 10, 15, 18, 21, 24, 26], 1: [2, 5, 8, 11, 13, 16, 19, 22, 27], 2: [3, 6, 9, 12, 14, 17, 20, 23, 25]}
+        for part, runs in runs_of.items():
+            self.write(f"part{part}.cbi", self.call("cbi", "transform", "--mode", "sampled", "--part", f"{part}/3", "upper.c")[0])
+            reports = [self.report_by_hand(run, names[(run - 1) % 12], f"part{part}.cbi") for run in runs]
+            self.write("narrow", self.call("cbi", "collect", "--program", f"part{part}.cbi", *reports)[0])
+            self.write(f"wide{part}", self.call("cbi", "widen", "--whole", "plan.cbi", "--part", f"{part}/3", f"part{part}.cbi", "narrow")[0])
+        out, err = self.call("cbi", "collect", "--program", "plan.cbi", "wide0", "wide1", "wide2")
+        self.assertEqual(err, "added 27 repeated 0\n")
+        self.assertEqual(self.read("kept/runs").decode(), out)
+        self.assertEqual(self.read("kept/ranking").decode(), self.call("cbi", "rank", "plan.cbi", "kept/runs")[0])
+        self.assertIn("another number of parts", self.hunt("--inputs", "in puts", "--expect", "due", "--keep", "kept", due=2))
 
     def test_each_way_to_say_what_is_right_ranks_the_same(self):
         rankings = set()
@@ -563,6 +591,9 @@ class Hunt(Case):
         self.hunt("--inputs", "both", "--runs", "60", "--keep", "here")
         self.hunt("--inputs", "both", "--runs", "60", "--keep", "farm", "--farm", "hosts")
         self.assertEqual(self.read("farm/runs"), self.read("here/runs"))
+        self.hunt("--inputs", "both", "--runs", "60", "--keep", "parts here", "--parts", "2")
+        self.hunt("--inputs", "both", "--runs", "60", "--keep", "parts farm", "--parts", "2", "--farm", "hosts")
+        self.assertEqual(self.read("parts farm/runs"), self.read("parts here/runs"))
         self.assertIn("there is no such file", self.hunt("--inputs", "both", "--runs", "99", "--keep", "farm", "--farm", "no hosts", due=2))
         self.assertEqual([name for name in os.listdir(os.path.expanduser("~")) if name.startswith(".cbi-hunt-")], [])
 
@@ -674,9 +705,10 @@ class Manual(Case):
         return set(self.call("bash", "-c", script)[0].split())
 
     def test_bash_offers_what_fits(self):
-        self.assertEqual(self.completed("cbi", ""), {"transform", "run", "bank", "collect", "rank", "pairs", "study"})
+        self.assertEqual(self.completed("cbi", ""), {"transform", "run", "bank", "collect", "rank", "pairs", "widen", "study"})
         self.assertEqual(self.completed("cbi", "transform", "--mode", ""), {"plain", "full", "sampled"})
         self.assertEqual(self.completed("cbi", "rank", "--p"), {"--policy"})
+        self.assertEqual(self.completed("cbi", "widen", "--"), {"--whole", "--part"})
         self.assertEqual(self.completed("cbi-show", "--format", "s"), {"sarif"})
         if shutil.which("zsh"):
             self.call("zsh", "-n", os.path.join(TOOLS, "completions", "_cbi"))

@@ -9,7 +9,7 @@ import shutil
 import subprocess
 import tempfile
 import zipfile
-from typing import Callable, List, NamedTuple, Optional, Tuple
+from typing import Callable, List, NamedTuple, Optional, Sequence, Tuple
 
 from cbi_files import FOUND, Fault
 
@@ -30,10 +30,19 @@ class Plan(NamedTuple):
     names: List[str]
     inputs: List[str]
     expected: Optional[List[str]]
+    parts: Sequence[str] = ()
 
     def input_of(self, run: int) -> int:
         """The place of a run's input: the inputs in turn, again and again."""
         return (run - 1) % len(self.inputs)
+
+    def part_of(self, run: int) -> int:
+        """The part of the sites that a run looks at: the parts in turn, and for an input another one each time that it comes round."""
+        return (self.input_of(run) + (run - 1) // len(self.inputs)) % len(self.parts)
+
+    def program_of(self, run: int) -> str:
+        """The program that makes a run: the whole one, or where there are parts, that of the run's part."""
+        return self.parts[self.part_of(run)] if self.parts else self.program
 
 
 class Batch(NamedTuple):
@@ -74,7 +83,7 @@ class Runner:
         plan, place = self.plan, self.plan.input_of(run)
         report = os.path.join(self.folder, f"report{run}")
         words = [plan.cbi, "run", f"--bank={self.bank}", f"--input={plan.inputs[place]}", f"--turns={plan.turns}", f"--run={run}", f"--report={report}"]
-        words += ([f"--expect={plan.expected[place]}"] if plan.expected else []) + ["--", plan.program]
+        words += ([f"--expect={plan.expected[place]}"] if plan.expected else []) + ["--", plan.program_of(run)]
         try:
             with open(self.bank, "wb") as out:
                 call([plan.cbi, "bank", f"--rate={plan.rate}", f"--count={BANK_NUMBERS}", f"--seed={plan.seed}", f"--stream={run}"], out)
@@ -118,10 +127,24 @@ class Runner:
         if not reports:
             return None
         made = Batch(batch.first, batch.first + len(reports) - 1)
-        call_to(target(made), [self.plan.cbi, "collect", f"--program={self.plan.program}", "--"] + reports)
+        self.collect(target(made), self.plan.program, self.widened(made, reports) if self.plan.parts else reports)
         for report in reports:
             os.remove(report)
         return made
+
+    def collect(self, target: str, program: str, files: List[str]) -> None:
+        call_to(target, [self.plan.cbi, "collect", f"--program={program}", "--"] + files)
+
+    def widened(self, made: Batch, reports: List[str]) -> List[str]:
+        """The reports as collections of the whole program, one for each part that has runs."""
+        plan, of_part, wide = self.plan, os.path.join(self.folder, "of_part"), []
+        for part, program in enumerate(plan.parts):
+            own = [report for run, report in enumerate(reports, made.first) if plan.part_of(run) == part]
+            if own:
+                self.collect(of_part, program, own)
+                wide.append(os.path.join(self.folder, f"wide{part}"))
+                call_to(wide[-1], [plan.cbi, "widen", f"--whole={plan.program}", f"--part={part}/{len(plan.parts)}", "--", program, of_part])
+        return wide
 
 
 # Batches that are sent to other hosts
@@ -140,11 +163,13 @@ def pack(plan: Plan, batch: Batch, path: str) -> None:
     """Writes all that a batch needs into one file that `python3` runs: these modules, the plan, the program, and inputs."""
     places = sorted({plan.input_of(run) for run in range(batch.first, batch.last + 1)})
     about = {"cbi": plan.cbi, "rate": plan.rate, "seed": plan.seed, "turns": plan.turns, "oracle": plan.oracle,
-             "count": len(plan.inputs), "expected": bool(plan.expected), "first": batch.first, "last": batch.last}
+             "count": len(plan.inputs), "expected": bool(plan.expected), "parts": len(plan.parts), "first": batch.first, "last": batch.last}
     with zipfile.ZipFile(path, "w", zipfile.ZIP_DEFLATED) as packed:
         packed.writestr("__main__.py", BEGIN)
         packed.writestr("plan.json", json.dumps(about))
         packed.write(plan.program, "program")
+        for part, program in enumerate(plan.parts):
+            packed.write(program, f"part{part}")
         for module in MODULES:
             packed.write(os.path.join(HERE, module), module)
         for place in places:
@@ -159,10 +184,11 @@ def unpack(path: str, folder: str) -> Tuple[Plan, Batch]:
         about = json.loads(packed.read("plan.json").decode())
     inputs = [os.path.join(folder, f"input{place}") for place in range(about["count"])]
     expected = [os.path.join(folder, f"expected{place}") for place in range(about["count"])] if about["expected"] else None
+    parts = [os.path.join(folder, f"part{part}") for part in range(about["parts"])]
     cbi = shutil.which(about["cbi"])
     if cbi is None:
         raise Fault(f"{about['cbi']} isn't on the path of this host")
-    plan = Plan(cbi, os.path.join(folder, "program"), about["rate"], about["seed"], about["turns"], about["oracle"], inputs, inputs, expected)
+    plan = Plan(cbi, os.path.join(folder, "program"), about["rate"], about["seed"], about["turns"], about["oracle"], inputs, inputs, expected, parts)
     return plan, Batch(about["first"], about["last"])
 
 

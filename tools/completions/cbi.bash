@@ -18,8 +18,8 @@ _cbi_value() {
     --policy) value='all failing relabel' ;;
     --format) value='text html sarif quickfix' ;;
     --rate) value='1 2 5 10 20 50 100 1000' ;;
-    --turns | --run | --runs | --count | --seed | --stream | --jobs | --oracle) value=' ' ;;
-    --bank | --input | --expect | --report | --program | --inputs | --keep | --html | --farm | --cbi | --source | --cards | --reports | --output | --sites) ;;
+    --part | --parts | --turns | --run | --runs | --count | --seed | --stream | --jobs | --oracle) value=' ' ;;
+    --bank | --input | --expect | --report | --program | --whole | --inputs | --keep | --html | --farm | --cbi | --source | --cards | --reports | --output | --sites) ;;
     *) return 1 ;;
     esac
 }
@@ -38,22 +38,23 @@ _cbi_options() {
 
 _cbi() {
     if [ "$COMP_CWORD" -eq 1 ]; then
-        _cbi_offer 'transform run bank collect rank pairs study'
+        _cbi_offer 'transform run bank collect rank pairs widen study'
         return
     fi
     case ${COMP_WORDS[1]} in
-    transform) _cbi_options '--mode --schemes' ;;
+    transform) _cbi_options '--mode --schemes --part' ;;
     run) _cbi_options '--bank --input --expect --turns --run --report' ;;
     bank) _cbi_options '--rate --count --seed --stream' ;;
     collect) _cbi_options '--program' ;;
     rank) _cbi_options '--policy' ;;
     pairs) _cbi_options '' ;;
+    widen) _cbi_options '--whole --part' ;;
     study) _cbi_options '--runs --seed --rate --turns --policy' ;;
     esac
 }
 
 _cbi_hunt() {
-    _cbi_options '--inputs --expect --oracle --rate --runs --seed --turns --schemes --jobs --policy --keep --html --farm --cbi --help'
+    _cbi_options '--inputs --expect --oracle --rate --runs --seed --turns --schemes --jobs --policy --keep --html --farm --parts --cbi --help'
 }
 
 _cbi_show() {
