@@ -268,6 +268,10 @@ class Show(Case):
 
     def test_the_worked_ranking_as_text(self):
         self.assertEqual(self.show("ranking", "--source", "prog.c", "--program", "prog.cbi", "--reports", "runs"), BRANCH_TEXT)
+        self.write("cards", self.call("cbi", "cards", "prog.cbi", "runs")[0])
+        self.assertEqual(self.read("cards"), b"card 1 0 main 1 if is true\ntruth 9 1 first 1\nend\n")
+        self.assertEqual(self.show("ranking", "--source", "prog.c", "--program", "prog.cbi", "--reports", "runs", "--cards", "cards"), BRANCH_TEXT)
+        self.assertEqual(self.show("ranking", "--source", "prog.c", "--cards", "cards"), BRANCH_TEXT.split("\n\n", 1)[1])
         self.assertEqual(self.show("-", "--source", "prog.c", "--program", "prog.cbi", "--reports", "runs", given=self.read("ranking").replace(b"\n", b"\r\n")), BRANCH_TEXT)
 
     def test_its_thermometer(self):
@@ -322,7 +326,7 @@ class Show(Case):
                    "2,5,branches,main,4,if is false,4,0,5,5,1000000,500000,500000,400000\n3,2,branches,main,3,if is true,3,0,4,4,1000000,500000,500000,300000\n"
                    "4,4,branches,main,4,if is true,1,0,1,3,1000000,250000,750000,0\n")
         self.write("cards", "card 1 0 main 2 if is true\ntruth 9 1 first 17\nnear 2 200000 if is true\nnear 1 100 if is false\ncard 2 5 main 4 if is false\n"
-                   "truth 4 0 first 3\ncard 3 2 main 3 if is true\ntruth 5 0 first 17\ncard 4 4 main 4 if is true\ntruth 2 0 first 20\nend\n")
+                   "truth 4 0 first 3\nnear 0 563706 if is true\ncard 3 2 main 3 if is true\ntruth 5 0 first 17\ncard 4 4 main 4 if is true\ntruth 2 0 first 20\nend\n")
         text = self.show("ranking", "--source", "prog.c", "--program", "prog.cbi", "--cards", "cards")
         heads = [line for line in text.split("\n") if re.match(r"[ |]*\d+\. line", line)]
         self.assertEqual(heads, ["  1. line 2, main: if is true", "     |   3. line 3, main: if is true", "  2. line 4, main: if is false", "  4. line 4, main: if is true"])
@@ -435,10 +439,11 @@ class Hunt(Case):
     def test_its_runs_are_those_that_the_commands_make(self):
         out = self.hunt("--inputs", "in puts", "--expect", "due", "--runs", "30", "--keep", "kept hunt")
         self.assertEqual(self.read("kept hunt/runs"), self.runs_by_hand(30))
-        self.assertEqual(self.read("kept hunt/ranking").decode(), self.call("cbi", "rank", "plan.cbi", "kept hunt/runs")[0])
+        for file, command in (("ranking", "rank"), ("cards", "cards")):
+            self.assertEqual(self.read(f"kept hunt/{file}").decode(), self.call("cbi", command, "plan.cbi", "kept hunt/runs")[0])
         self.assertTrue(out.startswith("30 runs on 12 inputs: 8 failed, 22 succeeded\nfailing inputs: 02 abc, 04 zza, 08 caa, in kept hunt/failing\n"), out)
         self.assertEqual(sorted(os.listdir(self.path("kept hunt/failing"))), ["02 abc", "04 zza", "08 caa"])
-        self.assertEqual(sorted(os.listdir(self.path("kept hunt"))), ["batches", "failing", "hunt.json", "hunt.lock", "page.html", "program", "ranking", "runs"])
+        self.assertEqual(sorted(os.listdir(self.path("kept hunt"))), ["batches", "cards", "failing", "hunt.json", "hunt.lock", "page.html", "program", "ranking", "runs"])
 
     def test_runs_of_parts_are_those_that_the_commands_make(self):
         self.hunt("--inputs", "in puts", "--expect", "due", "--runs", "27", "--parts", "3", "--keep", "kept")
@@ -705,7 +710,7 @@ class Manual(Case):
         return set(self.call("bash", "-c", script)[0].split())
 
     def test_bash_offers_what_fits(self):
-        self.assertEqual(self.completed("cbi", ""), {"transform", "run", "bank", "collect", "rank", "pairs", "widen", "study"})
+        self.assertEqual(self.completed("cbi", ""), {"transform", "run", "bank", "collect", "rank", "pairs", "cards", "widen", "study"})
         self.assertEqual(self.completed("cbi", "transform", "--mode", ""), {"plain", "full", "sampled"})
         self.assertEqual(self.completed("cbi", "rank", "--p"), {"--policy"})
         self.assertEqual(self.completed("cbi", "widen", "--"), {"--whole", "--part"})

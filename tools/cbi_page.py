@@ -38,6 +38,7 @@ nav a { margin-right: 1rem; } .quiet { color: var(--quiet); }
 .successful { background: #fff; }
 .key { display: inline-block; width: 2rem; height: 1rem; border: 1px solid var(--ink); vertical-align: middle; margin-right: .5rem; }
 .said code { font-size: 16px; font-weight: 700; }
+.row ul { margin: 0; padding-left: 1.2rem; }
 .keys { display: flex; flex-wrap: wrap; gap: .2rem 1.5rem; margin: .5rem 0; padding: 0; list-style: none; font-size: 14px; }
 .text { display: block; margin-top: .2rem; padding: .15rem .5rem; background: #f3f3f3; overflow-x: auto; white-space: pre-wrap; }
 table { border-collapse: collapse; width: 100%; } td { padding: 0 .6rem; vertical-align: top; }

@@ -159,7 +159,7 @@ def with_character(row: Row) -> str:
 # Runs
 
 class Truths(NamedTuple):
-    """In how many runs of a collection each wanted predicate was true, and the first failing run of these."""
+    """In how many runs of a collection each wanted predicate was true, and the first failing run of these: what a card says, where there is none."""
     totals: Totals
     counts: Dict[int, Tuple[int, int]]
     first: Dict[int, int]
@@ -218,10 +218,10 @@ def mostly_same(one: Shown, other: Shown) -> bool:
 
 
 def grouped(shown: List[Shown]) -> List[List[Shown]]:
-    """Rows whose runs are mostly the same stand together, behind the first of them."""
+    """A row whose runs are mostly those of an earlier one stands behind it."""
     groups: List[List[Shown]] = []
     for row in shown:
-        home = next((group for group in groups if any(mostly_same(one, row) or mostly_same(row, one) for one in group)), None)
+        home = next((group for group in groups if any(mostly_same(one, row) for one in group)), None)
         if home is None:
             groups.append([row])
         else:
@@ -243,14 +243,14 @@ def view_of(ranking: Ranking, source: Optional[List[str]], program: Optional[Pro
     if program:
         check_program(ranking, program)
     rows = {row.predicate: row for row in ranking.rows}
-    truths = truths_of(collection, program, rows) if collection and program else None
+    truths = truths_of(collection, program, [predicate for predicate in rows if predicate not in cards]) if collection and program else None
     most = max((row.f + row.s for row in ranking.rows), default=0)
     parts = bodies(source) if source else None
     shown = []
     for row in ranking.rows:
         card = cards.get(row.predicate)
-        truth = truths.counts[row.predicate] if truths else (card.failing, card.successful) if card else None
-        first = truths.first.get(row.predicate) if truths else card.first if card else None
+        truth = (card.failing, card.successful) if card else truths.counts[row.predicate] if truths else None
+        first = card.first if card else truths.first.get(row.predicate) if truths else None
         line = source[row.line - 1] if source and row.line <= len(source) else None
         shown.append(Shown(row, with_character(row), line, bands(row, most), truth, first, near_of(card, program, rows)))
     apart = [one for one in shown if one.row.importance and unrelated(one.row, parts)]

@@ -38,7 +38,7 @@ _cbi_options() {
 
 _cbi() {
     if [ "$COMP_CWORD" -eq 1 ]; then
-        _cbi_offer 'transform run bank collect rank pairs widen study'
+        _cbi_offer 'transform run bank collect rank pairs cards widen study'
         return
     fi
     case ${COMP_WORDS[1]} in
@@ -47,7 +47,7 @@ _cbi() {
     bank) _cbi_options '--rate --count --seed --stream' ;;
     collect) _cbi_options '--program' ;;
     rank) _cbi_options '--policy' ;;
-    pairs) _cbi_options '' ;;
+    pairs | cards) _cbi_options '' ;;
     widen) _cbi_options '--whole --part' ;;
     study) _cbi_options '--runs --seed --rate --turns --policy' ;;
     esac
