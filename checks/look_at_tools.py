@@ -185,6 +185,14 @@ class Explain(Case):
         _, err = self.call("cbi", "transform", "--mode", "plain", "--part", "2/2", "prog.c", due=2)
         self.assertIn("--part takes two numbers as 0/4", self.call("cbi-explain", given=err.encode())[0])
 
+    def test_refused_edits_are_explained(self):
+        self.transform("int main(void){return 0;}", "plain")
+        for edits, refusal, said in (("remove 7\nend\n", "31 Absent run 7", "names a run that isn't held"), ("rank\n", "30 BadEdits line 3", "no text of edits from this line on")):
+            self.write("edits", "cbi-edits 1\n" + edits)
+            _, err = self.call("cbi", "session", "--program", "prog.cbi", "edits", due=5)
+            self.assertEqual(err, f"cbi: refusal {refusal}\n")
+            self.assertIn(said, self.call("cbi-explain", given=err.encode())[0])
+
     def test_where_nothing_was_refused_it_says_so(self):
         _, err = self.call("cbi-explain", given=b"added 3 repeated 0\n", due=1)
         self.assertIn("nothing to explain", err)
@@ -710,9 +718,10 @@ class Manual(Case):
         return set(self.call("bash", "-c", script)[0].split())
 
     def test_bash_offers_what_fits(self):
-        self.assertEqual(self.completed("cbi", ""), {"transform", "run", "bank", "collect", "rank", "pairs", "cards", "widen", "study"})
+        self.assertEqual(self.completed("cbi", ""), {"transform", "run", "bank", "collect", "rank", "pairs", "cards", "session", "widen", "study"})
         self.assertEqual(self.completed("cbi", "transform", "--mode", ""), {"plain", "full", "sampled"})
         self.assertEqual(self.completed("cbi", "rank", "--p"), {"--policy"})
+        self.assertEqual(self.completed("cbi", "session", "--p"), {"--program", "--policy"})
         self.assertEqual(self.completed("cbi", "widen", "--"), {"--whole", "--part"})
         self.assertEqual(self.completed("cbi-show", "--format", "s"), {"sarif"})
         if shutil.which("zsh"):

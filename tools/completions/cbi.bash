@@ -38,7 +38,7 @@ _cbi_options() {
 
 _cbi() {
     if [ "$COMP_CWORD" -eq 1 ]; then
-        _cbi_offer 'transform run bank collect rank pairs cards widen study'
+        _cbi_offer 'transform run bank collect rank pairs cards session widen study'
         return
     fi
     case ${COMP_WORDS[1]} in
@@ -48,6 +48,7 @@ _cbi() {
     collect) _cbi_options '--program' ;;
     rank) _cbi_options '--policy' ;;
     pairs | cards) _cbi_options '' ;;
+    session) _cbi_options '--program --policy' ;;
     widen) _cbi_options '--whole --part' ;;
     study) _cbi_options '--runs --seed --rate --turns --policy' ;;
     esac
