@@ -1,9 +1,9 @@
 //! A call of the tool, or of what reads its words alone.
-use crate::few::Few;
-use case_rows::{Page, has_line, rest_of};
+use crate::watchers::{expect_lines, push_watchers};
+use case_rows::Page;
 use cbi_base::{MemSink, MemStore, Sink, SinkError};
 use cbi_words::{WordsError, read_words};
-use probes::{FirstSeen, Hottest, LastSeen, Probe};
+use probes::Probe;
 use top_call::cbi;
 
 /// Calls the tool, with the watchers that the step asks for; the status.
@@ -15,31 +15,11 @@ pub fn call<O: Sink, E: Sink>(
     err: &mut E,
     told: &mut Page,
 ) -> u8 {
-    let alloc = told.alloc();
-    let most = rest_of(step, "watched few ");
-    let is_watched = most.is_some() || has_line(step, "watched");
-    let mut probes: Vec<Box<dyn Probe>> = Vec::new(alloc);
-    if is_watched {
-        if let Some(probe) = told.done(Box::new(alloc, FirstSeen::new(alloc))) {
-            told.done(probes.push(probe));
-        }
-    }
-    if let Some(most) = most {
-        let few = Few::new(alloc, most.parse::<u64>().unwrap_or(0));
-        if let Some(probe) = told.done(Box::new(alloc, few)) {
-            told.done(probes.push(probe));
-        }
-    } else if is_watched {
-        if let Some(probe) = told.done(Box::new(alloc, Hottest::new(alloc))) {
-            told.done(probes.push(probe));
-        }
-    }
-    if is_watched {
-        if let Some(probe) = told.done(Box::new(alloc, LastSeen::new(alloc))) {
-            told.done(probes.push(probe));
-        }
-    }
-    cbi(alloc, words, store, out, err, &mut probes)
+    let mut probes: Vec<Box<dyn Probe>> = Vec::new(told.alloc());
+    push_watchers(step, &mut probes, told);
+    let status = cbi(told.alloc(), words, store, out, err, &mut probes);
+    expect_lines(step, &probes, told);
+    status
 }
 
 /// Puts a text into a sink, and answers the status.

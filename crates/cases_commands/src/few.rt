@@ -1,41 +1,41 @@
-ghost use Rattle.std.specs.Prelude.{codes};
+ghost use Rattle.probes.specs.LastSeen.{last_line};
 
 use cbi_base::{Memory, Observation};
-use probes::Probe;
+use probes::{LastSeen, Probe};
 use std::alloc::Global;
 
-/// A watcher that wants memory where it is told more than so many observations. Its line is always the same.
+/// A watcher that wants memory where it is told more than so many observations. Its line is that of the last ones.
 #[derive(Drop)]
 pub struct Few {
-    most: u64,
-    observations: Vec<Observation>,
+    left: u64,
+    last: LastSeen,
 }
 
 impl Few {
     /// It is told nothing yet.
     pub fn new(alloc: Global, most: u64) -> Few {
         Few {
-            most,
-            observations: Vec::new(alloc),
+            left: most,
+            last: LastSeen::new(alloc),
         }
     }
 }
 
 impl Probe for Few {
-    ghost seen = { λ p. p.observations.items };
+    ghost seen = { λ p. p.last };
 
-    ghost line_text = { λ _. codes "few\n" };
+    ghost line_text = { λ p. last_line p.last };
 
     fn see(&mut self, observation: Observation) -> Result<(), Memory> {
-        if self.observations.len() as u64 >= self.most {
+        if self.left == 0 {
             return Err(Memory);
         }
-        self.observations.push(observation)?;
+        self.last.see(observation)?;
+        self.left -= 1;
         Ok(())
     }
 
     fn line(&self, text: &mut Vec<u8>) -> Result<(), Memory> {
-        text.extend_from_slice(b"few\n")?;
-        Ok(())
+        self.last.line(text)
     }
 }

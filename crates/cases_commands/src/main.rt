@@ -2,9 +2,11 @@
 #![tactic(auto)]
 
 mod calls;
+mod cloned;
 mod few;
 mod no_memory;
 mod row;
+mod watchers;
 
 use case_rows::look;
 use row::Asked;

@@ -1,5 +1,6 @@
 //! A row: what it gives the tool, call by call, and what must come of it.
 use crate::calls::{call, read};
+use crate::cloned::expect_clone;
 use crate::no_memory::NoMemory;
 use case_rows::{
     Head, Page, Place, Rest, Rows, bad_line, expect, expect_files, expect_status, has_line, keep,
@@ -8,17 +9,20 @@ use case_rows::{
 use cbi_base::{MemSink, MemStore};
 
 /// The lines of a row. Its files and the calls of the store that fail are given for all its calls together. A call has its words, `watched` where the
-/// tool's three watchers are to see it, `watched few N` where the second of them is one that wants memory after N observations, the puts that fail, and
-/// what must come: the status, out and err, 0 and empty where they aren't said, and the files that are held then, or not. With `reading` the
-/// words are read alone, and out shows the command. `keep P` puts what out took into the store, as one more call of it. `then` parts the calls.
-const FORM: [Head; 18] = [
+/// tool's three watchers are to see it, or `watched` and the words of those that are: `first`, `hottest`, `last`, or a number for one of the rows' own that
+/// wants memory where it is told more observations; the puts that fail, and what must come: the status, out and err, 0 and empty where they aren't said,
+/// where they are the watchers' lines, whatever the status, and the files that are held then, or not. With `reading` the words are read alone, and out shows
+/// the command. `keep P` puts what out took into the store, as one more call of it. `sampled P Q`: the program of the file P, sampled and written, is the
+/// file Q. `then` parts the calls.
+const FORM: [Head; 20] = [
     ("file ", Rest::File, Place::Given),
     ("store fails ", Rest::Numbers, Place::Given),
     ("words ", Rest::Text, Place::Call),
     ("words", Rest::Nothing, Place::Call),
     ("reading", Rest::Nothing, Place::Any),
     ("watched", Rest::Nothing, Place::Any),
-    ("watched few ", Rest::Number, Place::Any),
+    ("watched ", Rest::Some, Place::Any),
+    ("lines", Rest::Way, Place::Any),
     ("out fails ", Rest::Numbers, Place::Any),
     ("err fails ", Rest::Numbers, Place::Any),
     ("out wants memory", Rest::Nothing, Place::Any),
@@ -29,6 +33,7 @@ const FORM: [Head; 18] = [
     ("holds ", Rest::Held, Place::Any),
     ("lacks ", Rest::Some, Place::Any),
     ("keep ", Rest::Some, Place::Any),
+    ("sampled ", Rest::Some, Place::Any),
     ("then", Rest::Nothing, Place::Any),
 ];
 
@@ -70,6 +75,7 @@ fn tell_step(number: u64, step: &str, store: &mut MemStore, told: &mut Page) {
     let words = words_of(step, told);
     call_with_words(step, &words, store, told);
     expect_files(step, store, told);
+    expect_clone(step, store, told);
     if told.bytes().len() != before {
         told.say("\nin step ");
         told.number(number);
