@@ -1,12 +1,13 @@
 //! A call of the tool, or of what reads its words alone.
-use crate::watchers::{expect_lines, push_watchers};
+use crate::few::Few;
+use crate::watchers::{expect_lines, watchers_of};
 use case_rows::Page;
 use cbi_base::{MemSink, MemStore, Sink, SinkError};
 use cbi_words::{WordsError, read_words};
-use probes::Probe;
+use probes::{FirstSeen, Hottest, LastSeen, Probe};
 use top_call::cbi;
 
-/// Calls the tool, with the watchers that the step asks for; the status.
+/// Calls the tool, with the watchers that the step asks for; the status. A number is a watcher that wants memory where it is told more observations.
 pub fn call<O: Sink, E: Sink>(
     step: &str,
     words: &Vec<String>,
@@ -15,9 +16,28 @@ pub fn call<O: Sink, E: Sink>(
     err: &mut E,
     told: &mut Page,
 ) -> u8 {
-    let mut probes: Vec<Box<dyn Probe>> = Vec::new(told.alloc());
-    push_watchers(step, &mut probes, told);
-    let status = cbi(told.alloc(), words, store, out, err, &mut probes);
+    let alloc = told.alloc();
+    let mut probes: Vec<Box<dyn Probe>> = Vec::new(alloc);
+    for word in watchers_of(step).split(' ') {
+        if word == "first" {
+            if let Some(probe) = told.done(Box::new(alloc, FirstSeen::new(alloc))) {
+                told.done(probes.push(probe));
+            }
+        } else if word == "hottest" {
+            if let Some(probe) = told.done(Box::new(alloc, Hottest::new(alloc))) {
+                told.done(probes.push(probe));
+            }
+        } else if word == "last" {
+            if let Some(probe) = told.done(Box::new(alloc, LastSeen::new(alloc))) {
+                told.done(probes.push(probe));
+            }
+        } else if let Ok(most) = word.parse::<u64>() {
+            if let Some(probe) = told.done(Box::new(alloc, Few::new(alloc, most))) {
+                told.done(probes.push(probe));
+            }
+        }
+    }
+    let status = cbi(alloc, words, store, out, err, &mut probes);
     expect_lines(step, &probes, told);
     status
 }
