@@ -71,14 +71,12 @@ def rows_of(path, count):
             bits = numpy.zeros((count, (int(kind.sum()) + 63) // 64 * 64), dtype=bool)
             bits[site_of[picked], place[run_of[picked]]] = True
             rows.append(numpy.packbits(bits, axis=1).view(numpy.uint16))
-    order = [(row, kind) for row in range(count) for kind in (0, 1)]
     groups = []
     for at in (0, 3):
         truth = numpy.empty((2 * count, rows[at].shape[1]), dtype=numpy.uint16)
         truth[0::2], truth[1::2] = rows[at], rows[at + 1]
         known = numpy.repeat(rows[at + 2], 2, axis=0)
         groups.append((truth, known))
-    assert len(order) == 2 * count
     return groups, int(fails.sum())
 
 
