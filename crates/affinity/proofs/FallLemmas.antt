@@ -41,7 +41,7 @@ neighbour-is n m p f =
     let make : ℕ → ℕ → Neighbour = λ a b. record { predicate = a; fall = b } in
     ap (λ a. make a n.fall) p ∙ ap (make m.predicate) f
 
-seen-one : (count p : ℕ) (whole left : Scores) (k : ℕ) (n : Neighbour) → n.predicate ≡ k → IsNeighbour count p whole left n → IsOneMore (IsSeen count p whole left k) (IsSeen count p whole left (k + 1)) n
+pub seen-one : (count p : ℕ) (whole left : Scores) (k : ℕ) (n : Neighbour) → n.predicate ≡ k → IsNeighbour count p whole left n → IsOneMore (IsSeen count p whole left k) (IsSeen count p whole left (k + 1)) n
 seen-one count p whole left k n number is = record {
   is = (is, omega (arith, number));
   up = λ m seen. (seen.0, omega (arith, seen.1));

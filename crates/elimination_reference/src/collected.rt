@@ -20,8 +20,8 @@ fn is_branch(site: &Site) -> bool
     }
 }
 
-// Which of the sites are branches.
-fn branches_of(alloc: Global, sites: &[Site]) -> Result<Vec<bool>, Memory>
+/// Which of the sites are branches.
+pub fn branches_of(alloc: Global, sites: &[Site]) -> Result<Vec<bool>, Memory>
     ensures { IfOk result (λ branches. branches.items ≡ branches_of sites.now) }
 {
     let mut branches = Vec::new(alloc);
@@ -42,8 +42,8 @@ fn labelled(alloc: Global, report: &Report) -> Result<LabelledRun, Memory>
     })
 }
 
-// The runs of a collection, with their labels.
-fn runs_of(alloc: Global, collection: &Collection) -> Result<Vec<LabelledRun>, Memory>
+/// The runs of a collection, with their labels.
+pub fn runs_of(alloc: Global, collection: &Collection) -> Result<Vec<LabelledRun>, Memory>
     ensures { IfOk result (λ runs. runs.items ≡ runs_of collection.now.reports) }
 {
     collection.keeps();

@@ -8,7 +8,8 @@ mod entries;
 mod leading;
 mod listing;
 
-pub use collected::plain_elimination;
+pub use collected::{branches_of, plain_elimination, runs_of};
 pub use counting::{failing_runs, recount};
+pub use entries::predicates_in;
 pub use leading::leader;
-pub use listing::eliminate;
+pub use listing::{eliminate, step};

@@ -42,8 +42,8 @@ fn relabel(branches: &[bool], leader: u32, runs: &mut [LabelledRun])
     }
 }
 
-// What the policy leaves after a leader.
-fn step(branches: &[bool], policy: Policy, leader: u32, runs: &mut Vec<LabelledRun>)
+/// What the policy leaves after a leader.
+pub fn step(branches: &[bool], policy: Policy, leader: u32, runs: &mut Vec<LabelledRun>)
     requires { length branches.now ≤ 65536 }
     ensures { runs.new.items ≡ after branches.now policy leader runs.old.items }
 {
