@@ -1,8 +1,9 @@
-//! Program files, banks, reports and collections as they are read, written and grown, the numbers of rankings, and eliminations, as the rows of the files
+//! Program files, banks, reports and collections as they are read, written and grown, the numbers of rankings, eliminations and cards, as the rows of the files
 //! ask for them that the words name.
 #![tactic(auto)]
 
 mod bytes;
+mod card_rows;
 mod collecting;
 mod finding;
 mod numbers;

@@ -3,6 +3,7 @@ ghost use Rattle.std.specs.Prelude.{◌≡◌, ◌<◌, IfSome};
 ghost use Rattle.collector.specs.Sites.{branches_of};
 ghost use Rattle.report_file.specs.Report.{IsReport};
 
+use crate::card_rows::tell_cards;
 use crate::finding::program;
 use case_rows::{Page, expect, expect_rest, has_head};
 use cbi_base::{Policy, ProgramId};
@@ -213,6 +214,7 @@ fn tell_collection(row: &str, table: &SiteTable, collection: &Collection, told: 
         }
         tell_ranking(row, table, collection, (policy, ranking), told);
     }
+    tell_cards(row, table, collection, told);
     several
 }
 

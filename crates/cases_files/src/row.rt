@@ -22,9 +22,10 @@ use program_file::read_program;
 /// - `collects`: steps, parted by `then`, over a collection of the program's runs: a report that is added, or one for each run, a collection that is merged,
 ///   the next run, another label, a run that is taken away; what that gives, how many reports are held, and what is written.
 /// - `ranks`: under each policy the predicates that the elimination of the text's runs lists, as the reference does; how many runs are left behind the last,
-///   and the four numbers that are kept of predicate 0; and the ranking.
-/// - `throws SEED COUNT`: so many collections of thrown runs, under each policy as the reference; so many eliminations at least list several leaders.
-const FORM: [Head; 43] = [
+///   and the four numbers that are kept of predicate 0; and the ranking; and the cards, with those near each predicate as the reference has them.
+/// - `throws SEED COUNT`: so many collections of thrown runs, under each policy and near each predicate as the reference; so many eliminations at
+///   least list several leaders.
+const FORM: [Head; 44] = [
     ("program is ", Rest::Some, Place::Given),
     ("program each ", Rest::Named, Place::Given),
     ("program end", Rest::Way, Place::Given),
@@ -66,6 +67,7 @@ const FORM: [Head; 43] = [
     ("leaders ", Rest::Some, Place::Any),
     ("left ", Rest::Some, Place::Any),
     ("ranking ", Rest::Named, Place::Any),
+    ("cards", Rest::Way, Place::Any),
     ("throws ", Rest::Numbers, Place::Given),
     ("several from ", Rest::Number, Place::Any),
 ];
@@ -76,7 +78,7 @@ const KINDS: [&str; 8] = [
 ];
 
 /// What must come.
-const DUE: [&str; 14] = [
+const DUE: [&str; 15] = [
     "bad ",
     "same",
     "writes",
@@ -90,6 +92,7 @@ const DUE: [&str; 14] = [
     "leaders ",
     "left ",
     "ranking ",
+    "cards",
     "several from ",
 ];
 
