@@ -16,4 +16,3 @@ pub mod Literals
 pub mod Known
 pub mod Globals
 pub mod Texts
-pub mod Laws

@@ -1,3 +1,4 @@
 pub mod Chaining
 pub mod Ranking
 pub mod Studies
+pub mod Widened

@@ -15,9 +15,13 @@ use Rattle.study.specs.declared.ranked.StudyResult.{StudyResult}
 use Rattle.study.specs.Studied.{IsStudy, study_form}
 use Rattle.command_transform.specs.declared.words.TransformWords.{TransformWords}
 use Rattle.command_transform.specs.Transform.{IsFileOf, plan_of}
+use Rattle.site_parts.specs.Part.{PartFits}
+use Rattle.command_inputs.specs.Runs.{SpellRuns}
 use Rattle.command_run.specs.Run.{IsBankOf}
 use Rattle.command_rank.specs.declared.words.RankWords.{RankWords}
 use Rattle.command_rank.specs.Rank.{IsRanked}
+use Rattle.command_widen.specs.declared.words.WidenWords.{WidenWords}
+use Rattle.command_widen.specs.Widen.{IsWidened, part_of_share, widened_as}
 use Rattle.chain_laws.specs.Chain.{AreMadeFor, AreReportsOf, Made, RunsAsMeant, meant_run, meant_table}
 
 -- A file that `transform` wrote of a text, a bank's text, an input and a bound of turns: every ending of the machine on the program that the file
@@ -43,3 +47,9 @@ AStudyIsItsChain =
     IsStudy text plan result → plan_of words ≡ study_form → IsFileOf words text file → (ranked : IsRanked held r ranking) → ranked.texts.program ≡ file →
     r.policy ≡ plan.policy → AreReportsOf file made ranked.bundle.reports → AreMadeFor plan 1 made → length made ≡ plan.runs →
     ranking ≡ result.ranking.items
+
+-- What `widen` wrote is a collection of runs of the whole program, as the commands that read one take it: its text is one of the widened reports.
+abbrev pub AWidenedCollectionIsOfTheWhole : Type 0
+AWidenedCollectionIsOfTheWhole =
+    (held : Option Held) (words : WidenWords) (text : List ℕ) → PartFits (part_of_share words.part) → (wide : IsWidened held words text) →
+    SpellRuns (record { program = wide.texts.whole; collection = text }) wide.whole (widened_as wide.texts.whole (part_of_share words.part) wide.bundle)

@@ -1,10 +1,16 @@
 //! Laws of the definitions, each on a function of its own that does nothing but call on the laws below it.
-ghost use Rattle.chain_laws.specs.Laws.{ARankingOfRunsIsTheElimination, AStudyIsItsChain, WrittenProgramsRunAsTheTextMeans};
+ghost use Rattle.chain_laws.specs.Laws.{
+  ARankingOfRunsIsTheElimination,
+  AStudyIsItsChain,
+  AWidenedCollectionIsOfTheWhole,
+  WrittenProgramsRunAsTheTextMeans,
+};
 
 use compiler::one_accepted_text;
 use elimination::one_elimination;
 use flow::one_ending;
 use program_file::one_program;
+use site_parts::{fitting_reports_may_widen, widened_reports_fit};
 use std::alloc::Global;
 use study_runs::one_made_run;
 
@@ -35,4 +41,12 @@ pub fn a_study_is_its_chain(alloc: Global)
     one_accepted_text();
     one_made_run();
     one_elimination();
+}
+
+/// What `widen` writes of the reports of a part's program is a collection of runs of the whole program, and so each command that reads one takes it.
+pub fn a_widened_collection_is_of_the_whole()
+    ensures { AWidenedCollectionIsOfTheWhole }
+{
+    widened_reports_fit();
+    fitting_reports_may_widen();
 }

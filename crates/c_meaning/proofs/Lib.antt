@@ -1,4 +1,0 @@
-pub mod ForLoops
-pub mod Sums
-pub mod Declared
-pub mod ZeroBehind

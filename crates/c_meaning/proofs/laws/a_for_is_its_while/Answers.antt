@@ -1,5 +1,0 @@
-use Rattle.c_meaning.proofs.ForLoops.{loops}
-use Rattle.c_meaning.proofs.laws.a_for_is_its_while.Goals as goal
-
-pub returns : goal.returns
-returns c = loops

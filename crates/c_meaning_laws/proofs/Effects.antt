@@ -1,0 +1,177 @@
+-- What an expression does where nothing takes its value is what it does where its value is taken.
+use Rattle.std.proofs.Common.{◌≡◌, ℕ, Bool, true, false, ◌==◌, length, List, [], Option, Some, None, refl, ap, sym, ◌∙◌, subst}
+use Rattle.cbi_base.specs.declared.scalar.Scalar.{Scalar}
+use Rattle.c_rules.specs.declared.library.Library.{Library}
+use Rattle.c_rules.specs.declared.library.Library.TheVariants as library
+use Rattle.c_syntax.specs.declared.expr.PrefixOperator.{PrefixOperator}
+use Rattle.c_syntax.specs.declared.expr.PrefixOperator.TheVariants as prefix
+use Rattle.c_syntax.specs.ExprTree as e
+use Rattle.c_syntax.specs.ExprTree.{ExprTree, ExprList}
+use Rattle.c_meaning.specs.declared.value_type.Called.{Called}
+use Rattle.c_meaning.specs.declared.value_type.Called.TheVariants as called
+use Rattle.c_meaning.specs.declared.value_type.ValueType.{ValueType}
+use Rattle.c_meaning.specs.declared.value_type.ValueType.TheVariants as type
+use Rattle.c_meaning.specs.Calls.{Argument, Arguments, call_function, call_library, call_sense, with_result}
+use Rattle.c_meaning.specs.Conversions.{as_used, is_null_as, load_at}
+use Rattle.c_meaning.specs.Expressions.{Sense, arm_effect, arm_value, cast, conditional, is_struct, placed, postfixed, prefixed, size_value, spot}
+use Rattle.c_meaning.specs.Facts.{Setting, Signature}
+use Rattle.c_meaning.specs.Meaning.{arguments_value, behind, expr, formatted, last_sense, lone_value}
+use Rattle.c_meaning.specs.Places.{pointed, variable}
+use Rattle.c_meaning.specs.Trees.{called_as, count, ends_as_place, has_value, is_place, token_of, type_of}
+use Rattle.c_meaning.specs.Visits.{decided}
+use Rattle.c_meaning.specs.World.{World, Out, Go, Next, Done, answered, bind, choose, done, nothing, stuck}
+use Rattle.c_types_never_stuck.specs.Rules.{IsValue}
+use Rattle.c_types_never_stuck.specs.Typed.{Calls, CallsFunction, CallsLibrary, Typed, TypedArguments, TypedLast, TypedLone}
+use Rattle.c_meaning_laws.specs.Discarding.{CastDiscards, StatementDiscards}
+use Rattle.c_meaning_laws.proofs.Parts.{bind_behind}
+
+-- the value is let go
+abbrev LetsGo : Sense → Type 0
+LetsGo m = (w : World) → m.effect w ≡ done (m.value w)
+
+load_goes : (of : Option ValueType) (v : Scalar) (w : World) → IsValue of → choose (is_struct of) nothing (λ u. done (load_at of v u)) w ≡ done (load_at of v w)
+load_goes (Some (type.Number kind)) v w h = refl
+load_goes (Some (type.Pointer size)) v w h = refl
+load_goes (Some (type.Array size)) v w h = refl
+load_goes (Some type.Void) v w h = absurd h
+load_goes (Some type.Struct) v w h = absurd h
+load_goes None v w h = absurd h
+
+place_goes : (of : Option ValueType) (p : World → Out Scalar) → IsValue of → LetsGo (placed of p)
+place_goes of p h w = bind_behind (p w) (load_at of) _ (λ _. nothing) (λ v u. load_goes of v u h)
+
+postfix_goes : (b : Bool) (of : Option ValueType) (m : World → Out Scalar) → IsValue of → LetsGo (postfixed b of m)
+postfix_goes true of m h w = place_goes of m h w
+postfix_goes false of m h w = refl
+
+size_goes : (cells : Option ℕ) → LetsGo (size_value cells)
+size_goes None w = refl
+size_goes (Some cells) w = refl
+
+cast_goes : (b : Bool) (of : Option ValueType) (m : Sense) → IsValue of → LetsGo (cast b of m)
+cast_goes b (Some (type.Number kind)) m h w = refl
+cast_goes b (Some (type.Pointer size)) m h w = refl
+cast_goes b (Some (type.Array size)) m h w = refl
+cast_goes b (Some type.Void) m h w = absurd h
+cast_goes b (Some type.Struct) m h w = absurd h
+cast_goes b None m h w = absurd h
+
+arm_goes : (b : Bool) (have of : Option ValueType) (m : Sense) (w : World) → IsValue of → arm_effect b have of m w ≡ done (arm_value b have of m w)
+arm_goes b have (Some (type.Number kind)) m w h = refl
+arm_goes b have (Some (type.Pointer size)) m w h = refl
+arm_goes b have (Some (type.Array size)) m w h = refl
+arm_goes b have (Some type.Void) m w h = absurd h
+arm_goes b have (Some type.Struct) m w h = absurd h
+arm_goes b have None m w h = absurd h
+
+chosen_goes : (b : Bool) (first second : World → Out Scalar) (act other : World → Done) (w : World) → act w ≡ done (first w) → other w ≡ done (second w)
+    → choose b act other w ≡ done (choose b first second w)
+chosen_goes true first second act other w h k = h
+chosen_goes false first second act other w h k = k
+
+used_value : (of : Option ValueType) → IsValue (as_used of) → IsValue of
+used_value (Some (type.Number kind)) h = tt
+used_value (Some (type.Pointer size)) h = tt
+used_value (Some (type.Array size)) h = tt
+used_value (Some type.Void) h = h
+used_value (Some type.Struct) h = h
+used_value None h = h
+
+module _ (s : Setting) (room : ℕ) where
+  prefix_goes : (token : ℕ) (o : PrefixOperator) (of : Option ValueType) (cells : Option ℕ) (m : Sense) → IsValue (s.facts.type_at token)
+      → LetsGo (prefixed s token o of cells m)
+  prefix_goes token prefix.Increment of cells m h w = refl
+  prefix_goes token prefix.Decrement of cells m h w = refl
+  prefix_goes token prefix.Address of cells m h w = refl
+  prefix_goes token prefix.Indirection of cells m h w =
+      place_goes (s.facts.type_at token) (λ u. bind (m.value u) (λ v y. answered (pointed v) y)) h w
+  prefix_goes token prefix.Plus of cells m h w = refl
+  prefix_goes token prefix.Minus of cells m h w = refl
+  prefix_goes token prefix.Complement of cells m h w = refl
+  prefix_goes token prefix.Not of cells m h w = refl
+  prefix_goes token prefix.SizeOf of cells m h w = size_goes cells w
+
+  conditional_goes : (token : ℕ) (c : Sense) (first second : World → Out Scalar) (act other : World → Done)
+      → ((w : World) → act w ≡ done (first w)) → ((w : World) → other w ≡ done (second w)) → LetsGo (conditional s token c first second act other)
+  conditional_goes token c first second act other h k w =
+      bind_behind (c.value w) _ _ (λ _. nothing) (λ v u.
+      bind_behind (decided s token v u) _ _ (λ _. nothing) (λ b y. chosen_goes b first second act other y (h y) (k y)))
+
+  result_goes : (token : ℕ) (of : ValueType) (m : World → Out Scalar) → IsValue (Some of) → LetsGo (with_result s token (has_value of) m)
+  result_goes token (type.Number kind) m h w = refl
+  result_goes token (type.Pointer size) m h w = refl
+  result_goes token (type.Array size) m h w = refl
+  result_goes token type.Void m h w = absurd h
+  result_goes token type.Struct m h w = absurd h
+
+  function_goes : (token number : ℕ) (f : Option Signature) (n : ℕ) (arguments : Arguments) (Fit : List ValueType → Type 0) (of : Option ValueType)
+      → CallsFunction f Fit of → IsValue of → LetsGo (call_function s token number f n arguments)
+  function_goes token number None n arguments Fit of h k w = absurd h
+  function_goes token number (Some f) n arguments Fit of h k w =
+      result_goes token f.result (choose (n == length f.params) (λ u. bind (arguments f.params u) (s.call number)) stuck) (subst IsValue h.1 k) w
+
+  library_goes : (token : ℕ) (function : Library) (n : ℕ) (argument : Argument) (print : World → Done) (Fit : List ValueType → Type 0) (One : Type 0)
+      (of : Option ValueType) → CallsLibrary function Fit One of → IsValue of → LetsGo (call_library s token function n argument print)
+  library_goes token library.Getchar n argument print Fit One of h k w = refl
+  library_goes token library.Putchar n argument print Fit One of h k w = refl
+  library_goes token library.Puts n argument print Fit One of h k w = refl
+  library_goes token library.Malloc n argument print Fit One of h k w = refl
+  library_goes token library.Free n argument print Fit One of h k w = absurd (subst IsValue h.1 k)
+  library_goes token library.Exit n argument print Fit One of h k w = absurd (subst IsValue h.1 k)
+  library_goes token library.Abort n argument print Fit One of h k w = absurd (subst IsValue h.1 k)
+  library_goes token library.Assert n argument print Fit One of h k w = absurd (subst IsValue h.1 k)
+  library_goes token library.Printf n argument print Fit One of h k w = absurd h
+
+  call_goes : (token : ℕ) (what : Called) (n : ℕ) (arguments : Arguments) (argument : Argument) (print : World → Done) (Fit : List ValueType → Type 0)
+      (One : Type 0) (of : Option ValueType) → Calls s.facts s.sites room what Fit One of → IsValue of
+      → LetsGo (call_sense s token what n arguments argument print)
+  call_goes token (called.Function number) n arguments argument print Fit One of h k w =
+      function_goes token number (s.facts.signature number) n arguments Fit of h k w
+  call_goes token (called.Library function) n arguments argument print Fit One of h k w = library_goes token function n argument print Fit One of h k w
+  call_goes token called.Unknown n arguments argument print Fit One of h k w = absurd h
+
+  mutual
+    goes : (x : ExprTree) → Typed s.facts s.sites room x → IsValue (type_of s.facts x) → LetsGo (expr s x)
+    goes (e.Comma token operands) h k w = last_goes (s.facts.type_at token) operands h k w
+    goes (e.Assign token sign target value) h k w = refl
+    goes (e.Conditional token condition first second) h k w =
+        conditional_goes token (expr s condition)
+        (arm_value (is_null_as (s.facts.type_at token) first) (type_of s.facts first) (s.facts.type_at token) (expr s first))
+        (arm_value (is_null_as (s.facts.type_at token) second) (type_of s.facts second) (s.facts.type_at token) (expr s second))
+        (arm_effect (is_null_as (s.facts.type_at token) first) (type_of s.facts first) (s.facts.type_at token) (expr s first))
+        (arm_effect (is_null_as (s.facts.type_at token) second) (type_of s.facts second) (s.facts.type_at token) (expr s second))
+        (λ u. arm_goes (is_null_as (s.facts.type_at token) first) (type_of s.facts first) (s.facts.type_at token) (expr s first) u k)
+        (λ u. arm_goes (is_null_as (s.facts.type_at token) second) (type_of s.facts second) (s.facts.type_at token) (expr s second) u k) w
+    goes (e.Chain level first links) h k w = refl
+    goes (e.Cast token base stars operand) h k w = cast_goes (is_null_as (s.facts.type_at token) operand) (s.facts.type_at token) (expr s operand) k w
+    goes (e.Prefix token operator operand) h k w =
+        prefix_goes token operator (type_of s.facts operand) (s.facts.cells_at (token_of operand)) (expr s operand) k w
+    goes (e.SizeOfType token base stars) h k w = size_goes (s.facts.named_cells base stars) w
+    goes (e.Postfix primary operators) h k w =
+        postfix_goes (ends_as_place (is_place primary) operators) (type_of s.facts (e.Postfix primary operators))
+        (λ u. bind (spot (is_place primary) (expr s primary) u) (behind s (is_place primary) (type_of s.facts primary) operators)) k w
+    goes (e.Name token name) h k w = place_goes (s.facts.type_at token) (variable s (s.facts.slot_at token)) k w
+    goes (e.Call token name arguments) h k w =
+        call_goes token (called_as (s.facts.function_at token) name) (count arguments) (λ types. arguments_value s types arguments [])
+        (λ want. lone_value s want arguments) (formatted s arguments) (λ types. TypedArguments s.facts s.sites room types arguments)
+        (TypedLone s.facts s.sites room arguments) (s.facts.type_at token) h k w
+    goes (e.Constant token kind value) h k w = refl
+    goes (e.Strings token parts) h k w = refl
+    goes (e.Paren token inner) h k w = goes inner h.0 (subst IsValue h.1 k) w
+    goes (e.Null token) h k w = refl
+    goes (e.EndOfFile token) h k w = refl
+
+    last_goes : (of : Option ValueType) (operands : ExprList) → TypedLast s.facts s.sites room of operands → IsValue of → LetsGo (last_sense s operands)
+    last_goes of e.no_exprs h k w = absurd h
+    last_goes of (e.more_exprs x e.no_exprs) h k w = goes x h.0 (used_value (type_of s.facts x) (subst IsValue h.1 k)) w
+    last_goes of (e.more_exprs x (e.more_exprs y rest)) h k w =
+        bind_behind ((expr s x).effect w) (λ _. (last_sense s (e.more_exprs y rest)).value) _ (λ _. nothing)
+        (λ _ u. last_goes of (e.more_exprs y rest) h.1 k u)
+
+pub cast_discards : CastDiscards
+cast_discards s n result token other cast_token word paren x w h =
+    subst (λ of. bind ((expr s x).effect w) (λ _. Go Next) ≡ bind ((cast (is_null_as of (e.Paren paren x)) of (expr s x)).effect w) (λ _. Go Next)) (sym h) refl
+
+pub statement_discards : StatementDiscards
+statement_discards s room n result token x w h k =
+    ap (λ out. bind out (λ _. Go Next)) (goes s room x h k w) ∙ sym (bind_behind ((expr s x).value w) (λ _. nothing) _ (λ _. Go Next) (λ v u. refl))

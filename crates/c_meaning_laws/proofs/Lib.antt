@@ -1,0 +1,17 @@
+pub mod Parts
+pub mod Places
+pub mod Sums
+pub mod Indices
+pub mod Effects
+pub mod Objects
+pub mod Undefined
+pub mod Compounds
+pub mod Zeros
+pub mod Longer
+pub mod LongerPlaces
+pub mod LongerSenses
+pub mod LongerExpressions
+pub mod LongerStatements
+pub mod LongerRuns
+pub mod Rounds
+pub mod ForLoops

@@ -1,0 +1,57 @@
+-- A loop is its first round and the loop again (C99 6.8.5.1, 6.8.5.2), a `for` is its `while` (C99 6.8.5.3), and a block is its entries (C99 6.8.2).
+use Rattle.std.specs.Prelude.{◌≡◌, ℕ, ◌≤◌, None, Some}
+use Rattle.c_syntax.specs.ExprTree.{ExprTree}
+use Rattle.c_syntax.specs.StatementTree as tree
+use Rattle.c_syntax.specs.StatementTree.{StatementTree, EntryList}
+use Rattle.flow.specs.Now.{Locals}
+use Rattle.c_meaning.specs.declared.value_type.ValueType.{ValueType}
+use Rattle.c_meaning.specs.Facts.{Setting}
+use Rattle.c_meaning.specs.Meaning.{condition}
+use Rattle.c_meaning.specs.Runs.{Source, call_at, setting_of}
+use Rattle.c_meaning.specs.Statements.{after_body, exec, exec_all}
+use Rattle.c_meaning.specs.World.{World, Out, Go, Flow, Next, Continued, bind, choose, spend}
+
+-- the loop again, behind the turn that each round but the first one spends
+abbrev pub again : Setting → ℕ → ValueType → StatementTree → World → Out Flow
+again s n result loop w = spend w.turns w (exec s n result loop)
+
+-- In a function of a text, where at most n turns are left: `while (c) body` is `if (c)` the body, and then the loop again where the body was left at its end or by `continue`; `break` ends it.
+abbrev pub WhileIsFirstRound : Type 0
+WhileIsFirstRound =
+    (src : Source) (calls n : ℕ) (locals : Locals) (result : ValueType) (token : ℕ) (c : ExprTree) (body : StatementTree) (w : World) → w.turns ≤ n →
+    let s : Setting = setting_of src (call_at src calls) locals in
+    exec s n result (tree.While token c body) w
+    ≡ bind (condition s token c w) (λ holds. choose holds
+    (λ u. bind (exec s n result body u) (after_body (again s n result (tree.While token c body)))) (Go Next))
+
+-- In the same, `do body while (c);` is the body, and then where `c` is true the loop again.
+abbrev pub DoIsFirstRound : Type 0
+DoIsFirstRound =
+    (src : Source) (calls n : ℕ) (locals : Locals) (result : ValueType) (token : ℕ) (c : ExprTree) (body : StatementTree) (w : World) → w.turns ≤ n →
+    let s : Setting = setting_of src (call_at src calls) locals in
+    exec s n result (tree.Do token body c) w
+    ≡ bind (exec s n result body w) (after_body (λ u.
+    bind (condition s token c u) (λ holds. choose holds (again s n result (tree.Do token body c)) (Go Next))))
+
+-- `{ body step; }`
+abbrev pub with_step : ℕ → StatementTree → ExprTree → StatementTree
+with_step token body step = tree.Block token (tree.stated body (tree.stated (tree.Expr token step) tree.no_entries))
+
+-- `for (; c; step) body` is `while (c) { body step; }`, where the body meets no `continue` of its own.
+abbrev pub ForIsWhile : Type 0
+ForIsWhile =
+    (s : Setting) (n : ℕ) (result : ValueType) (token block : ℕ) (c step : ExprTree) (body : StatementTree) (w : World) →
+    ((u v : World) → exec s n result body u ≡ Go Continued v → ⊥) →
+    exec s n result (tree.For token (tree.Computes None) (Some c) (Some step) body) w ≡ exec s n result (tree.While token c (with_step block body step)) w
+
+-- entries, and others behind them
+abbrev pub joined : EntryList → EntryList → EntryList
+joined tree.no_entries others = others
+joined (tree.declared d rest) others = tree.declared d (joined rest others)
+joined (tree.stated x rest) others = tree.stated x (joined rest others)
+
+-- A block within a block does what its entries do in its place.
+abbrev pub BlockIsEntries : Type 0
+BlockIsEntries =
+    (s : Setting) (n : ℕ) (result : ValueType) (token : ℕ) (entries others : EntryList) (w : World) →
+    exec_all s n result (tree.stated (tree.Block token entries) others) w ≡ exec_all s n result (joined entries others) w

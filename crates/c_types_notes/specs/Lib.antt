@@ -1,0 +1,4 @@
+pub mod Events
+pub mod Scopes
+pub mod Offsets
+pub mod Calls

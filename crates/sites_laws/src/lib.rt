@@ -1,0 +1,6 @@
+//! Which sites a text has, in the words of its tree.
+#![tactic(auto)]
+
+mod laws;
+
+pub use laws::{partners_are_in_scope, sites_are_where_the_tree_says};
