@@ -4,3 +4,4 @@ pub mod Rises
 pub mod RisesBodies
 pub mod RisesTable
 pub mod Named
+pub mod Keeping

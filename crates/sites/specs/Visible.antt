@@ -1,5 +1,5 @@
 -- The variables that are visible at a token, and those of them that a new value is compared with.
-use Rattle.std.specs.Prelude.{ℕ, suc, Bool, false, not, ◌&&◌, ◌||◌, ◌==◌, if◌then◌else◌, List, [], ◌∷◌, Option, Some, None}
+use Rattle.std.specs.Prelude.{ℕ, suc, nat_lt, nat_le, Bool, true, false, not, ◌&&◌, ◌||◌, ◌==◌, if◌then◌else◌, List, [], ◌∷◌, Option, Some, None}
 use Rattle.std.specs.Str.{bytes_eq}
 use Rattle.c_rules.specs.TypeTree.{TypeTree, same_type}
 use Rattle.c_types_expressions.specs.declared.walk.Variable.{Variable}
@@ -21,15 +21,25 @@ abbrev pub is_hidden : Walk → ℕ → List ℕ → ℕ → List VariableEntry 
 is_hidden w token name place [] = false
 is_hidden w token name place (v ∷ later) = (bytes_eq v.name name && scope_holds w place token) || is_hidden w token name (suc place) later
 
--- whether one of these variables has the name
-abbrev pub is_named : List ℕ → List VariableEntry → Bool
-is_named name [] = false
-is_named name (v ∷ later) = bytes_eq v.name name || is_named name later
+-- the least of the tokens, of which one may be left out
+abbrev pub least : ℕ → Option ℕ → ℕ
+least token None = token
+least token (Some other) = if nat_lt other token then other else token
 
--- for each of these variables whether a later one has its name
-abbrev pub named_again : List VariableEntry → List Bool
-named_again [] = []
-named_again (v ∷ later) = is_named v.name later ∷ named_again later
+-- the least token behind which the scope of one of these variables with the name begins, if one has it
+abbrev pub declared_again : List ℕ → List VariableEntry → Option ℕ
+declared_again name [] = None
+declared_again name (v ∷ later) = if bytes_eq v.name name then Some (least v.from (declared_again name later)) else declared_again name later
+
+-- for each of these variables that token for its name and the variables behind it
+abbrev pub all_again : List VariableEntry → List (Option ℕ)
+all_again [] = []
+all_again (v ∷ later) = declared_again v.name later ∷ all_again later
+
+-- whether no such scope begins before the token
+abbrev pub is_clear : ℕ → Option ℕ → Bool
+is_clear token None = true
+is_clear token (Some first) = nat_le token first
 
 -- A variable is visible where its scope holds the token and none that is declared later hides its name (C99 6.2.1p4).
 abbrev pub is_visible : Walk → ℕ → ℕ → VariableEntry → List VariableEntry → Bool

@@ -17,8 +17,8 @@ pub struct Ground<'a> {
     pub schemes: Schemes,
     pub function: u32,
     pub constants: &'a [i64],
-    /// For each variable whether a later one has its name.
-    pub again: &'a [bool],
+    /// For each variable the least token behind which a later one has its name, where pairs are wanted.
+    pub again: &'a [Option<u32>],
 }
 
 /// Where a site stands: the number of its function, its line and its token.

@@ -4,6 +4,7 @@
 mod constants;
 mod ground;
 mod laws;
+mod noted;
 mod partners;
 mod schemes;
 mod spots;

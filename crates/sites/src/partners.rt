@@ -1,20 +1,20 @@
-ghost use Rattle.std.specs.Prelude.{◌≡◌, IfOk, ◌+◌, ◌∷◌, [], Some, map, length, option_copied, slice_get, ◌<◌, ◌^◌};
+ghost use Rattle.std.specs.Prelude.{◌≡◌, IfOk, ◌+◌, ◌∷◌, [], Some, map, drop, length, option_copied, slice_get, ◌<◌, ◌^◌};
 ghost use Rattle.c_rules.specs.Plain.{plain_type};
 ghost use Rattle.c_types.specs.Answers.{declared_at, known_of};
 ghost use Rattle.flow.specs.declared.site.Partner.TheVariants as partner;
 ghost use Rattle.sites.specs.Adding.{IsAdded};
 ghost use Rattle.sites.specs.Ground.{body_of};
 ghost use Rattle.sites.specs.SitesAt.{pair_on, named_pairs, pairs_of, pairs_on, partners_of};
-ghost use Rattle.sites.specs.Visible.{is_hidden, is_named, is_partner, is_type, named_again, slot_of, variable_partners};
+ghost use Rattle.sites.specs.Visible.{all_again, declared_again, is_hidden, is_partner, is_type, slot_of, variable_partners};
 
 use crate::ground::{Ground, Stand, add_site};
+use crate::noted::is_clear;
 use crate::schemes::SiteError;
 use c_rules::{CType, is_arithmetic, same_type};
 use c_types::Checked;
 use c_types_expressions::{Variable, VariableEntry};
-use cbi_base::{Memory, Name, Seq};
+use cbi_base::{Name, Seq};
 use flow::{Partner, Site, SiteKind, Slot};
-use std::alloc::Global;
 
 /// Where a variable's cells lie.
 fn slot_of(variable: Variable) -> Slot
@@ -49,33 +49,6 @@ fn is_hidden(
     false
 }
 
-/// Whether one of these variables has the name.
-fn is_named(name: &Name, later: &[VariableEntry]) -> bool
-    ensures { result ≡ is_named name.now later.now }
-{
-    let mut left = later;
-    while let [variable, later @ ..] = left {
-        if variable.name.bytes() == name.bytes() {
-            return true;
-        }
-        left = later;
-    }
-    false
-}
-
-/// For each of these variables whether a later one has its name.
-pub fn named_again(alloc: Global, variables: &[VariableEntry]) -> Result<Seq<bool>, Memory>
-    ensures { IfOk result (λ again. again ≡ named_again variables.now) }
-{
-    let mut again = Seq::new(alloc);
-    let mut left = variables;
-    while let [variable, later @ ..] = left {
-        again.push(is_named(&variable.name, later))?;
-        left = later;
-    }
-    Ok(again)
-}
-
 /// Whether the variable whose name stands at the token has this type.
 fn has_type(checked: &Checked, token: u32, ctype: &CType) -> bool
     ensures { result ≡ is_type (plain_type ctype.now) (declared_at (known_of checked.now) token) }
@@ -102,10 +75,11 @@ fn is_partner(
     target: &Target<'_>,
     place: usize,
     variable: &VariableEntry,
-    again: bool,
+    again: Option<u32>,
     later: &[VariableEntry],
 ) -> bool
-    requires again { again ≡ is_named variable.now.name later.now }
+    requires again { again ≡ declared_again variable.now.name later.now }
+    requires behind { later.now ≡ drop (place + 1) (known_of checked.now).variables }
     requires within { place + 1 + length later.now < 2 ^ 64 }
     ensures { result ≡ is_partner (known_of checked.now) token target.now.place (plain_type target.now.ctype.now) place variable.now later.now }
 {
@@ -118,7 +92,7 @@ fn is_partner(
     if !checked.scope_holds(place, token) {
         return false;
     }
-    if !again {
+    if is_clear(token, again) {
         return true;
     }
     !is_hidden(checked, token, &variable.name, place + 1, later)
@@ -165,11 +139,11 @@ fn add_variable_pair(
 fn add_variable_pairs(
     sites: &mut Seq<Site>,
     checked: &Checked,
-    again: &[bool],
+    again: &[Option<u32>],
     stand: Stand,
     target: &Target<'_>,
 ) -> Result<(), SiteError>
-    requires { again.now ≡ named_again (known_of checked.now).variables }
+    requires { again.now ≡ all_again (known_of checked.now).variables }
     ensures { IsAdded sites.old
         (map (pair_on stand target.now.entry.now.name (slot_of target.now.entry.now.variable))
         (variable_partners (known_of checked.now) stand.token target.now.place (plain_type target.now.ctype.now) 0 (known_of checked.now).variables))
@@ -179,18 +153,10 @@ fn add_variable_pairs(
     let mut left = checked.variables();
     let mut flags = again;
     while let [variable, later @ ..] = left {
-        let [named_again, more @ ..] = flags else {
+        let [found, more @ ..] = flags else {
             return Ok(());
         };
-        if is_partner(
-            checked,
-            stand.token,
-            target,
-            place,
-            variable,
-            *named_again,
-            later,
-        ) {
+        if is_partner(checked, stand.token, target, place, variable, *found, later) {
             add_variable_pair(sites, stand, target.entry, variable)?;
         }
         place += 1;
@@ -235,7 +201,7 @@ fn add_partners(
     stand: Stand,
     target: &Target<'_>,
 ) -> Result<(), SiteError>
-    requires { ground.now.again.now ≡ named_again (known_of ground.now.checked.now).variables }
+    requires { ground.now.again.now ≡ all_again (known_of ground.now.checked.now).variables }
     ensures { IsAdded sites.old
         (map (pair_on stand target.now.entry.now.name (slot_of target.now.entry.now.variable))
         (partners_of (known_of ground.now.checked.now) ground.now.constants.now stand.token target.now.place (plain_type target.now.ctype.now)))
@@ -260,7 +226,7 @@ fn add_pairs_of(
     place: u32,
     ctype: &CType,
 ) -> Result<(), SiteError>
-    requires { ground.now.again.now ≡ named_again (known_of ground.now.checked.now).variables }
+    requires { ground.now.again.now ≡ all_again (known_of ground.now.checked.now).variables }
     ensures { IsAdded sites.old
         (pairs_of (body_of ground.now) stand place (plain_type ctype.now) (slice_get (known_of ground.now.checked.now).variables place))
         result sites.new }
@@ -286,7 +252,7 @@ fn add_pairs_on(
     place: u32,
     target: u32,
 ) -> Result<(), SiteError>
-    requires { ground.now.again.now ≡ named_again (known_of ground.now.checked.now).variables }
+    requires { ground.now.again.now ≡ all_again (known_of ground.now.checked.now).variables }
     ensures { IsAdded sites.old (pairs_on (body_of ground.now) stand (Some place) (declared_at (known_of ground.now.checked.now) target)) result sites.new }
 {
     match ground.checked.declared_type(target as usize) {
@@ -307,7 +273,7 @@ pub fn add_pairs(
     stand: Stand,
     target: u32,
 ) -> Result<(), SiteError>
-    requires { ground.now.again.now ≡ named_again (known_of ground.now.checked.now).variables }
+    requires { ground.now.again.now ≡ all_again (known_of ground.now.checked.now).variables }
     ensures { IsAdded sites.old (named_pairs (body_of ground.now) stand target) result sites.new }
 {
     match ground.checked.place_at(target as usize) {

@@ -6,13 +6,14 @@ ghost use Rattle.sites.specs.declared.schemes.SiteError.TheVariants as error;
 ghost use Rattle.sites.specs.Adding.{IsAdded};
 ghost use Rattle.sites.specs.Bodies.{entries_spots};
 ghost use Rattle.sites.specs.Ground.{body_of};
+ghost use Rattle.sites.specs.Noted.{IsNoted};
 ghost use Rattle.sites.specs.SitesAt.{branch_sites, change_sites, gives_scalar, is_observed, return_sites, sites_at, sites_in, token_of};
-ghost use Rattle.sites.specs.Visible.{named_again};
 ghost use Rattle.sites.specs.Table.{body_sites, defined_by, functions_of, item_sites, sites_of};
 
 use crate::constants::constants_of;
 use crate::ground::{Ground, Stand, add_site, stand_at};
-use crate::partners::{add_pairs, named_again};
+use crate::noted::noted_for;
+use crate::partners::add_pairs;
 use crate::schemes::{Schemes, SiteError};
 use crate::spots::Spot;
 use crate::statements::push_entries;
@@ -84,7 +85,7 @@ fn add_change(
     stand: Stand,
     target: u32,
 ) -> Result<(), SiteError>
-    requires { ground.now.again.now ≡ named_again (known_of ground.now.checked.now).variables }
+    requires { IsNoted ground.now.schemes (known_of ground.now.checked.now) ground.now.again.now }
     ensures { IsAdded sites.old (change_sites (body_of ground.now) stand target) result sites.new }
 {
     if !ground.schemes.pairs {
@@ -106,7 +107,7 @@ fn token_of(spot: &Spot) -> Option<u32>
 
 /// Adds the sites that stand at a construct.
 fn add_sites_at(sites: &mut Seq<Site>, ground: &Ground<'_>, spot: &Spot) -> Result<(), SiteError>
-    requires { ground.now.again.now ≡ named_again (known_of ground.now.checked.now).variables }
+    requires { IsNoted ground.now.schemes (known_of ground.now.checked.now) ground.now.again.now }
     ensures { IsAdded sites.old (sites_at (body_of ground.now) spot.now) result sites.new }
 {
     let Some(token) = token_of(spot) else {
@@ -125,7 +126,7 @@ fn add_sites_at(sites: &mut Seq<Site>, ground: &Ground<'_>, spot: &Spot) -> Resu
 
 /// Adds the sites of a body's constructs.
 fn add_sites_in(sites: &mut Seq<Site>, ground: &Ground<'_>, spots: &[Spot]) -> Result<(), SiteError>
-    requires { ground.now.again.now ≡ named_again (known_of ground.now.checked.now).variables }
+    requires { IsNoted ground.now.schemes (known_of ground.now.checked.now) ground.now.again.now }
     ensures { IsAdded sites.old (sites_in (body_of ground.now) spots.now) result sites.new }
 {
     for spot in spots {
@@ -139,12 +140,12 @@ fn add_body(
     alloc: Global,
     sites: &mut Seq<Site>,
     checked: &Checked,
-    again: &[bool],
+    again: &[Option<u32>],
     schemes: Schemes,
     number: usize,
     body: &[Entry],
 ) -> Result<(), SiteError>
-    requires { again.now ≡ named_again (known_of checked.now).variables }
+    requires { IsNoted schemes (known_of checked.now) again.now }
     ensures { IsAdded sites.old
         (body_sites (known_of checked.now) (tree_of checked.now).lines schemes number (entries_spots (plain_entries body.now))) result sites.new }
 {
@@ -167,11 +168,11 @@ fn add_item(
     alloc: Global,
     parts: &mut TableParts,
     checked: &Checked,
-    again: &[bool],
+    again: &[Option<u32>],
     schemes: Schemes,
     item: &Item,
 ) -> Result<(), SiteError>
-    requires { again.now ≡ named_again (known_of checked.now).variables }
+    requires { IsNoted schemes (known_of checked.now) again.now }
     ensures sites { IsAdded parts.old.sites
         (item_sites (known_of checked.now) (tree_of checked.now).lines schemes (length parts.old.functions) (plain_item item.now))
         result parts.new.sites }
@@ -214,7 +215,7 @@ pub fn site_table(
         sites: Seq::new(alloc),
         functions: Seq::new(alloc),
     };
-    let again = named_again(alloc, checked.variables())?;
+    let again = noted_for(alloc, checked, schemes)?;
     for item in checked.tree().items.as_slice() {
         add_item(alloc, &mut parts, checked, again.as_slice(), schemes, item)?;
     }

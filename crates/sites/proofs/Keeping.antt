@@ -1,0 +1,62 @@
+-- What is kept of each name, after a token was written at one name, and while the variables are gone through.
+use Rattle.std.proofs.Common.{◌≡◌, ℕ, ◌+◌, ◌<◌, Bool, true, false, List, [], ◌∷◌, ◌++◌, length, drop, get_or, if◌then◌else◌, Vec, Option, Some, refl, sym, ap, ◌∙◌, subst, ⊎_elim}
+use Rattle.std.specs.Prelude.{reverse}
+use Rattle.std.proofs.lemmas.List.{at_drop_more, reverse-append}
+use Rattle.std.proofs.lemmas.Bool.{cases_Bool, cond-true, cond-false}
+use Rattle.std.specs.Cmp.Lexicographic.{bytes_decides, nat_list_eq_equiv}
+use Rattle.std.specs.Global.{Global}
+use Rattle.std.specs.HashMap.{HashMap, UpdatesBy}
+use Rattle.std.specs.Str.{bytes_eq}
+use Rattle.std.specs.Map.{lookup, IsKeyTest, AreApart, KeepsOthers}
+use Rattle.c_types_expressions.specs.Indexed.{is_key}
+use Rattle.sites.specs.Noted.{IsKept, first_in}
+use Rattle.c_types_expressions.specs.declared.walk.VariableEntry.{VariableEntry}
+use Rattle.sites.specs.Visible.{all_again, declared_again, least}
+
+other_entries : {K X : Type 0} (eq : K → K → Bool) (test : K → Bool) (old new : List (K × X)) → KeepsOthers eq test old new →
+    (other : K → Bool) → IsKeyTest eq other → AreApart test other → lookup other new ≡ lookup other old
+unfolding KeepsOthers
+other_entries eq test old new h = h
+
+apart : (name other key : List ℕ) → bytes_eq name other ≡ false → bytes_eq name key ≡ true → bytes_eq other key ≡ false
+apart name other key n y = nat_list_eq_equiv.symm other key ∙ sym (nat_list_eq_equiv.congr name key other y) ∙ n
+
+module _ {S : Type 0} (name : List ℕ) (m n : HashMap (Vec ℕ Global) ℕ S) (x : ℕ) where
+  written : UpdatesBy (λ a b. bytes_eq a.items b.items) (is_key name) m n (Some x) →
+      (other : List ℕ) → first_in n.entries other ≡ (if bytes_eq name other then Some x else first_in m.entries other)
+  written h other =
+      ⊎_elim
+      (λ t. subst (λ o. first_in n.entries o ≡ Some x) ((bytes_decides name other).0 t) h.1 ∙ sym (cond-true (bytes_eq name other) (Some x) (first_in m.entries other) t))
+      (λ f. other_entries _ _ _ _ h.3 (is_key other) (λ a b. nat_list_eq_equiv.congr other a.items b.items) (λ k. apart name other k.items f)
+      ∙ sym (cond-false (bytes_eq name other) (Some x) (first_in m.entries other) f))
+      (cases_Bool (bytes_eq name other))
+
+-- at the name itself a value may be written by that name or by its equal
+at_name : {A : Type 0} (name other : List ℕ) (f : List ℕ → A) (x y : A) → x ≡ f name → (if bytes_eq name other then x else y) ≡ (if bytes_eq name other then f other else y)
+at_name name other f x y is =
+    ⊎_elim
+    (λ t. cond-true (bytes_eq name other) x y t ∙ is ∙ ap f ((bytes_decides name other).0 t) ∙ sym (cond-true (bytes_eq name other) (f other) y t))
+    (λ n. cond-false (bytes_eq name other) x y n ∙ sym (cond-false (bytes_eq name other) (f other) y n))
+    (cases_Bool (bytes_eq name other))
+
+-- the token is kept by a key of its own
+pub kept : {S : Type 0} (key : Vec ℕ Global) (name : List ℕ) (m n : HashMap (Vec ℕ Global) ℕ S) (from x : ℕ) → key.items ≡ name →
+    x ≡ least from (first_in m.entries name) → UpdatesBy (λ a b. bytes_eq a.items b.items) (is_key key.items) m n (Some x) → IsKept name from m.entries n.entries
+kept key name m n from x same is h =
+    subst (λ b. IsKept b from m.entries n.entries) same
+    (λ other. written key.items m n x h other
+    ∙ at_name key.items other (λ o. Some (least from (first_in m.entries o))) (Some x) (first_in m.entries other)
+    (ap (λ (k : ℕ). Some k) (is ∙ ap (λ b. least from (first_in m.entries b)) (sym same))))
+
+-- one variable more, before those that were gone through
+pub gone_through : (variables : List VariableEntry) (place i : ℕ) (v : VariableEntry) (again : List (Option ℕ)) (found : Option ℕ)
+    (old new : List (Vec ℕ Global × ℕ)) → place ≡ i + 1 → i < length variables → v ≡ get_or variables i v →
+    reverse again ≡ all_again (drop place variables) → ((name : List ℕ) → first_in old name ≡ declared_again name (drop place variables)) →
+    found ≡ first_in old v.name → IsKept v.name v.from old new →
+    (reverse (again ++ found ∷ []) ≡ all_again (drop i variables)) × ((name : List ℕ) → first_in new name ≡ declared_again name (drop i variables))
+gone_through variables place i v again found old new next low at told firsts is stays =
+    let left : drop i variables ≡ v ∷ drop place variables =
+    at_drop_more (λ l. l) variables i v low ∙ ap (λ w. w ∷ drop (i + 1) variables) (sym at) ∙ ap (λ k. v ∷ drop k variables) (sym next) in (
+      reverse-append again (found ∷ []) ∙ ap (λ l. found ∷ l) told ∙ ap (λ o. o ∷ all_again (drop place variables)) (is ∙ firsts v.name) ∙ ap all_again (sym left),
+      λ name. stays name ∙ ap (λ o. if bytes_eq v.name name then Some (least v.from o) else o) (firsts name) ∙ ap (declared_again name) (sym left),
+    )
