@@ -4,8 +4,6 @@ usage: look_at_tools.py CBI
 """
 import ast
 import html.parser
-import importlib.machinery
-import importlib.util
 import json
 import os
 import pty
@@ -15,71 +13,21 @@ import shutil
 import signal
 import subprocess
 import sys
-import tempfile
-import time
 import unittest
 
 sys.dont_write_bytecode = True
-TOP = os.path.dirname(os.path.dirname(os.path.abspath(__file__)))
-TOOLS = os.path.join(TOP, "tools")
-EXAMPLES = os.path.join(TOP, "examples")
+import looking  # noqa: E402
+from looking import EXAMPLES, TOOLS, TOP, UPPER, Case, Hunting, call, environment, heed_interrupts, module_of  # noqa: E402
+from look_at_farms import Farm  # noqa: E402,F401: its cases are among those that are looked at
+
 sys.path.insert(0, TOOLS)
 import cbi_dialect  # noqa: E402
 import cbi_files  # noqa: E402
+import cbi_page  # noqa: E402
 import cbi_rows  # noqa: E402
 
-CBI = ""
 SCRIPTS = ("cbi-hunt", "cbi-show", "cbi-explain")
 HEADER = "rank,predicate,scheme,function,line,text,f,s,fobs,sobs,failure,context,increase,importance\n"
-
-
-def call(*words, given=b"", folder=None, **more):
-    """A call with the executable and the scripts on the path: status, out and err."""
-    environment = dict(os.environ, PATH=os.pathsep.join([os.path.dirname(CBI), TOOLS, os.environ["PATH"]]), LC_ALL="C.UTF-8", PYTHONDONTWRITEBYTECODE="1")
-    done = subprocess.run(words, input=given, stdout=subprocess.PIPE, stderr=subprocess.PIPE, cwd=folder, env=environment, check=False, **more)
-    return done.returncode, done.stdout.decode(), done.stderr.decode()
-
-
-def module_of(name):
-    """A script as a module."""
-    loader = importlib.machinery.SourceFileLoader(name.replace("-", "_"), os.path.join(TOOLS, name))
-    module = importlib.util.module_from_spec(importlib.util.spec_from_loader(loader.name, loader))
-    loader.exec_module(module)
-    return module
-
-
-class Case(unittest.TestCase):
-    """A case with a folder of its own, whose name has a blank."""
-
-    def setUp(self):
-        self.room = tempfile.mkdtemp(prefix="cbi tools ")
-        self.addCleanup(shutil.rmtree, self.room)
-
-    def path(self, *parts):
-        return os.path.join(self.room, *parts)
-
-    def write(self, name, text):
-        os.makedirs(os.path.dirname(self.path(name)), exist_ok=True)
-        with open(self.path(name), "wb") as file:
-            file.write(text if isinstance(text, bytes) else text.encode())
-        return self.path(name)
-
-    def read(self, name):
-        with open(self.path(name), "rb") as file:
-            return file.read()
-
-    def call(self, *words, given=b"", due=0):
-        """A call in the folder, whose status is looked at; out and err."""
-        status, out, err = call(*words, given=given, folder=self.room)
-        self.assertEqual(status, due, f"{words}: {out}{err}")
-        self.assertNotIn("Traceback", err)
-        return out, err
-
-    def transform(self, text, mode="full", schemes="branches,returns,pairs"):
-        """Compiles a text, as the file prog.cbi."""
-        self.write("prog.c", text)
-        out, _ = self.call("cbi", "transform", "--mode", mode, "--schemes", schemes, "prog.c")
-        return self.write("prog.cbi", out)
 
 
 class Scripts(Case):
@@ -102,8 +50,7 @@ class Scripts(Case):
             self.assertIn("usage: ", err)
 
     def test_a_closed_pipe_ends_them_quietly(self):
-        environment = dict(os.environ, PATH=f"{TOOLS}:{os.environ['PATH']}")
-        done = subprocess.run(["bash", "-c", "cbi-explain --table | head -n 1"], stdout=subprocess.PIPE, stderr=subprocess.PIPE, env=environment, check=False)
+        done = subprocess.run(["bash", "-c", "cbi-explain --table | head -n 1"], stdout=subprocess.PIPE, stderr=subprocess.PIPE, env=environment(), check=False)
         self.assertEqual((done.stdout, done.stderr), (b"| Left out | Write in its place |\n", b""))
 
 
@@ -220,12 +167,12 @@ often runs fail that come to the place, = what the predicate adds to that for su
 
 
 class Page(html.parser.HTMLParser):
-    """Parses a page: what is open must be closed in turn, and ids and links are kept."""
+    """Parses a page: what is open must be closed in turn, and ids, links, titles and the names of attributes are kept."""
     EMPTY = {"meta", "br", "img", "hr", "link", "input"}
 
     def __init__(self, text):
         super().__init__()
-        self.open, self.ids, self.links, self.tags, self.text = [], [], [], set(), ""
+        self.open, self.ids, self.links, self.titles, self.tags, self.attributes, self.text = [], [], [], [], set(), set(), ""
         self.feed(text)
         self.close()
 
@@ -234,6 +181,8 @@ class Page(html.parser.HTMLParser):
         self.tags.add(tag)
         self.ids += [names["id"]] if "id" in names else []
         self.links += [names[name] for name in ("href", "src") if name in names]
+        self.titles += [names["title"]] if "title" in names else []
+        self.attributes |= set(names)
         if tag not in self.EMPTY:
             self.open.append(tag)
 
@@ -292,9 +241,23 @@ class Show(Case):
     def test_its_page(self):
         page, text = self.page("ranking", "--source", "prog.c", "--program", "prog.cbi", "--reports", "runs")
         self.assertIn("True in 9 failing runs and 1 successful run; looked at in 10 failing and 10 successful.", page.text)
-        self.assertIn('aria-label="context 50 %, increase at least 27 % and up to 13 % more, successful runs 10 %"', text)
+        self.assertIn("context 50 %, increase at least 27 % and up to 13 % more, successful runs 10 %", page.text)
         self.assertIn("p0", page.ids)
         self.assertIn("#L1", page.links)
+
+    def test_its_page_needs_no_pointer(self):
+        """A browser's Tab comes to links in the order of the page, with the ring that its style has, where nothing changes that."""
+        page, text = self.page("ranking", "--source", "prog.c", "--program", "prog.cbi", "--reports", "runs")
+        self.assertEqual(page.links, ["#rows", "#rows", "#source", "#reading", "#L1", "#p0"])
+        self.assertTrue(page.attributes <= {"lang", "charset", "name", "content", "class", "href", "id", "style", "title", "aria-label", "aria-hidden"}, page.attributes)
+        self.assertFalse(page.tags & {"button", "input", "select", "textarea", "details", "dialog", "audio", "video", "object", "embed"})
+        for title in page.titles:
+            self.assertIn(title, page.text)
+        self.assertIn("a:focus-visible { outline: 3px solid", text)
+        self.assertEqual(text.count("outline:"), 1)
+        self.assertIn(".skip:focus { left: 1rem; top: 1rem;", text)
+        self.assertIsNone(re.search(r"overflow(-[xy])?:", text), "a part of the page scrolls by itself, and no key may come to it")
+        self.assertIn("overflow-wrap: anywhere", cbi_page.STYLE)
 
     def test_sarif_has_what_the_standard_requires(self):
         log = json.loads(self.show("ranking", "--source", "prog.c", "--format", "sarif"))
@@ -382,54 +345,7 @@ class Show(Case):
                          "site 12, line 7, main: the new value of `y` beside the constant `0`; predicates 68 to 73, `y < 0` to `y != 0`\n")
 
 
-# It gives `a` where it should give `A`, and crashes at `!`.
-UPPER = """\
-#include <stdio.h>
-#include <stdlib.h>
-int main(void)
-{
-    int c;
-    while ((c = getchar()) != EOF) {
-        if (c == '!')
-            abort();
-        if (c > 'a' && c <= 'z')
-            c -= 32;
-        putchar(c);
-    }
-    return 0;
-}
-"""
-
-
-def heed_interrupts():
-    """Has a process heed ^C, which one that begins in the background of a shell script ignores."""
-    signal.signal(signal.SIGINT, signal.SIG_DFL)
-
-
-class Hunt(Case):
-    def setUp(self):
-        super().setUp()
-        self.write("upper.c", UPPER)
-        words = ["bcd", "xyz", "abc", "q", "zza", "mno", "klm", "b", "caa", "fgh", "w", "rst"]
-        for number, word in enumerate(words):
-            self.write(f"in puts/{number:02} {word}", word)
-            self.write(f"due/{number:02} {word}", word.upper())
-            self.write(f"both/{number:02}", word)
-            self.write(f"both/{number:02}.expected", word.upper())
-        self.write("lines", "".join(word + "\n" for word in words))
-        self.write("due lines", "".join(word.upper() + "\n" for word in words))
-        self.write("judge.py", "import sys\ninput, output = [open(name).read() for name in sys.argv[1:]]\nsys.exit(0 if output == input.upper() else 3)\n")
-
-    def hunt(self, *words, due=0):
-        out, err = self.call("cbi-hunt", "upper.c", "--jobs", "1", *words, due=due)
-        return out if due < 2 else err
-
-    def wait_for(self, come):
-        """Waits until it is there, a minute at most."""
-        limit = time.monotonic() + 60
-        while time.monotonic() < limit and not come():
-            time.sleep(0.01)
-
+class Hunt(Hunting):
     def report_by_hand(self, run, name, program):
         """The report of a run on an input, as the commands of `cbi` make it."""
         self.write("bank", self.call("cbi", "bank", "--rate", "5", "--count", "256", "--seed", "1", "--stream", str(run))[0])
@@ -489,9 +405,8 @@ class Hunt(Case):
 
     def test_it_goes_on_where_it_stopped(self):
         self.hunt("--inputs", "both", "--runs", "300", "--keep", "whole")
-        environment = dict(os.environ, PATH=f"{os.path.dirname(CBI)}:{TOOLS}:{os.environ['PATH']}")
         words = ["cbi-hunt", "upper.c", "--inputs", "both", "--runs", "300", "--jobs", "2", "--keep", "parts"]
-        begun = subprocess.Popen(words, cwd=self.room, env=environment, stdout=subprocess.PIPE, stderr=subprocess.PIPE, start_new_session=True, preexec_fn=heed_interrupts)
+        begun = subprocess.Popen(words, cwd=self.room, env=environment(), stdout=subprocess.PIPE, stderr=subprocess.PIPE, start_new_session=True, preexec_fn=heed_interrupts)
         self.wait_for(lambda: os.path.isdir(self.path("parts/batches")) and os.listdir(self.path("parts/batches")))
         os.killpg(begun.pid, signal.SIGINT)
         out, err = begun.communicate()
@@ -505,13 +420,16 @@ class Hunt(Case):
         self.assertEqual([name for name in os.listdir(self.path("parts")) if "worker" in name or "merge" in name], [])
 
     def test_a_hunt_that_is_ended_by_force_leaves_its_folder_free(self):
-        environment = dict(os.environ, PATH=f"{os.path.dirname(CBI)}:{TOOLS}:{os.environ['PATH']}")
-        begun = subprocess.Popen(["cbi-hunt", "upper.c", "--inputs", "both", "--runs", "3000", "--jobs", "2", "--keep", "kept"], cwd=self.room, env=environment)
+        begun = subprocess.Popen(["cbi-hunt", "upper.c", "--inputs", "both", "--runs", "3000", "--jobs", "2", "--keep", "kept"], cwd=self.room, env=environment())
         self.wait_for(lambda: os.path.isdir(self.path("kept")) and [name for name in os.listdir(self.path("kept")) if name.startswith("worker-")])
         _, err = self.call("cbi-hunt", "upper.c", "--inputs", "both", "--runs", "12", "--keep", "kept", due=2)
         self.assertIn("another hunt is at work", err)
+        workers = [int(number) for number in open(f"/proc/{begun.pid}/task/{begun.pid}/children", encoding="ascii").read().split()]
         begun.kill()
         begun.wait()
+        self.assertTrue(workers)
+        self.wait_for(lambda: not any(os.path.exists(f"/proc/{worker}") for worker in workers))
+        self.assertEqual([worker for worker in workers if os.path.exists(f"/proc/{worker}")], [])
         self.hunt("--inputs", "both", "--runs", "12", "--keep", "kept")
         self.hunt("--inputs", "both", "--runs", "12", "--keep", "anew")
         if os.listdir(self.path("kept/batches")) == os.listdir(self.path("anew/batches")):
@@ -532,8 +450,7 @@ class Hunt(Case):
 
     def test_progress_is_on_a_terminal(self):
         ours, theirs = pty.openpty()
-        environment = dict(os.environ, PATH=f"{os.path.dirname(CBI)}:{TOOLS}:{os.environ['PATH']}")
-        begun = subprocess.Popen(["cbi-hunt", "upper.c", "--inputs", "both", "--runs", "60"], cwd=self.room, env=environment, stdout=subprocess.DEVNULL, stderr=theirs)
+        begun = subprocess.Popen(["cbi-hunt", "upper.c", "--inputs", "both", "--runs", "60"], cwd=self.room, env=environment(), stdout=subprocess.DEVNULL, stderr=theirs)
         os.close(theirs)
         said = b""
         try:
@@ -596,19 +513,6 @@ class Hunt(Case):
         self.assertIn("In its place: `int` or `unsigned`", err)
         _, err = self.call("cbi-hunt", "upper.c", "--inputs", "both", "--expect", "due", "--oracle", "true", due=2)
         self.assertIn("not allowed with", err)
-
-    def test_a_farm_makes_the_same_runs(self):
-        if not shutil.which("parallel") or "GNU parallel" not in call("parallel", "--version")[1]:
-            self.skipTest("there is no GNU parallel here")
-        self.write("hosts", "2/:\n")
-        self.hunt("--inputs", "both", "--runs", "60", "--keep", "here")
-        self.hunt("--inputs", "both", "--runs", "60", "--keep", "farm", "--farm", "hosts")
-        self.assertEqual(self.read("farm/runs"), self.read("here/runs"))
-        self.hunt("--inputs", "both", "--runs", "60", "--keep", "parts here", "--parts", "2")
-        self.hunt("--inputs", "both", "--runs", "60", "--keep", "parts farm", "--parts", "2", "--farm", "hosts")
-        self.assertEqual(self.read("parts farm/runs"), self.read("parts here/runs"))
-        self.assertIn("there is no such file", self.hunt("--inputs", "both", "--runs", "99", "--keep", "farm", "--farm", "no hosts", due=2))
-        self.assertEqual([name for name in os.listdir(os.path.expanduser("~")) if name.startswith(".cbi-hunt-")], [])
 
 
 class Sample(Case):
@@ -735,8 +639,7 @@ class Result(unittest.TextTestResult):
 
 
 def main():
-    global CBI
-    CBI = os.path.abspath(sys.argv.pop(1))
+    looking.CBI = os.path.abspath(sys.argv.pop(1))
     program = unittest.main(module=__name__, exit=False, verbosity=0, argv=sys.argv, testRunner=unittest.TextTestRunner(stream=sys.stdout, verbosity=0, resultclass=Result))
     result = program.result
     failed = len(result.failures) + len(result.errors)

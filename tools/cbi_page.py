@@ -1,7 +1,8 @@
 """The page of cbi-show: one HTML file that stands alone, without a script. Not proved.
 
 Bands of a thermometer differ in how light they are and in their pattern, so that they are told apart without
-colours, and each has its share in words. All is reached by links, so that a keyboard is enough.
+colours, and each has its share in words. All is reached by links, so that a keyboard is enough: no part of the
+page scrolls by itself, and long words are broken, so that the page scrolls up and down alone.
 """
 import html
 from typing import Iterable, Iterator, List
@@ -21,11 +22,11 @@ STYLE = """
 body { margin: 0 auto; max-width: 74rem; padding: 1.5rem; color: var(--ink); background: var(--paper);
        font: 16px/1.5 system-ui, "Liberation Sans", sans-serif; }
 h1 { font-size: 1.6rem; margin: 0 0 .25rem; } h2 { font-size: 1.2rem; margin: 2rem 0 .5rem; }
-code, pre { font: 14px/1.5 ui-monospace, "Liberation Mono", monospace; }
+code, pre { font: 14px/1.5 ui-monospace, "Liberation Mono", monospace; overflow-wrap: anywhere; }
 a { color: var(--link); } a:focus-visible { outline: 3px solid var(--link); outline-offset: 2px; }
 .skip { position: absolute; left: -100rem; } .skip:focus { left: 1rem; top: 1rem; background: var(--paper); padding: .5rem; }
 nav a { margin-right: 1rem; } .quiet { color: var(--quiet); }
-.row { border-top: 1px solid var(--line); padding: .6rem 0; display: grid; gap: .2rem 1rem; grid-template-columns: 2.5rem 18rem 1fr; }
+.row { border-top: 1px solid var(--line); padding: .6rem 0; display: grid; gap: .2rem 1rem; grid-template-columns: 2.5rem 18rem minmax(0, 1fr); }
 .row:target, tr:target td { background: var(--mark); }
 .rank { font-size: 1.3rem; text-align: right; color: var(--quiet); }
 .together { border-left: 4px solid var(--line); padding-left: .5rem; margin: .5rem 0; }
@@ -40,11 +41,11 @@ nav a { margin-right: 1rem; } .quiet { color: var(--quiet); }
 .said code { font-size: 16px; font-weight: 700; }
 .row ul { margin: 0; padding-left: 1.2rem; }
 .keys { display: flex; flex-wrap: wrap; gap: .2rem 1.5rem; margin: .5rem 0; padding: 0; list-style: none; font-size: 14px; }
-.text { display: block; margin-top: .2rem; padding: .15rem .5rem; background: #f3f3f3; overflow-x: auto; white-space: pre-wrap; }
+.text { display: block; margin-top: .2rem; padding: .15rem .5rem; background: #f3f3f3; white-space: pre-wrap; }
 table { border-collapse: collapse; width: 100%; } td { padding: 0 .6rem; vertical-align: top; }
 td.number { text-align: right; color: var(--quiet); width: 4rem; } td pre { margin: 0; white-space: pre-wrap; }
 tr.marked td { background: var(--mark); } tr.marked td.number { border-left: 6px solid #b2182b; font-weight: 700; color: var(--ink); }
-@media (max-width: 50rem) { .row { grid-template-columns: 2rem 1fr; } .row > div:last-child { grid-column: 2; } }
+@media (max-width: 50rem) { .row { grid-template-columns: 2rem minmax(0, 1fr); } .row > div:last-child { grid-column: 2; } }
 @media print { .skip, nav { display: none; } body { max-width: none; } }
 """
 
@@ -66,15 +67,15 @@ BANDS = (("context", "how often runs fail that come to the place"),
 
 
 def spoken(bands: Bands) -> str:
-    """The thermometer in words, for those who don't see it."""
+    """The thermometer in words, which stand below it: what only a pointer brings up, no keyboard does."""
     shares = [share(round(part * 1000000)) for part in bands[:4]]
     return f"context {shares[0]}, increase at least {shares[1]} and up to {shares[2]} more, successful runs {shares[3]}"
 
 
 def thermometer(bands: Bands) -> str:
     parts = "".join(f'<span class="{name}" style="width:{100 * part:.2f}%"></span>' for (name, _), part in zip(BANDS, bands) if part > 0)
-    return (f'<div class="thermometer" role="img" aria-label="{escaped(spoken(bands))}" title="{escaped(spoken(bands))}" '
-            f'style="width:{100 * bands.length:.2f}%">{parts}</div>')
+    return (f'<div class="thermometer" aria-hidden="true" style="width:{100 * bands.length:.2f}%">{parts}</div>'
+            f'<div class="quiet">{escaped(spoken(bands))}</div>')
 
 
 # Rows

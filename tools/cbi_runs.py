@@ -5,6 +5,7 @@ wherever and whenever it is made, which is what lets a hunt go on where it stopp
 """
 import json
 import os
+import platform
 import shutil
 import subprocess
 import tempfile
@@ -187,14 +188,18 @@ def unpack(path: str, folder: str) -> Tuple[Plan, Batch]:
     parts = [os.path.join(folder, f"part{part}") for part in range(about["parts"])]
     cbi = shutil.which(about["cbi"])
     if cbi is None:
-        raise Fault(f"{about['cbi']} isn't on the path of this host")
+        raise Fault(f"{about['cbi']} isn't on the path, which is {os.environ.get('PATH', '')}")
     plan = Plan(cbi, os.path.join(folder, "program"), about["rate"], about["seed"], about["turns"], about["oracle"], inputs, inputs, expected, parts)
     return plan, Batch(about["first"], about["last"])
 
 
 def make_packed(path: str) -> int:
-    """Makes the batch of a packed file, on whatever host this is; its collection stands beside it, as PATH.runs."""
-    with tempfile.TemporaryDirectory(prefix="cbi-hunt-") as folder:
-        plan, batch = unpack(path, folder)
-        Runner(plan, folder, lambda: False).make_batch(batch, lambda made: path + ".runs")
+    """Makes the batch of a packed file, on whatever host this is; its collection stands beside it, as PATH.runs. A fault has
+    the name of the host, by which it is known where."""
+    try:
+        with tempfile.TemporaryDirectory(prefix="cbi-hunt-") as folder:
+            plan, batch = unpack(path, folder)
+            Runner(plan, folder, lambda: False).make_batch(batch, lambda made: path + ".runs")
+    except Fault as fault:
+        raise Fault(f"on {platform.node()}: {fault}")
     return FOUND

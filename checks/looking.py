@@ -1,0 +1,123 @@
+"""What the looks at the scripts of tools/ share: calls of them as processes, and folders to call them in."""
+import importlib.machinery
+import importlib.util
+import os
+import shutil
+import signal
+import subprocess
+import sys
+import tempfile
+import time
+import unittest
+
+sys.dont_write_bytecode = True
+TOP = os.path.dirname(os.path.dirname(os.path.abspath(__file__)))
+TOOLS = os.path.join(TOP, "tools")
+EXAMPLES = os.path.join(TOP, "examples")
+# The executable, which look_at_tools is called with.
+CBI = ""
+
+
+def environment():
+    """The environment of a call: the executable and the scripts are on the path."""
+    path = os.pathsep.join([os.path.dirname(CBI), TOOLS, os.environ["PATH"]])
+    return dict(os.environ, PATH=path, LC_ALL="C.UTF-8", PYTHONDONTWRITEBYTECODE="1")
+
+
+def call(*words, given=b"", folder=None, **more):
+    """A call with the executable and the scripts on the path: status, out and err."""
+    done = subprocess.run(words, input=given, stdout=subprocess.PIPE, stderr=subprocess.PIPE, cwd=folder, env=environment(), check=False, **more)
+    return done.returncode, done.stdout.decode(), done.stderr.decode()
+
+
+def module_of(name):
+    """A script as a module."""
+    loader = importlib.machinery.SourceFileLoader(name.replace("-", "_"), os.path.join(TOOLS, name))
+    module = importlib.util.module_from_spec(importlib.util.spec_from_loader(loader.name, loader))
+    loader.exec_module(module)
+    return module
+
+
+class Case(unittest.TestCase):
+    """A case with a folder of its own, whose name has a blank."""
+
+    def setUp(self):
+        self.room = tempfile.mkdtemp(prefix="cbi tools ")
+        self.addCleanup(shutil.rmtree, self.room)
+
+    def path(self, *parts):
+        return os.path.join(self.room, *parts)
+
+    def write(self, name, text):
+        os.makedirs(os.path.dirname(self.path(name)), exist_ok=True)
+        with open(self.path(name), "wb") as file:
+            file.write(text if isinstance(text, bytes) else text.encode())
+        return self.path(name)
+
+    def read(self, name):
+        with open(self.path(name), "rb") as file:
+            return file.read()
+
+    def call(self, *words, given=b"", due=0):
+        """A call in the folder, whose status is looked at; out and err."""
+        status, out, err = call(*words, given=given, folder=self.room)
+        self.assertEqual(status, due, f"{words}: {out}{err}")
+        self.assertNotIn("Traceback", err)
+        return out, err
+
+    def transform(self, text, mode="full", schemes="branches,returns,pairs"):
+        """Compiles a text, as the file prog.cbi."""
+        self.write("prog.c", text)
+        out, _ = self.call("cbi", "transform", "--mode", mode, "--schemes", schemes, "prog.c")
+        return self.write("prog.cbi", out)
+
+
+def heed_interrupts():
+    """Has a process heed ^C, which one that begins in the background of a shell script ignores."""
+    signal.signal(signal.SIGINT, signal.SIG_DFL)
+
+
+# It gives `a` where it should give `A`, and crashes at `!`.
+UPPER = """\
+#include <stdio.h>
+#include <stdlib.h>
+int main(void)
+{
+    int c;
+    while ((c = getchar()) != EOF) {
+        if (c == '!')
+            abort();
+        if (c > 'a' && c <= 'z')
+            c -= 32;
+        putchar(c);
+    }
+    return 0;
+}
+"""
+
+
+class Hunting(Case):
+    """A case with a program that has a bug, and with inputs for it."""
+
+    def setUp(self):
+        super().setUp()
+        self.write("upper.c", UPPER)
+        words = ["bcd", "xyz", "abc", "q", "zza", "mno", "klm", "b", "caa", "fgh", "w", "rst"]
+        for number, word in enumerate(words):
+            self.write(f"in puts/{number:02} {word}", word)
+            self.write(f"due/{number:02} {word}", word.upper())
+            self.write(f"both/{number:02}", word)
+            self.write(f"both/{number:02}.expected", word.upper())
+        self.write("lines", "".join(word + "\n" for word in words))
+        self.write("due lines", "".join(word.upper() + "\n" for word in words))
+        self.write("judge.py", "import sys\ninput, output = [open(name).read() for name in sys.argv[1:]]\nsys.exit(0 if output == input.upper() else 3)\n")
+
+    def hunt(self, *words, due=0):
+        out, err = self.call("cbi-hunt", "upper.c", "--jobs", "1", *words, due=due)
+        return out if due < 2 else err
+
+    def wait_for(self, come):
+        """Waits until it is there, a minute at most."""
+        limit = time.monotonic() + 60
+        while time.monotonic() < limit and not come():
+            time.sleep(0.01)
