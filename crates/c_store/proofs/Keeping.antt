@@ -1,6 +1,6 @@
 -- What is always true of the objects that the code keeps stays true.
 use Rattle.std.proofs.Common.{◌≡◌, ℕ, ◌+◌, ◌-◌, ◌<◌, ◌≤◌, ◌==◌, Bool, true, false, cond, List, [], ◌∷◌, length, map, sum_by, if◌then◌else◌, nat_lt}
-use Rattle.std.proofs.Common.{nat_le, ◌&&◌, IsTrue, Result, Ok, Err, OnErr, length-set, subst, Option, Some, None, refl, ap, sym, ◌∙◌, arith}
+use Rattle.std.proofs.Common.{nat_le, ◌&&◌, IsTrue, IsFalse, Result, Ok, Err, OnErr, length-set, subst, Option, Some, None, refl, ap, sym, ◌∙◌, arith}
 use Rattle.std.specs.Ordering.{nat_cmp, eq_by_cmp}
 use Rattle.std.specs.Cmp.{nat_cmp_total, unsigned_tied}
 use Rattle.std.specs.FinMap.{FinMap, empty, entries, len-entries, len-empty, get-empty, get, insert, remove, get-insert, get-remove}
@@ -122,6 +122,15 @@ changed cells o k number offset value (Some object) (Ok done) m is stored same =
 pub kept_by_store : {A : Type 0} (cells : ℕ) (o : Objects) (k : IsKept cells o) (number offset : ℕ) (value : Scalar) (r : Result A Trap) (m : FinMap nat_cmp Object) →
     stored_in number offset value (get o.live number) o.live ≡ after r m → OnErr r (m ≡ o.live) → IsKept cells (record o { live = m })
 kept_by_store cells o k number offset value r m stored same = changed cells o k number offset value (get o.live number) r m refl stored same
+
+-- the same of a store that may do nothing
+pub kept_by_quick_store : (cells : ℕ) (o : Objects) (k : IsKept cells o) (number offset : ℕ) (value : Scalar) (done : Bool) (m : FinMap nat_cmp Object) →
+    (IsTrue done → stored_in number offset value (get o.live number) o.live ≡ Ok m) → (IsFalse done → m ≡ o.live) →
+    IsKept cells (record o { live = m })
+kept_by_quick_store cells o k number offset value true m stores same =
+    let stands : Result (Unit {0}) Trap = Ok tt in
+    kept_by_store cells o k number offset value stands m (stores refl) tt
+kept_by_quick_store cells o k number offset value false m stores same = subst (λ l. IsKept cells (record o { live = l })) (sym (same refl)) k
 
 last_or_fresh : (cells : ℕ) (o : Objects) (k : IsKept cells o) (q : ℕ) → get o.live (o.made - 1) ≡ None → o.made - 1 ≤ q → get o.live q ≡ None
 last_or_fresh cells o k q none least =

@@ -1,4 +1,4 @@
-ghost use Rattle.std.specs.Prelude.{◌≡◌, ◌-◌, [], ◌∷◌, length, replicate, slice_get, IfOk, OnErr};
+ghost use Rattle.std.specs.Prelude.{◌≡◌, ◌-◌, [], ◌∷◌, length, replicate, slice_get, IfOk, OnErr, IsTrue, IsFalse, Ok};
 ghost use Rattle.cbi_base.specs.declared.scalar.Scalar.TheVariants.{Undefined};
 ghost use Rattle.c_store.specs.Written.{with_each, written, after};
 
@@ -133,6 +133,32 @@ impl Block {
             Cells::Many { cells } => cells[offset as usize] = value,
         }
         Ok(())
+    }
+
+    /// Stores a value at an offset, where there is such a cell and it can be written; false where nothing was done.
+    #[inline(always)]
+    pub fn quick_set(&mut self, offset: u32, value: Word) -> bool
+        ensures done { IsTrue result → written offset value self.old ≡ Ok self.new }
+        ensures nothing { IsFalse result → self.new ≡ self.old }
+    {
+        if let Class::Text = self.class {
+            return false;
+        }
+        match &mut self.cells {
+            Cells::One { cell } => {
+                if offset != 0 {
+                    return false;
+                }
+                *cell = value;
+            }
+            Cells::Many { cells } => {
+                if offset as usize >= cells.len() {
+                    return false;
+                }
+                cells[offset as usize] = value;
+            }
+        }
+        true
     }
 
     /// Each cell has this value from now on.

@@ -1,4 +1,4 @@
-ghost use Rattle.std.specs.Prelude.{◌≡◌, ◌≤◌, Ok, IfOk, ◌+◌, OnOk, OnErr, IfSome, IsTrue, Some, All, drop, length, option_map, replicate};
+ghost use Rattle.std.specs.Prelude.{◌≡◌, ◌≤◌, Ok, IfOk, ◌+◌, OnOk, OnErr, IfSome, IsTrue, IsFalse, Some, All, drop, length, option_map, replicate};
 ghost use Rattle.std.specs.FinMap.{get};
 ghost use Rattle.cbi_base.specs.declared.scalar.Scalar.TheVariants.{Undefined};
 ghost use Rattle.cbi_base.specs.Objects.{no_objects, has_room, one_more, made_with, killed, cleared, loaded, stored, released, moved, compared, difference, live_cells, cell_limit, found, within_one};
@@ -335,21 +335,26 @@ impl Objects {
         self.release(pointer.scalar())
     }
 
-    /// The value at a pointer, of the kind that is wanted.
+    /// The value at a pointer, of the kind that is wanted, where it is found without a search. None tells nothing.
     #[inline(always)]
     #[tactic(auto, using(crate::proofs::Loading::loaded_there))]
+    pub fn quick_load(&self, pointer: Word, want: Want) -> Option<Word>
+        ensures { IfSome result (λ value. loaded want pointer self.now ≡ Ok value) }
+    {
+        let (object, offset) = pointer.place_parts()?;
+        let word = self.quick_cell(object, offset)?;
+        if word.is_wanted(want) {
+            Some(word)
+        } else {
+            None
+        }
+    }
+
+    /// The value at a pointer, of the kind that is wanted.
     pub fn load_word(&self, pointer: Word, want: Want) -> Result<Word, Trap>
         ensures { result ≡ loaded want pointer self.now }
     {
-        if let Some((object, offset)) = pointer.place_parts() {
-            if let Some(word) = self.quick_cell(object, offset) {
-                if word.is_wanted(want) {
-                    return Ok(word);
-                }
-            }
-        }
-        let word = self.load_at(pointer.scalar(), want)?;
-        Ok(word)
+        self.load_at(pointer.scalar(), want)
     }
 
     /// A cell that is found without a search.
@@ -361,7 +366,6 @@ impl Objects {
         self.table.quick(object)?.cell(offset)
     }
 
-    #[inline(never)]
     #[tactic(auto, unfolding(cbi_base::specs::Objects::loaded))]
     fn load_at(&self, pointer: Scalar, want: Want) -> Result<Word, Trap>
         ensures { result ≡ loaded want pointer self.now }
@@ -389,7 +393,6 @@ impl Objects {
     }
 
     /// Stores a value at a place.
-    #[inline(always)]
     #[tactic(auto, using(crate::proofs::Storing::stored_place, crate::proofs::Storing::lifted), unfolding(cbi_base::specs::Objects::stored))]
     fn store_in(&mut self, object: u64, offset: u32, value: Word) -> Result<(), Trap>
         ensures value { stored (Scalar.Place object offset) value self.old ≡ after result self.new }
@@ -398,11 +401,10 @@ impl Objects {
         if value.is_undefined() {
             return Err(Trap::Undefined);
         }
-        self.table.set(object, offset, value)
+        self.table.set_by_search(object, offset, value)
     }
 
     /// Stores a value at a pointer.
-    #[inline(never)]
     #[tactic(auto, unfolding(cbi_base::specs::Objects::stored))]
     fn store_at(&mut self, pointer: Scalar, value: Word) -> Result<(), Trap>
         ensures value { stored pointer value self.old ≡ after result self.new }
@@ -419,16 +421,38 @@ impl Objects {
         }
     }
 
-    /// Stores a value at a pointer.
+    /// Stores a defined value at a pointer, where its cell is found without a search and can be written; false where nothing was done.
     #[inline(always)]
+    #[tactic(auto, using(crate::proofs::Storing::stored_place, crate::proofs::Storing::lifted), unfolding(cbi_base::specs::Objects::stored))]
+    pub fn quick_store(&mut self, pointer: Word, value: Word) -> bool
+        ensures done { IsTrue result → stored pointer value self.old ≡ Ok self.new }
+        ensures nothing { IsFalse result → self.new ≡ self.old }
+    {
+        let Some((object, offset)) = pointer.place_parts() else {
+            return false;
+        };
+        if value.is_undefined() {
+            return false;
+        }
+        self.table.quick_set(object, offset, value)
+    }
+
+    /// Stores a value at a pointer.
     pub fn store_word(&mut self, pointer: Word, value: Word) -> Result<(), Trap>
         ensures value { stored pointer value self.old ≡ after result self.new }
         ensures trap { OnErr result (self.new ≡ self.old) }
     {
-        if let Some((object, offset)) = pointer.place_parts() {
-            self.store_in(object, offset, value)?;
+        if self.quick_store(pointer, value) {
             return Ok(());
         }
+        self.store_slowly(pointer, value)
+    }
+
+    /// Stores a value at a pointer, whose object is looked for without a guess.
+    pub fn store_slowly(&mut self, pointer: Word, value: Word) -> Result<(), Trap>
+        ensures value { stored pointer value self.old ≡ after result self.new }
+        ensures trap { OnErr result (self.new ≡ self.old) }
+    {
         self.store_at(pointer.scalar(), value)
     }
 
@@ -441,7 +465,6 @@ impl Objects {
         self.store_at(pointer, Word::of(value))
     }
 
-    #[inline(never)]
     #[tactic(auto, unfolding(cbi_base::specs::Objects::moved))]
     fn move_at(&self, pointer: Scalar, cells: i64) -> Result<Word, Trap>
         ensures { result ≡ moved pointer cells self.now }
@@ -471,20 +494,25 @@ impl Objects {
         Some(block.len() as u32)
     }
 
-    /// The pointer moved by so many cells, within its object or to its end.
+    /// The pointer moved by so many cells, where its object is found without a search and it stays within it. None tells nothing.
     #[inline(always)]
     #[tactic(auto, unfolding(cbi_base::specs::Objects::moved))]
+    pub fn quick_move(&self, pointer: Word, cells: i64) -> Option<Word>
+        ensures { IfSome result (λ place. moved pointer cells self.now ≡ Ok place) }
+    {
+        let (object, offset) = pointer.place_parts()?;
+        let length = self.quick_length(object)?;
+        match move_in(object, offset, cells, length) {
+            Ok(place) => Some(place),
+            Err(_) => None,
+        }
+    }
+
+    /// The pointer moved by so many cells, within its object or to its end.
     pub fn move_word(&self, pointer: Word, cells: i64) -> Result<Word, Trap>
         ensures { result ≡ moved pointer cells self.now }
     {
-        if let Some((object, offset)) = pointer.place_parts() {
-            if let Some(length) = self.quick_length(object) {
-                let place = move_in(object, offset, cells, length)?;
-                return Ok(place);
-            }
-        }
-        let place = self.move_at(pointer.scalar(), cells)?;
-        Ok(place)
+        self.move_at(pointer.scalar(), cells)
     }
 
     /// The pointer moved by so many cells, within its object or to its end.
@@ -497,12 +525,11 @@ impl Objects {
     }
 
     /// How many cells an object has, where it lives.
-    #[inline(always)]
     fn length(&self, object: u64) -> Option<u32>
         ensures value { result ≡ option_map (λ o. length o.cells) (get self.now.live object) }
         ensures limit { IfSome result (λ n. n ≤ cell_limit) }
     {
-        let Some(block) = self.table.get(object) else {
+        let Some(block) = self.table.get_by_search(object) else {
             return None;
         };
         Some(block.len() as u32)

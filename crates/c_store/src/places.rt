@@ -11,6 +11,8 @@ const NOTES: usize = 1024;
 #[derive(Drop)]
 pub struct Notes {
     places: [usize; NOTES],
+    /// what the number of the last object is greater than its place by, when it was made or was left as the last one
+    gap: u64,
 }
 
 /// Whether the number stands at this place.
@@ -27,12 +29,9 @@ fn is_at(numbers: &[u64], place: usize, number: u64) -> bool
 pub fn guess(numbers: &[u64], notes: &Notes, number: u64) -> Option<usize>
     ensures { IfSome result (StandsAt numbers.now number) }
 {
-    let last = *numbers.last()?;
-    if number <= last && last - number < numbers.len() as u64 {
-        let place = numbers.len() - 1 - (last - number) as usize;
-        if is_at(numbers, place, number) {
-            return Some(place);
-        }
+    let place = number.wrapping_sub(notes.gap) as usize;
+    if is_at(numbers, place, number) {
+        return Some(place);
     }
     if number < numbers.len() as u64 && is_at(numbers, number as usize, number) {
         return Some(number as usize);
@@ -47,7 +46,10 @@ pub fn guess(numbers: &[u64], notes: &Notes, number: u64) -> Option<usize>
 
 impl Notes {
     pub fn new() -> Notes {
-        Notes { places: [0; NOTES] }
+        Notes {
+            places: [0; NOTES],
+            gap: 0,
+        }
     }
 
     /// The place that is noted for the number's rest.
@@ -56,9 +58,18 @@ impl Notes {
         self.places[(number % NOTES as u64) as usize]
     }
 
+    /// Notes which number is the last one.
+    #[inline(always)]
+    pub fn look_at_last(&mut self, numbers: &[u64]) {
+        if let Some(last) = numbers.last() {
+            self.gap = last.wrapping_sub(numbers.len() as u64).wrapping_add(1);
+        }
+    }
+
     /// Notes the place of a number, unless one with the same rest stands at the noted place.
     #[inline(always)]
     pub fn note(&mut self, numbers: &[u64], place: usize, number: u64) {
+        self.gap = number.wrapping_sub(place as u64);
         let rest = (number % NOTES as u64) as usize;
         let noted = self.places[rest];
         if noted >= numbers.len() || numbers[noted] % NOTES as u64 != rest as u64 {

@@ -1,4 +1,4 @@
-ghost use Rattle.std.specs.Prelude.{◌≡◌, None, is_some, OnOk, OnErr, IfSome, IfNone};
+ghost use Rattle.std.specs.Prelude.{◌≡◌, None, is_some, OnOk, OnErr, IfSome, IfNone, IsTrue, IsFalse, Ok};
 ghost use Rattle.std.specs.Option.{option_copied};
 ghost use Rattle.std.specs.FinMap as map;
 ghost use Rattle.cbi_base.specs.Objects.{is_heap_start};
@@ -88,6 +88,7 @@ impl Table {
         self.get_by_search(number)
     }
 
+    /// The same, looked for without a guess.
     #[inline(never)]
     #[tactic(auto, using(crate::proofs::StackedLemmas::got_there, crate::proofs::StackedLemmas::heap_there, crate::proofs::StackedLemmas::nothing_there))]
     pub fn get_by_search(&self, number: u64) -> Option<&Block>
@@ -142,28 +143,31 @@ impl Table {
         };
         if place + 1 == self.numbers.len() {
             self.numbers.pop();
+            self.notes.look_at_last(self.numbers.as_slice());
             return self.blocks.pop();
         }
         self.numbers.remove(place);
+        self.notes.look_at_last(self.numbers.as_slice());
         let block = self.blocks.remove(place);
         Some(block)
     }
 
-    /// Stores a value in a cell of an object.
+    /// Stores a value in a cell of an object, where it is found without a search and can be written; false where nothing was done.
     #[inline(always)]
-    pub fn set(&mut self, number: u64, offset: u32, value: Word) -> Result<(), Trap>
-        ensures value { stored_in number offset value (map.get self.old number) self.old ≡ after result self.new }
-        ensures trap { OnErr result (self.new ≡ self.old) }
+    pub fn quick_set(&mut self, number: u64, offset: u32, value: Word) -> bool
+        ensures done { IsTrue result → stored_in number offset value (map.get self.old number) self.old ≡ Ok self.new }
+        ensures nothing { IsFalse result → self.new ≡ self.old }
     {
         let Some(place) = guess(self.numbers.as_slice(), &self.notes, number) else {
-            return self.set_by_search(number, offset, value);
+            return false;
         };
         let block = &mut self.blocks[place];
-        block.set(offset, value)
+        block.quick_set(offset, value)
     }
 
+    /// Stores a value in a cell of an object.
     #[inline(never)]
-    fn set_by_search(&mut self, number: u64, offset: u32, value: Word) -> Result<(), Trap>
+    pub fn set_by_search(&mut self, number: u64, offset: u32, value: Word) -> Result<(), Trap>
         ensures value { stored_in number offset value (map.get self.old number) self.old ≡ after result self.new }
         ensures trap { OnErr result (self.new ≡ self.old) }
     {

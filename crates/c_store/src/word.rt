@@ -1,8 +1,9 @@
 ghost use Rattle.std.specs.Prelude.{◌≡◌, ◌≤◌, ◌/◌, pos, ◌≤ℤ◌, IfSome};
 ghost use Rattle.cbi_base.specs.Kind.{LiesIn};
 ghost use Rattle.cbi_base.specs.Scalars.{IsInRange, truth_of};
-ghost use Rattle.cbi_base.specs.Objects.{cell_limit, is_wanted};
+ghost use Rattle.cbi_base.specs.Objects.{cell_limit, is_wanted, object_limit};
 ghost use Rattle.c_store.specs.Held.{IsHeld};
+ghost use Rattle.c_store.specs.Pair.{tag_of};
 ghost use Rattle.c_store.specs.Place.{place_of};
 ghost use Rattle.c_store.specs.Word.{is_undefined, int_of, number_of};
 
@@ -26,6 +27,18 @@ fn place_in(tag: u64, bits: i64) -> Scalar
     Scalar::Place {
         object,
         offset: (tag / 256) as u32,
+    }
+}
+
+/// What the first word is of a number of a kind.
+#[inline(always)]
+fn tag_of(kind: Kind) -> u64
+    ensures { result ≡ tag_of kind }
+{
+    match kind {
+        Kind::Char => 2,
+        Kind::Int => 3,
+        Kind::Unsigned => 4,
     }
 }
 
@@ -78,19 +91,9 @@ impl Word {
         requires { LiesIn kind value }
         ensures { result ≡ Scalar.Number kind value }
     {
-        match kind {
-            Kind::Char => Word {
-                tag: 2,
-                bits: value,
-            },
-            Kind::Int => Word {
-                tag: 3,
-                bits: value,
-            },
-            Kind::Unsigned => Word {
-                tag: 4,
-                bits: value,
-            },
+        Word {
+            tag: tag_of(kind),
+            bits: value,
         }
     }
 
@@ -110,6 +113,18 @@ impl Word {
                 tag: 6 + 256 * u64::from(offset),
                 bits: (object - HALF) as i64,
             }
+        }
+    }
+
+    /// A pointer to the first cell of an object that a run can make.
+    #[inline(always)]
+    pub fn start(object: u64) -> Word
+        requires { object ≤ object_limit }
+        ensures { result ≡ Scalar.Place object 0 }
+    {
+        Word {
+            tag: 5,
+            bits: object as i64,
         }
     }
 
@@ -169,11 +184,7 @@ impl Word {
         ensures { result ≡ is_wanted want self }
     {
         match want {
-            Want::Number { kind: Kind::Char } => self.tag == 2,
-            Want::Number { kind: Kind::Int } => self.tag == 3,
-            Want::Number {
-                kind: Kind::Unsigned,
-            } => self.tag == 4,
+            Want::Number { kind } => self.tag == tag_of(kind),
             Want::Pointer => self.tag == 1 || self.tag >= 5,
         }
     }

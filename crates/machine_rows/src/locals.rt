@@ -1,4 +1,5 @@
-ghost use Rattle.std.specs.Prelude.{◌≡◌};
+ghost use Rattle.std.specs.Prelude.{◌≡◌, ◌≤◌, IfSome};
+ghost use Rattle.cbi_base.specs.Objects.{object_limit};
 ghost use Rattle.machine_rows.specs.LocalsFit.{LocalsFit};
 ghost use Rattle.flow.specs.Now.{local_at};
 
@@ -36,7 +37,8 @@ impl Locals {
     /// The object of a local.
     #[inline(always)]
     pub fn get(self, index: u32) -> Option<u64>
-        ensures { result ≡ local_at index self }
+        ensures value { result ≡ local_at index self }
+        ensures near { IfSome result (λ number. number ≤ object_limit) }
     {
         if index < self.count {
             Some(self.first + u64::from(index))

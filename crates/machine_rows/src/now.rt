@@ -1,6 +1,7 @@
-ghost use Rattle.std.specs.Prelude.{◌≡◌, ◌≤◌, ◌∷◌, [], length, IfErr, OnOk};
+ghost use Rattle.std.specs.Prelude.{◌≡◌, ◌≤◌, ◌∷◌, [], length, IfOk, IfErr, OnOk};
 ghost use Rattle.std.specs.Result.{result_ok};
 ghost use Rattle.cbi_base.specs.declared.trap.Trap.TheVariants as trap;
+ghost use Rattle.cbi_base.specs.Objects.{object_limit};
 ghost use Rattle.flow.specs.Now.{any, int, unsigned, two, local_at, pushed, next_on, write, Goes};
 ghost use Rattle.machine_rows.specs.Data.{data_of, without};
 ghost use Rattle.machine_rows.specs.Effects.{taken_of, IsEffect};
@@ -29,6 +30,7 @@ impl<'a> Now<'a> {
     #[inline(always)]
     pub fn local(&self, index: u32) -> Result<u64, Trap>
         ensures number { local_at index (data_of self.now).locals ≡ result_ok result }
+        ensures near { IfOk result (λ number. number ≤ object_limit) }
         ensures err { IfErr result (λ t. t ≡ trap.Internal) }
     {
         self.locals.get(index).ok_or(Trap::Internal)

@@ -1,4 +1,4 @@
-ghost use Rattle.std.specs.Prelude.{◌≡◌, ◌≤◌, ◌<◌, ◌^◌, ◌*ℤ◌, false, unsigned_abs, OnOk, IfOk};
+ghost use Rattle.std.specs.Prelude.{◌≡◌, ◌≤◌, ◌<◌, ◌^◌, ◌*ℤ◌, false, unsigned_abs, OnOk, IfOk, IfSome, Ok};
 ghost use Rattle.c_store.specs.Word.{is_undefined};
 ghost use Rattle.cbi_base.specs.Arithmetic.{flag};
 ghost use Rattle.cbi_base.specs.Kind.{LiesIn};
@@ -9,7 +9,7 @@ ghost use Rattle.flow.specs.Now.{byte_of};
 ghost use Rattle.flow.specs.Rows.{act, moved_by, zero_of};
 ghost use Rattle.flow.specs.View.{view};
 ghost use Rattle.machine_rows.specs.Data.{data_of, no_statics};
-ghost use Rattle.machine_rows.specs.Effects.{IsActed};
+ghost use Rattle.machine_rows.specs.Effects.{IsActed, IsDone};
 
 use crate::now::Now;
 use crate::quick::quick;
@@ -52,7 +52,7 @@ pub fn global(now: &mut Now<'_>, index: u32, next: u32) -> Result<u32, Stop>
     ensures effect { IsActed no_statics (view (node.Global index next)) (data_of now.old) result (data_of now.new) }
     ensures kept { OnOk result (now.new.operands.below ≡ now.old.operands.below) }
 {
-    now.push(Word::place(u64::from(index), 0))?;
+    now.push(Word::start(u64::from(index)))?;
     Ok(next)
 }
 
@@ -63,8 +63,21 @@ pub fn local(now: &mut Now<'_>, index: u32, next: u32) -> Result<u32, Stop>
     ensures kept { OnOk result (now.new.operands.below ≡ now.old.operands.below) }
 {
     let object = now.local(index)?;
-    now.push(Word::place(object, 0))?;
+    now.push(Word::start(object))?;
     Ok(next)
+}
+
+/// `load` of any pointer.
+#[inline(never)]
+#[tactic(auto, unfolding(flow::specs::Rows::act))]
+fn load_slowly(now: &mut Now<'_>, want: Want) -> Result<(), Trap>
+    ensures effect { IsDone (act no_statics (node.Load want 0) (data_of now.old)) result (data_of now.new) }
+    ensures kept { OnOk result (now.new.operands.below ≡ now.old.operands.below) }
+{
+    let pointer = now.see_any()?;
+    let value = now.objects.load_word(pointer, want)?;
+    now.replace(1, value);
+    Ok(())
 }
 
 #[inline(always)]
@@ -73,10 +86,27 @@ pub fn load(now: &mut Now<'_>, want: Want, next: u32) -> Result<u32, Stop>
     ensures effect { IsActed no_statics (view (node.Load want next)) (data_of now.old) result (data_of now.new) }
     ensures kept { OnOk result (now.new.operands.below ≡ now.old.operands.below) }
 {
-    let pointer = now.see_any()?;
-    let value = now.objects.load_word(pointer, want)?;
-    now.replace(1, value);
+    if let Some(pointer) = now.operands.peek() {
+        if let Some(value) = now.objects.quick_load(pointer, want) {
+            now.replace(1, value);
+            return Ok(next);
+        }
+    }
+    load_slowly(now, want)?;
     Ok(next)
+}
+
+/// `store` at any pointer.
+#[inline(never)]
+#[tactic(auto, unfolding(flow::specs::Rows::act))]
+fn store_slowly(now: &mut Now<'_>) -> Result<(), Trap>
+    ensures effect { IsDone (act no_statics (node.Store 0) (data_of now.old)) result (data_of now.new) }
+    ensures kept { OnOk result (now.new.operands.below ≡ now.old.operands.below) }
+{
+    let (pointer, value) = now.see_two()?;
+    now.objects.store_slowly(pointer, value)?;
+    now.replace(2, value);
+    Ok(())
 }
 
 #[inline(always)]
@@ -85,9 +115,13 @@ pub fn store(now: &mut Now<'_>, next: u32) -> Result<u32, Stop>
     ensures effect { IsActed no_statics (view (node.Store next)) (data_of now.old) result (data_of now.new) }
     ensures kept { OnOk result (now.new.operands.below ≡ now.old.operands.below) }
 {
-    let (pointer, value) = now.see_two()?;
-    now.objects.store_word(pointer, value)?;
-    now.replace(2, value);
+    if let Some((pointer, value)) = now.operands.peek_two() {
+        if now.objects.quick_store(pointer, value) {
+            now.replace(2, value);
+            return Ok(next);
+        }
+    }
+    store_slowly(now)?;
     Ok(next)
 }
 
@@ -102,7 +136,6 @@ fn cells_of(value: i64, size: i64) -> i64
 }
 
 /// A defined pointer moved by a number times so many cells.
-#[inline(always)]
 fn move_by_number(objects: &Objects, size: i32, pointer: Word, value: i64) -> Result<Word, Trap>
     requires pointer { is_undefined pointer ≡ false }
     requires value { unsigned_abs value < 2 ^ 32 }
@@ -112,7 +145,6 @@ fn move_by_number(objects: &Objects, size: i32, pointer: Word, value: i64) -> Re
 }
 
 /// A defined pointer moved by a value of any kind times so many cells.
-#[inline(never)]
 #[tactic(auto, using(crate::proofs::MoveLemmas::moves_undefined, crate::proofs::MoveLemmas::moves_place, crate::proofs::MoveLemmas::moves_null))]
 fn move_slowly(objects: &Objects, size: i32, pointer: Word, by: Word) -> Result<Word, Trap>
     requires { is_undefined pointer ≡ false }
@@ -127,7 +159,6 @@ fn move_slowly(objects: &Objects, size: i32, pointer: Word, by: Word) -> Result<
 }
 
 /// A pointer moved by a number times so many cells.
-#[inline(always)]
 #[tactic(auto, using(crate::proofs::MoveLemmas::moves_none))]
 fn move_by(objects: &Objects, size: i32, pointer: Word, by: Word) -> Result<Word, Trap>
     ensures { result ≡ moved_by size pointer by objects.now }
@@ -135,11 +166,31 @@ fn move_by(objects: &Objects, size: i32, pointer: Word, by: Word) -> Result<Word
     if pointer.is_undefined() {
         return Err(Trap::Undefined);
     }
-    if let Some(value) = by.int() {
-        return move_by_number(objects, size, pointer, value);
-    }
     let place = move_slowly(objects, size, pointer, by)?;
     Ok(place)
+}
+
+/// A pointer moved by an `int` times so many cells, where its object is found without a search. None tells nothing.
+#[inline(always)]
+fn quick_move(objects: &Objects, size: i32, pointer: Word, by: Word) -> Option<Word>
+    ensures { IfSome result (λ place. moved_by size pointer by objects.now ≡ Ok place) }
+{
+    let value = by.int()?;
+    let place = objects.quick_move(pointer, cells_of(value, i64::from(size)))?;
+    Some(place)
+}
+
+/// `move` of any pointer.
+#[inline(never)]
+#[tactic(auto, unfolding(flow::specs::Rows::act))]
+fn moves_slowly(now: &mut Now<'_>, size: i32) -> Result<(), Trap>
+    ensures effect { IsDone (act no_statics (node.Move size 0) (data_of now.old)) result (data_of now.new) }
+    ensures kept { OnOk result (now.new.operands.below ≡ now.old.operands.below) }
+{
+    let (pointer, by) = now.see_two()?;
+    let value = move_by(&now.objects, size, pointer, by)?;
+    now.replace(2, value);
+    Ok(())
 }
 
 #[inline(always)]
@@ -148,10 +199,27 @@ pub fn moves(now: &mut Now<'_>, size: i32, next: u32) -> Result<u32, Stop>
     ensures effect { IsActed no_statics (view (node.Move size next)) (data_of now.old) result (data_of now.new) }
     ensures kept { OnOk result (now.new.operands.below ≡ now.old.operands.below) }
 {
-    let (pointer, by) = now.see_two()?;
-    let value = move_by(&now.objects, size, pointer, by)?;
-    now.replace(2, value);
+    if let Some((pointer, by)) = now.operands.peek_two() {
+        if let Some(value) = quick_move(&now.objects, size, pointer, by) {
+            now.replace(2, value);
+            return Ok(next);
+        }
+    }
+    moves_slowly(now, size)?;
     Ok(next)
+}
+
+/// `member` of any pointer.
+#[inline(never)]
+#[tactic(auto, unfolding(flow::specs::Rows::act))]
+fn member_slowly(now: &mut Now<'_>, offset: u32) -> Result<(), Trap>
+    ensures effect { IsDone (act no_statics (node.Member offset 0) (data_of now.old)) result (data_of now.new) }
+    ensures kept { OnOk result (now.new.operands.below ≡ now.old.operands.below) }
+{
+    let pointer = now.see_any()?;
+    let value = now.objects.move_word(pointer, i64::from(offset))?;
+    now.replace(1, value);
+    Ok(())
 }
 
 #[inline(always)]
@@ -160,9 +228,13 @@ pub fn member(now: &mut Now<'_>, offset: u32, next: u32) -> Result<u32, Stop>
     ensures effect { IsActed no_statics (view (node.Member offset next)) (data_of now.old) result (data_of now.new) }
     ensures kept { OnOk result (now.new.operands.below ≡ now.old.operands.below) }
 {
-    let pointer = now.see_any()?;
-    let value = now.objects.move_word(pointer, i64::from(offset))?;
-    now.replace(1, value);
+    if let Some(pointer) = now.operands.peek() {
+        if let Some(value) = now.objects.quick_move(pointer, i64::from(offset)) {
+            now.replace(1, value);
+            return Ok(next);
+        }
+    }
+    member_slowly(now, offset)?;
     Ok(next)
 }
 
@@ -199,12 +271,24 @@ pub fn order(now: &mut Now<'_>, op: Order, next: u32) -> Result<u32, Stop>
 }
 
 /// What an operation gives of two values of any kinds.
-#[inline(never)]
 fn apply_slowly(op: Binary, left: Word, right: Word) -> Result<Word, Trap>
     ensures { result ≡ applied op left right }
 {
     let value = apply_binary(op, left.scalar(), right.scalar())?;
     Ok(Word::of(value))
+}
+
+/// `math` on two values of any kinds.
+#[inline(never)]
+#[tactic(auto, unfolding(flow::specs::Rows::act))]
+fn math_slowly(now: &mut Now<'_>, op: Binary) -> Result<(), Trap>
+    ensures effect { IsDone (act no_statics (node.Math op 0) (data_of now.old)) result (data_of now.new) }
+    ensures kept { OnOk result (now.new.operands.below ≡ now.old.operands.below) }
+{
+    let (left, right) = now.see_two()?;
+    let value = apply_slowly(op, left, right)?;
+    now.replace(2, value);
+    Ok(())
 }
 
 #[inline(always)]
@@ -213,13 +297,13 @@ pub fn math(now: &mut Now<'_>, op: Binary, next: u32) -> Result<u32, Stop>
     ensures effect { IsActed no_statics (view (node.Math op next)) (data_of now.old) result (data_of now.new) }
     ensures kept { OnOk result (now.new.operands.below ≡ now.old.operands.below) }
 {
-    let (left, right) = now.see_two()?;
-    if let Some(value) = quick(op, left, right) {
-        now.replace(2, Word::number(Kind::Int, value));
-        return Ok(next);
+    if let Some((left, right)) = now.operands.peek_two() {
+        if let Some(value) = quick(op, left, right) {
+            now.replace(2, Word::number(Kind::Int, value));
+            return Ok(next);
+        }
     }
-    let value = apply_slowly(op, left, right)?;
-    now.replace(2, value);
+    math_slowly(now, op)?;
     Ok(next)
 }
 

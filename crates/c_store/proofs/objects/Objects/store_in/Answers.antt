@@ -5,4 +5,4 @@ pub invariant_of-self : goal.invariant_of-self
 invariant_of-self c =
     let s = c.self.inside in
     kept_by_store s.cells (record { made = s.made; live = s.table }) c.self.invariant c.args.object c.args.offset c.args.value
-    c.set.result c.set.new.self c.set.ensures.value c.set.ensures.trap
+    c.set_by_search.result c.set_by_search.new.self c.set_by_search.ensures.value c.set_by_search.ensures.trap
