@@ -1,8 +1,9 @@
 -- The program that is put together of the parts of an accepted text.
-use Rattle.std.proofs.Common.{◌≡◌, ℕ, ◌≤◌, ap, refl, sym, ◌∙◌, subst, List, Option, Some, None, Bool, false, [], length, map, option_map, slice_get}
+use Rattle.std.proofs.Common.{◌≡◌, ℕ, ◌≤◌, arith, ap, refl, sym, ◌∙◌, subst, List, Option, Some, None, Bool, false, [], length, map, option_map, slice_get}
 use Rattle.std.specs.Prelude.{◌+◌, ◌*◌, IsSome}
 use Rattle.std.specs.List.{All}
 use Rattle.std.proofs.lemmas.Bool.{false≢true}
+use Rattle.std.proofs.lemmas.List.{length-map}
 use Rattle.c_syntax.specs.ItemTree.{SourceTree}
 use Rattle.c_syntax.specs.Spelling.{tree_kinds}
 use Rattle.c_types_expressions.specs.declared.walk.Walk.{Walk}
@@ -16,18 +17,25 @@ use Rattle.flow.specs.declared.site.Site.{Site}
 use Rattle.flow.specs.declared.site.TableParts.{TableParts}
 use Rattle.flow.specs.Code.{Callee}
 use Rattle.flow.specs.Program.{AreTexts, IsProgram, parts_of}
+use Rattle.flow.specs.Limits.{function_limit, local_limit, site_limit, text_limit}
+use Rattle.c_types.proofs.Options.{some_is}
+use Rattle.c_meaning.specs.Facts.{Signature}
+use Rattle.c_meaning.specs.Runs.{Source}
+use Rattle.c_meaning.specs.Literals.{literals, texts_of}
 use Rattle.c_meaning.specs.Texts.{source_of}
 use Rattle.lower_nodes_fit.specs.TextNames.{names_of_text}
 use Rattle.lower_relation.specs.Functions.{IsGraphOf}
 use Rattle.lower_parts_fit.proofs.BegunGlobals.{objects_there}
-use Rattle.lower_parts_fit.proofs.DefinedFunctions.{as_many}
-use Rattle.lower_parts_fit.proofs.Texts.{texts_fit}
+use Rattle.lower_parts_fit.proofs.DefinedFunctions.{as_many, few_defined}
+use Rattle.lower_parts_fit.proofs.Constants.{globals_begun}
+use Rattle.lower_parts_fit.proofs.Texts.{few_texts, texts_fit}
 use Rattle.lower_parts_fit.specs.Parts.{ArePartsOf, FitsAsFunction}
 use Rattle.lower_parts_fit.specs.Ready.{IsReadyText}
 use Rattle.lower_facts.specs.declared.facts.TreeFacts.{TreeFacts}
 use Rattle.lower_facts.specs.Facts.{facts_in, known_in, source_in, table_in, tree_in}
 use Rattle.lower_globals.specs.Objects.{begun_with}
-use Rattle.lower.specs.Fits.{AreFitting, NodesStand}
+use Rattle.lower_globals.specs.Starts.{IsBegunItem}
+use Rattle.lower.specs.Fits.{AreFitting, IsFitting, NodesStand}
 use Rattle.lower.specs.Programs.{AreFunctionsOf, HasNoMore, IsFunctionOf, node_count}
 use Rattle.lower.proofs.Graphing.{graph_of}
 use Rattle.lower.proofs.Readying.{plain_program, ready_program}
@@ -41,15 +49,26 @@ ready_facts f tree w table e1 e2 ready =
 
 -- each function has a signature, and a body that fits
 pub fitting_facts : (f : TreeFacts) (table : TableParts) (names : Names) (count : ℕ) → table_in f ≡ table.sites → IsReadyText (tree_in f) (known_in f) table →
-    names ≡ names_of_text (tree_in f) (known_in f) table.sites → count ≡ length (known_in f).definitions → AreFitting (source_in f) names count
-fitting_facts f table names count e ready known all =
+    length table.sites ≤ site_limit → names ≡ names_of_text (tree_in f) (known_in f) table.sites → count ≡ length (known_in f).definitions → AreFitting (source_in f) names count
+fitting_facts f table names count e ready few known all =
     rw (known, all) (subst (λ (xs : List Site). AreFitting (source_of (tree_in f) (known_in f) xs) (names_of_text (tree_in f) (known_in f) table.sites)
-    (length (known_in f).definitions)) (sym e) (are_fitting (tree_in f) (known_in f) table ready))
+    (length (known_in f).definitions)) (sym e) (are_fitting (tree_in f) (known_in f) table ready few))
 
 -- there are as many functions as names
 pub names_as_many : (f : TreeFacts) (table : TableParts) (called : List (List ℕ)) → IsReadyText (tree_in f) (known_in f) table → called ≡ table.functions →
     length called ≡ length (known_in f).definitions
 names_as_many f table called ready e = ap length (e ∙ ready.functions) ∙ as_many (tree_in f) (known_in f) ready.whole.accepted.walked
+
+-- the functions are few
+pub few_functions : (f : TreeFacts) (table : TableParts) → IsReadyText (tree_in f) (known_in f) table → length (known_in f).definitions ≤ function_limit
+few_functions f table ready = few_defined (tree_in f) (known_in f) ready.whole.accepted ready.whole.sited
+
+-- a function's own signature has few locals, the parameters among them
+pub own_few : (src : Source) (names : Names) (number : ℕ) (s : Signature) → IsFitting src names number → Some s ≡ src.facts.signature number →
+    (length s.params ≤ length s.locals) × (length s.locals ≤ local_limit)
+own_few src names number s fit e =
+    let same : fit.signature ≡ s = some_is fit.signature s (sym fit.known ∙ sym e) in
+    subst (λ (x : Signature). (length x.params ≤ length x.locals) × (length x.locals ≤ local_limit)) same (fit.params, fit.few)
 
 -- the strings are texts of a program
 pub texts_are : (f : TreeFacts) (table : TableParts) → IsReadyText (tree_in f) (known_in f) table → AreTexts (facts_in f).statics.texts
@@ -58,6 +77,16 @@ texts_are f table ready = texts_fit (tree_in f) (known_in f) ready.whole.accepte
 none_there : {X : Type 0} (o : Option X) → IsSome o → None ≡ o → ⊥
 none_there None is e = false≢true is
 none_there (Some x) is e = cc
+
+-- the strings are few
+pub few_strings : (tree : SourceTree) (walk : Walk) (table : TableParts) → IsReadyText tree walk table → length (literals tree) ≤ text_limit
+few_strings tree walk table ready =
+    let same : length (texts_of (literals tree)) ≡ length (literals tree) = length-map (literals tree) _ in
+    omega (arith, few_texts tree walk ready.whole.accepted ready.whole.sited, same)
+
+-- the globals begin with constants
+pub globals_start : (f : TreeFacts) (table : TableParts) → IsReadyText (tree_in f) (known_in f) table → All (IsBegunItem (facts_in f) (known_in f)) (tree_in f).items
+globals_start f table ready = globals_begun (tree_in f) (known_in f) ready.whole.accepted ready.whole.sited ready.whole.constants
 
 -- the globals have what they begin with
 pub globals_are : (f : TreeFacts) (table : TableParts) → IsReadyText (tree_in f) (known_in f) table → None ≡ (source_in f).objects → ⊥

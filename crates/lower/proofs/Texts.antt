@@ -1,5 +1,7 @@
 -- Each function of an accepted text has a signature, and a body that fits.
-use Rattle.std.proofs.Common.{◌≡◌, ℕ, zero, suc, ◌<◌, inl, inr, refl, sym, subst, arith, List, [], ◌∷◌, Option, Some, None, length, slice_get}
+use Rattle.std.proofs.Common.{◌≡◌, ℕ, zero, suc, ◌+◌, ◌<◌, ◌≤◌, inl, inr, refl, sym, ap, subst, arith, List, [], ◌∷◌, Option, Some, None, length, slice_get}
+use Rattle.std.specs.Prelude.{sum_by}
+use Rattle.std.proofs.lemmas.List.Sums.{sum_by-cons}
 use Rattle.c_syntax.specs.ItemTree.{SourceTree}
 use Rattle.c_syntax.specs.StatementTree.{EntryList}
 use Rattle.c_types_expressions.specs.declared.walk.Definition.{Definition}
@@ -7,7 +9,8 @@ use Rattle.c_types_expressions.specs.declared.walk.Walk.{Walk}
 use Rattle.flow.specs.declared.scope.Names.{Names}
 use Rattle.flow.specs.declared.site.Site.{Site}
 use Rattle.flow.specs.declared.site.TableParts.{TableParts}
-use Rattle.c_meaning.specs.Facts.{Signature}
+use Rattle.flow.specs.Limits.{site_limit}
+use Rattle.c_meaning.specs.Facts.{Signature, Sites}
 use Rattle.c_meaning.specs.Known.{bodies, facts_of}
 use Rattle.c_meaning.specs.Runs.{Source}
 use Rattle.c_meaning.specs.Texts.{source_of, sites_by_table}
@@ -15,16 +18,20 @@ use Rattle.sites.specs.Wanted.{no_schemes}
 use Rattle.c_types_never_stuck.specs.TypedSource.{TypedBody}
 use Rattle.c_types_never_stuck.specs.TypedText.{TypedText}
 use Rattle.c_types_sound.specs.Accepted.{IsAcceptedTree}
+use Rattle.c_types_sound.specs.Sited.{count_of}
 use Rattle.c_types_sound.proofs.Whole.{none_fits, table_fits}
+use Rattle.lower_relation.specs.Room.{function_room, functions_room}
 use Rattle.lower_nodes_fit.specs.Owned.{BodyOwns}
 use Rattle.lower_nodes_fit.specs.TextNames.{names_of_text}
 use Rattle.lower_nodes_fit.proofs.FactsFitting.{facts_fit}
 use Rattle.lower_nodes_fit.proofs.NotesOfItems.{offsets_near}
 use Rattle.lower_nodes_fit.proofs.Owning.{none_owned, table_owned}
+use Rattle.lower_nodes_fit.proofs.RoomOfFunctions.{few_nodes, first_apart}
 use Rattle.lower_nodes_fit.specs.Fitting.{BodyStands}
 use Rattle.lower_nodes_fit.proofs.Bodies.{body_stands}
 use Rattle.lower_parts_fit.specs.Brought.{IsSigned}
-use Rattle.lower_parts_fit.proofs.LocalSizes.{definition_signed}
+use Rattle.lower_parts_fit.proofs.LocalSizes.{definition_signed, locals_fit}
+use Rattle.lower_parts_fit.proofs.Variables.{locals_together}
 use Rattle.lower_nodes_fit.proofs.Formatting.{body_formatted}
 use Rattle.lower_parts_fit.specs.Ready.{AreSitesOf, IsReadyText}
 use Rattle.lower.specs.Fits.{AreFitting, HasFitting, IsFitting}
@@ -34,6 +41,14 @@ thing_there : {X : Type 0} (xs : List X) (place : ℕ) → place < length xs →
 thing_there [] place low = absurd (omega (arith, low))
 thing_there (x ∷ xs) zero low = (x, refl)
 thing_there (x ∷ xs) (suc place) low = thing_there xs place (omega (arith, low))
+
+-- one function's locals are no more than those of all together
+one_of_all : (ds : List Definition) (number : ℕ) (d : Definition) → slice_get ds number ≡ Some d → d.count ≤ sum_by count_of ds
+one_of_all [] number d e = absurd (cc)
+one_of_all (x ∷ ds) zero d e =
+    let same : x ≡ d = cc in
+    omega (arith, sum_by-cons count_of x ds, ap count_of same)
+one_of_all (x ∷ ds) (suc number) d e = omega (arith, sum_by-cons count_of x ds, one_of_all ds number d e)
 
 module _ (tree : SourceTree) (walk : Walk) (accepted : IsAcceptedTree tree walk) where
   -- the types of the text fit with these sites
@@ -49,7 +64,13 @@ module _ (tree : SourceTree) (walk : Walk) (accepted : IsAcceptedTree tree walk)
   sites_owned sites number body (inr h) at =
       subst (λ (xs : List Site). BodyOwns xs number body) (sym h.1) (table_owned tree walk h.0 number body accepted.formed.shaped at)
 
-module _ (tree : SourceTree) (walk : Walk) (table : TableParts) (ready : IsReadyText tree walk table) where
+-- one function has no more room than all of them, but where it has no body
+one_room : (sites : Sites) (xs : List EntryList) (number : ℕ) → function_room sites (slice_get xs number) ≤ functions_room sites (slice_get xs) (length xs) + 9
+one_room sites [] number = omega arith
+one_room sites (x ∷ xs) zero = omega (arith, first_apart sites (slice_get (x ∷ xs)) (length xs))
+one_room sites (x ∷ xs) (suc number) = omega (arith, first_apart sites (slice_get (x ∷ xs)) (length xs), one_room sites xs number)
+
+module _ (tree : SourceTree) (walk : Walk) (table : TableParts) (ready : IsReadyText tree walk table) (few : length table.sites ≤ site_limit) where
   abbrev src : Source
   src = source_of tree walk table.sites
 
@@ -84,6 +105,20 @@ module _ (tree : SourceTree) (walk : Walk) (table : TableParts) (ready : IsReady
       record {
         signature = signed.own;
         known = signed.is;
+        params = (locals_fit tree walk ready.whole.accepted number signed.own signed.is).few;
+        few = omega (
+          arith,
+          signed.counts,
+          one_of_all walk.definitions number d at,
+          locals_together tree walk ready.whole.accepted ready.whole.sited,
+        );
+        room = omega (
+          arith,
+          one_room (sites_by_table table.sites) (bodies tree) number,
+          few_nodes tree table.sites ready.whole.accepted.formed.shaped,
+          ready.whole.short,
+          few,
+        );
         body = body_fits number signed.own (slice_get (bodies tree) number) refl
             ((types_fit tree walk ready.whole.accepted table.sites ready.sites).functions number signed.own signed.is);
       }

@@ -1,13 +1,15 @@
 -- What is known of a function whose nodes may stand in a program.
-use Rattle.std.specs.Prelude.{◌≡◌, ℕ, ◌<◌, length, Option, Some, None}
+use Rattle.std.specs.Prelude.{◌≡◌, ℕ, ◌<◌, ◌≤◌, length, Option, Some, None}
 use Rattle.c_syntax.specs.StatementTree.{EntryList}
 use Rattle.flow.specs.declared.program.Function.{Function}
 use Rattle.flow.specs.declared.scope.Bounds.{Bounds}
 use Rattle.flow.specs.declared.scope.Names.{Names}
+use Rattle.flow.specs.Limits.{local_limit, node_limit}
 use Rattle.flow.specs.Nodes.{NodesFit}
 use Rattle.flow.specs.Program.{bounds_of}
 use Rattle.c_meaning.specs.Facts.{Signature}
 use Rattle.c_meaning.specs.Runs.{Source}
+use Rattle.lower_relation.specs.Room.{function_room}
 use Rattle.lower_nodes_fit.specs.Fitting.{FitsAsBody}
 
 -- what the nodes of the function with this number and signature may name, where it has so many of them
@@ -19,10 +21,13 @@ abbrev pub HasFitting : Source → Names → ℕ → Signature → Option EntryL
 HasFitting src names number f None = ⊥
 HasFitting src names number f (Some body) = (lo : ℕ) × ((count : ℕ) → FitsAsBody src.facts src.sites names (bounds_with number f count) f lo body)
 
--- and it has a signature
+-- and it has a signature, with few locals, the parameters among them, and room for its nodes
 pub record IsFitting (src : Source) (names : Names) (number : ℕ) : Type 0 where
   pub signature : Signature
   pub known : src.facts.signature number ≡ Some signature
+  pub params : length signature.params ≤ length signature.locals
+  pub few : length signature.locals ≤ local_limit
+  pub room : function_room src.sites (src.body number) ≤ node_limit
   pub body : HasFitting src names number signature (src.body number)
 
 -- so it is with the first functions of the text

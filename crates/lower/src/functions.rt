@@ -10,6 +10,7 @@ ghost use Rattle.lower_relation.specs.Room.{body_room, function_room};
 ghost use Rattle.lower_nodes.specs.Ends.{AllBelow, all_ends};
 ghost use Rattle.lower_nodes.specs.Made.{Made, MadeAlone, MadeExits};
 ghost use Rattle.lower_nodes.specs.Reach.{LeadOn};
+ghost use Rattle.flow.specs.Limits.{local_limit, node_limit};
 ghost use Rattle.flow.specs.Nodes.{NodesFit};
 ghost use Rattle.lower_facts.specs.Facts.{facts_in, sites_in, source_in};
 
@@ -20,13 +21,14 @@ use cbi_base::{Kind, Memory};
 use flow::{Bounds, Names, Node};
 use lower_facts::{Signature, TreeFacts};
 use lower_nodes::{Graph, finish, put_stuck};
-use lower_statements::{Exits, emit_entries, next_at, number_of};
+use lower_statements::{Exits, emit_entries, next_at};
 use lower_trees::has_value;
 use std::alloc::Global;
 
 /// Where a function with a result gives it; no other one comes to a value.
 #[tactic(auto, using(crate::proofs::Bodying::gives_parts))]
 fn put_gives(graph: &mut Graph, value: bool) -> Result<u32, Memory>
+    requires room { length graph.old + 2 ≤ node_limit }
     ensures made { IfOk result (λ i. MadeAlone (GivesPart value) graph.old graph.new i 0) }
     ensures few { IfOk result (λ i. length graph.new ≤ length graph.old + 2) }
 {
@@ -41,7 +43,8 @@ fn put_gives(graph: &mut Graph, value: bool) -> Result<u32, Memory>
 /// Where control goes after the last statement: `main` gives 0 (C99 5.1.2.2.3), and any other function is left.
 #[tactic(auto, using(crate::proofs::Bodying::end_parts))]
 fn put_end(graph: &mut Graph, is_main: bool, value: bool, exits: Exits) -> Result<u32, Memory>
-    requires { (exits_of exits).next ≡ (exits_of exits).leaves }
+    requires room { length graph.old + 1 ≤ node_limit }
+    requires next { (exits_of exits).next ≡ (exits_of exits).leaves }
     ensures made { IfOk result (λ i. MadeExits (EndPart is_main value) graph.old graph.new i (exits_of exits)) }
     ensures few { IfOk result (λ i. length graph.new ≤ length graph.old + 1) }
 {
@@ -58,6 +61,7 @@ fn put_end(graph: &mut Graph, is_main: bool, value: bool, exits: Exits) -> Resul
 
 /// How a function is left. No `break` and no `continue` stands outside a loop.
 fn put_exits(graph: &mut Graph, is_main: bool, value: bool) -> Result<Exits, Memory>
+    requires room { length graph.old + 6 ≤ node_limit }
     ensures made { IfOk result (λ exits. MadeAlone (LeavesPart is_main value) graph.old graph.new 0 (exits_of exits)) }
     ensures below { IfOk result (λ exits. AllBelow (length graph.new) (all_ends (exits_of exits))) }
     ensures few { IfOk result (λ exits. length graph.new ≤ length graph.old + 6) }
@@ -85,6 +89,7 @@ fn put_body(
     body: Option<&[Entry]>,
     exits: Exits,
 ) -> Result<u32, Memory>
+    requires room { length graph.old + body_room (sites_in facts.now) (option_map plain_entries (option_copied body)) ≤ node_limit }
     ensures made { IfOk result (λ i. MadeExits (λ G. BodyDoes G (facts_in facts.now) (sites_in facts.now) gives (option_map plain_entries (option_copied body.entry))) graph.old graph.new i (exits_of exits)) }
     ensures few { IfOk result (λ i. length graph.new ≤ length graph.old + body_room (sites_in facts.now) (option_map plain_entries (option_copied body.entry))) }
 {
@@ -103,6 +108,7 @@ fn put_body(
 /// The node where a function begins, which is the last one that is put: the body's entry, or one that passes control on to it.
 #[tactic(auto, using(crate::proofs::Bodying::start_parts))]
 fn put_start(graph: &mut Graph, entry: u32) -> Result<u32, Memory>
+    requires room { length graph.old + 1 ≤ node_limit }
     ensures begins { IfOk result (λ i. Made ComesPart graph.old graph.new i entry) }
     ensures last { IfOk result (λ i. length graph.new ≡ i + 1) }
     ensures few { IfOk result (λ i. length graph.new ≤ length graph.old + 1) }
@@ -122,9 +128,11 @@ fn body_nodes(
     gives: ValueType,
     body: Option<&[Entry]>,
 ) -> Result<Vec<Node>, Memory>
+    requires room { function_room (sites_in facts.now) (option_map plain_entries (option_copied body)) ≤ node_limit }
     ensures body { IfOk result (λ nodes. BodyNodes (facts_in facts.now) (sites_in facts.now) is_main gives (option_map plain_entries (option_copied body.entry)) nodes.items) }
     ensures some { IfOk result (λ nodes. 0 < length nodes.items) }
     ensures leads { IfOk result (λ nodes. LeadOn nodes.items) }
+    ensures most { IfOk result (λ nodes. length nodes.items ≤ node_limit) }
     ensures few { IfOk result (λ nodes. length nodes.items ≤ function_room (sites_in facts.now) (option_map plain_entries (option_copied body.entry))) }
 {
     let mut graph = Graph::new(alloc);
@@ -144,7 +152,9 @@ pub fn emit_function(
     number: u32,
     signature: &Signature,
 ) -> Result<Vec<Node>, Memory>
-    requires { HasFitting (source_in facts.now) names.now number signature.now ((source_in facts.now).body number) }
+    requires fits { HasFitting (source_in facts.now) names.now number signature.now ((source_in facts.now).body number) }
+    requires locals { length signature.now.locals ≤ local_limit }
+    requires room { function_room (sites_in facts.now) ((source_in facts.now).body number) ≤ node_limit }
     ensures body { IfOk result (λ nodes. BodyNodes (facts_in facts.now) (sites_in facts.now) (number == (source_in facts.now).main) signature.now.result ((source_in facts.now).body number) nodes.items) }
     ensures stand { IfOk result (λ nodes. AllMayStand (sites_in facts.now).site nodes.items) }
     ensures entry { IfOk result (λ nodes. 0 < length nodes.items) }
@@ -154,8 +164,8 @@ pub fn emit_function(
     let is_main = number == facts.main();
     let body = facts.body(number);
     let nodes = body_nodes(alloc, facts, is_main, signature.gives(), body)?;
-    let locals = number_of(signature.locals().len())?;
-    let count = number_of(nodes.len())?;
+    let locals = signature.locals().len() as u32;
+    let count = nodes.len() as u32;
     let bounds = Bounds {
         function: number,
         locals,

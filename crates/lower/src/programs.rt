@@ -3,6 +3,7 @@ ghost use Rattle.c_meaning.specs.Texts.{source_of};
 ghost use Rattle.c_types.specs.Answers.{known_of, tree_of};
 ghost use Rattle.flow.specs.Ready.{ArePlain, IsReady};
 ghost use Rattle.flow.specs.declared.program.Function.{Function};
+ghost use Rattle.flow.specs.Limits.{function_limit};
 ghost use Rattle.flow.specs.Program.{table_of};
 ghost use Rattle.std.specs.List.{All};
 ghost use Rattle.lower_relation.specs.Functions.{IsGraphOf};
@@ -24,7 +25,6 @@ use lower_facts::TreeFacts;
 use lower_globals::globals_of_text;
 use lower_nodes_fit::an_accepted_text_has_few_nodes;
 use lower_parts_fit::parts_of_an_accepted_text_are_a_program;
-use lower_statements::number_of;
 use lower_trees::has_value;
 use std::alloc::Global;
 
@@ -45,11 +45,12 @@ fn function_of(
     let Some(signature) = facts.signature(number) else {
         unreachable!()
     };
+    let params = signature.params().len() as u32;
     let nodes = emit_function(alloc, facts, names, number, signature)?;
     Ok(Function {
         name: name.try_clone()?,
         value: has_value(signature.gives()),
-        params: number_of(signature.params().len())?,
+        params,
         locals: copy_of(alloc, signature.locals())?,
         nodes: Seq::from_vec(nodes),
     })
@@ -64,6 +65,7 @@ fn functions_of(
 ) -> Result<Vec<Function>, Memory>
     requires fitting { AreFitting (source_in facts.now) names.now (length called.now) }
     requires as_many { length called.now ≡ length (known_in facts.now).definitions }
+    requires few { length called.now ≤ function_limit }
     ensures are { IfOk result (λ fs. AreFunctionsOf (source_in facts.now) fs.items) }
     ensures all { IfOk result (λ fs. HasNoMore (source_in facts.now) (length fs.items)) }
     ensures names { IfOk result (λ fs. map (λ f. f.name) fs.items ≡ called.now) }
@@ -72,7 +74,7 @@ fn functions_of(
 {
     let mut functions = Vec::new(alloc);
     for name in called {
-        let number = number_of(functions.len())?;
+        let number = functions.len() as u32;
         let function = function_of(alloc, facts, names, number, name)?;
         functions.push(function)?;
     }

@@ -1,6 +1,6 @@
 -- How much room the parts of a list have.
 use Rattle.std.specs.Prelude.{IfOk}
-use Rattle.std.proofs.Common.{◌≡◌, ℕ, Result, Ok, Err, ◌+◌, ◌<◌, ◌≤◌, ◌∙◌, ap, refl, sym, arith, List, ◌∷◌, length, drop, get_or, true}
+use Rattle.std.proofs.Common.{◌≡◌, ℕ, zero, suc, [], Result, Ok, Err, ◌+◌, ◌<◌, ◌≤◌, ◌∙◌, ap, refl, sym, arith, List, ◌∷◌, length, drop, get_or, true}
 use Rattle.std.proofs.lemmas.List.{drop_more}
 use Rattle.c_syntax.specs.ExprTree as e
 use Rattle.c_syntax.specs.ExprTree.{ExprTree, ExprList, PostfixList}
@@ -58,6 +58,27 @@ module _ (sites : Sites) where
 
   pub postfix_all : (xs : List PostfixOperator) (m : ℕ) → m ≡ 0 → postfix_room sites (plain_operators (drop m xs)) ≡ postfix_room sites (plain_operators xs)
   postfix_all xs m e = rw e refl
+
+  -- what stands from a place on has no more room than all
+  pub exprs_rest : (each : ℕ) (xs : List Expr) (m : ℕ) → exprs_room sites each (plain_exprs (drop m xs)) ≤ exprs_room sites each (plain_exprs xs)
+  exprs_rest each xs zero = omega arith
+  exprs_rest each [] (suc m) = omega arith
+  exprs_rest each (x ∷ xs) (suc m) = omega (arith, exprs_rest each xs m)
+
+  pub links_rest : (links : List Link) (m : ℕ) → links_room sites (plain_links (drop m links)) ≤ links_room sites (plain_links links)
+  links_rest links zero = omega arith
+  links_rest [] (suc m) = omega arith
+  links_rest (x ∷ links) (suc m) = omega (arith, links_more (x ∷ links) 1 0 x (omega arith) (omega arith) refl, links_rest links m)
+
+  pub postfix_rest : (xs : List PostfixOperator) (m : ℕ) → postfix_room sites (plain_operators (drop m xs)) ≤ postfix_room sites (plain_operators xs)
+  postfix_rest xs zero = omega arith
+  postfix_rest [] (suc m) = omega arith
+  postfix_rest (x ∷ xs) (suc m) = omega (arith, both x (plain_operators xs), postfix_rest xs m)
+
+  -- each of several expressions has room
+  pub exprs_long : (xs : List Expr) → length xs ≤ exprs_room sites 3 (plain_exprs xs)
+  exprs_long [] = omega arith
+  exprs_long (x ∷ xs) = omega (arith, exprs_long xs)
 
   others_room : (xs : ExprList) → exprs_room sites 3 (others xs) ≤ exprs_room sites 3 xs
   others_room e.no_exprs = omega arith

@@ -1,3 +1,4 @@
+ghost use Rattle.flow.specs.Limits.{node_limit};
 ghost use Rattle.std.specs.Prelude.{IfOk, length, ◌≤◌, ◌+◌};
 ghost use Rattle.c_syntax.specs.ExprTree as e;
 ghost use Rattle.c_syntax.specs.Plain.{plain_exprs};
@@ -26,6 +27,7 @@ pub fn emit_arguments(
     arguments: &[Expr],
     next: u32,
 ) -> Result<u32, Memory>
+    requires room { length graph.old + exprs_room (sites_in facts.now) 3 (plain_exprs arguments.now) ≤ node_limit }
     ensures made { IfOk result (λ i. Made (λ G. ArgumentsDo G (facts_in facts.now) (sites_in facts.now) (wanted_types wanted.entry) (plain_exprs arguments.now)) graph.old graph.new i next) }
     ensures few { IfOk result (λ i. length graph.new ≤ length graph.old + exprs_room (sites_in facts.now) 3 (plain_exprs arguments.now)) }
 {
@@ -47,6 +49,7 @@ pub fn emit_call(
     arguments: &[Expr],
     purpose: Purpose,
 ) -> Result<u32, Memory>
+    requires room { length graph.old + expr_room (sites_in facts.now) (e.Call token name.now (plain_exprs arguments.now)) ≤ node_limit }
     ensures made { IfOk result (λ i. MadeFor (serving (facts_in facts.now) (sites_in facts.now) (e.Call token name.now (plain_exprs arguments.now))) graph.old graph.new i purpose) }
     ensures few { IfOk result (λ i. length graph.new ≤ length graph.old + expr_room (sites_in facts.now) (e.Call token name.now (plain_exprs arguments.now))) }
 {

@@ -1,3 +1,4 @@
+ghost use Rattle.flow.specs.Limits.{node_limit};
 ghost use Rattle.std.specs.Prelude.{IfOk, length, ◌≤◌, ◌+◌};
 ghost use Rattle.c_syntax.specs.ExprTree as e;
 ghost use Rattle.c_syntax.specs.Plain.{plain_expr, plain_links};
@@ -32,6 +33,7 @@ pub fn emit_null_or(
     x: &Expr,
     next: u32,
 ) -> Result<u32, Memory>
+    requires room { length graph.old + (1 + expr_room (sites_in facts.now) (plain_expr x.now)) ≤ node_limit }
     ensures made { IfOk result (λ i. Made (λ G. NullOr G is_null (emitted G (facts_in facts.now) (sites_in facts.now) (plain_expr x.now))) graph.old graph.new i next) }
     ensures few { IfOk result (λ i. length graph.new ≤ length graph.old + (1 + expr_room (sites_in facts.now) (plain_expr x.now))) }
 {
@@ -52,6 +54,7 @@ pub fn emit_link(
     link: &Link,
     next: u32,
 ) -> Result<u32, Memory>
+    requires room { length graph.old + (7 + branches (sites_in facts.now) link.now.token + expr_room (sites_in facts.now) (plain_expr link.now.operand)) ≤ node_limit }
     ensures made { IfOk result (λ i. Made (link_part (facts_in facts.now) (sites_in facts.now) left link.now.token link.now.sign (plain_expr link.now.operand)) graph.old graph.new i next) }
     ensures few { IfOk result (λ i. length graph.new ≤ length graph.old + (7 + branches (sites_in facts.now) link.now.token + expr_room (sites_in facts.now) (plain_expr link.now.operand))) }
 {
@@ -94,6 +97,7 @@ pub fn emit_links(
     links: &[Link],
     next: u32,
 ) -> Result<u32, Memory>
+    requires room { length graph.old + links_room (sites_in facts.now) (plain_links links.now) ≤ node_limit }
     ensures made { IfOk result (λ i. Made (λ G. LinksDo G (facts_in facts.now) (sites_in facts.now) left (plain_links links.now)) graph.old graph.new i next) }
     ensures few { IfOk result (λ i. length graph.new ≤ length graph.old + links_room (sites_in facts.now) (plain_links links.now)) }
 {
@@ -114,6 +118,7 @@ pub fn emit_chain_value(
     links: &[Link],
     purpose: Purpose,
 ) -> Result<u32, Memory>
+    requires room { length graph.old + expr_room (sites_in facts.now) (e.Chain 0 (plain_expr first.now) (plain_links links.now)) ≤ node_limit }
     ensures made { IfOk result (λ i. MadeFor (serving (facts_in facts.now) (sites_in facts.now) (e.Chain 0 (plain_expr first.now) (plain_links links.now))) graph.old graph.new i purpose) }
     ensures few { IfOk result (λ i. length graph.new ≤ length graph.old + expr_room (sites_in facts.now) (e.Chain 0 (plain_expr first.now) (plain_links links.now))) }
 {
@@ -136,6 +141,7 @@ pub fn emit_chain_truth(
     yes: u32,
     no: u32,
 ) -> Result<u32, Memory>
+    requires room { length graph.old + expr_room (sites_in facts.now) (e.Chain 0 (plain_expr first.now) (plain_links links.now)) ≤ node_limit }
     ensures made { IfOk result (λ i. MadeFor (serving (facts_in facts.now) (sites_in facts.now) (e.Chain 0 (plain_expr first.now) (plain_links links.now))) graph.old graph.new i (purpose.Truth yes no)) }
     ensures few { IfOk result (λ i. length graph.new ≤ length graph.old + expr_room (sites_in facts.now) (e.Chain 0 (plain_expr first.now) (plain_links links.now))) }
 {
@@ -156,6 +162,7 @@ pub fn emit_chain(
     links: &[Link],
     purpose: Purpose,
 ) -> Result<u32, Memory>
+    requires room { length graph.old + expr_room (sites_in facts.now) (e.Chain 0 (plain_expr first.now) (plain_links links.now)) ≤ node_limit }
     ensures made { IfOk result (λ i. MadeFor (serving (facts_in facts.now) (sites_in facts.now) (e.Chain 0 (plain_expr first.now) (plain_links links.now))) graph.old graph.new i purpose) }
     ensures few { IfOk result (λ i. length graph.new ≤ length graph.old + expr_room (sites_in facts.now) (e.Chain 0 (plain_expr first.now) (plain_links links.now))) }
 {

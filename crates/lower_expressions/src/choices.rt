@@ -1,3 +1,4 @@
+ghost use Rattle.flow.specs.Limits.{node_limit};
 ghost use Rattle.std.specs.Prelude.{IfOk, length, ◌≤◌, ◌+◌};
 ghost use Rattle.c_syntax.specs.ExprTree as e;
 ghost use Rattle.c_syntax.specs.Plain.{plain_expr, plain_exprs};
@@ -33,6 +34,7 @@ pub fn emit_handed(
     x: &Expr,
     next: u32,
 ) -> Result<u32, Memory>
+    requires room { length graph.old + (3 + expr_room (sites_in facts.now) (plain_expr x.now)) ≤ node_limit }
     ensures made { IfOk result (λ i. Made (λ G. HandedValue G (is_null_as want (plain_expr x.now)) want (emitted G (facts_in facts.now) (sites_in facts.now) (plain_expr x.now))) graph.old graph.new i next) }
     ensures few { IfOk result (λ i. length graph.new ≤ length graph.old + (3 + expr_room (sites_in facts.now) (plain_expr x.now))) }
 {
@@ -54,6 +56,7 @@ pub fn emit_cast(
     operand: &Expr,
     purpose: Purpose,
 ) -> Result<u32, Memory>
+    requires room { length graph.old + (4 + expr_room (sites_in facts.now) (plain_expr operand.now)) ≤ node_limit }
     ensures made { IfOk result (λ i. MadeFor (λ G. Serves (Cast G (is_null_as want (plain_expr operand.now)) want (emitted G (facts_in facts.now) (sites_in facts.now) (plain_expr operand.now)))) graph.old graph.new i purpose) }
     ensures few { IfOk result (λ i. length graph.new ≤ length graph.old + (4 + expr_room (sites_in facts.now) (plain_expr operand.now))) }
 {
@@ -84,6 +87,7 @@ pub fn emit_arm_value(
     x: &Expr,
     next: u32,
 ) -> Result<u32, Memory>
+    requires room { length graph.old + (3 + expr_room (sites_in facts.now) (plain_expr x.now)) ≤ node_limit }
     ensures made { IfOk result (λ i. Made (arm_value_part (facts_in facts.now) (sites_in facts.now) want (plain_expr x.now)) graph.old graph.new i next) }
     ensures few { IfOk result (λ i. length graph.new ≤ length graph.old + (3 + expr_room (sites_in facts.now) (plain_expr x.now))) }
 {
@@ -106,6 +110,7 @@ pub fn emit_arm_effect(
     x: &Expr,
     next: u32,
 ) -> Result<u32, Memory>
+    requires room { length graph.old + (4 + expr_room (sites_in facts.now) (plain_expr x.now)) ≤ node_limit }
     ensures made { IfOk result (λ i. Made (arm_effect_part (facts_in facts.now) (sites_in facts.now) want (plain_expr x.now)) graph.old graph.new i next) }
     ensures few { IfOk result (λ i. length graph.new ≤ length graph.old + (4 + expr_room (sites_in facts.now) (plain_expr x.now))) }
 {
@@ -129,6 +134,7 @@ pub fn emit_chosen(
     second: &Expr,
     next: u32,
 ) -> Result<u32, Memory>
+    requires room { length graph.old + (7 + branches (sites_in facts.now) token + expr_room (sites_in facts.now) (plain_expr condition.now) + expr_room (sites_in facts.now) (plain_expr first.now) + expr_room (sites_in facts.now) (plain_expr second.now)) ≤ node_limit }
     ensures made { IfOk result (λ i. Made (value_part (facts_in facts.now) (sites_in facts.now) (e.Conditional token (plain_expr condition.now) (plain_expr first.now) (plain_expr second.now))) graph.old graph.new i next) }
     ensures few { IfOk result (λ i. length graph.new ≤ length graph.old + (7 + branches (sites_in facts.now) token + expr_room (sites_in facts.now) (plain_expr condition.now) + expr_room (sites_in facts.now) (plain_expr first.now) + expr_room (sites_in facts.now) (plain_expr second.now))) }
 {
@@ -150,6 +156,7 @@ pub fn emit_conditional(
     second: &Expr,
     purpose: Purpose,
 ) -> Result<u32, Memory>
+    requires room { length graph.old + expr_room (sites_in facts.now) (e.Conditional token (plain_expr condition.now) (plain_expr first.now) (plain_expr second.now)) ≤ node_limit }
     ensures made { IfOk result (λ i. MadeFor (serving (facts_in facts.now) (sites_in facts.now) (e.Conditional token (plain_expr condition.now) (plain_expr first.now) (plain_expr second.now))) graph.old graph.new i purpose) }
     ensures few { IfOk result (λ i. length graph.new ≤ length graph.old + expr_room (sites_in facts.now) (e.Conditional token (plain_expr condition.now) (plain_expr first.now) (plain_expr second.now))) }
 {
@@ -177,6 +184,7 @@ pub fn emit_last(
     operands: &[Expr],
     purpose: Purpose,
 ) -> Result<u32, Memory>
+    requires room { length graph.old + (3 + exprs_room (sites_in facts.now) 0 (plain_exprs operands.now)) ≤ node_limit }
     ensures made { IfOk result (λ i. MadeFor (λ G. Serves (LastDoes G (facts_in facts.now) (sites_in facts.now) (plain_exprs operands.now))) graph.old graph.new i purpose) }
     ensures few { IfOk result (λ i. length graph.new ≤ length graph.old + (3 + exprs_room (sites_in facts.now) 0 (plain_exprs operands.now))) }
 {

@@ -1,3 +1,4 @@
+ghost use Rattle.flow.specs.Limits.{node_limit};
 ghost use Rattle.std.specs.Prelude.{IfOk, length, ◌≤◌, ◌+◌};
 ghost use Rattle.c_syntax.specs.Plain.{plain_expr};
 ghost use Rattle.lower_relation.specs.Expressions.{Condition};
@@ -24,6 +25,7 @@ pub fn emit_condition(
     yes: u32,
     no: u32,
 ) -> Result<u32, Memory>
+    requires room { length graph.old + (1 + branches (sites_in facts.now) token + expr_room (sites_in facts.now) (plain_expr x.now)) ≤ node_limit }
     ensures made { IfOk result (λ i. MadeWays (λ G. Condition G (facts_in facts.now) (sites_in facts.now) token (plain_expr x.now)) graph.old graph.new i (ways yes no)) }
     ensures few { IfOk result (λ i. length graph.new ≤ length graph.old + (1 + branches (sites_in facts.now) token + expr_room (sites_in facts.now) (plain_expr x.now))) }
 {

@@ -1,3 +1,4 @@
+ghost use Rattle.flow.specs.Limits.{node_limit};
 ghost use Rattle.std.specs.Prelude.{IfOk, length, ◌≤◌, ◌+◌};
 ghost use Rattle.c_syntax.specs.Plain.{plain_expr};
 ghost use Rattle.c_meaning.specs.Conversions.{is_null_as};
@@ -27,6 +28,7 @@ use lower_trees::is_null_as;
 /// An expression, for what its value is wanted for.
 #[cycle(emission)]
 pub fn emit(graph: &mut Graph, facts: &TreeFacts, x: &Expr, purpose: Purpose) -> Result<u32, Memory>
+    requires room { length graph.old + expr_room (sites_in facts.now) (plain_expr x.now) ≤ node_limit }
     ensures made { IfOk result (λ i. MadeFor (serving (facts_in facts.now) (sites_in facts.now) (plain_expr x.now)) graph.old graph.new i purpose) }
     ensures few { IfOk result (λ i. length graph.new ≤ length graph.old + expr_room (sites_in facts.now) (plain_expr x.now)) }
 {
@@ -81,6 +83,7 @@ pub fn emit(graph: &mut Graph, facts: &TreeFacts, x: &Expr, purpose: Purpose) ->
 #[cycle(emission)]
 #[tactic(auto, using(lower_nodes::proofs::Serving::parts_served))]
 pub fn emit_value(graph: &mut Graph, facts: &TreeFacts, x: &Expr, next: u32) -> Result<u32, Memory>
+    requires room { length graph.old + expr_room (sites_in facts.now) (plain_expr x.now) ≤ node_limit }
     ensures made { IfOk result (λ i. Made (value_part (facts_in facts.now) (sites_in facts.now) (plain_expr x.now)) graph.old graph.new i next) }
     ensures few { IfOk result (λ i. length graph.new ≤ length graph.old + expr_room (sites_in facts.now) (plain_expr x.now)) }
 {
@@ -91,6 +94,7 @@ pub fn emit_value(graph: &mut Graph, facts: &TreeFacts, x: &Expr, next: u32) -> 
 /// An expression whose value isn't taken.
 #[tactic(auto, using(lower_nodes::proofs::Serving::parts_served))]
 pub fn emit_effect(graph: &mut Graph, facts: &TreeFacts, x: &Expr, next: u32) -> Result<u32, Memory>
+    requires room { length graph.old + expr_room (sites_in facts.now) (plain_expr x.now) ≤ node_limit }
     ensures made { IfOk result (λ i. Made (effect_part (facts_in facts.now) (sites_in facts.now) (plain_expr x.now)) graph.old graph.new i next) }
     ensures few { IfOk result (λ i. length graph.new ≤ length graph.old + expr_room (sites_in facts.now) (plain_expr x.now)) }
 {
@@ -108,6 +112,7 @@ pub fn emit_wanted(
     x: &Expr,
     next: u32,
 ) -> Result<u32, Memory>
+    requires room { length graph.old + (2 + expr_room (sites_in facts.now) (plain_expr x.now)) ≤ node_limit }
     ensures made { IfOk result (λ i. Made (λ G. WantedValue G (is_null_as want (plain_expr x.now)) (type_of (facts_in facts.now) (plain_expr x.now)) want (emitted G (facts_in facts.now) (sites_in facts.now) (plain_expr x.now))) graph.old graph.new i next) }
     ensures few { IfOk result (λ i. length graph.new ≤ length graph.old + (2 + expr_room (sites_in facts.now) (plain_expr x.now))) }
 {

@@ -1,3 +1,4 @@
+ghost use Rattle.flow.specs.Limits.{node_limit};
 ghost use Rattle.std.specs.Prelude.{IfOk, length, ◌≤◌, ◌+◌};
 ghost use Rattle.cbi_base.specs.declared.operators.Unary.TheVariants as unary;
 ghost use Rattle.c_syntax.specs.ExprTree as e;
@@ -39,6 +40,7 @@ pub fn emit_assign(
     value: &Expr,
     purpose: Purpose,
 ) -> Result<u32, Memory>
+    requires room { length graph.old + expr_room (sites_in facts.now) (e.Assign token sign (plain_expr target.now) (plain_expr value.now)) ≤ node_limit }
     ensures made { IfOk result (λ i. MadeFor (serving (facts_in facts.now) (sites_in facts.now) (e.Assign token sign (plain_expr target.now) (plain_expr value.now))) graph.old graph.new i purpose) }
     ensures few { IfOk result (λ i. length graph.new ≤ length graph.old + expr_room (sites_in facts.now) (e.Assign token sign (plain_expr target.now) (plain_expr value.now))) }
 {
@@ -73,6 +75,7 @@ pub fn emit_prefix_value(
     operand: &Expr,
     next: u32,
 ) -> Result<u32, Memory>
+    requires room { length graph.old + (13 + pairs (sites_in facts.now) token + expr_room (sites_in facts.now) (plain_expr operand.now)) ≤ node_limit }
     ensures made { IfOk result (λ i. Made (λ G. PrefixValue G (facts_in facts.now) (sites_in facts.now) token operator (type_of (facts_in facts.now) (plain_expr operand.now)) (emitted G (facts_in facts.now) (sites_in facts.now) (plain_expr operand.now))) graph.old graph.new i next) }
     ensures few { IfOk result (λ i. length graph.new ≤ length graph.old + (13 + pairs (sites_in facts.now) token + expr_room (sites_in facts.now) (plain_expr operand.now))) }
 {
@@ -124,6 +127,7 @@ fn emit_negation(
     operand: &Expr,
     next: u32,
 ) -> Result<u32, Memory>
+    requires room { length graph.old + (1 + expr_room (sites_in facts.now) (plain_expr operand.now)) ≤ node_limit }
     ensures made { IfOk result (λ i. Made (λ G. (emitted G (facts_in facts.now) (sites_in facts.now) (plain_expr operand.now)).value then Does G (node.Sole unary.Not 0)) graph.old graph.new i next) }
     ensures few { IfOk result (λ i. length graph.new ≤ length graph.old + (1 + expr_room (sites_in facts.now) (plain_expr operand.now))) }
 {
@@ -143,6 +147,7 @@ pub fn emit_not(
     operand: &Expr,
     purpose: Purpose,
 ) -> Result<u32, Memory>
+    requires room { length graph.old + (2 + expr_room (sites_in facts.now) (plain_expr operand.now)) ≤ node_limit }
     ensures made { IfOk result (λ i. MadeFor (λ G. Serves (Negated G (facts_in facts.now) (sites_in facts.now) (emitted G (facts_in facts.now) (sites_in facts.now) (plain_expr operand.now)))) graph.old graph.new i purpose) }
     ensures few { IfOk result (λ i. length graph.new ≤ length graph.old + (2 + expr_room (sites_in facts.now) (plain_expr operand.now))) }
 {
@@ -169,6 +174,7 @@ pub fn emit_prefix(
     operand: &Expr,
     purpose: Purpose,
 ) -> Result<u32, Memory>
+    requires room { length graph.old + expr_room (sites_in facts.now) (e.Prefix token operator (plain_expr operand.now)) ≤ node_limit }
     ensures made { IfOk result (λ i. MadeFor (serving (facts_in facts.now) (sites_in facts.now) (e.Prefix token operator (plain_expr operand.now))) graph.old graph.new i purpose) }
     ensures few { IfOk result (λ i. length graph.new ≤ length graph.old + expr_room (sites_in facts.now) (e.Prefix token operator (plain_expr operand.now))) }
 {

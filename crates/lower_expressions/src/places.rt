@@ -1,3 +1,4 @@
+ghost use Rattle.flow.specs.Limits.{node_limit};
 ghost use Rattle.std.specs.Prelude.{◌≡◌, IfOk, true, ℕ, length, ◌≤◌, ◌+◌};
 ghost use Rattle.c_syntax.specs.ExprTree as e;
 ghost use Rattle.c_syntax.specs.Plain.{plain_expr, plain_exprs};
@@ -16,7 +17,8 @@ use lower_nodes::{Graph, put_pointed, put_stuck, put_variable};
 
 /// No run of a checked text comes to the place of an expression that is a value by its form.
 fn put_nowhere(graph: &mut Graph, facts: &TreeFacts, x: &Expr, next: u32) -> Result<u32, Memory>
-    requires { is_nowhere (plain_expr x.now) ≡ true }
+    requires room { length graph.old + expr_room (sites_in facts.now) (plain_expr x.now) ≤ node_limit }
+    requires given { is_nowhere (plain_expr x.now) ≡ true }
     ensures made { IfOk result (λ i. Made (place_part (facts_in facts.now) (sites_in facts.now) (plain_expr x.now)) graph.old graph.new i next) }
     ensures few { IfOk result (λ i. length graph.new ≤ length graph.old + expr_room (sites_in facts.now) (plain_expr x.now)) }
 {
@@ -27,6 +29,7 @@ fn put_nowhere(graph: &mut Graph, facts: &TreeFacts, x: &Expr, next: u32) -> Res
 /// The place that an expression finds.
 #[cycle(emission)]
 pub fn emit_place(graph: &mut Graph, facts: &TreeFacts, x: &Expr, next: u32) -> Result<u32, Memory>
+    requires room { length graph.old + expr_room (sites_in facts.now) (plain_expr x.now) ≤ node_limit }
     ensures made { IfOk result (λ i. Made (place_part (facts_in facts.now) (sites_in facts.now) (plain_expr x.now)) graph.old graph.new i next) }
     ensures few { IfOk result (λ i. length graph.new ≤ length graph.old + expr_room (sites_in facts.now) (plain_expr x.now)) }
 {
@@ -68,6 +71,7 @@ pub fn emit_prefix_place(
     operand: &Expr,
     next: u32,
 ) -> Result<u32, Memory>
+    requires room { length graph.old + (3 + expr_room (sites_in facts.now) (plain_expr operand.now)) ≤ node_limit }
     ensures made { IfOk result (λ i. (token : ℕ) → Made (place_part (facts_in facts.now) (sites_in facts.now) (e.Prefix token operator (plain_expr operand.now))) graph.old graph.new i next) }
     ensures few { IfOk result (λ i. length graph.new ≤ length graph.old + (3 + expr_room (sites_in facts.now) (plain_expr operand.now))) }
 {
@@ -92,6 +96,7 @@ pub fn emit_lone_place(
     operands: &[Expr],
     next: u32,
 ) -> Result<u32, Memory>
+    requires room { length graph.old + (3 + exprs_room (sites_in facts.now) 0 (plain_exprs operands.now)) ≤ node_limit }
     ensures made { IfOk result (λ i. (token : ℕ) → Made (place_part (facts_in facts.now) (sites_in facts.now) (e.Comma token (plain_exprs operands.now))) graph.old graph.new i next) }
     ensures few { IfOk result (λ i. length graph.new ≤ length graph.old + (3 + exprs_room (sites_in facts.now) 0 (plain_exprs operands.now))) }
 {

@@ -1,3 +1,4 @@
+ghost use Rattle.flow.specs.Limits.{node_limit};
 ghost use Rattle.std.specs.Prelude.{IfOk, length, ◌≤◌, ◌+◌};
 ghost use Rattle.c_syntax.specs.ExprTree as e;
 ghost use Rattle.c_syntax.specs.ExprTree.{PostfixList};
@@ -35,6 +36,7 @@ pub fn emit_operator(
     operator: &PostfixOperator,
     next: u32,
 ) -> Result<u32, Memory>
+    requires room { length graph.old + postfix_room (sites_in facts.now) (plain_postfix operator.now e.no_postfix) ≤ node_limit }
     ensures made { IfOk result (λ i. (rest : PostfixList) → Made (first_part (facts_in facts.now) (sites_in facts.now) taken known of (plain_postfix operator.now rest)) graph.old graph.new i next) }
     ensures few { IfOk result (λ i. length graph.new ≤ length graph.old + postfix_room (sites_in facts.now) (plain_postfix operator.now e.no_postfix)) }
 {
@@ -80,6 +82,7 @@ pub fn emit_behind(
     operators: &[PostfixOperator],
     next: u32,
 ) -> Result<u32, Memory>
+    requires room { length graph.old + postfix_room (sites_in facts.now) (plain_operators operators.now) ≤ node_limit }
     ensures made { IfOk result (λ i. Made (λ G. Behind G (facts_in facts.now) (sites_in facts.now) taken known of (plain_operators operators.now)) graph.old graph.new i next) }
     ensures few { IfOk result (λ i. length graph.new ≤ length graph.old + postfix_room (sites_in facts.now) (plain_operators operators.now)) }
 {
@@ -103,6 +106,7 @@ pub fn emit_spot(
     x: &Expr,
     next: u32,
 ) -> Result<u32, Memory>
+    requires room { length graph.old + expr_room (sites_in facts.now) (plain_expr x.now) ≤ node_limit }
     ensures made { IfOk result (λ i. Made (λ G. Spot G known (emitted G (facts_in facts.now) (sites_in facts.now) (plain_expr x.now))) graph.old graph.new i next) }
     ensures few { IfOk result (λ i. length graph.new ≤ length graph.old + expr_room (sites_in facts.now) (plain_expr x.now)) }
 {
@@ -124,6 +128,7 @@ pub fn emit_spots(
     operators: &[PostfixOperator],
     next: u32,
 ) -> Result<u32, Memory>
+    requires room { length graph.old + (expr_room (sites_in facts.now) (plain_expr primary.now) + postfix_room (sites_in facts.now) (plain_operators operators.now)) ≤ node_limit }
     ensures made { IfOk result (λ i. Made (spots_part (facts_in facts.now) (sites_in facts.now) taken (plain_expr primary.now) (plain_operators operators.now)) graph.old graph.new i next) }
     ensures few { IfOk result (λ i. length graph.new ≤ length graph.old + (expr_room (sites_in facts.now) (plain_expr primary.now) + postfix_room (sites_in facts.now) (plain_operators operators.now))) }
 {
@@ -143,6 +148,7 @@ pub fn emit_postfix(
     operators: &[PostfixOperator],
     purpose: Purpose,
 ) -> Result<u32, Memory>
+    requires room { length graph.old + expr_room (sites_in facts.now) (e.Postfix (plain_expr primary.now) (plain_operators operators.now)) ≤ node_limit }
     ensures made { IfOk result (λ i. MadeFor (serving (facts_in facts.now) (sites_in facts.now) (e.Postfix (plain_expr primary.now) (plain_operators operators.now))) graph.old graph.new i purpose) }
     ensures few { IfOk result (λ i. length graph.new ≤ length graph.old + expr_room (sites_in facts.now) (e.Postfix (plain_expr primary.now) (plain_operators operators.now))) }
 {
@@ -170,6 +176,7 @@ pub fn emit_postfix_place(
     operators: &[PostfixOperator],
     next: u32,
 ) -> Result<u32, Memory>
+    requires room { length graph.old + expr_room (sites_in facts.now) (e.Postfix (plain_expr primary.now) (plain_operators operators.now)) ≤ node_limit }
     ensures made { IfOk result (λ i. Made (place_part (facts_in facts.now) (sites_in facts.now) (e.Postfix (plain_expr primary.now) (plain_operators operators.now))) graph.old graph.new i next) }
     ensures few { IfOk result (λ i. length graph.new ≤ length graph.old + expr_room (sites_in facts.now) (e.Postfix (plain_expr primary.now) (plain_operators operators.now))) }
 {

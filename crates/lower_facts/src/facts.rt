@@ -17,8 +17,8 @@ use c_types_expressions::Variable;
 use cbi_base::{Memory, Name, Scalar};
 use flow::{Site, SiteTable, Slot, Text};
 use lower_trees::{
-    SiteLists, TextLists, at_token, body_numbered, first_at, named_cells, site_lists, text_lists,
-    token_of,
+    SiteLists, TextLists, at_token, behind_token, body_numbered, first_at, named_cells, site_lists,
+    text_lists, token_of,
 };
 use std::alloc::Global;
 
@@ -41,14 +41,17 @@ pub struct TreeFacts<'a> {
 }
 
 impl<'a> TreeFacts<'a> {
-    ghost use Rattle.std.specs.Prelude.{◌≡◌, IfOk, option_map, length};
+    ghost use Rattle.std.specs.Prelude.{◌≡◌, ◌≤◌, ◌+◌, IfOk, option_map, length};
     ghost use Rattle.std.specs.Option.{option_copied};
     ghost use Rattle.c_syntax.specs.Plain.{plain_entries, plain_expr, plain_item};
     ghost use Rattle.c_rules.specs.Plain.{plain_type};
     ghost use Rattle.c_types.specs.Answers.{declared_at, known_of, tree_of};
     ghost use Rattle.c_types.specs.Fault.{walk_tree};
     ghost use Rattle.c_types_expressions.specs.Walked.{Fine};
+    ghost use Rattle.flow.specs.Limits.{text_limit};
+    ghost use Rattle.c_meaning.specs.Literals.{literals};
     ghost use Rattle.c_meaning.specs.Trees.{called_as, token_of, type_of};
+    ghost use Rattle.lower_facts.specs.Signatures.{AreSized};
     ghost use Rattle.lower_facts.specs.Facts.{facts_in, known_in, place_of, sites_in, source_in, table_in, tree_in};
 
     /// What is known of a checked tree and a table of its sites.
@@ -57,6 +60,8 @@ impl<'a> TreeFacts<'a> {
         checked: &'a Checked,
         table: &'a SiteTable,
     ) -> Result<TreeFacts<'a>, Memory>
+        requires strings { length (literals (tree_of checked.now)) ≤ text_limit }
+        requires sized { AreSized (known_of checked.now) }
         ensures tree { IfOk result (λ f. tree_in f ≡ tree_of checked.now) }
         ensures known { IfOk result (λ f. known_in f ≡ known_of checked.now) }
         ensures sites { IfOk result (λ f. table_in f ≡ table.now.sites) }
@@ -249,6 +254,13 @@ impl<'a> TreeFacts<'a> {
         ensures { result.now ≡ (sites_in self.now).pairs_at token }
     {
         at_token(self.sites.pairs.as_slice(), token)
+    }
+
+    /// The sites of the variable that is assigned at the token behind this one.
+    pub fn pairs_behind(&self, token: u32) -> &[u32]
+        ensures { result.now ≡ (sites_in self.now).pairs_at (token + 1) }
+    {
+        behind_token(self.sites.pairs.as_slice(), token)
     }
 
     /// The site with this number.

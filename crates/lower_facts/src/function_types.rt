@@ -1,9 +1,9 @@
 ghost use Rattle.std.specs.Prelude.{◌≡◌, ◌≤◌, map, drop, take, IfOk, length, slice_get, Some};
-ghost use Rattle.c_rules.specs.Sizes.{cells_of};
+ghost use Rattle.c_rules.specs.Sizes.{cells_of, most_cells};
 ghost use Rattle.c_meaning.specs.Facts as facts;
 ghost use Rattle.c_meaning.specs.Known.{signature_with, sizes_of, value_type};
 ghost use Rattle.c_types.specs.Answers.{known_of};
-ghost use Rattle.lower_facts.specs.Signatures.{signature_of_entry};
+ghost use Rattle.lower_facts.specs.Signatures.{AllSized, AreSized, signature_of_entry};
 
 use crate::values::value_type;
 use c_meaning::ValueType;
@@ -13,9 +13,6 @@ use c_types_expressions::{Definition, FunctionEntry};
 use cbi_base::{Memory, Seq};
 use std::alloc::Global;
 use std::marker::Model;
-
-/// The greatest size of an object that is known exactly.
-const MOST_CELLS: u32 = 1_048_576;
 
 /// The types of a function's parameters and of its result, and the sizes of its variables in cells, the parameters first.
 #[derive(Drop)]
@@ -81,24 +78,22 @@ fn value_types(
     Ok(Seq::from_vec(values))
 }
 
-/// The size of an object of the type. No object is so large that it is `Memory`.
-fn exact_cells(structs: &[StructType], ctype: &Type) -> Result<u32, Memory>
-    ensures { IfOk result (λ cells. cells ≡ cells_of structs.now ctype.now) }
+/// The size of an object of the type, which is no larger than an object may be.
+fn exact_cells(structs: &[StructType], ctype: &Type) -> u32
+    requires { cells_of structs.now ctype.now ≤ most_cells }
+    ensures { result ≡ cells_of structs.now ctype.now }
 {
-    let cells = cells_of(structs, ctype.shape());
-    if MOST_CELLS < cells {
-        return Err(Memory);
-    }
-    Ok(cells)
+    cells_of(structs, ctype.shape())
 }
 
 /// The sizes of objects of these types.
 fn sizes(alloc: Global, structs: &[StructType], types: &[Type]) -> Result<Seq<u32>, Memory>
+    requires { AllSized structs.now types.now }
     ensures { IfOk result (λ sizes. sizes ≡ map (cells_of structs.now) types.now) }
 {
     let mut sizes = Vec::new(alloc);
     for ctype in types {
-        sizes.push(exact_cells(structs, ctype)?)?;
+        sizes.push(exact_cells(structs, ctype))?;
     }
     Ok(Seq::from_vec(sizes))
 }
@@ -119,6 +114,7 @@ fn signature_of_function(
     definition: Definition,
     function: &FunctionEntry,
 ) -> Result<Signature, Memory>
+    requires { AreSized (known_of checked.now) }
     ensures { IfOk result (λ s. Some s ≡ signature_with (known_of checked.now) definition (Some function.now)) }
 {
     let structs = checked.structs();
@@ -136,6 +132,7 @@ fn signature_of_entry(
     checked: &Checked,
     definition: Definition,
 ) -> Result<Option<Signature>, Memory>
+    requires { AreSized (known_of checked.now) }
     ensures { IfOk result (λ s. s ≡ signature_of_entry (known_of checked.now) definition) }
 {
     match checked.functions().get(definition.function as usize) {
@@ -149,6 +146,7 @@ fn signature_of_entry(
 
 /// The signatures of the defined functions, in their order.
 pub(crate) fn signatures(alloc: Global, checked: &Checked) -> Result<Seq<Option<Signature>>, Memory>
+    requires { AreSized (known_of checked.now) }
     ensures { IfOk result (λ ss. ss ≡ map (signature_of_entry (known_of checked.now)) (known_of checked.now).definitions) }
 {
     let mut signatures = Vec::new(alloc);

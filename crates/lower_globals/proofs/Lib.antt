@@ -4,3 +4,4 @@ pub mod Counted
 pub mod Begun
 pub mod Gathered
 pub mod Started
+pub mod Starting

@@ -1,3 +1,4 @@
 pub mod Cells
 pub mod Zeros
 pub mod Objects
+pub mod Starts

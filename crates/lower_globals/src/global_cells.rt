@@ -5,6 +5,7 @@ ghost use Rattle.flow.specs.Rows.{char_of};
 ghost use Rattle.c_meaning.specs.Globals.{constant, constants, given_to, spelled_cells};
 ghost use Rattle.c_meaning.specs.Meaning.{text_of};
 ghost use Rattle.lower_facts.specs.Facts.{facts_in};
+ghost use Rattle.lower_globals.specs.Starts.{AreStarts, Begins, IsStart};
 
 use crate::constants::constant;
 use crate::zeros::one;
@@ -18,16 +19,16 @@ use std::alloc::Global;
 
 /// A byte as a `char`.
 #[tactic(auto, unfolding(cbi_base::specs::Scalars::converted))]
-fn char_of(byte: u8) -> Result<Scalar, Memory>
-    ensures { IfOk result (λ v. v ≡ char_of byte) }
+fn char_of(byte: u8) -> Scalar
+    ensures { result ≡ char_of byte }
 {
     let number = Scalar::Number {
         kind: Kind::Int,
         value: byte as i64,
     };
     match convert(Kind::Char, number) {
-        Ok(value) => Ok(value),
-        Err(_) => Err(Memory),
+        Ok(value) => value,
+        Err(_) => unreachable!(),
     }
 }
 
@@ -37,7 +38,7 @@ fn chars(alloc: Global, bytes: &[u8]) -> Result<Seq<Scalar>, Memory>
 {
     let mut cells = Vec::new(alloc);
     for byte in bytes {
-        cells.push(char_of(*byte)?)?;
+        cells.push(char_of(*byte))?;
     }
     Ok(Seq::from_vec(cells))
 }
@@ -49,11 +50,12 @@ fn constants(
     of: Option<ValueType>,
     items: &[Expr],
 ) -> Result<Option<Seq<Scalar>>, Memory>
+    requires { AreStarts (plain_exprs items.now) }
     ensures { IfOk result (λ cells. cells ≡ constants (facts_in facts.now) of (plain_exprs items.now)) }
 {
     let mut cells = Vec::new(alloc);
     for item in items {
-        let Some(value) = constant(facts, of, item)? else {
+        let Some(value) = constant(facts, of, item) else {
             return Ok(None);
         };
         cells.push(value)?;
@@ -92,9 +94,10 @@ fn one_constant(
     of: ValueType,
     value: &Expr,
 ) -> Result<Option<Seq<Scalar>>, Memory>
+    requires { IsStart (plain_expr value.now) }
     ensures { IfOk result (λ cells. cells ≡ option_map (λ v. v ∷ []) (constant (facts_in facts.now) (Some of) (plain_expr value.now))) }
 {
-    match constant(facts, Some(of), value)? {
+    match constant(facts, Some(of), value) {
         None => Ok(None),
         Some(value) => {
             let cells = one(alloc, value)?;
@@ -128,6 +131,7 @@ pub(crate) fn given_to(
     element: Option<ValueType>,
     initial: &Option<Initial>,
 ) -> Result<Option<Seq<Scalar>>, Memory>
+    requires { Begins (option_map plain_initial initial.now) }
     ensures { IfOk result (λ cells. cells ≡ given_to (facts_in facts.now) of element (option_map plain_initial initial.now)) }
 {
     match initial {

@@ -1,4 +1,5 @@
 ghost use Rattle.std.specs.Prelude.{◌≡◌, [], IfOk, map, option_map};
+ghost use Rattle.std.specs.List.{All};
 ghost use Rattle.c_syntax.specs.Plain.{plain_initial, plain_start};
 ghost use Rattle.c_rules.specs.Plain.{plain_type};
 ghost use Rattle.cbi_base.specs.declared.scalar.Scalar.TheVariants.{Place};
@@ -8,6 +9,7 @@ ghost use Rattle.c_meaning.specs.Globals.{static_object, struct_cells};
 ghost use Rattle.c_meaning.specs.Globals as meaning;
 ghost use Rattle.lower_facts.specs.Facts.{facts_in, known_in};
 ghost use Rattle.lower_globals.specs.Objects.{all_objects, initial_object, objects_in};
+ghost use Rattle.lower_globals.specs.Starts.{Begins, IfFirst, IsBegun, IsFirst};
 
 use crate::global_cells::given_to;
 use crate::zeros::{filled_up, struct_zeros, zero_cells};
@@ -18,38 +20,38 @@ use flow::{Cell, Global};
 use lower_facts::{TreeFacts, element_type, value_type};
 use std::alloc::Global as Heap;
 
-/// The cell that holds the place of a string. Any other place is `Memory`: no constant gives one.
-fn place_cell(globals: u32, object: u64, offset: u32) -> Result<Cell, Memory>
-    ensures { IfOk result (λ c. cell_value globals c ≡ Place object offset) }
+/// The cell that holds the place of a string.
+fn place_cell(globals: u32, object: u64, offset: u32) -> Cell
+    requires { IsFirst globals (Place object offset) }
+    ensures { cell_value globals result ≡ Place object offset }
 {
-    if offset != 0 || object < globals as u64 {
-        return Err(Memory);
-    }
-    match u32::try_from(object - globals as u64) {
-        Err(_) => Err(Memory),
-        Ok(index) => Ok(Cell::Text { index }),
+    let _offset = offset;
+    Cell::Text {
+        index: (object - globals as u64) as u32,
     }
 }
 
-/// The cell that holds the value. Undefined is `Memory`: no constant gives it.
-fn cell_of(globals: u32, value: Scalar) -> Result<Cell, Memory>
-    ensures { IfOk result (λ c. cell_value globals c ≡ value) }
+/// The cell that holds the value.
+fn cell_of(globals: u32, value: Scalar) -> Cell
+    requires { IsFirst globals value }
+    ensures { cell_value globals result ≡ value }
 {
     match value {
-        Scalar::Number { kind, value } => Ok(Cell::Number { kind, value }),
-        Scalar::Null => Ok(Cell::Null),
+        Scalar::Number { kind, value } => Cell::Number { kind, value },
+        Scalar::Null => Cell::Null,
         Scalar::Place { object, offset } => place_cell(globals, object, offset),
-        Scalar::Undefined => Err(Memory),
+        Scalar::Undefined => unreachable!(),
     }
 }
 
 /// The global that begins with these values.
 fn global_with(alloc: Heap, globals: u32, values: &[Scalar]) -> Result<Global, Memory>
+    requires { All (IsFirst globals) values.now }
     ensures { IfOk result (λ g. machine.global_object globals g ≡ static_object values.now) }
 {
     let mut cells = Vec::new(alloc);
     for value in values {
-        cells.push(cell_of(globals, *value)?)?;
+        cells.push(cell_of(globals, *value))?;
     }
     Ok(Global {
         cells: Seq::from_vec(cells),
@@ -64,7 +66,10 @@ fn object_with(
     ctype: &CType,
     initial: &Option<Initial>,
 ) -> Result<Option<Global>, Memory>
-    requires { zeros.now ≡ struct_cells (known_in facts.now).structs [] }
+    requires zeros { zeros.now ≡ struct_cells (known_in facts.now).structs [] }
+    requires begins { Begins (option_map plain_initial initial.now) }
+    requires cells { IfFirst (facts_in facts.now).statics.globals
+        (initial_object (facts_in facts.now) (known_in facts.now) (plain_type ctype.now) (option_map plain_initial initial.now)) }
     ensures { IfOk result (λ g. option_map (machine.global_object (facts_in facts.now).statics.globals) g ≡ initial_object (facts_in facts.now) (known_in facts.now) (plain_type ctype.now) (option_map plain_initial initial.now)) }
 {
     let structs = facts.structs();
@@ -85,7 +90,8 @@ fn global_of(
     zeros: &[Seq<Scalar>],
     start: &Start,
 ) -> Result<Option<Global>, Memory>
-    requires { zeros.now ≡ struct_cells (known_in facts.now).structs [] }
+    requires zeros { zeros.now ≡ struct_cells (known_in facts.now).structs [] }
+    requires begun { IsBegun (facts_in facts.now) (known_in facts.now) (plain_start start.now) }
     ensures { IfOk result (λ g. option_map (machine.global_object (facts_in facts.now).statics.globals) g ≡ meaning.global_object (facts_in facts.now) (known_in facts.now) (plain_start start.now)) }
 {
     match facts.declared_type(start.declarator.name_token) {
@@ -95,14 +101,15 @@ fn global_of(
 }
 
 /// The globals of variables that are declared outside all functions, where these are the zeros of the structs; None where the initialiser
-/// of one gives it nothing. An initialiser that is no constant, which no text without a fault has here, is `Memory`.
+/// of one gives it nothing.
 pub fn globals_of_starts(
     alloc: Heap,
     facts: &TreeFacts<'_>,
     zeros: &[Seq<Scalar>],
     starts: &[Start],
 ) -> Result<Option<Seq<Global>>, Memory>
-    requires { zeros.now ≡ struct_cells (known_in facts.now).structs [] }
+    requires zeros { zeros.now ≡ struct_cells (known_in facts.now).structs [] }
+    requires begun { All (IsBegun (facts_in facts.now) (known_in facts.now)) (map plain_start starts.now) }
     ensures { IfOk result (λ gs. objects_in facts.now gs ≡ all_objects facts.now (map plain_start starts.now)) }
 {
     let mut globals = Vec::new(alloc);

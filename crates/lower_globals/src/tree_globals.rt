@@ -1,9 +1,10 @@
 ghost use Rattle.std.specs.Prelude.{◌≡◌, ◌++◌, [], IfOk, IfSome, OnOk, length, map, option_map};
-ghost use Rattle.std.specs.List.{flat_map};
+ghost use Rattle.std.specs.List.{All, flat_map};
 ghost use Rattle.c_syntax.specs.Plain.{plain_item};
 ghost use Rattle.c_meaning.specs.Globals.{starts_of, struct_cells};
-ghost use Rattle.lower_facts.specs.Facts.{facts_in, known_in, source_in};
+ghost use Rattle.lower_facts.specs.Facts.{facts_in, known_in, source_in, tree_in};
 ghost use Rattle.lower_globals.specs.Objects.{all_objects, begun_with, objects_in};
+ghost use Rattle.lower_globals.specs.Starts.{IsBegunItem};
 
 use crate::globals::{globals_of_starts, zeros_of_structs};
 use c_syntax::Item;
@@ -19,7 +20,8 @@ fn globals_of_item(
     zeros: &[Seq<Scalar>],
     item: &Item,
 ) -> Result<Option<Seq<Global>>, Memory>
-    requires { zeros.now ≡ struct_cells (known_in facts.now).structs [] }
+    requires zeros { zeros.now ≡ struct_cells (known_in facts.now).structs [] }
+    requires begun { IsBegunItem (facts_in facts.now) (known_in facts.now) (plain_item item.now) }
     ensures { IfOk result (λ gs. objects_in facts.now gs ≡ all_objects facts.now (starts_of (plain_item item.now))) }
 {
     match item {
@@ -46,7 +48,8 @@ fn globals_of_items(
     zeros: &[Seq<Scalar>],
     items: &[Item],
 ) -> Result<Option<Seq<Global>>, Memory>
-    requires { zeros.now ≡ struct_cells (known_in facts.now).structs [] }
+    requires zeros { zeros.now ≡ struct_cells (known_in facts.now).structs [] }
+    requires begun { All (IsBegunItem (facts_in facts.now) (known_in facts.now)) (map plain_item items.now) }
     ensures { IfOk result (λ gs. objects_in facts.now gs ≡ all_objects facts.now (flat_map starts_of (map plain_item items.now))) }
 {
     let mut globals = Vec::new(alloc);
@@ -60,8 +63,9 @@ fn globals_of_items(
 }
 
 /// The globals of the text, in the order of their declarations, with what they begin with; None where the initialiser of one gives it
-/// nothing. An initialiser that is no constant, which no text without a fault has here, is `Memory`.
+/// nothing.
 pub fn globals_of_text(alloc: Heap, facts: &TreeFacts<'_>) -> Result<Option<Vec<Global>>, Memory>
+    requires { All (IsBegunItem (facts_in facts.now) (known_in facts.now)) (tree_in facts.now).items }
     ensures objects { IfOk result (λ found. option_map (λ gs. begun_with (facts_in facts.now).statics.texts gs.items) found ≡ (source_in facts.now).objects) }
     ensures count { IfOk result (λ found. IfSome found (λ gs. length gs.items ≡ (facts_in facts.now).statics.globals)) }
 {

@@ -1,3 +1,4 @@
+ghost use Rattle.flow.specs.Limits.{node_limit};
 ghost use Rattle.std.specs.Prelude.{◌≡◌, IfOk, length, ◌≤◌, ◌+◌};
 ghost use Rattle.c_meaning.specs.Conversions.{as_used};
 ghost use Rattle.c_meaning.specs.Expressions.{is_other_pointer};
@@ -32,6 +33,7 @@ pub fn put_arm(
     want: Option<ValueType>,
     next: u32,
 ) -> Result<u32, Memory>
+    requires room { length graph.old + 3 ≤ node_limit }
     ensures made { IfOk result (λ i. Made (λ G. ArmAs G (is_other_pointer (as_used have) want) have want) graph.old graph.new i next) }
     ensures few { IfOk result (λ i. length graph.new ≤ length graph.old + 3) }
 {
@@ -46,6 +48,7 @@ pub fn put_arm(
 /// 1 where a value is true, else 0.
 #[tactic(auto, using(crate::proofs::Building::parts_made))]
 pub fn put_flagged(graph: &mut Graph, next: u32) -> Result<u32, Memory>
+    requires room { length graph.old + 2 ≤ node_limit }
     ensures made { IfOk result (λ i. Made (λ G. Flagged G) graph.old graph.new i next) }
     ensures few { IfOk result (λ i. length graph.new ≤ length graph.old + 2) }
 {

@@ -1,3 +1,4 @@
+ghost use Rattle.flow.specs.Limits.{node_limit};
 ghost use Rattle.std.specs.Prelude.{◌≡◌, IfOk, length, ◌≤◌, ◌+◌};
 ghost use Rattle.cbi_base.specs.Arithmetic.{kind_given};
 ghost use Rattle.c_meaning.specs.Conversions.{conversion};
@@ -52,6 +53,7 @@ pub fn put_converted(
     want: Option<ValueType>,
     next: u32,
 ) -> Result<u32, Memory>
+    requires room { length graph.old + 2 ≤ node_limit }
     ensures made { IfOk result (λ i. Made (λ G. Converts G (conversion have want)) graph.old graph.new i next) }
     ensures few { IfOk result (λ i. length graph.new ≤ length graph.old + 2) }
 {
@@ -76,6 +78,7 @@ fn put_updates(
     operation: Operation,
     next: u32,
 ) -> Result<u32, Memory>
+    requires room { length graph.old + (9 + pairs (sites_in facts.now) token) ≤ node_limit }
     ensures made { IfOk result (λ i. Made (λ G. Updates G (facts_in facts.now) (sites_in facts.now) token of operation) graph.old graph.new i next) }
     ensures few { IfOk result (λ i. length graph.new ≤ length graph.old + (9 + pairs (sites_in facts.now) token)) }
 {
@@ -94,6 +97,7 @@ pub fn put_changed(
     operation: Operation,
     next: u32,
 ) -> Result<u32, Memory>
+    requires room { length graph.old + (13 + pairs (sites_in facts.now) token) ≤ node_limit }
     ensures made { IfOk result (λ i. Made (λ G. Changed G (facts_in facts.now) (sites_in facts.now) token of operation) graph.old graph.new i next) }
     ensures few { IfOk result (λ i. length graph.new ≤ length graph.old + (13 + pairs (sites_in facts.now) token)) }
 {
@@ -113,6 +117,7 @@ pub fn put_stepped(
     of: Option<ValueType>,
     next: u32,
 ) -> Result<u32, Memory>
+    requires room { length graph.old + (13 + pairs (sites_in facts.now) token) ≤ node_limit }
     ensures made { IfOk result (λ i. Made (λ G. Stepped G (facts_in facts.now) (sites_in facts.now) up token of) graph.old graph.new i next) }
     ensures few { IfOk result (λ i. length graph.new ≤ length graph.old + (13 + pairs (sites_in facts.now) token)) }
 {
@@ -136,6 +141,7 @@ fn put_replaced(
     operation: Operation,
     next: u32,
 ) -> Result<u32, Memory>
+    requires room { length graph.old + (10 + pairs (sites_in facts.now) token) ≤ node_limit }
     ensures made { IfOk result (λ i. Made (λ G. Replaces G (facts_in facts.now) (sites_in facts.now) token of operation) graph.old graph.new i next) }
     ensures few { IfOk result (λ i. length graph.new ≤ length graph.old + (10 + pairs (sites_in facts.now) token)) }
 {
@@ -155,6 +161,7 @@ fn put_stepped_behind(
     of: Option<ValueType>,
     next: u32,
 ) -> Result<u32, Memory>
+    requires room { length graph.old + (16 + pairs (sites_in facts.now) token) ≤ node_limit }
     ensures made { IfOk result (λ i. Made (λ G. SteppedBehind G (facts_in facts.now) (sites_in facts.now) up token of) graph.old graph.new i next) }
     ensures few { IfOk result (λ i. length graph.new ≤ length graph.old + (16 + pairs (sites_in facts.now) token)) }
 {
@@ -181,6 +188,7 @@ pub fn put_stepped_as(
     of: Option<ValueType>,
     next: u32,
 ) -> Result<u32, Memory>
+    requires room { length graph.old + (16 + pairs (sites_in facts.now) token) ≤ node_limit }
     ensures made { IfOk result (λ i. Made (λ G. SteppedAs G (facts_in facts.now) (sites_in facts.now) taken up token of) graph.old graph.new i next) }
     ensures few { IfOk result (λ i. length graph.new ≤ length graph.old + (16 + pairs (sites_in facts.now) token)) }
 {

@@ -3,7 +3,7 @@ ghost use Rattle.flow.specs.declared.node.Node.{Node};
 ghost use Rattle.flow.specs.declared.node.Node.TheVariants.{Again};
 
 use cbi_base::Memory;
-use flow::{NODE_LIMIT, Node};
+use flow::Node;
 use std::alloc::Global;
 use std::marker::Model;
 
@@ -37,17 +37,13 @@ impl Graph {
     /// Adds a node, and answers its number. A graph with more nodes than a program may have isn't made for want of memory; the nodes
     /// of a text are far fewer.
     pub fn put(&mut self, node: Node) -> Result<u32, Memory>
+        requires { length self.old < 16000000 }
         ensures number { IfOk result (λ i. i ≡ length self.old) }
         ensures added { IfOk result (λ i. self.new ≡ self.old ++ node ∷ []) }
         ensures one { IfOk result (λ i. length self.new ≡ length self.old + 1) }
     {
-        if self.nodes.len() >= NODE_LIMIT as usize {
-            return Err(Memory);
-        }
         let number = self.nodes.len() as u32;
-        let Ok(()) = self.nodes.push(node) else {
-            return Err(Memory);
-        };
+        self.nodes.push(node)?;
         Ok(number)
     }
 

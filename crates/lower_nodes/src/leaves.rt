@@ -1,3 +1,4 @@
+ghost use Rattle.flow.specs.Limits.{node_limit};
 ghost use Rattle.std.specs.Prelude.{◌≡◌, IfOk, length, ◌≤◌, ◌+◌};
 ghost use Rattle.flow.specs.declared.node.Node.TheVariants as node;
 ghost use Rattle.lower_relation.specs.Expressions.{TextPlace};
@@ -23,6 +24,7 @@ pub fn put_constant(
     value: i64,
     purpose: Purpose,
 ) -> Result<u32, Memory>
+    requires room { length graph.old + 2 ≤ node_limit }
     ensures made { IfOk result (λ i. MadeFor (λ G. Serves (Valued G (Does G (node.Push kind value 0)))) graph.old graph.new i purpose) }
     ensures few { IfOk result (λ i. length graph.new ≤ length graph.old + 2) }
 {
@@ -34,6 +36,7 @@ pub fn put_constant(
 /// A null pointer.
 #[tactic(auto, using(crate::proofs::Serving::leaves_made))]
 pub fn put_null(graph: &mut Graph, purpose: Purpose) -> Result<u32, Memory>
+    requires room { length graph.old + 2 ≤ node_limit }
     ensures made { IfOk result (λ i. MadeFor (λ G. Serves (Valued G (Does G (node.Null 0)))) graph.old graph.new i purpose) }
     ensures few { IfOk result (λ i. length graph.new ≤ length graph.old + 2) }
 {
@@ -44,6 +47,7 @@ pub fn put_null(graph: &mut Graph, purpose: Purpose) -> Result<u32, Memory>
 
 /// The object of the string with this number.
 pub fn put_text(graph: &mut Graph, number: Option<u32>, purpose: Purpose) -> Result<u32, Memory>
+    requires room { length graph.old + 3 ≤ node_limit }
     ensures made { IfOk result (λ i. MadeFor (λ G. Serves (Valued G (TextPlace G number))) graph.old graph.new i purpose) }
     ensures few { IfOk result (λ i. length graph.new ≤ length graph.old + 3) }
 {
@@ -65,6 +69,7 @@ pub fn put_text(graph: &mut Graph, number: Option<u32>, purpose: Purpose) -> Res
 
 /// How many cells an object has.
 pub fn put_size(graph: &mut Graph, cells: Option<u32>, purpose: Purpose) -> Result<u32, Memory>
+    requires room { length graph.old + 3 ≤ node_limit }
     ensures made { IfOk result (λ i. MadeFor (λ G. Serves (SizeValue G cells)) graph.old graph.new i purpose) }
     ensures few { IfOk result (λ i. length graph.new ≤ length graph.old + 3) }
 {
@@ -93,6 +98,7 @@ pub fn put_name(
     slot: Option<Slot>,
     purpose: Purpose,
 ) -> Result<u32, Memory>
+    requires room { length graph.old + 5 ≤ node_limit }
     ensures made { IfOk result (λ i. MadeFor (λ G. Serves (Placed G of (Variable G slot))) graph.old graph.new i purpose) }
     ensures few { IfOk result (λ i. length graph.new ≤ length graph.old + 5) }
 {

@@ -15,7 +15,7 @@ pub use arms::{put_arm, put_flagged};
 pub use changes::{put_changed, put_converted, put_stepped, put_stepped_as};
 pub use graph::Graph;
 pub use leaves::{put_constant, put_name, put_null, put_size, put_text};
-pub use marks::{put_assigned, put_decided, put_mark, put_marks};
+pub use marks::{put_assigned, put_assigned_behind, put_decided, put_mark, put_marks};
 pub use numbering::finish;
 pub use operators::{put_member, put_operation, put_variable};
 pub use purpose::{Purpose, put_pointed, put_taken, put_taken_place, put_taken_through};

@@ -1,3 +1,4 @@
+ghost use Rattle.flow.specs.Limits.{node_limit};
 ghost use Rattle.std.specs.Prelude.{IfOk, length, ◌≤◌, ◌+◌};
 ghost use Rattle.c_meaning.specs.Visits.{listed};
 ghost use Rattle.lower_relation.specs.Operators.{Assigned, Decided};
@@ -14,6 +15,7 @@ use lower_facts::TreeFacts;
 
 /// The visits of these sites, one after another.
 pub fn put_marks(graph: &mut Graph, sites: &[u32], next: u32) -> Result<u32, Memory>
+    requires room { length graph.old + length sites.now ≤ node_limit }
     ensures made { IfOk result (λ i. Made (λ G. MarksAll G sites.now) graph.old graph.new i next) }
     ensures few { IfOk result (λ i. length graph.new ≤ length graph.old + length sites.now) }
 {
@@ -30,6 +32,7 @@ pub fn put_marks(graph: &mut Graph, sites: &[u32], next: u32) -> Result<u32, Mem
 /// The visit of the site, where there is one.
 #[tactic(auto, using(crate::proofs::Visiting::marks_made))]
 pub fn put_mark(graph: &mut Graph, site: Option<u32>, next: u32) -> Result<u32, Memory>
+    requires room { length graph.old + length (listed site) ≤ node_limit }
     ensures made { IfOk result (λ i. Made (λ G. MarksAll G (listed site)) graph.old graph.new i next) }
     ensures few { IfOk result (λ i. length graph.new ≤ length graph.old + length (listed site)) }
 {
@@ -50,6 +53,7 @@ pub fn put_decided(
     yes: u32,
     no: u32,
 ) -> Result<u32, Memory>
+    requires room { length graph.old + (1 + branches (sites_in facts.now) token) ≤ node_limit }
     ensures made { IfOk result (λ i. MadeWays (λ G. Decided G (facts_in facts.now) (sites_in facts.now) token) graph.old graph.new i (ways yes no)) }
     ensures few { IfOk result (λ i. length graph.new ≤ length graph.old + (1 + branches (sites_in facts.now) token)) }
 {
@@ -65,10 +69,27 @@ pub fn put_assigned(
     token: u32,
     next: u32,
 ) -> Result<u32, Memory>
+    requires room { length graph.old + (1 + pairs (sites_in facts.now) token) ≤ node_limit }
     ensures made { IfOk result (λ i. Made (λ G. Assigned G (facts_in facts.now) (sites_in facts.now) token) graph.old graph.new i next) }
     ensures few { IfOk result (λ i. length graph.new ≤ length graph.old + (1 + pairs (sites_in facts.now) token)) }
 {
     let marks = put_marks(graph, facts.pairs_at(token), next)?;
     let i = graph.put(Node::Store { next: marks })?;
     Ok(i)
+}
+
+/// What is assigned at the token behind this one is stored, and then the sites there are visited.
+pub fn put_assigned_behind(
+    graph: &mut Graph,
+    facts: &TreeFacts,
+    token: u32,
+    next: u32,
+) -> Result<u32, Memory>
+    requires room { length graph.old + (1 + pairs (sites_in facts.now) (token + 1)) ≤ node_limit }
+    ensures made { IfOk result (λ i. Made (λ G. Assigned G (facts_in facts.now) (sites_in facts.now) (token + 1)) graph.old graph.new i next) }
+    ensures few { IfOk result (λ i. length graph.new ≤ length graph.old + (1 + pairs (sites_in facts.now) (token + 1))) }
+{
+    let marks = put_marks(graph, facts.pairs_behind(token), next)?;
+    let stored = graph.put(Node::Store { next: marks })?;
+    Ok(stored)
 }

@@ -1,4 +1,5 @@
-ghost use Rattle.std.specs.Prelude.{◌≡◌, ◌-◌, IfOk, length};
+ghost use Rattle.std.specs.Prelude.{◌≡◌, ◌≤◌, ◌-◌, IfOk, length};
+ghost use Rattle.flow.specs.Limits.{node_limit};
 ghost use Rattle.flow.specs.View.{view};
 ghost use Rattle.lower_relation.specs.Stands.{renamed};
 ghost use Rattle.lower_nodes.specs.Finished.{Finished, turned};
@@ -31,10 +32,11 @@ fn renumbered(node: Node, last: u32) -> Node
     }
 }
 
-/// The nodes of a graph in the order of the program: the last one that was put is the first.
+/// The nodes of a graph in the order of the program: the last one that was put is the first. They are no more than a program may have.
 pub fn finish(alloc: Global, graph: &Graph) -> Result<Vec<Node>, Memory>
     ensures finished { IfOk result (λ nodes. Finished graph.now nodes.items (turned (length graph.now - 1))) }
     ensures as_many { IfOk result (λ nodes. length nodes.items ≡ length graph.now) }
+    ensures most { IfOk result (λ nodes. length nodes.items ≤ node_limit) }
     ensures leads { IfOk result (λ nodes. LeadBack 0 graph.now → LeadOn nodes.items) }
 {
     let nodes = graph.nodes();

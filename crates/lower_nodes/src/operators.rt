@@ -1,3 +1,4 @@
+ghost use Rattle.flow.specs.Limits.{node_limit};
 ghost use Rattle.std.specs.Prelude.{IfOk, length, ◌≤◌, ◌+◌};
 ghost use Rattle.lower_relation.specs.Operators.{Member, Operates, Pointed, Variable};
 ghost use Rattle.c_meaning.specs.declared.operation.Operation.TheVariants.{Numbers};
@@ -17,6 +18,7 @@ fn put_numbers(
     right: Kind,
     next: u32,
 ) -> Result<u32, Memory>
+    requires room { length graph.old + 6 ≤ node_limit }
     ensures made { IfOk result (λ i. Made (λ G. Operates G (Numbers op left right)) graph.old graph.new i next) }
     ensures few { IfOk result (λ i. length graph.new ≤ length graph.old + 6) }
 {
@@ -29,6 +31,7 @@ fn put_numbers(
 /// What is done with two values, the right one on top.
 #[tactic(auto, using(crate::proofs::Building::parts_made))]
 pub fn put_operation(graph: &mut Graph, operation: Operation, next: u32) -> Result<u32, Memory>
+    requires room { length graph.old + 6 ≤ node_limit }
     ensures made { IfOk result (λ i. Made (λ G. Operates G operation) graph.old graph.new i next) }
     ensures few { IfOk result (λ i. length graph.new ≤ length graph.old + 6) }
 {
@@ -64,6 +67,7 @@ pub fn put_operation(graph: &mut Graph, operation: Operation, next: u32) -> Resu
 /// The object of a variable.
 #[tactic(auto, using(crate::proofs::Building::parts_made))]
 pub fn put_variable(graph: &mut Graph, slot: Option<Slot>, next: u32) -> Result<u32, Memory>
+    requires room { length graph.old + 2 ≤ node_limit }
     ensures made { IfOk result (λ i. Made (λ G. Variable G slot) graph.old graph.new i next) }
     ensures few { IfOk result (λ i. length graph.new ≤ length graph.old + 2) }
 {
@@ -86,6 +90,7 @@ pub fn put_variable(graph: &mut Graph, slot: Option<Slot>, next: u32) -> Result<
 /// A member, or an element, of the object at a place.
 #[tactic(auto, using(crate::proofs::Building::parts_made))]
 pub fn put_member(graph: &mut Graph, offset: Option<u32>, next: u32) -> Result<u32, Memory>
+    requires room { length graph.old + 2 ≤ node_limit }
     ensures made { IfOk result (λ i. Made (λ G. Member G offset) graph.old graph.new i next) }
     ensures few { IfOk result (λ i. length graph.new ≤ length graph.old + 2) }
 {

@@ -1,3 +1,4 @@
+ghost use Rattle.flow.specs.Limits.{node_limit};
 ghost use Rattle.std.specs.Prelude.{◌≡◌, IfOk, length, ◌≤◌, ◌+◌};
 ghost use Rattle.lower_nodes.specs.Purposes.{Takes, TakesPlace, TakesThrough, is_single};
 ghost use Rattle.lower_relation.specs.Operators.{LoadThrough, Pointed};
@@ -25,6 +26,7 @@ pub enum Purpose {
 /// What becomes of a value on top.
 #[tactic(auto, using(crate::proofs::Taking::takes_made))]
 pub fn put_taken(graph: &mut Graph, purpose: Purpose) -> Result<u32, Memory>
+    requires room { length graph.old + 1 ≤ node_limit }
     ensures made { IfOk result (λ i. MadeFor (λ G. Takes G) graph.old graph.new i purpose) }
     ensures few { IfOk result (λ i. length graph.new ≤ length graph.old + 1) }
 {
@@ -51,6 +53,7 @@ fn is_struct(of: Option<ValueType>) -> bool
 /// A place whose value isn't taken.
 #[tactic(auto, using(crate::proofs::Building::parts_made))]
 fn put_discarded(graph: &mut Graph, of: Option<ValueType>, next: u32) -> Result<u32, Memory>
+    requires room { length graph.old + 3 ≤ node_limit }
     ensures made { IfOk result (λ i. Made (λ G. Discarded G (is_struct of) of) graph.old graph.new i next) }
     ensures few { IfOk result (λ i. length graph.new ≤ length graph.old + 3) }
 {
@@ -69,6 +72,7 @@ pub fn put_taken_place(
     of: Option<ValueType>,
     purpose: Purpose,
 ) -> Result<u32, Memory>
+    requires room { length graph.old + 3 ≤ node_limit }
     ensures made { IfOk result (λ i. MadeFor (λ G. TakesPlace G of) graph.old graph.new i purpose) }
     ensures few { IfOk result (λ i. length graph.new ≤ length graph.old + 3) }
 {
@@ -92,6 +96,7 @@ pub fn put_taken_place(
 /// A pointer becomes a place where it isn't null.
 #[tactic(auto, using(crate::proofs::Taking::pointers_made))]
 pub fn put_pointed(graph: &mut Graph, next: u32) -> Result<u32, Memory>
+    requires room { length graph.old + 3 ≤ node_limit }
     ensures made { IfOk result (λ i. Made (λ G. Pointed G) graph.old graph.new i next) }
     ensures few { IfOk result (λ i. length graph.new ≤ length graph.old + 3) }
 {
@@ -120,6 +125,7 @@ fn is_single(of: Option<ValueType>) -> bool
 /// The value at a pointer.
 #[tactic(auto, using(crate::proofs::Taking::loads_made))]
 fn put_load_through(graph: &mut Graph, of: Option<ValueType>, next: u32) -> Result<u32, Memory>
+    requires room { length graph.old + 5 ≤ node_limit }
     ensures made { IfOk result (λ i. Made (λ G. LoadThrough G of) graph.old graph.new i next) }
     ensures few { IfOk result (λ i. length graph.new ≤ length graph.old + 5) }
 {
@@ -138,6 +144,7 @@ pub fn put_taken_through(
     of: Option<ValueType>,
     purpose: Purpose,
 ) -> Result<u32, Memory>
+    requires room { length graph.old + 6 ≤ node_limit }
     ensures made { IfOk result (λ i. MadeFor (λ G. TakesThrough G of) graph.old graph.new i purpose) }
     ensures few { IfOk result (λ i. length graph.new ≤ length graph.old + 6) }
 {

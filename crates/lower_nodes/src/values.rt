@@ -1,3 +1,4 @@
+ghost use Rattle.flow.specs.Limits.{node_limit};
 ghost use Rattle.std.specs.Prelude.{IfOk, length, ◌≤◌, ◌+◌};
 ghost use Rattle.lower_relation.specs.Paths.{Stuck};
 ghost use Rattle.lower_relation.specs.Values.{Converts, ConvertsBelow, Handed, LoadAt};
@@ -11,6 +12,7 @@ use flow::Node;
 /// Nodes that no run of a checked text comes to; `next` is where they would go on.
 #[tactic(auto, using(crate::proofs::Building::stuck_made))]
 pub fn put_stuck(graph: &mut Graph, next: u32) -> Result<u32, Memory>
+    requires room { length graph.old + 2 ≤ node_limit }
     ensures made { IfOk result (λ i. MadeAlone (λ G. Stuck G) graph.old graph.new i next) }
     ensures few { IfOk result (λ i. length graph.new ≤ length graph.old + 2) }
 {
@@ -26,6 +28,7 @@ pub fn put_stuck(graph: &mut Graph, next: u32) -> Result<u32, Memory>
 /// The value on top is converted.
 #[tactic(auto, using(crate::proofs::Building::parts_made))]
 pub fn put_conversion(graph: &mut Graph, conversion: Conversion, next: u32) -> Result<u32, Memory>
+    requires room { length graph.old + 2 ≤ node_limit }
     ensures made { IfOk result (λ i. Made (λ G. Converts G conversion) graph.old graph.new i next) }
     ensures few { IfOk result (λ i. length graph.new ≤ length graph.old + 2) }
 {
@@ -49,6 +52,7 @@ pub fn put_conversion_below(
     conversion: Conversion,
     next: u32,
 ) -> Result<u32, Memory>
+    requires room { length graph.old + 3 ≤ node_limit }
     ensures made { IfOk result (λ i. Made (λ G. ConvertsBelow G conversion) graph.old graph.new i next) }
     ensures few { IfOk result (λ i. length graph.new ≤ length graph.old + 3) }
 {
@@ -70,6 +74,7 @@ pub fn put_conversion_below(
 /// A value is handed over as one of the type.
 #[tactic(auto, using(crate::proofs::Building::parts_made))]
 pub fn put_handed(graph: &mut Graph, want: Option<ValueType>, next: u32) -> Result<u32, Memory>
+    requires room { length graph.old + 3 ≤ node_limit }
     ensures made { IfOk result (λ i. Made (λ G. Handed G want) graph.old graph.new i next) }
     ensures few { IfOk result (λ i. length graph.new ≤ length graph.old + 3) }
 {
@@ -97,6 +102,7 @@ pub fn put_handed(graph: &mut Graph, want: Option<ValueType>, next: u32) -> Resu
 /// The value of a place of the type.
 #[tactic(auto, using(crate::proofs::Building::parts_made))]
 pub fn put_load(graph: &mut Graph, of: Option<ValueType>, next: u32) -> Result<u32, Memory>
+    requires room { length graph.old + 2 ≤ node_limit }
     ensures made { IfOk result (λ i. Made (λ G. LoadAt G of) graph.old graph.new i next) }
     ensures few { IfOk result (λ i. length graph.new ≤ length graph.old + 2) }
 {

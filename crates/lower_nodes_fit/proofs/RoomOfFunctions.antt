@@ -47,7 +47,7 @@ as_many tree definitions h = sym (length-map definitions frame) ∙ ap length h 
 
 module _ (sites : Sites) where
   -- the first function, and those behind it
-  first_apart : (body : ℕ → Option EntryList) (n : ℕ)
+  pub first_apart : (body : ℕ → Option EntryList) (n : ℕ)
       → functions_room sites body (suc n) ≡ function_room sites (body 0) + functions_room sites (λ k. body (suc k)) n
   first_apart body zero = omega arith
   first_apart body (suc n) = omega (arith, first_apart body n)

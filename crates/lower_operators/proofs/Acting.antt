@@ -1,5 +1,5 @@
 -- How many arguments there are, and what calls do behind them.
-use Rattle.std.proofs.Common.{◌≡◌, ℕ, suc, ◌∙◌, ap, subst, refl, List, [], ◌∷◌, ◌++◌, length, Option, Some, None}
+use Rattle.std.proofs.Common.{◌≡◌, ◌≤◌, arith, ℕ, suc, ◌∙◌, ap, subst, refl, List, [], ◌∷◌, ◌++◌, length, Option, Some, None}
 use Rattle.c_rules.specs.declared.library.Library.{Library}
 use Rattle.c_rules.specs.declared.library.Library.TheVariants as library
 use Rattle.c_syntax.specs.ExprTree.{ExprList}
@@ -20,6 +20,11 @@ use Rattle.lower_operators.specs.Passing.{Acts, Formats, LibraryActs, library_no
 pub counted : (xs : List Expr) → count (plain_exprs xs) ≡ length xs
 counted [] = refl
 counted (x ∷ xs) = ap suc (counted xs)
+
+-- those behind the first one are no more
+pub others_fewer : (xs : List Expr) → count (others (plain_exprs xs)) ≤ length xs
+others_fewer [] = omega arith
+others_fewer (x ∷ xs) = omega (arith, counted xs)
 
 same_node : (x y : Node) → Some x ≡ Some y → view_of x ≡ view_of y
 same_node x y e = let same : x ≡ y = cc in ap view_of same

@@ -1,3 +1,4 @@
+ghost use Rattle.flow.specs.Limits.{node_limit};
 ghost use Rattle.std.specs.Prelude.{◌≡◌, IfOk, option_map, length, ◌≤◌, ◌+◌};
 ghost use Rattle.std.specs.Option.{option_copied};
 ghost use Rattle.c_meaning.specs.Trees.{count};
@@ -164,7 +165,7 @@ pub fn fits(facts: &TreeFacts, called: Called, arguments: &[Expr]) -> bool
     }
 }
 
-/// `printf` by the string with this number. No text has so many arguments that their count is `Memory`.
+/// `printf` by the string with this number.
 #[tactic(auto, using(lower_nodes::proofs::Building::parts_made))]
 fn put_format(
     graph: &mut Graph,
@@ -172,15 +173,14 @@ fn put_format(
     count: usize,
     next: u32,
 ) -> Result<u32, Memory>
+    requires few { count ≤ node_limit }
+    requires room { length graph.old + 1 ≤ node_limit }
     ensures made { IfOk result (λ i. Made (λ G. Formats G number count) graph.old graph.new i next) }
     ensures few { IfOk result (λ i. length graph.new ≤ length graph.old + 1) }
 {
     let Some(text) = number else {
         return Ok(next);
     };
-    if count > u32::MAX as usize {
-        return Err(Memory);
-    }
     let i = graph.put(Node::Format {
         text,
         count: count as u32,
@@ -215,6 +215,8 @@ fn put_library(
     count: usize,
     next: u32,
 ) -> Result<u32, Memory>
+    requires few { count ≤ node_limit }
+    requires room { length graph.old + 1 ≤ node_limit }
     ensures made { IfOk result (λ i. Made (λ G. LibraryActs G function number count) graph.old graph.new i next) }
     ensures few { IfOk result (λ i. length graph.new ≤ length graph.old + 1) }
 {
@@ -239,6 +241,8 @@ pub fn put_acts(
     arguments: &[Expr],
     next: u32,
 ) -> Result<u32, Memory>
+    requires few { length arguments.now ≤ node_limit }
+    requires room { length graph.old + 1 ≤ node_limit }
     ensures made { IfOk result (λ i. Made (λ G. Acts G (facts_in facts.now) called (plain_exprs arguments.now)) graph.old graph.new i next) }
     ensures few { IfOk result (λ i. length graph.new ≤ length graph.old + 1) }
 {

@@ -1,3 +1,4 @@
+ghost use Rattle.flow.specs.Limits.{node_limit};
 ghost use Rattle.std.specs.Prelude.{◌≡◌, ◌<◌, IfOk, length, ◌≤◌, ◌+◌};
 ghost use Rattle.c_syntax.specs.Plain.{plain_expr, plain_links};
 ghost use Rattle.c_meaning.specs.Trees.{begins_null};
@@ -54,6 +55,7 @@ pub fn put_shortcut(
     right: u32,
     next: u32,
 ) -> Result<u32, Memory>
+    requires room { length graph.old + (2 + branches (sites_in facts.now) token) ≤ node_limit }
     ensures made { IfOk result (λ i. MadeTo (either_end right) (λ G. Shortcut G (facts_in facts.now) (sites_in facts.now) is_both token right) graph.old graph.new i next) }
     ensures few { IfOk result (λ i. length graph.new ≤ length graph.old + (2 + branches (sites_in facts.now) token)) }
 {

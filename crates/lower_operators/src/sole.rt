@@ -1,3 +1,4 @@
+ghost use Rattle.flow.specs.Limits.{node_limit};
 ghost use Rattle.std.specs.Prelude.{IfOk, length, ◌≤◌, ◌+◌};
 ghost use Rattle.lower_relation.specs.Operators.{OneOperand};
 ghost use Rattle.lower_nodes.specs.Made.{Made};
@@ -19,6 +20,7 @@ pub fn put_sole(
     op: Unary,
     next: u32,
 ) -> Result<u32, Memory>
+    requires room { length graph.old + 3 ≤ node_limit }
     ensures made { IfOk result (λ i. Made (λ G. OneOperand G of ((facts_in facts.now).type_at token) op) graph.old graph.new i next) }
     ensures few { IfOk result (λ i. length graph.new ≤ length graph.old + 3) }
 {

@@ -1,3 +1,4 @@
+ghost use Rattle.flow.specs.Limits.{node_limit};
 ghost use Rattle.std.specs.Prelude.{◌≡◌, ◌<◌, ◌+◌, ◌||◌, IfOk, drop, length, ◌≤◌};
 ghost use Rattle.c_syntax.specs.ExprTree as e;
 ghost use Rattle.c_syntax.specs.Plain.{plain_operators, plain_postfix};
@@ -23,6 +24,7 @@ pub fn put_settled(
     of: Option<ValueType>,
     next: u32,
 ) -> Result<u32, Memory>
+    requires room { length graph.old + 2 ≤ node_limit }
     ensures made { IfOk result (λ i. Made (λ G. Settled G known of) graph.old graph.new i next) }
     ensures few { IfOk result (λ i. length graph.new ≤ length graph.old + 2) }
 {
@@ -45,6 +47,7 @@ pub fn put_stepped_place(
     of: Option<ValueType>,
     next: u32,
 ) -> Result<u32, Memory>
+    requires room { length graph.old + (16 + pairs (sites_in facts.now) token) ≤ node_limit }
     ensures made { IfOk result (λ i. Made (λ G. Only G known (SteppedAs G (facts_in facts.now) (sites_in facts.now) taken up token of)) graph.old graph.new i next) }
     ensures few { IfOk result (λ i. length graph.new ≤ length graph.old + (16 + pairs (sites_in facts.now) token)) }
 {

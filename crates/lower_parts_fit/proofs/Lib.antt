@@ -21,6 +21,7 @@ pub mod Values
 pub mod Declaring
 pub mod GlobalsOfItems
 pub mod Objects
+pub mod Constants
 pub mod ProgramGlobals
 pub mod Numbers
 pub mod Functions

@@ -12,7 +12,7 @@ use Rattle.c_syntax.specs.ItemTree.{SourceTree}
 use Rattle.c_rules.specs.declared.layout.StructType.{StructType}
 use Rattle.c_rules.specs.TypeTree as t
 use Rattle.c_rules.specs.TypeTree.{TypeTree}
-use Rattle.c_rules.specs.Sizes.{cells_of, is_complete}
+use Rattle.c_rules.specs.Sizes.{cells_of, is_complete, most_cells}
 use Rattle.c_types_expressions.specs.declared.walk.Definition.{Definition}
 use Rattle.c_types_expressions.specs.declared.walk.Walk.{Walk}
 use Rattle.c_types.proofs.Options.{some_is}
@@ -24,6 +24,7 @@ use Rattle.c_types_sound.specs.Accepted.{IsAcceptedTree}
 use Rattle.c_types_sound.proofs.Ending.{small_structs, tree_sums}
 use Rattle.c_types_sound.proofs.Noting.{Small}
 use Rattle.c_types_sound.proofs.Sizing.{Sized}
+use Rattle.lower_facts.specs.Signatures.{AreSized}
 use Rattle.lower_parts_fit.specs.Brought.{IsSigned}
 use Rattle.lower_parts_fit.proofs.Entering.{IsScalar}
 use Rattle.lower_parts_fit.proofs.Definitions.{AllFit, FitsIn, all_fit, fits_at}
@@ -119,6 +120,17 @@ module _ (tree : SourceTree) (z : Walk) (small : (tag : ℕ) → Small tree z (t
       sym (length-map k.entry.own.ctype.params (value_type z.structs) ∙ k.entry.params) in
       subst (λ (r : Signature). AreLocals (length r.params) r.locals) is
       (subst (λ n. AreLocals n (sizes_of z d)) long (definition_locals d named.0 a.sized k))
+
+-- objects of these types are no larger than an object may be
+all_most : (structs : List StructType) (types : List TypeTree) → AllByRecursion (Sized structs) types → AllByRecursion (λ of. cells_of structs of ≤ most_cells) types
+all_most structs [] h = tt
+all_most structs (of ∷ types) h = (h.0.most, all_most structs types h.1)
+
+-- so is each variable of an accepted text
+pub variables_sized : (tree : SourceTree) (z : Walk) → IsAcceptedTree tree z → AreSized z
+variables_sized tree z a =
+    All-from_recursion (λ of. cells_of z.structs of ≤ most_cells) z.declared_types
+    (all_most z.structs z.declared_types (all_fit tree z a.formed.shaped a.walked).sized)
 
 -- each signature of an accepted text has locals that a function can have
 pub locals_fit : (tree : SourceTree) (z : Walk) → IsAcceptedTree tree z → (number : ℕ) (f : Signature) → (facts_of tree z).signature number ≡ Some f

@@ -142,7 +142,7 @@ module _ (tree : SourceTree) (z : Walk) (walked : walk_tree tree ≡ Fine tt z) 
   given_enough (t.Struct tag) (Some (s.Braced token items comma)) h k f l = absurd k
 
   -- if there is an object, it has so many cells, and what may stand in them
-  abbrev IfObject : ℕ → Option Object → Type 0
+  abbrev pub IfObject : ℕ → Option Object → Type 0
   IfObject n None = Unit {0}
   IfObject n (Some object) = AllCells (objects_of tree z) object.cells × (length object.cells ≡ n)
 
@@ -158,7 +158,7 @@ module _ (tree : SourceTree) (z : Walk) (walked : walk_tree tree ≡ Fine tt z) 
       )
 
   -- the object of a global whose type this is
-  typed_fits : (x : StartTree) (o : Option TypeTree) (of : TypeTree) → o ≡ Some of → Takes of x.initial → TypedGlobal (facts_of tree z) z x o → Plain tree x
+  pub typed_fits : (x : StartTree) (o : Option TypeTree) (of : TypeTree) → o ≡ Some of → Takes of x.initial → TypedGlobal (facts_of tree z) z x o → Plain tree x
       → IfObject (cells_by z o) (option_and_then (object_with (facts_of tree z) z x) o)
   typed_fits x None of e k h p = absurd h
   typed_fits x (Some own) of e k h p =

@@ -38,19 +38,19 @@ use Rattle.lower_parts_fit.proofs.BegunGlobals.{few_globals}
 use Rattle.lower_parts_fit.proofs.Declaring.{cells_at}
 use Rattle.lower_parts_fit.proofs.GlobalsOfItems.{Counted, globals_counted, strings_spelled}
 use Rattle.lower_parts_fit.proofs.Objects.{AreObjects, IfObjects, IsFull, plain_items, starts_fit}
-use Rattle.lower_parts_fit.proofs.Values.{AllCells, IsCell, objects_of}
+use Rattle.lower_parts_fit.proofs.Values.{AllCells, Firsts, IsCell, objects_of}
 
 -- a cell whose value may stand in a global: behind so many globals stand so many strings
-cell_may : (globals texts objects : ℕ) (c : Cell) → objects ≡ globals + texts → IsCell objects (cell_value globals c) → IsTrue (cell_fits texts c)
-cell_may globals texts objects (cell.Number kind value) e h = h
-cell_may globals texts objects cell.Null e h = refl
-cell_may globals texts objects (cell.Text index) e h = lt-ltb index texts (omega (arith, e, h))
+cell_may : (globals texts : ℕ) (n : Firsts) (c : Cell) → n.globals ≡ globals → n.texts ≡ texts → IsCell n (cell_value globals c) → IsTrue (cell_fits texts c)
+cell_may globals texts n (cell.Number kind value) e f h = h
+cell_may globals texts n cell.Null e f h = refl
+cell_may globals texts n (cell.Text index) e f h = lt-ltb index texts (omega (arith, e, f, h.2))
 
 -- so may all cells
-cells_may : (globals texts objects : ℕ) (cs : List Cell) → objects ≡ globals + texts → AllCells objects (map (cell_value globals) cs)
+cells_may : (globals texts : ℕ) (n : Firsts) (cs : List Cell) → n.globals ≡ globals → n.texts ≡ texts → AllCells n (map (cell_value globals) cs)
     → AllByRecursion (λ c. IsTrue (cell_fits texts c)) cs
-cells_may globals texts objects [] e h = tt
-cells_may globals texts objects (c ∷ cs) e h = (cell_may globals texts objects c e h.0, cells_may globals texts objects cs e h.1)
+cells_may globals texts n [] e f h = tt
+cells_may globals texts n (c ∷ cs) e f h = (cell_may globals texts n c e f h.0, cells_may globals texts n cs e f h.1)
 
 -- as many cells as the objects have
 globals_sum : (n : ℕ) (gs : List Global) → sum_by (λ (o : Object). length o.cells) (map (global_object n) gs) ≡ sum_by (λ (g : Global). length g.cells) gs
@@ -73,7 +73,7 @@ module _ (tree : SourceTree) (z : Walk) (walked : walk_tree tree ≡ Fine tt z) 
         record {
           filled = omega (arith, h.0.1, length-map g.cells (cell_value n));
           cells = All-from_recursion (λ c. IsTrue (cell_fits (length (texts_of (literals tree))) c)) g.cells
-              (cells_may n (length (texts_of (literals tree))) (objects_of tree z) g.cells (omega (arith, e, texts)) h.0.0);
+              (cells_may n (length (texts_of (literals tree))) (objects_of tree z) g.cells (sym e) (sym texts) h.0.0);
         },
         globals_may n gs e h.1,
       )

@@ -1,5 +1,5 @@
 -- What stands in the cells of a global: numbers in their kinds' ranges, null, and strings of the text.
-use Rattle.std.proofs.Common.{◌≡◌, ℕ, zero, suc, ◌+◌, ◌<◌, refl, subst, sym, ◌∙◌, arith, Bool, true, false, List, [], ◌∷◌, ◌++◌, Option, Some, None}
+use Rattle.std.proofs.Common.{◌≡◌, ℕ, zero, suc, ◌+◌, ◌<◌, ◌≤◌, refl, subst, sym, ◌∙◌, arith, Bool, true, false, List, [], ◌∷◌, ◌++◌, Option, Some, None}
 use Rattle.std.proofs.Common.{Result, Ok, Err, length}
 use Rattle.std.specs.Prelude.{IsTrue, ℤ, drop, map, neg_ℤ, pos, replicate, slice_get, sum_by, ◌==◌, if◌then◌else◌}
 use Rattle.std.specs.List.{AllByRecursion, flat_map}
@@ -47,39 +47,44 @@ use Rattle.c_types_sound.proofs.Spotting.{all_two}
 use Rattle.c_types_sound.proofs.Texts.{Spelled}
 use Rattle.lower_parts_fit.proofs.Initials.{bytes_in, items_in}
 
--- a value that a global's cell may have: a place is that of an object below this number, at its first cell
-abbrev pub IsCell : ℕ → Scalar → Type 0
-IsCell objects (Number kind value) = IsTrue (lies_in kind value)
-IsCell objects (Place number offset) = number < objects
-IsCell objects Null = Unit {0}
-IsCell objects Undefined = ⊥
+-- how many globals there are before a run, and how many strings behind them
+pub record Firsts : Type 0 where
+  pub globals : ℕ
+  pub texts : ℕ
 
-abbrev pub AllCells : ℕ → List Scalar → Type 0
-AllCells objects cells = AllByRecursion (IsCell objects) cells
+-- a value that a global's cell may have: a place is that of one of the strings, at its first cell
+abbrev pub IsCell : Firsts → Scalar → Type 0
+IsCell n (Number kind value) = IsTrue (lies_in kind value)
+IsCell n (Place number offset) = (offset ≡ 0) × (n.globals ≤ number) × (number < n.globals + n.texts)
+IsCell n Null = Unit {0}
+IsCell n Undefined = ⊥
+
+abbrev pub AllCells : Firsts → List Scalar → Type 0
+AllCells n cells = AllByRecursion (IsCell n) cells
 
 -- if there is a value, it is such a one
-abbrev IfCell : ℕ → Option Scalar → Type 0
-IfCell objects None = Unit {0}
-IfCell objects (Some v) = IsCell objects v
+abbrev IfCell : Firsts → Option Scalar → Type 0
+IfCell n None = Unit {0}
+IfCell n (Some v) = IsCell n v
 
 -- zeros
 
 -- some cells behind others
-cells_two : (n : ℕ) (xs ys : List Scalar) → AllCells n xs → AllCells n ys → AllCells n (xs ++ ys)
+cells_two : (n : Firsts) (xs ys : List Scalar) → AllCells n xs → AllCells n ys → AllCells n (xs ++ ys)
 cells_two n xs ys h k = all_two (IsCell n) xs ys h k
 
 -- cells that are repeated
-repeated_cells : (n m : ℕ) (cells : List Scalar) → AllCells n cells → AllCells n (flat_map (λ c. c) (replicate m cells))
+repeated_cells : (n : Firsts) (m : ℕ) (cells : List Scalar) → AllCells n cells → AllCells n (flat_map (λ c. c) (replicate m cells))
 repeated_cells n zero cells h = tt
 repeated_cells n (suc m) cells h = cells_two n cells (flat_map (λ c. c) (replicate m cells)) h (repeated_cells n m cells h)
 
 -- those of the struct with this number
-slot_cells : (n : ℕ) (zeros : List (List Scalar)) (tag : ℕ) → AllByRecursion (AllCells n) zeros → AllCells n (unwrap_or (slice_get zeros tag) [])
+slot_cells : (n : Firsts) (zeros : List (List Scalar)) (tag : ℕ) → AllByRecursion (AllCells n) zeros → AllCells n (unwrap_or (slice_get zeros tag) [])
 slot_cells n [] tag h = tt
 slot_cells n (z ∷ zeros) zero h = h.0
 slot_cells n (z ∷ zeros) (suc tag) h = slot_cells n zeros tag h.1
 
-module _ (n : ℕ) (zeros : List (List Scalar)) (all : AllByRecursion (AllCells n) zeros) where
+module _ (n : Firsts) (zeros : List (List Scalar)) (all : AllByRecursion (AllCells n) zeros) where
   -- zeros of a type
   type_zeros : (of : TypeTree) → AllCells n (zero_cells zeros of)
   type_zeros t.Void = tt
@@ -96,7 +101,7 @@ module _ (n : ℕ) (zeros : List (List Scalar)) (all : AllByRecursion (AllCells 
   members_zeros (m ∷ ms) = cells_two n (zero_cells zeros m.ctype) (flat_map (λ m. zero_cells zeros m.ctype) ms) (type_zeros m.ctype) (members_zeros ms)
 
 -- zeros of structs
-structs_zeros : (n : ℕ) (structs : List StructType) (before : List (List Scalar)) → AllByRecursion (AllCells n) before
+structs_zeros : (n : Firsts) (structs : List StructType) (before : List (List Scalar)) → AllByRecursion (AllCells n) before
     → AllByRecursion (AllCells n) (struct_cells structs before)
 structs_zeros n [] before h = h
 structs_zeros n (s ∷ structs) before h =
@@ -104,24 +109,24 @@ structs_zeros n (s ∷ structs) before h =
     (all_two (AllCells n) before (flat_map (λ m. zero_cells before m.ctype) s.members ∷ []) h (members_zeros n before h s.members, tt))
 
 -- zeros may stand in the cells of a global
-pub zeros_cells : (n : ℕ) (structs : List StructType) (of : TypeTree) → AllCells n (zeros_of structs of)
+pub zeros_cells : (n : Firsts) (structs : List StructType) (of : TypeTree) → AllCells n (zeros_of structs of)
 zeros_cells n structs of = type_zeros n (struct_cells structs []) (structs_zeros n structs [] tt) of
 
 -- all but the first ones
-pub dropped_cells : (n m : ℕ) (cells : List Scalar) → AllCells n cells → AllCells n (drop m cells)
+pub dropped_cells : (n : Firsts) (m : ℕ) (cells : List Scalar) → AllCells n cells → AllCells n (drop m cells)
 dropped_cells n zero cells h = h
 dropped_cells n (suc m) [] h = tt
 dropped_cells n (suc m) (c ∷ cells) h = dropped_cells n m cells h.1
 
 -- the bytes of a string
-pub bytes_cells : (n : ℕ) (bytes : List ℕ) → AllCells n (map char_of bytes)
+pub bytes_cells : (n : Firsts) (bytes : List ℕ) → AllCells n (map char_of bytes)
 bytes_cells n [] = tt
 bytes_cells n (b ∷ bytes) = (wrapped-LiesIn kind.Char (pos b), bytes_cells n bytes)
 
 -- constants
 
 -- what a conversion makes of a value
-converted_cell : (n : ℕ) (c : Conversion) (v : Scalar) → IsCell n v → IfCell n (given (converts c v))
+converted_cell : (n : Firsts) (c : Conversion) (v : Scalar) → IsCell n v → IfCell n (given (converts c v))
 unfolding converted
 converted_cell n Keep v h = h
 converted_cell n (To k) (Number from value) h = wrapped-LiesIn k value
@@ -131,17 +136,17 @@ converted_cell n (To k) Undefined h = absurd h
 converted_cell n Misfit v h = tt
 
 -- what a conversion makes of a value, if there is one
-wanted_cell : (n : ℕ) (c : Conversion) (o : Option Scalar) → IfCell n o → IfCell n (wanted_given c o)
+wanted_cell : (n : Firsts) (c : Conversion) (o : Option Scalar) → IfCell n o → IfCell n (wanted_given c o)
 wanted_cell n c None h = tt
 wanted_cell n c (Some v) h = converted_cell n c v h
 
 -- the negative of an `int`, where it is one
-fitted_cell : (n : ℕ) (value : ℤ) (b : Bool) → lies_in kind.Int value ≡ b → IfCell n (given (as_number kind.Int (if b then Ok value else Err trap.Overflow)))
+fitted_cell : (n : Firsts) (value : ℤ) (b : Bool) → lies_in kind.Int value ≡ b → IfCell n (given (as_number kind.Int (if b then Ok value else Err trap.Overflow)))
 fitted_cell n value true h = h
 fitted_cell n value false h = tt
 
 -- the negative of a value, if there is one
-negated_cell : (n : ℕ) (o : Option Scalar) → IfCell n o → IfCell n (negative_given o)
+negated_cell : (n : Firsts) (o : Option Scalar) → IfCell n o → IfCell n (negative_given o)
 unfolding applied_to_one
 negated_cell n None h = tt
 negated_cell n (Some (Number kind.Char value)) h = tt
@@ -152,17 +157,17 @@ negated_cell n (Some Null) h = tt
 negated_cell n (Some Undefined) h = absurd h
 
 -- what an operation answers
-answered_cell : (n : ℕ) (r : Result Scalar Trap) (w : World) → IfCell n (given r) → IfCell n (given_by (answered r w))
+answered_cell : (n : Firsts) (r : Result Scalar Trap) (w : World) → IfCell n (given r) → IfCell n (given_by (answered r w))
 answered_cell n (Ok v) w h = h
 answered_cell n (Err t) w h = tt
 
 -- a value as one of a type
-bound_cell : (n : ℕ) (o : Out Scalar) (c : Conversion) → IfCell n (given_by o) → IfCell n (given_by (bind o (as_wanted c)))
+bound_cell : (n : Firsts) (o : Out Scalar) (c : Conversion) → IfCell n (given_by o) → IfCell n (given_by (bind o (as_wanted c)))
 bound_cell n (Go v w) c h = answered_cell n (converts c v) w (converted_cell n c v h)
 bound_cell n (Stop outcome w) c h = tt
 
 -- the same, or null
-sensed_cell : (n : ℕ) (b : Bool) (own of : Option ValueType) (m : Sense) → IfCell n (given_by (m.value nowhere))
+sensed_cell : (n : Firsts) (b : Bool) (own of : Option ValueType) (m : Sense) → IfCell n (given_by (m.value nowhere))
     → IfCell n (given_by (wanted_value b own of m nowhere))
 sensed_cell n true own of m h = tt
 sensed_cell n false own of m h = bound_cell n (m.value nowhere) (conversion own of) h
@@ -179,36 +184,36 @@ number_below k token (x ∷ xs) number h =
     number_by (x.token == token) k (length xs) number (number_from (suc k) token xs) h (λ q. number_below (suc k) token xs number q)
 
 -- of a list of expressions the tokens behind the first one
-rest_kinds : (P : TokenKind → Type 0) (rest : ExprList) → AllByRecursion P (more_exprs_kinds rest) → AllByRecursion P (exprs_kinds rest)
+pub rest_kinds : (P : TokenKind → Type 0) (rest : ExprList) → AllByRecursion P (more_exprs_kinds rest) → AllByRecursion P (exprs_kinds rest)
 rest_kinds P e.no_exprs h = tt
 rest_kinds P (e.more_exprs x rest) h = h.1
 
 -- if there are cells, they are so many, and of a global
-abbrev pub IfGiven : ℕ → ℕ → Option (List Scalar) → Type 0
-IfGiven objects count None = Unit {0}
-IfGiven objects count (Some cells) = AllCells objects cells × (length cells ≡ count)
+abbrev pub IfGiven : Firsts → ℕ → Option (List Scalar) → Type 0
+IfGiven n count None = Unit {0}
+IfGiven n count (Some cells) = AllCells n cells × (length cells ≡ count)
 
 -- a cell before others
-before_given : (n m : ℕ) (o : Option Scalar) (cells : Option (List Scalar)) → IfCell n o → IfGiven n m cells → IfGiven n (m + 1) (before_cells o cells)
+before_given : (n : Firsts) (m : ℕ) (o : Option Scalar) (cells : Option (List Scalar)) → IfCell n o → IfGiven n m cells → IfGiven n (m + 1) (before_cells o cells)
 before_given n m None cells h k = tt
 before_given n m (Some v) None h k = tt
 before_given n m (Some v) (Some cells) h k = ((h, k.0), omega (arith, k.1))
 
 -- a cell alone
-alone_given : (n : ℕ) (o : Option Scalar) → IfCell n o → IfGiven n 1 (option_map (λ v. v ∷ []) o)
+alone_given : (n : Firsts) (o : Option Scalar) → IfCell n o → IfGiven n 1 (option_map (λ v. v ∷ []) o)
 alone_given n None h = tt
 alone_given n (Some v) h = ((h, tt), refl)
 
 module _ (tree : SourceTree) (z : Walk) where
-  -- how many objects there are before a run: the globals, and the strings
-  abbrev pub objects_of : ℕ
-  objects_of = z.globals + length (literals tree)
+  -- the globals and the strings of the text
+  abbrev pub objects_of : Firsts
+  objects_of = record { globals = z.globals; texts = length (literals tree) }
 
   -- the place of a string
   placed_cell : (o : Option ℕ) → ((number : ℕ) → o ≡ Some number → number < length (literals tree))
       → IfCell objects_of (given_by (text_place (facts_of tree z) o nowhere))
   placed_cell None h = tt
-  placed_cell (Some number) h = omega (arith, h number refl)
+  placed_cell (Some number) h = (refl, omega arith, omega (arith, h number refl))
 
   -- the value of a constant, as one of a type
   pub constant_cell : (of : Option ValueType) (x : ExprTree) → IsConstant (facts_of tree z) x → AllByRecursion KindFits (expr_kinds x)

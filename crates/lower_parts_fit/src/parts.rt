@@ -14,6 +14,7 @@ ghost use Rattle.flow.specs.Program.{AreLocals, AreTexts};
 ghost use Rattle.sites.specs.Table.{functions_of};
 ghost use Rattle.c_types_sound.specs.Accepted.{IsAcceptedTree};
 ghost use Rattle.c_types_sound.specs.Sited.{IsSited, count_of};
+ghost use Rattle.lower_facts.specs.Signatures.{AreSized};
 ghost use Rattle.lower_parts_fit.specs.Brought.{IsMainSignature, IsOfBytes, IsSigned};
 
 /// The strings of an accepted text are texts of a program: few, and of few bytes together. They are of bytes where the strings among its tokens are.
@@ -27,8 +28,8 @@ pub fn texts_of_an_accepted_text_fit()
 {}
 
 /// The functions that an accepted text defines are at least one and few, with few locals together; no two have one name, and each name is one.
-/// Each has a signature, with locals of sizes that a program takes, the parameters first, of one cell each. `main` is one of them: it gives a
-/// value and has no parameters.
+/// Each has a signature, with locals of sizes that a program takes, the parameters first, of one cell each. No variable is larger than an object
+/// may be. `main` is one of the functions: it gives a value and has no parameters.
 pub fn functions_of_an_accepted_text_fit()
     ensures some { (tree : SourceTree) (walk : Walk) → IsAcceptedTree tree walk → 0 < length walk.definitions }
     ensures few { (tree : SourceTree) (walk : Walk) → IsAcceptedTree tree walk → IsSited tree → length walk.definitions ≤ function_limit }
@@ -37,6 +38,7 @@ pub fn functions_of_an_accepted_text_fit()
     ensures locals { (tree : SourceTree) (walk : Walk) → IsAcceptedTree tree walk → (number : ℕ) (f : Signature)
         → (facts_of tree walk).signature number ≡ Some f → AreLocals (length f.params) f.locals }
     ensures together { (tree : SourceTree) (walk : Walk) → IsAcceptedTree tree walk → IsSited tree → sum_by count_of walk.definitions ≤ local_limit }
+    ensures sized { (tree : SourceTree) (walk : Walk) → IsAcceptedTree tree walk → AreSized walk }
     ensures main { (tree : SourceTree) (walk : Walk) → IsAcceptedTree tree walk → IsMainSignature ((facts_of tree walk).signature (main_of walk)) }
     ensures names { (tree : SourceTree) (walk : Walk) → IsAcceptedTree tree walk → IsSited tree → All IsName (functions_of tree) }
     ensures distinct { (tree : SourceTree) (walk : Walk) → IsAcceptedTree tree walk → (i j : ℕ) (name : List ℕ)

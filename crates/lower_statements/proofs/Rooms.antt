@@ -1,5 +1,5 @@
 -- How much room the parts of a function have.
-use Rattle.std.proofs.Common.{◌≡◌, ℕ, ◌+◌, ◌<◌, ◌∙◌, Box, ap, sym, arith, List, ◌∷◌, length, drop, get_or, map, Option, Some, None}
+use Rattle.std.proofs.Common.{◌≡◌, ℕ, zero, suc, [], ◌+◌, ◌<◌, ◌≤◌, ◌∙◌, Box, ap, sym, arith, List, ◌∷◌, length, drop, get_or, map, Option, Some, None}
 use Rattle.std.specs.List.{sum_by}
 use Rattle.std.specs.Global.{Global as Alloc}
 use Rattle.std.proofs.lemmas.List.{drop_more}
@@ -11,10 +11,10 @@ use Rattle.c_syntax.specs.declared.statement.Start.{Start}
 use Rattle.c_syntax.specs.declared.statement.Statement.{Statement}
 use Rattle.c_syntax.specs.declared.statement.Statement.TheVariants as statement
 use Rattle.c_syntax.specs.StatementTree.{EntryList, no_entries}
-use Rattle.c_syntax.specs.Plain.{plain_entries, plain_entry, plain_expr, plain_second, plain_start, plain_statement}
+use Rattle.c_syntax.specs.Plain.{plain_entries, plain_entry, plain_expr, plain_exprs, plain_second, plain_start, plain_statement}
 use Rattle.c_syntax.proofs.PlainStatements.{plain_declared_before, plain_if, plain_if_else, plain_stated_before}
 use Rattle.c_meaning.specs.Facts.{Sites}
-use Rattle.lower_relation.specs.Room.{branches, entries_room, expr_room, second_room, start_room, statement_room}
+use Rattle.lower_relation.specs.Room.{branches, entries_room, expr_room, exprs_room, second_room, start_room, statement_room}
 
 module _ (sites : Sites) where
   -- a declared variable before others
@@ -33,6 +33,22 @@ module _ (sites : Sites) where
       entries_room sites (plain_entry d no_entries) + entries_room sites (plain_entries (drop m xs)) ≡ entries_room sites (plain_entries (drop j xs))
   entries_more xs m j d e low at =
       rw e (sym (ap (λ l. entries_room sites (plain_entries l)) (drop_more xs j d low ∙ ap (λ z. z ∷ drop (j + 1) xs) (sym at)) ∙ one_before d (plain_entries (drop (j + 1) xs))))
+
+  -- what stands from a place on has no more room than all
+  pub starts_rest : (xs : List Start) (m : ℕ) → sum_by (start_room sites) (map plain_start (drop m xs)) ≤ sum_by (start_room sites) (map plain_start xs)
+  starts_rest xs zero = omega arith
+  starts_rest [] (suc m) = omega arith
+  starts_rest (x ∷ xs) (suc m) = omega (arith, sum_by-cons (start_room sites) (plain_start x) (map plain_start xs), starts_rest xs m)
+
+  -- each item of a list has room
+  pub items_long : (xs : List Expr) → length xs ≤ exprs_room sites 8 (plain_exprs xs)
+  items_long [] = omega arith
+  items_long (x ∷ xs) = omega (arith, items_long xs)
+
+  pub entries_rest : (xs : List Entry) (m : ℕ) → entries_room sites (plain_entries (drop m xs)) ≤ entries_room sites (plain_entries xs)
+  entries_rest xs zero = omega arith
+  entries_rest [] (suc m) = omega arith
+  entries_rest (x ∷ xs) (suc m) = omega (arith, one_before x (plain_entries xs), entries_rest xs m)
 
   -- an `if`, with what stands behind `else` or nothing
   pub if_room : (token : ℕ) (condition : Expr) (first : Box Statement Alloc) (second : Option (Box Statement Alloc)) →

@@ -1,3 +1,4 @@
+ghost use Rattle.flow.specs.Limits.{node_limit};
 ghost use Rattle.std.specs.Prelude.{◌≡◌, IfOk, Some, map, option_map, length, ◌≤◌, ◌+◌};
 ghost use Rattle.std.specs.List.{sum_by};
 ghost use Rattle.c_meaning.specs.Initialisers.{equals_token, want_of};
@@ -10,14 +11,13 @@ ghost use Rattle.lower_nodes.specs.Made.{Made};
 ghost use Rattle.lower_statements.specs.Strings.{StringSet, is_array, text_with};
 ghost use Rattle.lower_facts.specs.Facts.{facts_in, sites_in};
 
-use crate::numbers::number_of;
 use c_meaning::ValueType;
 use c_syntax::{Declaration, Expr, Initial, Start};
 use cbi_base::{Memory, Want};
 use flow::{Node, Slot};
 use lower_expressions::emit_wanted;
 use lower_facts::TreeFacts;
-use lower_nodes::{Graph, put_assigned, put_member, put_stuck, put_variable};
+use lower_nodes::{Graph, put_assigned_behind, put_member, put_stuck, put_variable};
 use lower_operators::number_of_text;
 
 /// What an array's elements are, where it is set to zero.
@@ -34,6 +34,7 @@ fn want_of(of: Option<ValueType>) -> Option<Want>
 /// A declared variable is undefined from here on.
 #[tactic(auto, using(lower_nodes::proofs::Building::parts_made))]
 fn put_cleared(graph: &mut Graph, slot: Option<Slot>, next: u32) -> Result<u32, Memory>
+    requires room { length graph.old + 2 ≤ node_limit }
     ensures made { IfOk result (λ i. Made (λ G. OnLocal G slot (Clears G)) graph.old graph.new i next) }
     ensures few { IfOk result (λ i. length graph.new ≤ length graph.old + 2) }
 {
@@ -57,6 +58,7 @@ fn put_zeroed(
     element: Option<ValueType>,
     next: u32,
 ) -> Result<u32, Memory>
+    requires room { length graph.old + 2 ≤ node_limit }
     ensures made { IfOk result (λ i. Made (λ G. OnLocal G slot (Zeroes G (want_of element))) graph.old graph.new i next) }
     ensures few { IfOk result (λ i. length graph.new ≤ length graph.old + 2) }
 {
@@ -81,6 +83,7 @@ fn put_spell(
     index: u32,
     next: u32,
 ) -> Result<u32, Memory>
+    requires room { length graph.old + 2 ≤ node_limit }
     ensures made { IfOk result (λ i. Made (λ G. Spells G number (text_with (facts_in facts.now) number) index) graph.old graph.new i next) }
     ensures few { IfOk result (λ i. length graph.new ≤ length graph.old + 2) }
 {
@@ -108,6 +111,7 @@ fn put_spelled(
     x: &Expr,
     next: u32,
 ) -> Result<u32, Memory>
+    requires room { length graph.old + 2 ≤ node_limit }
     ensures made { IfOk result (λ i. Made (λ G. OnLocal G slot (Spells G (number_of_text (facts_in facts.now) (plain_expr x.now)) (text_of (facts_in facts.now) (plain_expr x.now)))) graph.old graph.new i next) }
     ensures few { IfOk result (λ i. length graph.new ≤ length graph.old + 2) }
 {
@@ -123,16 +127,6 @@ fn put_spelled(
     }
 }
 
-/// The number of the `=` behind the name of a variable.
-fn equals_behind(token: u32) -> Result<u32, Memory>
-    ensures { IfOk result (λ equals. equals ≡ equals_token token) }
-{
-    match token.checked_add(1) {
-        None => Err(Memory),
-        Some(equals) => Ok(equals),
-    }
-}
-
 /// A scalar is stored as by assignment, with the visits of the sites at the `=`.
 fn emit_scalar(
     graph: &mut Graph,
@@ -141,12 +135,12 @@ fn emit_scalar(
     x: &Expr,
     next: u32,
 ) -> Result<u32, Memory>
+    requires room { length graph.old + (6 + pairs (sites_in facts.now) (equals_token token) + expr_room (sites_in facts.now) (plain_expr x.now)) ≤ node_limit }
     ensures made { IfOk result (λ i. Made (λ G. ScalarSet G (facts_in facts.now) (sites_in facts.now) token (plain_expr x.now)) graph.old graph.new i next) }
     ensures few { IfOk result (λ i. length graph.new ≤ length graph.old + (6 + pairs (sites_in facts.now) (equals_token token) + expr_room (sites_in facts.now) (plain_expr x.now))) }
 {
-    let equals = equals_behind(token)?;
     let drop = graph.put(Node::Drop { next })?;
-    let assigned = put_assigned(graph, facts, equals, drop)?;
+    let assigned = put_assigned_behind(graph, facts, token, drop)?;
     let wanted = emit_wanted(graph, facts, facts.declared_at(token), x, assigned)?;
     let i = put_variable(graph, facts.slot_at(token), wanted)?;
     Ok(i)
@@ -161,6 +155,7 @@ fn emit_element(
     x: &Expr,
     next: u32,
 ) -> Result<u32, Memory>
+    requires room { length graph.old + (8 + expr_room (sites_in facts.now) (plain_expr x.now)) ≤ node_limit }
     ensures made { IfOk result (λ i. Made (λ G. ElementSet G (facts_in facts.now) (sites_in facts.now) token index (plain_expr x.now)) graph.old graph.new i next) }
     ensures few { IfOk result (λ i. length graph.new ≤ length graph.old + (8 + expr_room (sites_in facts.now) (plain_expr x.now))) }
 {
@@ -180,12 +175,13 @@ fn emit_elements(
     items: &[Expr],
     next: u32,
 ) -> Result<u32, Memory>
+    requires room { length graph.old + exprs_room (sites_in facts.now) 8 (plain_exprs items.now) ≤ node_limit }
     ensures made { IfOk result (λ i. Made (λ G. ElementsSet G (facts_in facts.now) (sites_in facts.now) token 0 (plain_exprs items.now)) graph.old graph.new i next) }
     ensures few { IfOk result (λ i. length graph.new ≤ length graph.old + exprs_room (sites_in facts.now) 8 (plain_exprs items.now)) }
 {
     let mut first = next;
     for place in (0..items.len()).rev() {
-        let index = number_of(place)?;
+        let index = place as u32;
         first = emit_element(graph, facts, token, index, &items[place], first)?;
     }
     Ok(first)
@@ -199,6 +195,7 @@ fn emit_string(
     x: &Expr,
     next: u32,
 ) -> Result<u32, Memory>
+    requires room { length graph.old + 4 ≤ node_limit }
     ensures made { IfOk result (λ i. Made (λ G. StringSet G (facts_in facts.now) (sites_in facts.now) token (plain_expr x.now)) graph.old graph.new i next) }
     ensures few { IfOk result (λ i. length graph.new ≤ length graph.old + 4) }
 {
@@ -227,6 +224,7 @@ fn emit_single(
     x: &Expr,
     next: u32,
 ) -> Result<u32, Memory>
+    requires room { length graph.old + (6 + pairs (sites_in facts.now) (equals_token token) + expr_room (sites_in facts.now) (plain_expr x.now)) ≤ node_limit }
     ensures made { IfOk result (λ i. Made (λ G. ValueSet G (facts_in facts.now) (sites_in facts.now) token ((facts_in facts.now).declared_at token) (plain_expr x.now)) graph.old graph.new i next) }
     ensures few { IfOk result (λ i. length graph.new ≤ length graph.old + (6 + pairs (sites_in facts.now) (equals_token token) + expr_room (sites_in facts.now) (plain_expr x.now))) }
 {
@@ -246,6 +244,7 @@ fn emit_initial(
     initial: &Initial,
     next: u32,
 ) -> Result<u32, Memory>
+    requires room { length graph.old + initial_room (sites_in facts.now) token (Some (plain_initial initial.now)) ≤ node_limit }
     ensures made { IfOk result (λ i. Made (λ G. Initialised G (facts_in facts.now) (sites_in facts.now) token (Some (plain_initial initial.now))) graph.old graph.new i next) }
     ensures few { IfOk result (λ i. length graph.new ≤ length graph.old + initial_room (sites_in facts.now) token (Some (plain_initial initial.now))) }
 {
@@ -275,6 +274,7 @@ fn emit_optional_initial(
     initial: &Option<Initial>,
     next: u32,
 ) -> Result<u32, Memory>
+    requires room { length graph.old + initial_room (sites_in facts.now) token (option_map plain_initial initial.now) ≤ node_limit }
     ensures made { IfOk result (λ i. Made (λ G. Initialised G (facts_in facts.now) (sites_in facts.now) token (option_map plain_initial initial.now)) graph.old graph.new i next) }
     ensures few { IfOk result (λ i. length graph.new ≤ length graph.old + initial_room (sites_in facts.now) token (option_map plain_initial initial.now)) }
 {
@@ -289,6 +289,7 @@ fn emit_optional_initial(
 
 /// A declared variable, with its initialiser.
 fn emit_start(graph: &mut Graph, facts: &TreeFacts, start: &Start, next: u32) -> Result<u32, Memory>
+    requires room { length graph.old + start_room (sites_in facts.now) (plain_start start.now) ≤ node_limit }
     ensures made { IfOk result (λ i. Made (λ G. Starts G (facts_in facts.now) (sites_in facts.now) (plain_start start.now)) graph.old graph.new i next) }
     ensures few { IfOk result (λ i. length graph.new ≤ length graph.old + start_room (sites_in facts.now) (plain_start start.now)) }
 {
@@ -305,6 +306,7 @@ fn emit_starts(
     starts: &[Start],
     next: u32,
 ) -> Result<u32, Memory>
+    requires room { length graph.old + sum_by (start_room (sites_in facts.now)) (map plain_start starts.now) ≤ node_limit }
     ensures made { IfOk result (λ i. Made (λ G. AllStart G (facts_in facts.now) (sites_in facts.now) (map plain_start starts.now)) graph.old graph.new i next) }
     ensures few { IfOk result (λ i. length graph.new ≤ length graph.old + sum_by (start_room (sites_in facts.now)) (map plain_start starts.now)) }
 {
@@ -322,6 +324,7 @@ pub fn emit_declaration(
     declaration: &Declaration,
     next: u32,
 ) -> Result<u32, Memory>
+    requires room { length graph.old + declaration_room (sites_in facts.now) (plain_declaration declaration.now) ≤ node_limit }
     ensures made { IfOk result (λ i. Made (λ G. Declares G (facts_in facts.now) (sites_in facts.now) (plain_declaration declaration.now)) graph.old graph.new i next) }
     ensures few { IfOk result (λ i. length graph.new ≤ length graph.old + declaration_room (sites_in facts.now) (plain_declaration declaration.now)) }
 {

@@ -1,3 +1,4 @@
+ghost use Rattle.flow.specs.Limits.{node_limit};
 ghost use Rattle.std.specs.Prelude.{IfOk, option_map, length, ◌≤◌, ◌+◌};
 ghost use Rattle.c_syntax.specs.Plain.{plain_entries, plain_entry, plain_expr, plain_for_start, plain_second, plain_statement};
 ghost use Rattle.c_syntax.specs.StatementTree.{no_entries};
@@ -26,6 +27,7 @@ fn emit_optional_effect(
     x: &Option<Expr>,
     next: u32,
 ) -> Result<u32, Memory>
+    requires room { length graph.old + part_room (sites_in facts.now) (option_map plain_expr x.now) ≤ node_limit }
     ensures made { IfOk result (λ i. Made (λ G. OptionalEffect G (facts_in facts.now) (sites_in facts.now) (option_map plain_expr x.now)) graph.old graph.new i next) }
     ensures few { IfOk result (λ i. length graph.new ≤ length graph.old + part_room (sites_in facts.now) (option_map plain_expr x.now)) }
 {
@@ -47,6 +49,7 @@ fn emit_optional_condition(
     yes: u32,
     no: u32,
 ) -> Result<u32, Memory>
+    requires room { length graph.old + (1 + branches (sites_in facts.now) token + part_room (sites_in facts.now) (option_map plain_expr x.now)) ≤ node_limit }
     ensures made { IfOk result (λ i. MadeWays (λ G. OptionalCondition G (facts_in facts.now) (sites_in facts.now) token (option_map plain_expr x.now)) graph.old graph.new i (ways yes no)) }
     ensures few { IfOk result (λ i. length graph.new ≤ length graph.old + (1 + branches (sites_in facts.now) token + part_room (sites_in facts.now) (option_map plain_expr x.now))) }
 {
@@ -66,6 +69,7 @@ fn emit_for_start(
     start: &ForStart,
     next: u32,
 ) -> Result<u32, Memory>
+    requires room { length graph.old + for_start_room (sites_in facts.now) (plain_for_start start.now) ≤ node_limit }
     ensures made { IfOk result (λ i. Made (λ G. ForStarts G (facts_in facts.now) (sites_in facts.now) (plain_for_start start.now)) graph.old graph.new i next) }
     ensures few { IfOk result (λ i. length graph.new ≤ length graph.old + for_start_room (sites_in facts.now) (plain_for_start start.now)) }
 {
@@ -89,6 +93,7 @@ fn emit_return(
     value: &Option<Expr>,
     exits: Exits,
 ) -> Result<u32, Memory>
+    requires room { length graph.old + (2 + part_room (sites_in facts.now) (option_map plain_expr value.now)) ≤ node_limit }
     ensures made { IfOk result (λ i. MadeExits (λ G. ReturnDo G (facts_in facts.now) (sites_in facts.now) gives (option_map plain_expr value.now)) graph.old graph.new i (exits_of exits)) }
     ensures few { IfOk result (λ i. length graph.new ≤ length graph.old + (2 + part_room (sites_in facts.now) (option_map plain_expr value.now))) }
 {
@@ -112,6 +117,7 @@ fn emit_while(
     condition: &Expr,
     exits: Exits,
 ) -> Result<u32, Memory>
+    requires room { length graph.old + (2 + branches (sites_in facts.now) token + expr_room (sites_in facts.now) (plain_expr condition.now) + statement_room (sites_in facts.now) (plain_statement body.now)) ≤ node_limit }
     ensures made { IfOk result (λ i. MadeExits (λ G. WhileDo G (Condition G (facts_in facts.now) (sites_in facts.now) token (plain_expr condition.now)) (Runs G (facts_in facts.now) (sites_in facts.now) gives (plain_statement body.now))) graph.old graph.new i (exits_of exits)) }
     ensures few { IfOk result (λ i. length graph.new ≤ length graph.old + (2 + branches (sites_in facts.now) token + expr_room (sites_in facts.now) (plain_expr condition.now) + statement_room (sites_in facts.now) (plain_statement body.now))) }
 {
@@ -139,6 +145,7 @@ fn emit_do(
     condition: &Expr,
     exits: Exits,
 ) -> Result<u32, Memory>
+    requires room { length graph.old + (2 + branches (sites_in facts.now) token + expr_room (sites_in facts.now) (plain_expr condition.now) + statement_room (sites_in facts.now) (plain_statement body.now)) ≤ node_limit }
     ensures made { IfOk result (λ i. MadeExits (λ G. DoDo G (Condition G (facts_in facts.now) (sites_in facts.now) token (plain_expr condition.now)) (Runs G (facts_in facts.now) (sites_in facts.now) gives (plain_statement body.now))) graph.old graph.new i (exits_of exits)) }
     ensures few { IfOk result (λ i. length graph.new ≤ length graph.old + (2 + branches (sites_in facts.now) token + expr_room (sites_in facts.now) (plain_expr condition.now) + statement_room (sites_in facts.now) (plain_statement body.now))) }
 {
@@ -167,6 +174,7 @@ fn emit_for(
     step: &Option<Expr>,
     exits: Exits,
 ) -> Result<u32, Memory>
+    requires room { length graph.old + (2 + branches (sites_in facts.now) token + part_room (sites_in facts.now) (option_map plain_expr condition.now) + part_room (sites_in facts.now) (option_map plain_expr step.now) + statement_room (sites_in facts.now) (plain_statement body.now)) ≤ node_limit }
     ensures made { IfOk result (λ i. MadeExits (λ G. ForLoop G (OptionalCondition G (facts_in facts.now) (sites_in facts.now) token (option_map plain_expr condition.now)) (OptionalEffect G (facts_in facts.now) (sites_in facts.now) (option_map plain_expr step.now)) (Runs G (facts_in facts.now) (sites_in facts.now) gives (plain_statement body.now))) graph.old graph.new i (exits_of exits)) }
     ensures few { IfOk result (λ i. length graph.new ≤ length graph.old + (2 + branches (sites_in facts.now) token + part_room (sites_in facts.now) (option_map plain_expr condition.now) + part_room (sites_in facts.now) (option_map plain_expr step.now) + statement_room (sites_in facts.now) (plain_statement body.now))) }
 {
@@ -193,6 +201,7 @@ fn emit_second(
     second: &Option<Box<Statement>>,
     exits: Exits,
 ) -> Result<u32, Memory>
+    requires room { length graph.old + second_room (sites_in facts.now) (plain_second second.now) ≤ node_limit }
     ensures made { IfOk result (λ i. MadeExits (λ G. SecondRuns G (facts_in facts.now) (sites_in facts.now) gives (plain_second second.now)) graph.old graph.new i (exits_of exits)) }
     ensures few { IfOk result (λ i. length graph.new ≤ length graph.old + second_room (sites_in facts.now) (plain_second second.now)) }
 {
@@ -214,6 +223,7 @@ pub fn emit_statement(
     x: &Statement,
     exits: Exits,
 ) -> Result<u32, Memory>
+    requires room { length graph.old + statement_room (sites_in facts.now) (plain_statement x.now) ≤ node_limit }
     ensures made { IfOk result (λ i. MadeExits (λ G. Runs G (facts_in facts.now) (sites_in facts.now) gives (plain_statement x.now)) graph.old graph.new i (exits_of exits)) }
     ensures few { IfOk result (λ i. length graph.new ≤ length graph.old + statement_room (sites_in facts.now) (plain_statement x.now)) }
 {
@@ -274,6 +284,7 @@ fn emit_entry(
     entry: &Entry,
     exits: Exits,
 ) -> Result<u32, Memory>
+    requires room { length graph.old + entries_room (sites_in facts.now) (plain_entry entry.now no_entries) ≤ node_limit }
     ensures made { IfOk result (λ i. MadeExits (λ G. RunsAll G (facts_in facts.now) (sites_in facts.now) gives (plain_entry entry.now no_entries)) graph.old graph.new i (exits_of exits)) }
     ensures few { IfOk result (λ i. length graph.new ≤ length graph.old + entries_room (sites_in facts.now) (plain_entry entry.now no_entries)) }
 {
@@ -298,6 +309,7 @@ pub fn emit_entries(
     entries: &[Entry],
     exits: Exits,
 ) -> Result<u32, Memory>
+    requires room { length graph.old + entries_room (sites_in facts.now) (plain_entries entries.now) ≤ node_limit }
     ensures made { IfOk result (λ i. MadeExits (λ G. RunsAll G (facts_in facts.now) (sites_in facts.now) gives (plain_entries entries.now)) graph.old graph.new i (exits_of exits)) }
     ensures few { IfOk result (λ i. length graph.new ≤ length graph.old + entries_room (sites_in facts.now) (plain_entries entries.now)) }
 {

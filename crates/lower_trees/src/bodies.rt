@@ -5,7 +5,6 @@ ghost use Rattle.c_syntax.specs.Plain.{plain_entries, plain_item};
 ghost use Rattle.c_meaning.specs.Known.{body_of_item};
 ghost use Rattle.lower_trees.specs.Bodies.{body_at, body_in, defining};
 
-use crate::places::next_number;
 use c_syntax::{Entry, Item};
 use cbi_base::Memory;
 use std::alloc::Global;
@@ -34,24 +33,24 @@ fn defines(item: &Item) -> bool
 }
 
 /// The body of the item at the place.
-fn body_at(items: &[Item], place: u32) -> Option<&[Entry]>
+fn body_at(items: &[Item], place: usize) -> Option<&[Entry]>
     ensures { option_map plain_entries (option_copied result) ≡ body_at (map plain_item items.now) place }
 {
-    match items.get(place as usize) {
+    match items.get(place) {
         None => None,
         Some(item) => body_of_item(item),
     }
 }
 
 /// The place with this number.
-fn place_at(places: &[u32], number: u32) -> Option<u32>
+fn place_at(places: &[usize], number: u32) -> Option<usize>
     ensures { result ≡ slice_get places.now number }
 {
     places.get(number as usize).copied()
 }
 
 /// The body of the function with this number, where these are the places of the items that define functions.
-pub fn body_numbered<'a>(items: &'a [Item], places: &[u32], number: u32) -> Option<&'a [Entry]>
+pub fn body_numbered<'a>(items: &'a [Item], places: &[usize], number: u32) -> Option<&'a [Entry]>
     requires { places.now ≡ defining 0 (map plain_item items.now) }
     ensures { option_map plain_entries (option_copied result) ≡ slice_get (flat_map body_of_item (map plain_item items.now)) number }
 {
@@ -62,7 +61,7 @@ pub fn body_numbered<'a>(items: &'a [Item], places: &[u32], number: u32) -> Opti
 }
 
 /// One more place, where it is to be there.
-fn add_place(places: &mut Vec<u32>, holds: bool, place: u32) -> Result<(), Memory>
+fn add_place(places: &mut Vec<usize>, holds: bool, place: usize) -> Result<(), Memory>
     ensures { OnOk result (places.new.items ≡ (if holds then places.old.items ++ place ∷ [] else places.old.items)) }
 {
     if !holds {
@@ -73,14 +72,14 @@ fn add_place(places: &mut Vec<u32>, holds: bool, place: u32) -> Result<(), Memor
 }
 
 /// The places of the items that define functions.
-pub fn body_places(alloc: Global, items: &[Item]) -> Result<Vec<u32>, Memory>
+pub fn body_places(alloc: Global, items: &[Item]) -> Result<Vec<usize>, Memory>
     ensures { IfOk result (λ places. places.items ≡ defining 0 (map plain_item items.now)) }
 {
     let mut places = Vec::new(alloc);
-    let mut place: u32 = 0;
+    let mut place: usize = 0;
     for item in items {
         add_place(&mut places, defines(item), place)?;
-        place = next_number(place)?;
+        place += 1;
     }
     Ok(places)
 }

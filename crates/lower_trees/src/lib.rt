@@ -16,7 +16,7 @@ pub use named::named_cells;
 pub use operators::{
     Assignment, Joint, assignment_by, has_value, joint_by, one_kind, operand_type, step_of,
 };
-pub use places::{at_token, first_at};
+pub use places::{at_token, behind_token, first_at};
 pub use site_index::{SiteLists, site_lists};
 pub use texts::{TextLists, text_lists};
 pub use trees::{

@@ -1,19 +1,9 @@
-ghost use Rattle.std.specs.Prelude.{◌≡◌, ℕ, ◌+◌, ◌≤◌, ◌<◌, ◌==◌, ◌∷◌, ◌++◌, [], if◌then◌else◌, length, IfOk, OnOk, slice_set};
+ghost use Rattle.std.specs.Prelude.{◌≡◌, ℕ, ◌+◌, ◌≤◌, ◌<◌, ◌==◌, ◌∷◌, ◌++◌, [], if◌then◌else◌, length, OnOk, slice_set};
 ghost use Rattle.c_meaning.specs.Texts.{first_of};
 ghost use Rattle.lower_trees.specs.Places.{listed};
 
 use cbi_base::{Memory, Seq};
 use std::alloc::Global;
-
-/// The number behind this one.
-pub(crate) fn next_number(number: u32) -> Result<u32, Memory>
-    ensures { IfOk result (λ next. next ≡ number + 1) }
-{
-    match number.checked_add(1) {
-        None => Err(Memory),
-        Some(next) => Ok(next),
-    }
-}
 
 /// So many places at least, of which the new ones are empty.
 #[tactic(auto, using(crate::proofs::Placed::listed_grown))]
@@ -56,6 +46,16 @@ pub fn at_token(lists: &[Seq<u32>], token: u32) -> &[u32]
     ensures { result.now ≡ listed lists.now token }
 {
     match lists.get(token as usize) {
+        None => &[],
+        Some(list) => list.as_slice(),
+    }
+}
+
+/// The numbers at the token behind this one.
+pub fn behind_token(lists: &[Seq<u32>], token: u32) -> &[u32]
+    ensures { result.now ≡ listed lists.now (token + 1) }
+{
+    match lists.get(token as usize + 1) {
         None => &[],
         Some(list) => list.as_slice(),
     }

@@ -1,9 +1,10 @@
-ghost use Rattle.std.specs.Prelude.{◌≡◌, ℕ, ◌==◌, ◌&&◌, ◌∷◌, ◌++◌, [], if◌then◌else◌, IfOk, OnOk};
+ghost use Rattle.std.specs.Prelude.{◌≡◌, ℕ, ◌==◌, ◌&&◌, ◌∷◌, ◌++◌, [], if◌then◌else◌, length, ◌≤◌, IfOk, OnOk};
+ghost use Rattle.flow.specs.Limits.{site_limit};
 ghost use Rattle.c_meaning.specs.Texts.{is_branch, is_pair, is_return, sites_from};
 ghost use Rattle.lower_trees.specs.Places.{listed};
 ghost use Rattle.lower_trees.specs.Looks.{is_of};
 
-use crate::places::{add, next_number};
+use crate::places::add;
 use cbi_base::{Memory, Seq};
 use flow::{Site, SiteKind};
 use std::alloc::Global;
@@ -47,6 +48,7 @@ fn add_if(
 
 /// The numbers of the sites that look at this, by token.
 fn sites_by_token(alloc: Global, looks: Looks, sites: &[Site]) -> Result<Vec<Seq<u32>>, Memory>
+    requires { length sites.now ≤ site_limit }
     ensures { IfOk result (λ lists. (token : ℕ) → listed lists.items token ≡ sites_from 0 (is_of looks) token sites.now) }
 {
     let mut lists = Vec::new(alloc);
@@ -54,7 +56,7 @@ fn sites_by_token(alloc: Global, looks: Looks, sites: &[Site]) -> Result<Vec<Seq
     for site in sites {
         let holds = is_of(looks, &site.kind);
         add_if(alloc, &mut lists, holds, site.token, number)?;
-        number = next_number(number)?;
+        number += 1;
     }
     Ok(lists)
 }
@@ -69,6 +71,7 @@ pub struct SiteLists {
 
 /// The numbers of the sites, by token.
 pub fn site_lists(alloc: Global, sites: &[Site]) -> Result<SiteLists, Memory>
+    requires { length sites.now ≤ site_limit }
     ensures branches { IfOk result (λ lists. (token : ℕ) → listed lists.branches.items token ≡ sites_from 0 is_branch token sites.now) }
     ensures returns { IfOk result (λ lists. (token : ℕ) → listed lists.returns.items token ≡ sites_from 0 is_return token sites.now) }
     ensures pairs { IfOk result (λ lists. (token : ℕ) → listed lists.pairs.items token ≡ sites_from 0 is_pair token sites.now) }

@@ -22,7 +22,7 @@ use Rattle.lower_expressions.proofs.Forked.{forked_chain, leads_all, leads_step,
 use Rattle.lower_expressions.proofs.Passed.{arguments_none, arguments_step, call_made, refused_made, unfit_made}
 use Rattle.lower_expressions.proofs.Placing.{behind_nowhere, behind_place, comma_nowhere_made, prefix_nowhere, through_place}
 use Rattle.lower_expressions.proofs.Postfixing.{behind_none, behind_step, behind_whole, operator_weighs}
-use Rattle.lower_expressions.proofs.Rooms.{exprs_all, exprs_more, links_all, links_more, passed_room, postfix_all, postfix_more, wider}
+use Rattle.lower_expressions.proofs.Rooms.{exprs_long, exprs_rest, links_rest, postfix_rest, exprs_all, exprs_more, links_all, links_more, passed_room, postfix_all, postfix_more, wider}
 use Rattle.lower_expressions.proofs.Spotting.{postfix_place, postfix_value}
 use Rattle.lower_expressions.proofs.Turning.{turned_made, value_stuck_made, valued_else}
 use Rattle.lower_operators.specs.Taken.{wanted_types}
@@ -526,7 +526,7 @@ truths::emit_forked-loop-place-preserved t c =
       omega (arith, low),
       rw (c.yes_before-left_yes.ensures, c.no_before-left_no.ensures)
           (leads_step (facts_in c.args.facts.now) (sites_in c.args.facts.now) (plain_expr c.args.first.now) c.args.links.now c.loop-place.place (c.loop-place.place - 1) c.index-links-place.result _ _ _ _ _ _ _
-          next low c.index-links-place.is c.requires c.loop-place.invariant.1
+          next low c.index-links-place.is c.requires.given c.loop-place.invariant.1
           (rw (c.is_null_beside-is_null.ensures, c.binary_of-op.ensures, c.type_before-before.ensures, c.operand_type-left.ensures, c.type_of-own.ensures, c.begins_null-begins.ensures) at
           c.in_ok-right.ensures.made)),
       omega (
@@ -552,7 +552,9 @@ calls::emit_arguments-emit_handed-requires t c =
     let low : c.loop-place.place - 1 < length c.args.arguments.now = omega (arith, c.loop-place.invariant.0, c.loop-place-test.true) in
     let weighs : 8 + weight (plain_expr c.index-arguments-place.result) ≤ exprs_weight (plain_exprs c.args.arguments.now) =
     operand_weighs c.args.arguments.now (c.loop-place.place - 1) c.index-arguments-place.result low c.index-arguments-place.is in
-    first_of (omega arith, search (rules, weighs), grind (arith, weighs))
+    let next : c.loop-place.place ≡ c.loop-place.place - 1 + 1 = omega (arith, c.loop-place-test.true) in
+    let more = exprs_more (sites_in c.args.facts.now) 3 c.args.arguments.now c.loop-place.place (c.loop-place.place - 1) c.index-arguments-place.result next low c.index-arguments-place.is in
+    omega (arith, weighs, more, exprs_rest (sites_in c.args.facts.now) 3 c.args.arguments.now (c.loop-place.place - 1))
 
 -- so does each right side of a chain
 pub chains::emit_links-emit_link-requires : goal.chains::emit_links-emit_link-requires
@@ -560,14 +562,18 @@ chains::emit_links-emit_link-requires t c =
     let low : c.loop-place.place - 1 < length c.args.links.now = omega (arith, c.loop-place.invariant.0, c.loop-place-test.true) in
     let weighs : 8 + weight (plain_expr c.index-links-place.result.operand) ≤ links_weight (plain_links c.args.links.now) =
     link_weighs c.args.links.now (c.loop-place.place - 1) c.index-links-place.result low c.index-links-place.is in
-    first_of (omega arith, search (rules, weighs), grind (arith, weighs))
+    let next : c.loop-place.place ≡ c.loop-place.place - 1 + 1 = omega (arith, c.loop-place-test.true) in
+    let more = links_more (sites_in c.args.facts.now) c.args.links.now c.loop-place.place (c.loop-place.place - 1) c.index-links-place.result next low c.index-links-place.is in
+    omega (arith, weighs, more, links_rest (sites_in c.args.facts.now) c.args.links.now (c.loop-place.place - 1))
 
 pub truths::emit_forked-emit_null_truth-requires : goal.truths::emit_forked-emit_null_truth-requires
 truths::emit_forked-emit_null_truth-requires t c =
     let low : c.loop-place.place - 1 < length c.args.links.now = omega (arith, c.loop-place.invariant.0, c.loop-place-test.true) in
     let weighs : 8 + weight (plain_expr c.index-links-place.result.operand) ≤ links_weight (plain_links c.args.links.now) =
     link_weighs c.args.links.now (c.loop-place.place - 1) c.index-links-place.result low c.index-links-place.is in
-    first_of (omega arith, search (rules, weighs), grind (arith, weighs))
+    let next : c.loop-place.place ≡ c.loop-place.place - 1 + 1 = omega (arith, c.loop-place-test.true) in
+    let more = links_more (sites_in c.args.facts.now) c.args.links.now c.loop-place.place (c.loop-place.place - 1) c.index-links-place.result next low c.index-links-place.is in
+    omega (arith, weighs, more, links_rest (sites_in c.args.facts.now) c.args.links.now (c.loop-place.place - 1))
 
 -- and each operator behind an operand
 pub postfix::emit_behind-emit_operator-requires : goal.postfix::emit_behind-emit_operator-requires
@@ -575,7 +581,9 @@ postfix::emit_behind-emit_operator-requires t c =
     let low : c.loop-place.place - 1 < length c.args.operators.now = omega (arith, c.loop-place.invariant.0, c.loop-place-test.true) in
     let weighs : postfix_weight (plain_postfix c.index-operators-place.result e.no_postfix) ≤ postfix_weight (plain_operators c.args.operators.now) =
     operator_weighs c.args.operators.now (c.loop-place.place - 1) c.index-operators-place.result low c.index-operators-place.is in
-    first_of (omega arith, search (rules, weighs), grind (arith, weighs))
+    let next : c.loop-place.place ≡ c.loop-place.place - 1 + 1 = omega (arith, c.loop-place-test.true) in
+    let more = postfix_more (sites_in c.args.facts.now) c.args.operators.now c.loop-place.place (c.loop-place.place - 1) c.index-operators-place.result next low c.index-operators-place.is in
+    omega (arith, weighs, more, postfix_rest (sites_in c.args.facts.now) c.args.operators.now (c.loop-place.place - 1))
 
 -- and each operand of a comma
 pub choices::emit_last-emit-requires : goal.choices::emit_last-emit-requires
@@ -583,11 +591,19 @@ choices::emit_last-emit-requires t c =
     let low : length c.args.operands.now - 1 < length c.args.operands.now = omega (arith, c.if-operands-eq0.false) in
     let weighs : 8 + weight (plain_expr c.index-operands-last.result) ≤ exprs_weight (plain_exprs c.args.operands.now) =
     operand_weighs c.args.operands.now (length c.args.operands.now - 1) c.index-operands-last.result low c.index-operands-last.is in
-    first_of (omega arith, search (rules, weighs), grind (arith, weighs))
+    let few : length c.args.operands.now ≡ length c.args.operands.now - 1 + 1 = omega (arith, c.if-operands-eq0.false) in
+    let more = exprs_more (sites_in c.args.facts.now) 0 c.args.operands.now (length c.args.operands.now) (length c.args.operands.now - 1) c.index-operands-last.result few low c.index-operands-last.is in
+    omega (arith, weighs, more, exprs_rest (sites_in c.args.facts.now) 0 c.args.operands.now (length c.args.operands.now - 1))
 
 pub choices::emit_last-emit-requires-in-loop-place : goal.choices::emit_last-emit-requires-in-loop-place
 choices::emit_last-emit-requires-in-loop-place t c =
     let low : c.loop-place.place - 1 < length c.args.operands.now = omega (arith, c.loop-place.invariant.0, c.loop-place-test.true) in
     let weighs : 8 + weight (plain_expr c.index-operands-place.result) ≤ exprs_weight (plain_exprs c.args.operands.now) =
     operand_weighs c.args.operands.now (c.loop-place.place - 1) c.index-operands-place.result low c.index-operands-place.is in
-    first_of (omega arith, search (rules, weighs), grind (arith, weighs))
+    let next : c.loop-place.place ≡ c.loop-place.place - 1 + 1 = omega (arith, c.loop-place-test.true) in
+    let more = exprs_more (sites_in c.args.facts.now) 0 c.args.operands.now c.loop-place.place (c.loop-place.place - 1) c.index-operands-place.result next low c.index-operands-place.is in
+    omega (arith, weighs, more, exprs_rest (sites_in c.args.facts.now) 0 c.args.operands.now (c.loop-place.place - 1))
+
+-- a call's arguments have room each, so they are no more than a program's nodes
+pub calls::emit_call-put_acts-requires-clause-few : goal.calls::emit_call-put_acts-requires-clause-few
+calls::emit_call-put_acts-requires-clause-few t c = omega (arith, exprs_long (sites_in c.args.facts.now) c.args.arguments.now)

@@ -12,16 +12,16 @@ loop-name-preserved c = record {
   made = omega (arith, c.loop-name.invariant.made, ap length c.in_ok-push.ensures.items, length-append c.loop-name.functions.items (c.in_ok-function.function ∷ []));
   are = rw c.in_ok-push.ensures.items
       (each_pushed (IsFunctionOf (source_in c.args.facts.now)) c.loop-name.functions.items c.in_ok-function.function c.loop-name.invariant.are
-      (subst (λ n. IsFunctionOf (source_in c.args.facts.now) n c.in_ok-function.function) (omega (arith, c.in_ok-number.ensures, c.len.ensures)) c.in_ok-function.ensures.does));
+      (subst (λ n. IsFunctionOf (source_in c.args.facts.now) n c.in_ok-function.function) (omega (arith, c.len-number.ensures)) c.in_ok-function.ensures.does));
   names = rw c.in_ok-push.ensures.items
       (seen_pushed (λ f. f.name) c.loop-name.functions.items c.in_ok-function.function c.args.called.now c.loop-name.name-index c.name-item.result (omega (arith, c.loop-name-test.true))
       c.loop-name.invariant.names c.in_ok-function.ensures.name c.name-item.is);
   stand = rw c.in_ok-push.ensures.items
       (each_pushed (NodesStand c.args.names.now) c.loop-name.functions.items c.in_ok-function.function c.loop-name.invariant.stand
-      (subst (λ n. NodesStand c.args.names.now n c.in_ok-function.function) (omega (arith, c.in_ok-number.ensures, c.len.ensures)) c.in_ok-function.ensures.stand));
+      (subst (λ n. NodesStand c.args.names.now n c.in_ok-function.function) (omega (arith, c.len-number.ensures)) c.in_ok-function.ensures.stand));
   few =
-      functions_more (sites_in c.args.facts.now) (source_in c.args.facts.now).body c.loop-name.functions.items _ c.in_ok-function.function c.in_ok-number.number
-      (omega (arith, c.in_ok-number.ensures, c.len.ensures)) c.in_ok-push.ensures.items c.loop-name.invariant.few c.in_ok-function.ensures.few;
+      functions_more (sites_in c.args.facts.now) (source_in c.args.facts.now).body c.loop-name.functions.items _ c.in_ok-function.function c.len-number.result
+      (omega (arith, c.len-number.ensures)) c.in_ok-push.ensures.items c.loop-name.invariant.few c.in_ok-function.ensures.few;
 }
 
 pub returns-clause-all : goal.returns-clause-all

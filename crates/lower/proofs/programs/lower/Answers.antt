@@ -1,7 +1,14 @@
 use Rattle.c_types.specs.Answers.{known_of, tree_of}
-use Rattle.lower.proofs.Assembling.{ready_facts}
+use Rattle.lower_parts_fit.proofs.LocalSizes.{variables_sized}
+use Rattle.lower.proofs.Assembling.{few_strings, ready_facts}
 use Rattle.lower.proofs.Graphing.{means_is}
 use Rattle.lower.proofs.programs.lower.Goals as goal
+
+pub new-requires-clause-strings : goal.new-requires-clause-strings
+new-requires-clause-strings c = few_strings (tree_of c.args.checked.now) (known_of c.args.checked.now) c.args.table.now c.requires
+
+pub new-requires-clause-sized : goal.new-requires-clause-sized
+new-requires-clause-sized c = variables_sized (tree_of c.args.checked.now) (known_of c.args.checked.now) c.requires.whole.accepted
 
 pub program_of-requires-clause-ready : goal.program_of-requires-clause-ready
 program_of-requires-clause-ready c =

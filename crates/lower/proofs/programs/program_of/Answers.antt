@@ -3,13 +3,16 @@ use Rattle.c_syntax.specs.Spelling.{tree_kinds}
 use Rattle.lower_facts.specs.Facts.{known_in, table_in, tree_in}
 use Rattle.lower_nodes_fit.specs.TextNames.{names_of_text}
 use Rattle.lower.specs.Programs.{node_count}
-use Rattle.lower.proofs.Assembling.{are_parts, globals_are, none_of, program_graph, program_parts, program_plain, program_ready}
+use Rattle.lower.proofs.Assembling.{are_parts, globals_are, globals_start, none_of, program_graph, program_parts, program_plain, program_ready}
 use Rattle.lower.proofs.Rooms.{few_of}
 use Rattle.lower.proofs.programs.program_of.Goals as goal
 
 pub unreachable-requires : goal.unreachable-requires
 unreachable-requires c =
     globals_are c.args.facts.now c.args.table.now c.requires.ready (none_of c.in_ok-globals.field-0 _ _ c.in_default.not-Some c.in_ok-globals.ensures.objects)
+
+pub globals_of_text-requires : goal.globals_of_text-requires
+globals_of_text-requires c = globals_start c.args.facts.now c.args.table.now c.requires.ready
 
 pub of-requires : goal.of-requires
 of-requires c =

@@ -23,5 +23,8 @@ returns-clause-finished c =
 pub returns-clause-as_many : goal.returns-clause-as_many
 returns-clause-as_many c = omega (arith, ap length c.nodes-nodes.ensures.value, c.loop-i.invariant.count, c.loop-i-test.false)
 
+pub returns-clause-most : goal.returns-clause-most
+returns-clause-most c = omega (arith, returns-clause-as_many c, c.nodes-nodes.ensures.few)
+
 pub returns-clause-leads : goal.returns-clause-leads
 returns-clause-leads c = λ back. leads_on _ _ (returns-clause-as_many c) (returns-clause-finished c) back

@@ -1,4 +1,5 @@
 use Rattle.lower_parts_fit.proofs.BegunGlobals.{few_globals, objects_there}
+use Rattle.lower_parts_fit.proofs.Constants.{globals_begun}
 use Rattle.lower_parts_fit.proofs.ProgramGlobals.{globals_fit}
 use Rattle.lower_parts_fit.proofs.globals.globals_of_an_accepted_text_fit.Goals as goal
 
@@ -10,3 +11,6 @@ returns-clause-few c = λ tree walk a s. few_globals tree walk a s
 
 pub returns-clause-fit : goal.returns-clause-fit
 returns-clause-fit c = λ tree walk globals a s f e. globals_fit tree walk globals a s f e
+
+pub returns-clause-begun : goal.returns-clause-begun
+returns-clause-begun c = λ tree walk a s f. globals_begun tree walk a s f

@@ -1,7 +1,7 @@
 use Rattle.lower_parts_fit.proofs.DefinedFunctions.{all_named, as_many, few_defined, some_defined}
 use Rattle.lower_parts_fit.proofs.Distinct.{all_distinct}
 use Rattle.lower_parts_fit.proofs.Main.{main_is}
-use Rattle.lower_parts_fit.proofs.LocalSizes.{definition_signed, locals_fit}
+use Rattle.lower_parts_fit.proofs.LocalSizes.{definition_signed, locals_fit, variables_sized}
 use Rattle.lower_parts_fit.proofs.Variables.{locals_together}
 use Rattle.lower_parts_fit.proofs.parts.functions_of_an_accepted_text_fit.Goals as goal
 
@@ -31,3 +31,6 @@ returns-clause-distinct c = λ tree walk a i j name h k. all_distinct tree walk 
 
 pub returns-clause-together : goal.returns-clause-together
 returns-clause-together c = λ tree walk a s. locals_together tree walk a s
+
+pub returns-clause-sized : goal.returns-clause-sized
+returns-clause-sized c = λ tree walk a. variables_sized tree walk a

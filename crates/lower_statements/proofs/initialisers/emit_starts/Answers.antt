@@ -1,7 +1,7 @@
 use Rattle.std.proofs.Common.{◌≡◌, ◌+◌, ◌-◌, ◌<◌, arith, length}
 use Rattle.lower_facts.specs.Facts.{facts_in, sites_in}
 use Rattle.lower_statements.proofs.Initialising.{starts_none, starts_step}
-use Rattle.lower_statements.proofs.Rooms.{starts_more}
+use Rattle.lower_statements.proofs.Rooms.{starts_more, starts_rest}
 use Rattle.lower_statements.proofs.initialisers.emit_starts.Goals as goal
 
 pub loop-place-init : goal.loop-place-init
@@ -22,3 +22,10 @@ loop-place-preserved c =
         starts_more (sites_in c.args.facts.now) c.args.starts.now c.loop-place.place (c.loop-place.place - 1) c.index-starts-place.result next low c.index-starts-place.is,
       ),
     )
+
+pub emit_start-requires : goal.emit_start-requires
+emit_start-requires c =
+    let next : c.loop-place.place ≡ c.loop-place.place - 1 + 1 = omega (arith, c.loop-place-test.true) in
+    let low : c.loop-place.place - 1 < length c.args.starts.now = omega (arith, c.loop-place.invariant.0, c.loop-place-test.true) in
+    let more = starts_more (sites_in c.args.facts.now) c.args.starts.now c.loop-place.place (c.loop-place.place - 1) c.index-starts-place.result next low c.index-starts-place.is in
+    omega (arith, c.loop-place.invariant.2, more, starts_rest (sites_in c.args.facts.now) c.args.starts.now (c.loop-place.place - 1))

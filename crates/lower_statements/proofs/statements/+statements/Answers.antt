@@ -1,4 +1,6 @@
-use Rattle.std.proofs.Common.{◌≡◌, ◌+◌, ◌-◌, ◌<◌, length, arith, option_map}
+use denote.Param.Weighed.{at_most}
+use Rattle.std.proofs.Common.{◌≡◌, ◌+◌, ◌-◌, ◌<◌, ap, length, arith, option_map}
+use Rattle.c_syntax.proofs.statement.Entry.TheLaws.{the_size}
 use Rattle.c_syntax.specs.Plain.{plain_expr, plain_for_start, plain_statement}
 use Rattle.c_syntax.proofs.PlainStatements as plain
 use Rattle.lower_relation.specs.Expressions.{Condition}
@@ -7,7 +9,7 @@ use Rattle.lower_facts.specs.Facts.{facts_in, sites_in}
 use Rattle.lower_statements.specs.Exits.{exits_of}
 use Rattle.lower_nodes.proofs.Building.{then_made}
 use Rattle.lower_statements.proofs.Looping.{again_below, break_made, continue_made, declared_made, do_made, do_parts, empty_made, entries_none, entries_step, for_made, for_parts, branch_made, stated_made, while_made, while_parts}
-use Rattle.lower_statements.proofs.Rooms.{entries_more}
+use Rattle.lower_statements.proofs.Rooms.{entries_more, entries_rest}
 use Rattle.lower_statements.proofs.statements.+statements.Goals as goal
 
 pub emit_while-returns-clause-made : goal.emit_while-returns-clause-made
@@ -117,3 +119,17 @@ pub emit_statement-returns-in_ok-i-in-If-clause-made : goal.emit_statement-retur
 emit_statement-returns-in_ok-i-in-If-clause-made t c =
     rw c.in-If.is (branch_made (facts_in c.args.facts.now) (sites_in c.args.facts.now) c.args.gives c.in-If.token c.in-If.condition c.in-If.first c.in-If.second
     _ _ _ _ _ _ _ (exits_of c.args.exits) c.in_ok-no-in-If.ensures.made (rw c.deref.ensures at c.in_ok-yes-in-If.ensures.made) c.in_ok-i-in-If.ensures.made)
+
+pub emit_entries-emit_entry-requires : goal.emit_entries-emit_entry-requires
+emit_entries-emit_entry-requires t c =
+    let next : c.loop-place.place ≡ c.loop-place.place - 1 + 1 = omega (arith, c.loop-place-test.true) in
+    let low : c.loop-place.place - 1 < length c.args.entries.now = omega (arith, c.loop-place.invariant.0, c.loop-place-test.true) in
+    let more = entries_more (sites_in c.args.facts.now) c.args.entries.now c.loop-place.place (c.loop-place.place - 1) c.index-entries-place.result next low c.index-entries-place.is in
+    omega (
+      arith,
+      ap the_size c.index-entries-place.is,
+      at_most the_size c.args.entries.now (c.loop-place.place - 1) c.index-entries-place.result low,
+      c.loop-place.invariant.2,
+      more,
+      entries_rest (sites_in c.args.facts.now) c.args.entries.now (c.loop-place.place - 1),
+    )
