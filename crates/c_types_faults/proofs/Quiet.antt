@@ -1,0 +1,335 @@
+-- What keeps the rules breaks none.
+use Rattle.std.proofs.Common.{◌⊎◌, inl, inr, ⊎_elim, ◌≡◌, ℕ, ◌≤◌, ap, subst, sym, ◌∙◌, List, [], ◌∷◌, Some, None, Bool, true, false, arith, ◌<◌}
+use Rattle.std.proofs.lemmas.Bool.{and_parts, false≢true}
+use Rattle.std.proofs.lemmas.Bool.Decides.{nat_tests}
+use Rattle.std.proofs.lemmas.Nat.{mul-le}
+use Rattle.std.specs.Prelude.{Option, nat_lt, ◌*◌}
+use Rattle.c_syntax.specs.declared.parts.Declarator.{Declarator}
+use Rattle.c_syntax.specs.ExprTree as e
+use Rattle.c_syntax.specs.ExprTree.{ExprTree, ExprList}
+use Rattle.c_syntax.specs.StatementTree as s
+use Rattle.c_syntax.specs.StatementTree.{DeclarationTree, EntryList, ForStartTree, InitialTree, StartTree, StatementTree}
+use Rattle.c_rules.specs.declared.fault.FaultKind.{FaultKind}
+use Rattle.c_rules.specs.declared.fault.FaultKind.TheVariants as fault
+use Rattle.c_rules.specs.declared.layout.StructType.{StructType}
+use Rattle.c_rules.specs.declared.library.Library.TheVariants as library
+use Rattle.c_rules.specs.declared.operand.Operand.{Operand}
+use Rattle.c_rules.specs.Conversions.{is_struct}
+use Rattle.c_rules.specs.Sizes.{cells_of, is_complete}
+use Rattle.c_rules.specs.TypeTree.{TypeTree, Void, Char, Int, Unsigned, Pointer, Array, Struct}
+use Rattle.c_types_walk.specs.Declarators.{declared_type}
+use Rattle.c_types_walk.specs.Initialisers.{cells_of_string, listed as list_of, valued}
+use Rattle.c_types_laws.specs.Operands.{Accepts, IsScalar}
+use Rattle.c_types_faults.specs.Known.{Entity, Object, Function, Standard, Known}
+use Rattle.c_types_faults.specs.Calls.{Calls}
+use Rattle.c_types_faults.specs.Context.{Context, counting, declare, inner, known}
+use Rattle.c_types_faults.specs.Declarators.{Declares}
+use Rattle.c_types_faults.specs.Initialisers.{Begins, Completes, InitialBreaks, Lists}
+use Rattle.c_types_faults.specs.Declarations.{DeclarationBreaks, DeclarationGives, ElementBreaks, Finishes, HasRoom, IsObject, IsOpen, SizeBreaks}
+use Rattle.c_types_faults.specs.Declarations.{VariableBreaks, VariableGives, VariablesBreak, VariablesGive}
+use Rattle.c_types_faults.specs.ExprBreaks.{Breaks}
+use Rattle.c_types_faults.specs.Wholes.{IsFormatted, IsWhole, WholeBreaks, WholeCallBreaks}
+use Rattle.c_types_faults.specs.Statements.{EntriesBreak, EntriesFit, ForBreaks, GivesUpStruct, IfPart, IsCondition, IsGivenUp, NoCondition, OfPart}
+use Rattle.c_types_faults.specs.Statements.{ReturnBreaks, Returns, StartBreaks, StartGives, StartLeaves, StatementBreaks, StatementFits, computed}
+use Rattle.c_types_faults.proofs.Beginnings.{begins_back, lists_back, completes_so, SameOrOpen}
+use Rattle.c_types_faults.proofs.Bounds.{declared_back, one_some}
+use Rattle.c_types_faults.proofs.Silent.{base_silent, call_silent, expr_silent, list_silent}
+use Rattle.c_types_faults.proofs.Single.{one_base, one_list, one_operand}
+
+pub one_type : (d : Declarator) (base t u : TypeTree) → Declares d base t → Declares d base u → t ≡ u
+one_type d base t u h k = one_some (declared_type d base) t u (declared_back d base t h) (declared_back d base u k)
+
+-- initialisers
+
+module _ (k : Known) (global : Bool) where
+  pub completes_one : (of : TypeTree) (initial : Option InitialTree) (t u : TypeTree) → Completes k global of initial t
+      → Completes k global of initial u → t ≡ u
+  completes_one of None t u h g = h ∙ sym g
+  completes_one of (Some (s.Value value)) t u (x, h) (y, g) =
+      one_some (valued global of value x (cells_of_string value)) t u (begins_back global value of t x h.1)
+      (begins_back global value of u x (subst (λ z. Begins global of value z u) (sym (one_operand k value x y h.0 g.0)) g.1))
+  completes_one of (Some (s.Braced token items comma)) t u (xs, h) (ys, g) =
+      one_some (list_of global items xs of) t u (lists_back global of items xs t h.1)
+      (lists_back global of items xs u (subst (λ zs. Lists global of items zs u) (sym (one_list k items xs ys h.0 g.0)) g.1))
+
+  pub initial_silent : (of : TypeTree) (initial : Option InitialTree) (t : TypeTree) (j : FaultKind) (at : ℕ) → Completes k global of initial t
+      → InitialBreaks k global of initial j at → ⊥
+  initial_silent of None t j at h b = b
+  initial_silent of (Some (s.Value value)) t j at (x, h) (inl b) = expr_silent k value x j at h.0 b
+  initial_silent of (Some (s.Value value)) t j at (x, h) (inr (q, (y, b))) =
+      b.2 t (subst (λ z. Begins global of value z t) (one_operand k value x y h.0 b.0) h.1)
+  initial_silent of (Some (s.Braced token items comma)) t j at (xs, h) (inl b) = list_silent k items xs j at h.0 b
+  initial_silent of (Some (s.Braced token items comma)) t j at (xs, h) (inr (q, (ys, b))) =
+      b.2 t (subst (λ zs. Lists global of items zs t) (one_list k items xs ys h.0 b.0) h.1)
+
+-- an object whose initialiser doesn't give its length keeps its type
+
+closed_same : (of u : TypeTree) (initial : InitialTree) → SameOrOpen of u → (IsOpen of (Some initial) → ⊥) → u ≡ of
+closed_same (Array element known) u initial (inl h) f = absurd (f h.0)
+closed_same (Array element known) u initial (inr h) f = h
+closed_same Void u initial h f = h
+closed_same Char u initial h f = h
+closed_same Int u initial h f = h
+closed_same Unsigned u initial h f = h
+closed_same (Pointer to) u initial h f = h
+closed_same (Struct tag) u initial h f = h
+
+pub completes_closed : (k : Known) (global : Bool) (of : TypeTree) (initial : Option InitialTree) (u : TypeTree) → Completes k global of initial u
+    → (IsOpen of initial → ⊥) → u ≡ of
+completes_closed k global of None u h f = h
+completes_closed k global of (Some initial) u h f = closed_same of u initial (completes_so k global of initial u h) f
+
+less_by : (m n : ℕ) → nat_lt m n ≡ true → m < n
+less_by m n h = grind (arith, nat_tests, h)
+
+element_object : (ss : List StructType) (element : TypeTree) (size : ℕ) → IsObject ss (Array element size) → IsObject ss element
+element_object ss element size h =
+    let p = and_parts (nat_lt 0 size) (is_complete ss element) h.0 in
+    let n : 0 < size = less_by 0 size p.0 in
+    let m : 1 * cells_of ss element ≤ size * cells_of ss element = mul-le 1 (cells_of ss element) size (cells_of ss element) (omega (arith, n)) (omega arith) in
+    (p.1, omega (arith, m, h.1))
+
+open_element : (ss : List StructType) (of u : TypeTree) (initial : InitialTree) → SameOrOpen of u → IsObject ss u → IsOpen of (Some initial)
+    → ElementBreaks ss of → ⊥
+open_element ss (Array element known) u initial (inl h) o q b = b (element_object ss element h.1.0 (subst (IsObject ss) h.1.1 o))
+open_element ss (Array element known) u initial (inr h) o q b = b (element_object ss element known (subst (IsObject ss) h o))
+open_element ss Void u initial h o q b = b
+open_element ss Char u initial h o q b = b
+open_element ss Int u initial h o q b = b
+open_element ss Unsigned u initial h o q b = b
+open_element ss (Pointer to) u initial h o q b = b
+open_element ss (Struct tag) u initial h o q b = b
+
+pub completes_elements : (k : Known) (global : Bool) (ss : List StructType) (of : TypeTree) (initial : Option InitialTree) (u : TypeTree)
+    → Completes k global of initial u → IsObject ss u → IsOpen of initial → ElementBreaks ss of → ⊥
+completes_elements k global ss of (Some initial) u h o q b = open_element ss of u initial (completes_so k global of initial u h) o q b
+completes_elements k global ss (Array element known) None u h o q b = q
+completes_elements k global ss Void None u h o q b = q
+completes_elements k global ss Char None u h o q b = q
+completes_elements k global ss Int None u h o q b = q
+completes_elements k global ss Unsigned None u h o q b = q
+completes_elements k global ss (Pointer to) None u h o q b = q
+completes_elements k global ss (Struct tag) None u h o q b = q
+
+-- variables
+
+module _ (global : Bool) (base : TypeTree) where
+  variable_one : (x : StartTree) (c a b : Context) → VariableGives global base c x a → VariableGives global base c x b → a ≡ b
+  variable_one x c a b (new, (t, (u, h))) (new2, (t2, (u2, g))) =
+      let is : t2 ≡ t = one_type x.declarator base t2 t g.0 h.0 in
+      let same : u ≡ u2 = completes_one (known (declare x.declarator.name (Object t) c)) global t x.initial u u2 h.1
+      (subst (λ z. Finishes global base c x z u2) is g.1) in
+      h.4 ∙ ap (λ v. declare x.declarator.name (Object v) (counting global (cells_of c.structs v) c)) same ∙ sym g.4
+
+  size_silent : (x : StartTree) (c : Context) (t u : TypeTree) → Finishes global base c x t u → IsObject c.structs u → HasRoom global c u
+      → SizeBreaks global base c x t → ⊥
+  size_silent x c t u f o r (inl (closed, bad)) =
+      let is : u ≡ t = completes_closed (known (declare x.declarator.name (Object t) c)) global t x.initial u f closed in
+      ⊎_elim (λ n. n (subst (IsObject c.structs) is o)) (λ n. n (subst (HasRoom global c) is r)) bad
+  size_silent x c t u f o r (inr (opens, inl b)) =
+      completes_elements (known (declare x.declarator.name (Object t) c)) global c.structs t x.initial u f o opens b
+  size_silent x c t u f o r (inr (opens, inr (v, b))) =
+      let is : u ≡ v = completes_one (known (declare x.declarator.name (Object t) c)) global t x.initial u v f b.0 in
+      ⊎_elim (λ n. n (subst (IsObject c.structs) is o)) (λ n. n (subst (HasRoom global c) is r)) b.1
+
+  variable_silent : (x : StartTree) (c a : Context) (j : FaultKind) (at : ℕ) → VariableGives global base c x a → VariableBreaks global base c x j at → ⊥
+  variable_silent x c a j at (new, (t, (u, h))) (inl b) = new b.2
+  variable_silent x c a j at (new, (t, (u, h))) (inr (inl b)) = b.2 t h.0
+  variable_silent x c a j at (new, (t, (u, h))) (inr (inr (t2, b))) = by t2 (one_type x.declarator base t t2 h.0 b.0) b.1
+    where
+      by : (t2 : TypeTree) → t ≡ t2 → (((at ≡ x.token) × (j ≡ fault.Object) × SizeBreaks global base c x t2)
+          ⊎ InitialBreaks (known (declare x.declarator.name (Object t2) c)) global t2 x.initial j at) → ⊥
+      by t2 e (inl b) = size_silent x c t2 u (subst (λ z. Finishes global base c x z u) e h.1) h.2 h.3 b.2
+      by t2 e (inr b) = initial_silent (known (declare x.declarator.name (Object t2) c)) global t2 x.initial u j at
+          (subst (λ z. Finishes global base c x z u) e h.1) b
+
+  variables_one : (xs : List StartTree) (c a b : Context) → VariablesGive global base c xs a → VariablesGive global base c xs b → a ≡ b
+  variables_one [] c a b h g = h ∙ sym g
+  variables_one (x ∷ xs) c a b (n, h) (m, g) =
+      variables_one xs n a b h.1 (subst (λ z. VariablesGive global base z xs b) (sym (variable_one x c n m h.0 g.0)) g.1)
+
+  variables_silent : (xs : List StartTree) (c a : Context) (j : FaultKind) (at : ℕ) → VariablesGive global base c xs a
+      → VariablesBreak global base c xs j at → ⊥
+  variables_silent [] c a j at h b = b
+  variables_silent (x ∷ xs) c a j at (n, h) (inl b) = variable_silent x c n j at h.0 b
+  variables_silent (x ∷ xs) c a j at (n, h) (inr (m, b)) =
+      variables_silent xs n a j at h.1 (subst (λ z. VariablesBreak global base z xs j at) (variable_one x c m n b.0 h.0) b.1)
+
+pub declaration_one : (global : Bool) (d : DeclarationTree) (c a b : Context) → DeclarationGives global c d a → DeclarationGives global c d b → a ≡ b
+declaration_one global d c a b (base, h) (base2, g) =
+    variables_one global base d.starts c a b h.1
+    (subst (λ z. VariablesGive global z c d.starts b) (sym (one_base (known c) d.base base base2 h.0 g.0)) g.1)
+
+pub declaration_silent : (global : Bool) (d : DeclarationTree) (c a : Context) (j : FaultKind) (at : ℕ) → DeclarationGives global c d a
+    → DeclarationBreaks global c d j at → ⊥
+declaration_silent global d c a j at (base, h) (inl b) = base_silent (known c) d.base base j at h.0 b
+declaration_silent global d c a j at (base, h) (inr (base2, b)) = variables_silent global base d.starts c a j at h.1
+    (subst (λ z. VariablesBreak global z c d.starts j at) (one_base (known c) d.base base2 base b.0 h.0) b.1)
+
+-- whole expressions
+
+no_print : (x : Option Entity) (xs : List Operand) (t : TypeTree) → x ≡ Some (Standard library.Printf) → Calls x xs t → ⊥
+no_print x xs t e h = subst (λ z. Calls z xs t) e h
+
+module _ (k : Known) where
+  whole_one : (x : ExprTree) (a b : Operand) → IsWhole k x a → IsWhole k x b → a ≡ b
+  whole_one (e.Call token name arguments) a b (inl h) (inl g) = one_operand k (e.Call token name arguments) a b h g
+  whole_one (e.Call token name arguments) a b (inl (xs, h)) (inr g) = absurd (no_print (k.ordinary name) xs a.ctype g.0 h.1.0)
+  whole_one (e.Call token name arguments) a b (inr h) (inl (xs, g)) = absurd (no_print (k.ordinary name) xs b.ctype h.0 g.1.0)
+  whole_one (e.Call token name arguments) a b (inr h) (inr g) = h.2 ∙ sym g.2
+  whole_one (e.Comma token operands) a b h g = one_operand k (e.Comma token operands) a b h g
+  whole_one (e.Assign token op target x) a b h g = one_operand k (e.Assign token op target x) a b h g
+  whole_one (e.Conditional token condition first second) a b h g = one_operand k (e.Conditional token condition first second) a b h g
+  whole_one (e.Chain level first links) a b h g = one_operand k (e.Chain level first links) a b h g
+  whole_one (e.Cast token named stars operand) a b h g = one_operand k (e.Cast token named stars operand) a b h g
+  whole_one (e.Prefix token o operand) a b h g = one_operand k (e.Prefix token o operand) a b h g
+  whole_one (e.SizeOfType token named stars) a b h g = one_operand k (e.SizeOfType token named stars) a b h g
+  whole_one (e.Postfix primary operators) a b h g = one_operand k (e.Postfix primary operators) a b h g
+  whole_one (e.Name token name) a b h g = one_operand k (e.Name token name) a b h g
+  whole_one (e.Constant token kind number) a b h g = one_operand k (e.Constant token kind number) a b h g
+  whole_one (e.Strings token parts) a b h g = one_operand k (e.Strings token parts) a b h g
+  whole_one (e.Paren token inner) a b h g = one_operand k (e.Paren token inner) a b h g
+  whole_one (e.Null token) a b h g = one_operand k (e.Null token) a b h g
+  whole_one (e.EndOfFile token) a b h g = one_operand k (e.EndOfFile token) a b h g
+
+  whole_call_silent : (x : Option Entity) (arguments : ExprList) (xs : List Operand) (t : TypeTree) (j : FaultKind) → Calls x xs t
+      → WholeCallBreaks x arguments xs j → ⊥
+  whole_call_silent None arguments xs t j h b = call_silent None xs t j h b
+  whole_call_silent (Some (Object of)) arguments xs t j h b = call_silent (Some (Object of)) xs t j h b
+  whole_call_silent (Some (Function f)) arguments xs t j h b = call_silent (Some (Function f)) xs t j h b
+  whole_call_silent (Some (Standard library.Printf)) arguments xs t j h b = h
+  whole_call_silent (Some (Standard library.Getchar)) arguments xs t j h b = call_silent (Some (Standard library.Getchar)) xs t j h b
+  whole_call_silent (Some (Standard library.Putchar)) arguments xs t j h b = call_silent (Some (Standard library.Putchar)) xs t j h b
+  whole_call_silent (Some (Standard library.Puts)) arguments xs t j h b = call_silent (Some (Standard library.Puts)) xs t j h b
+  whole_call_silent (Some (Standard library.Malloc)) arguments xs t j h b = call_silent (Some (Standard library.Malloc)) xs t j h b
+  whole_call_silent (Some (Standard library.Free)) arguments xs t j h b = call_silent (Some (Standard library.Free)) xs t j h b
+  whole_call_silent (Some (Standard library.Exit)) arguments xs t j h b = call_silent (Some (Standard library.Exit)) xs t j h b
+  whole_call_silent (Some (Standard library.Abort)) arguments xs t j h b = call_silent (Some (Standard library.Abort)) xs t j h b
+  whole_call_silent (Some (Standard library.Assert)) arguments xs t j h b = call_silent (Some (Standard library.Assert)) xs t j h b
+
+  print_silent : (x : Option Entity) (arguments : ExprList) (xs : List Operand) (j : FaultKind) → x ≡ Some (Standard library.Printf)
+      → IsFormatted arguments xs → WholeCallBreaks x arguments xs j → ⊥
+  print_silent x arguments xs j e f b = (subst (λ z. WholeCallBreaks z arguments xs j) e b).1 f
+
+  whole_silent : (x : ExprTree) (d : Operand) (j : FaultKind) (at : ℕ) → IsWhole k x d → WholeBreaks k x j at → ⊥
+  whole_silent (e.Call token name arguments) d j at (inl (xs, h)) (inl b) = list_silent k arguments xs j at h.0 b
+  whole_silent (e.Call token name arguments) d j at (inl (xs, h)) (inr (q, (ys, b))) = whole_call_silent (k.ordinary name) arguments xs d.ctype j h.1.0
+      (subst (λ z. WholeCallBreaks (k.ordinary name) arguments z j) (one_list k arguments ys xs b.0 h.0) b.1)
+  whole_silent (e.Call token name arguments) d j at (inr h) (inl b) = list_silent k arguments h.1.0 j at h.1.1.0 b
+  whole_silent (e.Call token name arguments) d j at (inr h) (inr (q, (ys, b))) = print_silent (k.ordinary name) arguments h.1.0 j h.0 h.1.1.1
+      (subst (λ z. WholeCallBreaks (k.ordinary name) arguments z j) (one_list k arguments ys h.1.0 b.0 h.1.1.0) b.1)
+  whole_silent (e.Comma token operands) d j at h b = expr_silent k (e.Comma token operands) d j at h b
+  whole_silent (e.Assign token op target x) d j at h b = expr_silent k (e.Assign token op target x) d j at h b
+  whole_silent (e.Conditional token condition first second) d j at h b = expr_silent k (e.Conditional token condition first second) d j at h b
+  whole_silent (e.Chain level first links) d j at h b = expr_silent k (e.Chain level first links) d j at h b
+  whole_silent (e.Cast token named stars operand) d j at h b = expr_silent k (e.Cast token named stars operand) d j at h b
+  whole_silent (e.Prefix token o operand) d j at h b = expr_silent k (e.Prefix token o operand) d j at h b
+  whole_silent (e.SizeOfType token named stars) d j at h b = expr_silent k (e.SizeOfType token named stars) d j at h b
+  whole_silent (e.Postfix primary operators) d j at h b = expr_silent k (e.Postfix primary operators) d j at h b
+  whole_silent (e.Name token name) d j at h b = expr_silent k (e.Name token name) d j at h b
+  whole_silent (e.Constant token kind number) d j at h b = expr_silent k (e.Constant token kind number) d j at h b
+  whole_silent (e.Strings token parts) d j at h b = expr_silent k (e.Strings token parts) d j at h b
+  whole_silent (e.Paren token inner) d j at h b = expr_silent k (e.Paren token inner) d j at h b
+  whole_silent (e.Null token) d j at h b = expr_silent k (e.Null token) d j at h b
+  whole_silent (e.EndOfFile token) d j at h b = expr_silent k (e.EndOfFile token) d j at h b
+
+  -- parts of statements
+
+  condition_silent : (x : ExprTree) (j : FaultKind) → IsCondition k x → NoCondition k x j → ⊥
+  condition_silent x j (a, h) (q, (b, g)) = g.1 (subst IsScalar (one_operand k x a b h.0 g.0) h.1)
+
+  given_silent : (x : ExprTree) (j : FaultKind) → IsGivenUp k x → GivesUpStruct k x j → ⊥
+  given_silent x j (a, h) (q, (b, g)) =
+      false≢true (sym h.1 ∙ ap (λ (z : Operand). is_struct z.ctype) (one_operand k x a b h.0 g.0) ∙ g.1)
+
+  condition_breaks : (x : ExprTree) (j : FaultKind) (at : ℕ) → IsCondition k x → Breaks k x j at → ⊥
+  condition_breaks x j at (a, h) b = expr_silent k x a j at h.0 b
+
+  given_breaks : (x : ExprTree) (j : FaultKind) (at : ℕ) → IsGivenUp k x → Breaks k x j at → ⊥
+  given_breaks x j at (a, h) b = expr_silent k x a j at h.0 b
+
+part_silent : (P Q : ExprTree → Type 0) (x : Option ExprTree) → ((y : ExprTree) → P y → Q y → ⊥) → IfPart P x → OfPart Q x → ⊥
+part_silent P Q None f h b = b
+part_silent P Q (Some y) f h b = f y h b
+
+start_one : (start : ForStartTree) (c a b : Context) → StartGives c start a → StartLeaves c start b → a ≡ b
+start_one (s.Declares d) c a b h g = declaration_one false d c a b h g
+start_one (s.Computes x) c a b h g = h.1 ∙ sym g
+
+start_silent : (start : ForStartTree) (c a : Context) (j : FaultKind) (at : ℕ) → StartGives c start a → StartBreaks c start j at → ⊥
+start_silent (s.Declares d) c a j at h b = declaration_silent false d c a j at h b
+start_silent (s.Computes x) c a j at h b = part_silent (IsGivenUp (known c)) (λ y. Breaks (known c) y j at) x (λ y. given_breaks (known c) y j at) h.0 b
+
+start_given : (start : ForStartTree) (c a : Context) (j : FaultKind) → StartGives c start a → OfPart (λ x. GivesUpStruct (known c) x j) (computed start) → ⊥
+start_given (s.Declares d) c a j h b = b
+start_given (s.Computes x) c a j h b = part_silent (IsGivenUp (known c)) (λ y. GivesUpStruct (known c) y j) x (λ y. given_silent (known c) y j) h.0 b
+
+return_silent : (k : Known) (gives : TypeTree) (value : Option ExprTree) (j : FaultKind) → Returns k gives value → ReturnBreaks k gives value j → ⊥
+return_silent k gives None j h b = false≢true (sym b.1 ∙ h)
+return_silent k gives (Some x) j h (inl b) = false≢true (sym h.0 ∙ b.1)
+return_silent k gives (Some x) j (q, (a, h)) (inr (r, (b, g))) = g.1 (subst (Accepts gives) (one_operand k x a b h.0 g.0) h.1)
+
+return_breaks : (k : Known) (gives : TypeTree) (value : Option ExprTree) (j : FaultKind) (at : ℕ) → Returns k gives value
+    → OfPart (λ x. Breaks k x j at) value → ⊥
+return_breaks k gives None j at h b = b
+return_breaks k gives (Some x) j at (q, (a, h)) b = expr_silent k x a j at h.0 b
+
+-- statements
+
+module _ (gives : TypeTree) where
+  for_silent : (start : ForStartTree) (condition step : Option ExprTree) (body : StatementTree) (c d : Context) (j : FaultKind) (at token : ℕ)
+      → (StartGives (inner c) start d × IfPart (IsCondition (known d)) condition × IfPart (IsGivenUp (known d)) step × StatementFits gives d true body)
+      → (StatementBreaks gives d true body j at → ⊥)
+      → (OfPart (λ x. Breaks (known d) x j at) condition ⊎ (OfPart (λ x. Breaks (known d) x j at) step ⊎ (StatementBreaks gives d true body j at
+      ⊎ ((at ≡ token) × ForBreaks (known (inner c)) (known d) start condition step j)))) → ⊥
+  for_silent start condition step body c d j at token h f (inl b) =
+      part_silent (IsCondition (known d)) (λ x. Breaks (known d) x j at) condition (λ y. condition_breaks (known d) y j at) h.1 b
+  for_silent start condition step body c d j at token h f (inr (inl b)) =
+      part_silent (IsGivenUp (known d)) (λ x. Breaks (known d) x j at) step (λ y. given_breaks (known d) y j at) h.2 b
+  for_silent start condition step body c d j at token h f (inr (inr (inl b))) = f b
+  for_silent start condition step body c d j at token h f (inr (inr (inr (q, inl b)))) = start_given start (inner c) d j h.0 b
+  for_silent start condition step body c d j at token h f (inr (inr (inr (q, inr (inl b))))) =
+      part_silent (IsCondition (known d)) (λ x. NoCondition (known d) x j) condition (λ y. condition_silent (known d) y j) h.1 b
+  for_silent start condition step body c d j at token h f (inr (inr (inr (q, inr (inr b))))) =
+      part_silent (IsGivenUp (known d)) (λ x. GivesUpStruct (known d) x j) step (λ y. given_silent (known d) y j) h.2 b
+
+  mutual
+    pub statement_silent : (looping : Bool) (x : StatementTree) (c : Context) (j : FaultKind) (at : ℕ) → StatementFits gives c looping x
+        → StatementBreaks gives c looping x j at → ⊥
+    statement_silent looping (s.Block token entries) c j at h b = entries_silent looping entries (inner c) j at h b
+    statement_silent looping (s.Empty token) c j at h b = b
+    statement_silent looping (s.Expr token x) c j at (a, h) (inl b) = whole_silent (known c) x a j at h.0 b
+    statement_silent looping (s.Expr token x) c j at (a, h) (inr (q, r, (d, b))) =
+        false≢true (sym h.1 ∙ ap (λ (z : Operand). is_struct z.ctype) (whole_one (known c) x a d h.0 b.0) ∙ b.1)
+    statement_silent looping (s.If token condition first) c j at h (inl b) = condition_breaks (known c) condition j at h.0 b
+    statement_silent looping (s.If token condition first) c j at h (inr (inl b)) = statement_silent looping first c j at h.1 b
+    statement_silent looping (s.If token condition first) c j at h (inr (inr b)) = condition_silent (known c) condition j h.0 b.1
+    statement_silent looping (s.IfElse token condition first second) c j at h (inl b) = condition_breaks (known c) condition j at h.0 b
+    statement_silent looping (s.IfElse token condition first second) c j at h (inr (inl b)) = statement_silent looping first c j at h.1 b
+    statement_silent looping (s.IfElse token condition first second) c j at h (inr (inr (inl b))) = statement_silent looping second c j at h.2 b
+    statement_silent looping (s.IfElse token condition first second) c j at h (inr (inr (inr b))) = condition_silent (known c) condition j h.0 b.1
+    statement_silent looping (s.While token condition body) c j at h (inl b) = condition_breaks (known c) condition j at h.0 b
+    statement_silent looping (s.While token condition body) c j at h (inr (inl b)) = statement_silent true body c j at h.1 b
+    statement_silent looping (s.While token condition body) c j at h (inr (inr b)) = condition_silent (known c) condition j h.0 b.1
+    statement_silent looping (s.Do token body condition) c j at h (inl b) = statement_silent true body c j at h.0 b
+    statement_silent looping (s.Do token body condition) c j at h (inr (inl b)) = condition_breaks (known c) condition j at h.1 b
+    statement_silent looping (s.Do token body condition) c j at h (inr (inr b)) = condition_silent (known c) condition j h.1 b.1
+    statement_silent looping (s.For token start condition step body) c j at (d, h) (inl b) = start_silent start (inner c) d j at h.0 b
+    statement_silent looping (s.For token start condition step body) c j at (d, h) (inr (d2, (g, b))) =
+        for_silent start condition step body c d j at token h (λ f. statement_silent true body d j at h.3 f)
+        (subst (λ z. OfPart (λ x. Breaks (known z) x j at) condition
+        ⊎ (OfPart (λ x. Breaks (known z) x j at) step ⊎ (StatementBreaks gives z true body j at
+        ⊎ ((at ≡ token) × ForBreaks (known (inner c)) (known z) start condition step j)))) (sym (start_one start (inner c) d d2 h.0 g)) b)
+    statement_silent looping (s.Return token value) c j at h (inl b) = return_breaks (known c) gives value j at h b
+    statement_silent looping (s.Return token value) c j at h (inr b) = return_silent (known c) gives value j h b.1
+    statement_silent looping (s.Break token) c j at h b = false≢true (sym b.1.1 ∙ h)
+    statement_silent looping (s.Continue token) c j at h b = false≢true (sym b.1.1 ∙ h)
+
+    pub entries_silent : (looping : Bool) (xs : EntryList) (c : Context) (j : FaultKind) (at : ℕ) → EntriesFit gives c looping xs
+        → EntriesBreak gives c looping xs j at → ⊥
+    entries_silent looping s.no_entries c j at h b = b
+    entries_silent looping (s.declared declaration rest) c j at (n, h) (inl b) = declaration_silent false declaration c n j at h.0 b
+    entries_silent looping (s.declared declaration rest) c j at (n, h) (inr (m, b)) =
+        entries_silent looping rest n j at h.1 (subst (λ z. EntriesBreak gives z looping rest j at) (declaration_one false declaration c m n b.0 h.0) b.1)
+    entries_silent looping (s.stated statement rest) c j at h (inl b) = statement_silent looping statement c j at h.0 b
+    entries_silent looping (s.stated statement rest) c j at h (inr b) = entries_silent looping rest c j at h.1 b

@@ -1,0 +1,69 @@
+-- Declarations of variables (C99 6.7): what is declared behind one, and which rule one breaks.
+use Rattle.std.specs.Prelude.{◌≡◌, ◌⊎◌, ℕ, ◌+◌, ◌≤◌, Bool, true, false, List, [], ◌∷◌, Option, Some}
+use Rattle.c_syntax.specs.StatementTree.{DeclarationTree, InitialTree, StartTree}
+use Rattle.c_rules.specs.declared.fault.FaultKind.{FaultKind}
+use Rattle.c_rules.specs.declared.fault.FaultKind.TheVariants as fault
+use Rattle.c_rules.specs.declared.layout.StructType.{StructType}
+use Rattle.c_rules.specs.TypeTree.{TypeTree, Array}
+use Rattle.c_rules.specs.Sizes.{cells_of, is_complete, most_cells}
+use Rattle.c_types_faults.specs.Known.{Object}
+use Rattle.c_types_faults.specs.Context.{Context, IsTaken, counting, declare, known}
+use Rattle.c_types_faults.specs.Types.{BaseBreaks, IsBase}
+use Rattle.c_types_faults.specs.Declarators.{Declares}
+use Rattle.c_types_faults.specs.Initialisers.{Completes, InitialBreaks}
+
+-- a complete type (6.7p7), of no more cells than an object may have
+abbrev pub IsObject : List StructType → TypeTree → Type 0
+IsObject structs t = (is_complete structs t ≡ true) × (cells_of structs t ≤ most_cells)
+
+-- all globals together have no more cells than that either
+abbrev pub HasRoom : Bool → Context → TypeTree → Type 0
+HasRoom true c t = c.cells + cells_of c.structs t ≤ most_cells
+HasRoom false c t = Unit {0}
+
+-- an array whose length its initialiser gives (6.7.8p22)
+abbrev pub IsOpen : TypeTree → Option InitialTree → Type 0
+IsOpen (Array element size) (Some initial) = size ≡ 0
+IsOpen t initial = ⊥
+
+-- The elements of an array are objects (6.7.5.2p1).
+abbrev pub ElementBreaks : List StructType → TypeTree → Type 0
+ElementBreaks structs (Array element size) = IsObject structs element → ⊥
+ElementBreaks structs t = ⊥
+
+module _ (global : Bool) (base : TypeTree) where
+  -- the initialiser stands in the scope of the name, behind its declarator (6.2.1p7)
+  abbrev pub Finishes : Context → StartTree → TypeTree → TypeTree → Type 0
+  Finishes c x t u = Completes (known (declare x.declarator.name (Object t) c)) global t x.initial u
+
+  -- A variable keeps the rules, and this is declared behind it: its name is new, and its type, completed by its initialiser, is an object's.
+  abbrev pub VariableGives : Context → StartTree → Context → Type 0
+  VariableGives c x after = (IsTaken x.declarator.name c → ⊥) × ((t : TypeTree) × ((u : TypeTree) × (Declares x.declarator base t × Finishes c x t u
+      × IsObject c.structs u × HasRoom global c u × (after ≡ declare x.declarator.name (Object u) (counting global (cells_of c.structs u) c)))))
+
+  -- its type is no object's, or the globals would have too many cells with it: told where the declarator begins
+  abbrev pub SizeBreaks : Context → StartTree → TypeTree → Type 0
+  SizeBreaks c x t = ((IsOpen t x.initial → ⊥) × ((IsObject c.structs t → ⊥) ⊎ (HasRoom global c t → ⊥)))
+      ⊎ ((IsOpen t x.initial) × (ElementBreaks c.structs t
+      ⊎ ((u : TypeTree) × (Finishes c x t u × ((IsObject c.structs u → ⊥) ⊎ (HasRoom global c u → ⊥))))))
+
+  abbrev pub VariableBreaks : Context → StartTree → FaultKind → ℕ → Type 0
+  VariableBreaks c x kind at = ((at ≡ x.token) × (kind ≡ fault.Redeclared) × IsTaken x.declarator.name c)
+      ⊎ (((at ≡ x.token) × (kind ≡ fault.Object) × ((t : TypeTree) → Declares x.declarator base t → ⊥))
+      ⊎ ((t : TypeTree) × (Declares x.declarator base t × (((at ≡ x.token) × (kind ≡ fault.Object) × SizeBreaks c x t)
+      ⊎ InitialBreaks (known (declare x.declarator.name (Object t) c)) global t x.initial kind at))))
+
+  abbrev pub VariablesGive : Context → List StartTree → Context → Type 0
+  VariablesGive c [] after = after ≡ c
+  VariablesGive c (x ∷ xs) after = (next : Context) × (VariableGives c x next × VariablesGive next xs after)
+
+  abbrev pub VariablesBreak : Context → List StartTree → FaultKind → ℕ → Type 0
+  VariablesBreak c [] kind at = ⊥
+  VariablesBreak c (x ∷ xs) kind at = VariableBreaks c x kind at ⊎ ((next : Context) × (VariableGives c x next × VariablesBreak next xs kind at))
+
+abbrev pub DeclarationGives : Bool → Context → DeclarationTree → Context → Type 0
+DeclarationGives global c d after = (base : TypeTree) × (IsBase (known c) d.base base × VariablesGive global base c d.starts after)
+
+abbrev pub DeclarationBreaks : Bool → Context → DeclarationTree → FaultKind → ℕ → Type 0
+DeclarationBreaks global c d kind at = BaseBreaks (known c) d.base kind at
+    ⊎ ((base : TypeTree) × (IsBase (known c) d.base base × VariablesBreak global base c d.starts kind at))

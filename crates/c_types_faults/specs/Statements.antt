@@ -1,0 +1,136 @@
+-- Which statements keep the rules (C99 6.8), and which rule one breaks: one of its parts does, or the statement itself, at its own token.
+use Rattle.std.specs.Prelude.{◌≡◌, ◌⊎◌, ℕ, Bool, true, false, Option, Some, None}
+use Rattle.c_syntax.specs.ExprTree.{ExprTree}
+use Rattle.c_syntax.specs.StatementTree as s
+use Rattle.c_syntax.specs.StatementTree.{EntryList, ForStartTree, StatementTree}
+use Rattle.c_rules.specs.declared.fault.FaultKind.{FaultKind}
+use Rattle.c_rules.specs.declared.fault.FaultKind.TheVariants as fault
+use Rattle.c_rules.specs.declared.operand.Operand.{Operand}
+use Rattle.c_rules.specs.TypeTree.{TypeTree}
+use Rattle.c_rules.specs.Conversions.{is_struct, is_void}
+use Rattle.c_types_laws.specs.Operands.{Accepts, IsScalar}
+use Rattle.c_types_faults.specs.Known.{Known}
+use Rattle.c_types_faults.specs.Context.{Context, inner, known}
+use Rattle.c_types_faults.specs.Exprs.{IsOperand}
+use Rattle.c_types_faults.specs.ExprBreaks.{Breaks}
+use Rattle.c_types_faults.specs.Wholes.{IsWhole, WholeBreaks}
+use Rattle.c_types_faults.specs.Declarations.{DeclarationBreaks, DeclarationGives}
+
+-- what decides is no scalar (6.8.4.1p1, 6.8.5p2)
+abbrev pub NoCondition : Known → ExprTree → FaultKind → Type 0
+NoCondition k x kind = (kind ≡ fault.Operands) × ((a : Operand) × (IsOperand k x a × (IsScalar a → ⊥)))
+
+-- a value that is given up is a struct, which is used only by `.`, `&` and `sizeof` (6.8.3p2, narrower)
+abbrev pub GivesUpStruct : Known → ExprTree → FaultKind → Type 0
+GivesUpStruct k x kind = (kind ≡ fault.Operands) × ((a : Operand) × (IsOperand k x a × (is_struct a.ctype ≡ true)))
+
+-- of a part of a `for` that may be missing
+abbrev pub OfPart : (ExprTree → Type 0) → Option ExprTree → Type 0
+OfPart P None = ⊥
+OfPart P (Some x) = P x
+
+-- what decides is a scalar
+abbrev pub IsCondition : Known → ExprTree → Type 0
+IsCondition k x = (a : Operand) × (IsOperand k x a × IsScalar a)
+
+-- a value that is given up is no struct
+abbrev pub IsGivenUp : Known → ExprTree → Type 0
+IsGivenUp k x = (a : Operand) × (IsOperand k x a × (is_struct a.ctype ≡ false))
+
+-- of a part of a `for`, if it is there
+abbrev pub IfPart : (ExprTree → Type 0) → Option ExprTree → Type 0
+IfPart P None = Unit {0}
+IfPart P (Some x) = P x
+
+-- The first part of a `for` keeps the rules, and this is declared behind it.
+abbrev pub StartGives : Context → ForStartTree → Context → Type 0
+StartGives c (s.Declares d) after = DeclarationGives false c d after
+StartGives c (s.Computes x) after = IfPart (IsGivenUp (known c)) x × (after ≡ c)
+
+-- what is declared behind the first part, whose own rule is looked at last
+abbrev pub StartLeaves : Context → ForStartTree → Context → Type 0
+StartLeaves c (s.Declares d) after = DeclarationGives false c d after
+StartLeaves c (s.Computes x) after = after ≡ c
+
+abbrev pub StartBreaks : Context → ForStartTree → FaultKind → ℕ → Type 0
+StartBreaks c (s.Declares d) kind at = DeclarationBreaks false c d kind at
+StartBreaks c (s.Computes x) kind at = OfPart (λ y. Breaks (known c) y kind at) x
+
+abbrev pub computed : ForStartTree → Option ExprTree
+computed (s.Declares d) = None
+computed (s.Computes x) = x
+
+-- the parts of a `for`, at its own token
+abbrev pub ForBreaks : Known → Known → ForStartTree → Option ExprTree → Option ExprTree → FaultKind → Type 0
+ForBreaks before k start condition step kind = OfPart (λ x. GivesUpStruct before x kind) (computed start)
+    ⊎ (OfPart (λ x. NoCondition k x kind) condition ⊎ OfPart (λ x. GivesUpStruct k x kind) step)
+
+-- `return` (6.8.6.4): a value where the function gives none or where it can't be assigned to what the function gives, or none where the function gives one
+abbrev pub ReturnBreaks : Known → TypeTree → Option ExprTree → FaultKind → Type 0
+ReturnBreaks k gives None kind = (kind ≡ fault.Jump) × (is_void gives ≡ false)
+ReturnBreaks k gives (Some x) kind = ((kind ≡ fault.Jump) × (is_void gives ≡ true))
+    ⊎ ((kind ≡ fault.Operands) × ((a : Operand) × (IsOperand k x a × (Accepts gives a → ⊥))))
+
+-- a value where the function gives one, and then what may be assigned to that (6.8.6.4)
+abbrev pub Returns : Known → TypeTree → Option ExprTree → Type 0
+Returns k gives None = is_void gives ≡ true
+Returns k gives (Some x) = (is_void gives ≡ false) × ((a : Operand) × (IsOperand k x a × Accepts gives a))
+
+-- `break` and `continue` outside a loop (6.8.6.2p1, 6.8.6.3p1)
+abbrev pub JumpBreaks : Bool → FaultKind → Type 0
+JumpBreaks looping kind = (kind ≡ fault.Jump) × (looping ≡ false)
+
+-- in a function that gives this, and within a loop or not
+module _ (gives : TypeTree) where
+  abbrev mutual
+    pub StatementFits : Context → Bool → StatementTree → Type 0
+    StatementFits c looping (s.Block token entries) = EntriesFit (inner c) looping entries
+    StatementFits c looping (s.Empty token) = Unit {0}
+    StatementFits c looping (s.Expr token x) = (a : Operand) × (IsWhole (known c) x a × (is_struct a.ctype ≡ false))
+    StatementFits c looping (s.If token condition first) = IsCondition (known c) condition × StatementFits c looping first
+    StatementFits c looping (s.IfElse token condition first second) =
+        IsCondition (known c) condition × StatementFits c looping first × StatementFits c looping second
+    StatementFits c looping (s.While token condition body) = IsCondition (known c) condition × StatementFits c true body
+    StatementFits c looping (s.Do token body condition) = StatementFits c true body × IsCondition (known c) condition
+    StatementFits c looping (s.For token start condition step body) = (d : Context) × (StartGives (inner c) start d
+        × IfPart (IsCondition (known d)) condition × IfPart (IsGivenUp (known d)) step × StatementFits d true body)
+    StatementFits c looping (s.Return token value) = Returns (known c) gives value
+    StatementFits c looping (s.Break token) = looping ≡ true
+    StatementFits c looping (s.Continue token) = looping ≡ true
+
+    pub EntriesFit : Context → Bool → EntryList → Type 0
+    EntriesFit c looping s.no_entries = Unit {0}
+    EntriesFit c looping (s.declared declaration rest) =
+        (next : Context) × (DeclarationGives false c declaration next × EntriesFit next looping rest)
+    EntriesFit c looping (s.stated statement rest) = StatementFits c looping statement × EntriesFit c looping rest
+
+  abbrev mutual
+    pub StatementBreaks : Context → Bool → StatementTree → FaultKind → ℕ → Type 0
+    StatementBreaks c looping (s.Block token entries) kind at = EntriesBreak (inner c) looping entries kind at
+    StatementBreaks c looping (s.Empty token) kind at = ⊥
+    StatementBreaks c looping (s.Expr token x) kind at = WholeBreaks (known c) x kind at
+        ⊎ ((at ≡ token) × (kind ≡ fault.Operands) × ((a : Operand) × (IsWhole (known c) x a × (is_struct a.ctype ≡ true))))
+    StatementBreaks c looping (s.If token condition first) kind at = Breaks (known c) condition kind at
+        ⊎ (StatementBreaks c looping first kind at ⊎ ((at ≡ token) × NoCondition (known c) condition kind))
+    StatementBreaks c looping (s.IfElse token condition first second) kind at = Breaks (known c) condition kind at
+        ⊎ (StatementBreaks c looping first kind at ⊎ (StatementBreaks c looping second kind at
+        ⊎ ((at ≡ token) × NoCondition (known c) condition kind)))
+    StatementBreaks c looping (s.While token condition body) kind at = Breaks (known c) condition kind at
+        ⊎ (StatementBreaks c true body kind at ⊎ ((at ≡ token) × NoCondition (known c) condition kind))
+    StatementBreaks c looping (s.Do token body condition) kind at = StatementBreaks c true body kind at
+        ⊎ (Breaks (known c) condition kind at ⊎ ((at ≡ token) × NoCondition (known c) condition kind))
+    -- a `for` is a scope (6.8.5p5)
+    StatementBreaks c looping (s.For token start condition step body) kind at = StartBreaks (inner c) start kind at
+        ⊎ ((d : Context) × (StartLeaves (inner c) start d × (OfPart (λ x. Breaks (known d) x kind at) condition
+        ⊎ (OfPart (λ x. Breaks (known d) x kind at) step ⊎ (StatementBreaks d true body kind at
+        ⊎ ((at ≡ token) × ForBreaks (known (inner c)) (known d) start condition step kind))))))
+    StatementBreaks c looping (s.Return token value) kind at = OfPart (λ x. Breaks (known c) x kind at) value
+        ⊎ ((at ≡ token) × ReturnBreaks (known c) gives value kind)
+    StatementBreaks c looping (s.Break token) kind at = (at ≡ token) × JumpBreaks looping kind
+    StatementBreaks c looping (s.Continue token) kind at = (at ≡ token) × JumpBreaks looping kind
+
+    pub EntriesBreak : Context → Bool → EntryList → FaultKind → ℕ → Type 0
+    EntriesBreak c looping s.no_entries kind at = ⊥
+    EntriesBreak c looping (s.declared declaration rest) kind at = DeclarationBreaks false c declaration kind at
+        ⊎ ((next : Context) × (DeclarationGives false c declaration next × EntriesBreak next looping rest kind at))
+    EntriesBreak c looping (s.stated statement rest) kind at = StatementBreaks c looping statement kind at ⊎ EntriesBreak c looping rest kind at

@@ -1,0 +1,45 @@
+ghost use Rattle.std.specs.Prelude.{◌≡◌, ℕ, Some};
+ghost use Rattle.c_rules.specs.declared.fault.FaultKind.{FaultKind};
+ghost use Rattle.c_rules.specs.declared.operand.Operand.{Operand};
+ghost use Rattle.c_syntax.specs.ExprTree.{ExprTree};
+ghost use Rattle.c_syntax.specs.ItemTree.{SourceTree};
+ghost use Rattle.c_syntax.specs.WellFormed.{IsShaped};
+ghost use Rattle.c_rules.specs.Faults.{number_of};
+ghost use Rattle.c_types.specs.Fault.{fault_of, walk_tree};
+ghost use Rattle.c_types_expressions.specs.ExprWalk.{walk_expr};
+ghost use Rattle.c_types_expressions.specs.Walked.{Fine, Faulty};
+ghost use Rattle.c_types_expressions.specs.declared.walk.Walk.{Walk};
+ghost use Rattle.c_types_faults.specs.Agrees.{Agrees};
+ghost use Rattle.c_types_faults.specs.ExprBreaks.{Breaks};
+ghost use Rattle.c_types_faults.specs.Exprs.{IsOperand};
+ghost use Rattle.c_types_faults.specs.Texts.{TextBreaks, TextFits};
+ghost use Rattle.c_types_faults.specs.Known.{Known};
+
+/// Where identifiers denote what the walk knows of them: an expression at which the walk meets a fault breaks a rule of that kind
+/// at that token, and one without a fault is the operand that the walk takes it for.
+pub fn a_refused_expression_breaks_a_rule()
+    ensures refused { (k : Known) (w : Walk) (x : ExprTree) (kind : FaultKind) (at : ℕ) → Agrees k w → walk_expr x w ≡ Faulty kind at → Breaks k x kind at }
+    ensures accepted { (k : Known) (w v : Walk) (x : ExprTree) (d : Operand) → Agrees k w → walk_expr x w ≡ Fine d v → IsOperand k x d }
+{}
+
+/// An expression is one operand at most, and one that is an operand breaks no rule. So the walk meets a fault in exactly those
+/// expressions that break a rule.
+pub fn an_operand_breaks_no_rule()
+    ensures single { (k : Known) (x : ExprTree) (d e : Operand) → IsOperand k x d → IsOperand k x e → d ≡ e }
+    ensures silent { (k : Known) (x : ExprTree) (d : Operand) (kind : FaultKind) (token : ℕ) → IsOperand k x d → Breaks k x kind token → ⊥ }
+{}
+
+/// A text at which the walk meets a fault breaks a rule of C or of the dialect, of that kind and at that token: one of its items
+/// does, by the declarations that stand before it, or it has no `main`, or it calls a function that it doesn't define. So does what
+/// `check` tells of it.
+pub fn a_refused_text_breaks_a_rule()
+    ensures refused { (t : SourceTree) (kind : FaultKind) (token : ℕ) → walk_tree t ≡ Faulty kind token → TextBreaks t kind token }
+    ensures told { (t : SourceTree) (n at : ℕ) → fault_of t ≡ Some (n, at) → (kind : FaultKind) × ((number_of kind ≡ n) × TextBreaks t kind at) }
+{}
+
+/// A tree of the grammar without a fault keeps the rules, and a text that keeps them breaks none. So of the trees of the grammar
+/// exactly those are refused that break a rule.
+pub fn an_accepted_text_keeps_the_rules()
+    ensures fits { (t : SourceTree) (known : Walk) → IsShaped t → walk_tree t ≡ Fine tt known → TextFits t }
+    ensures silent { (t : SourceTree) (kind : FaultKind) (token : ℕ) → TextFits t → TextBreaks t kind token → ⊥ }
+{}

@@ -1,0 +1,9 @@
+//! Where a text is refused for its types, it breaks a rule of C or of the dialect at that token; and where it is accepted, it keeps them.
+#![tactic(auto)]
+
+mod laws;
+
+pub use laws::{
+    a_refused_expression_breaks_a_rule, a_refused_text_breaks_a_rule,
+    an_accepted_text_keeps_the_rules, an_operand_breaks_no_rule,
+};
