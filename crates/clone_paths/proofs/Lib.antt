@@ -1,10 +1,10 @@
-mod DebtLemmas
-mod SheetLemmas
-mod RightLemmas
-mod ChunkLemmas
-mod KnownLemmas
-mod ResolveLemmas
-mod PrepareLemmas
-mod FitLemmas
-mod PlaceLemmas
-mod ProgramLemmas
+pub mod DebtLemmas
+pub mod SheetLemmas
+pub mod RightLemmas
+pub mod ChunkLemmas
+pub mod KnownLemmas
+pub mod ResolveLemmas
+pub mod PrepareLemmas
+pub mod FitLemmas
+pub mod PlaceLemmas
+pub mod ProgramLemmas

@@ -1,0 +1,12 @@
+pub mod Building
+pub mod Values
+pub mod Operators
+pub mod Calls
+pub mod Expressions
+pub mod Initialisers
+pub mod Loops
+pub mod Statements
+pub mod Functions
+pub mod Turning
+pub mod Numbered
+pub mod Programs

@@ -1,0 +1,4 @@
+pub mod Built
+pub mod Emits
+pub mod Functions
+pub mod Programs
