@@ -23,8 +23,8 @@ use Rattle.c_types_faults.specs.Functions.{ParamGives, ParamRule}
 use Rattle.c_types_faults.specs.Functions.{ParamsBreak, ParamsGive, PrototypeGives, formal, type_of, with_formals}
 use Rattle.c_types_faults.specs.Items.{ItemBreaks, ItemGives, ItemsBreak, ItemsGive}
 use Rattle.c_types_faults.specs.Statements.{EntriesBreak}
-use Rattle.c_types_faults.specs.Structs.{LineBreaks, LineGives, MemberBreaks, MemberGives, MembersBreak, MembersGive, StructBreaks, StructGives, tagging}
-use Rattle.c_types_faults.specs.Texts.{TextBreaks, TextFits, HasMain, CallsUndefined}
+use Rattle.c_types_faults.specs.Structs.{LineBreaks, LineGives, NewMemberBreaks, MemberGives, MembersBreak, MembersGive, StructBreaks, StructGives, tagging}
+use Rattle.c_types_faults.specs.Texts.{TextBreaks, TextKeepsRules, HasMain, CallsUndefined}
 use Rattle.c_types_faults.proofs.Quiet.{declaration_one, declaration_silent, entries_silent, one_type}
 use Rattle.c_types_faults.proofs.Silent.{base_silent}
 use Rattle.c_types_faults.proofs.Single.{one_base}
@@ -35,7 +35,7 @@ module _ (c : Context) where
   member_one : (base : TypeTree) (d : Declarator) (s a b : StructType) → MemberGives c base d s a → MemberGives c base d s b → a ≡ b
   member_one base d s a b (t, h) (u, g) = h.3 ∙ ap (λ v. with_member c.structs d.name v s) (one_type d base t u h.1 g.1) ∙ sym g.3
 
-  member_silent : (base : TypeTree) (d : Declarator) (s a : StructType) (j : FaultKind) (at : ℕ) → MemberGives c base d s a → MemberBreaks c base d s j at → ⊥
+  member_silent : (base : TypeTree) (d : Declarator) (s a : StructType) (j : FaultKind) (at : ℕ) → MemberGives c base d s a → NewMemberBreaks c base d s j at → ⊥
   member_silent base d s a j at (t, h) (q, inl b) = h.0 b.1
   member_silent base d s a j at (t, h) (q, inr b) = b.1 t h.1 h.2
 
@@ -180,7 +180,7 @@ items_silent (x ∷ xs) c a j at (n, h) (inl b) = item_silent x c n j at h.0 b
 items_silent (x ∷ xs) c a j at (n, h) (inr (m, b)) =
     items_silent xs n a j at h.1 (subst (λ z. ItemsBreak z xs j at) (item_one x c m n b.0 h.0) b.1)
 
-pub text_silent : (t : SourceTree) (kind : FaultKind) (token : ℕ) → TextFits t → TextBreaks t kind token → ⊥
+pub text_silent : (t : SourceTree) (kind : FaultKind) (token : ℕ) → TextKeepsRules t → TextBreaks t kind token → ⊥
 text_silent t kind token (c, h) (inl b) = items_silent t.items nothing c kind token h.0 b
 text_silent t kind token (c, h) (inr (d, (g, inl b))) = b.2 (subst (HasMain t) (items_one t.items nothing c d h.0 g) h.1)
 text_silent t kind token (c, h) (inr (d, (g, inr b))) = undefined (subst (λ z. CallsUndefined t z token) (items_one t.items nothing d c g h.0) b.1)

@@ -24,7 +24,7 @@ use Rattle.c_types_walk.specs.ItemWalk.{defined, typed_member, walk_declarators,
 use Rattle.c_types_faults.specs.Context.{Context, Tagged, known}
 use Rattle.c_types_faults.specs.Declarators as law
 use Rattle.c_types_faults.specs.Declarations.{IsObject}
-use Rattle.c_types_faults.specs.Structs.{HasMember, HasTag, LineBreaks, LineGives, MemberBreaks, MemberGives, MembersBreak, MembersGive, StructBreaks}
+use Rattle.c_types_faults.specs.Structs.{HasMember, HasTag, LineBreaks, LineGives, NewMemberBreaks, MemberGives, MembersBreak, MembersGive, StructBreaks}
 use Rattle.c_types_faults.specs.Structs.{StructGives}
 use Rattle.c_types_faults.specs.Structs.{tagging}
 use Rattle.c_types_faults.proofs.Bounds.{declared_back, declared_is, no_type, some_is}
@@ -85,7 +85,7 @@ module _ (c : Context) where
       → declared_type d base ≡ Some t
       → is_object w.structs t ≡ b
       → Tells (if b then Fine (with_member w.structs d.name t s) w else Faulty fault.Object d.token) (λ next v. MemberGives c base d s next × (v ≡ w))
-      (MemberBreaks c base d s)
+      (NewMemberBreaks c base d s)
   typed_by true base t d s w new k e h = record {
     by = ((t, (new, declared_is d base t e, object_is c.structs t (ap (λ ss. is_object ss t) k ∙ h), ap (λ ss. with_member ss d.name t s) (sym k))), refl);
   }
@@ -95,14 +95,14 @@ module _ (c : Context) where
 
   typed_tells : (o : Option TypeTree) (base : TypeTree) (d : Declarator) (s : StructType) (w : Walk) → (HasMember d.name s.members → ⊥)
       → c.structs ≡ w.structs → declared_type d base ≡ o
-      → Tells (typed_member d o s w) (λ next v. MemberGives c base d s next × (v ≡ w)) (MemberBreaks c base d s)
+      → Tells (typed_member d o s w) (λ next v. MemberGives c base d s next × (v ≡ w)) (NewMemberBreaks c base d s)
   typed_tells None base d s w new k e = record { by = (refl, inr (refl, λ u q i. no_type d base e u q)) }
   typed_tells (Some t) base d s w new k e = typed_by (is_object w.structs t) base t d s w new k e refl
 
   member_by : (b : Bool) (base : TypeTree) (d : Declarator) (s : StructType) (w : Walk) → c.structs ≡ w.structs
       → is_some (member_named d.name s.members) ≡ b
       → Tells (if b then Faulty fault.Redeclared d.token else typed_member d (declared_type d base) s w) (λ next v. MemberGives c base d s next × (v ≡ w))
-      (MemberBreaks c base d s)
+      (NewMemberBreaks c base d s)
   member_by true base d s w k e = record { by = (refl, inl (refl, has_member d.name s.members e)) }
   member_by false base d s w k e = typed_tells (declared_type d base) base d s w (no_such_member d.name s.members e) k refl
 

@@ -32,7 +32,7 @@ use Rattle.c_types_faults.specs.Agrees.{Denotes, IsType, Means}
 use Rattle.c_types_faults.specs.Context.{Context, Declared, nothing, declared_in}
 use Rattle.c_types_faults.specs.Functions.{is_listed, IsKnownAs}
 use Rattle.c_types_faults.specs.Items.{ItemsGive}
-use Rattle.c_types_faults.specs.Texts.{CallsUndefined, HasFunction, HasMain, IsFunction, TextBreaks, main_type, TextFits}
+use Rattle.c_types_faults.specs.Texts.{CallsUndefined, HasFunction, HasMain, IsFunction, TextBreaks, main_type, TextKeepsRules}
 use Rattle.c_types_faults.proofs.Files.{Files, listed_is, text_found}
 use Rattle.c_types_faults.proofs.Functions.{Notes}
 use Rattle.c_types_faults.proofs.Items.{items_tell, defined_as_listed}
@@ -218,7 +218,7 @@ pub told_text : (t : SourceTree) (number token : ℕ) → fault_of t ≡ Some (n
 told_text t number token h =
     let f = fault_by (walk_tree t) number token h in (f.0, (f.1.0, refused_text t f.0 token f.1.1))
 
-pub accepted_text : (t : SourceTree) (known : Walk) → IsShaped t → walk_tree t ≡ Fine tt known → TextFits t
+pub accepted_text : (t : SourceTree) (known : Walk) → IsShaped t → walk_tree t ≡ Fine tt known → TextKeepsRules t
 accepted_text t known s h =
     let r : Ends t known = told_fine (text_tells t) h in (
       r.after,

@@ -32,8 +32,8 @@ module _ (c : Context) where
       × (after ≡ with_member c.structs d.name t s))
 
   -- The struct has a member of the name already (6.7.2.1, 6.2.3), or the member has no type that an object may have (6.7.2.1p2).
-  abbrev pub MemberBreaks : TypeTree → Declarator → StructType → FaultKind → ℕ → Type 0
-  MemberBreaks base d s kind at = (at ≡ d.token) × (((kind ≡ fault.Redeclared) × HasMember d.name s.members)
+  abbrev pub NewMemberBreaks : TypeTree → Declarator → StructType → FaultKind → ℕ → Type 0
+  NewMemberBreaks base d s kind at = (at ≡ d.token) × (((kind ≡ fault.Redeclared) × HasMember d.name s.members)
       ⊎ ((kind ≡ fault.Object) × ((t : TypeTree) → Declares d base t → IsObject c.structs t → ⊥)))
 
   abbrev pub LineGives : TypeTree → List Declarator → StructType → StructType → Type 0
@@ -42,7 +42,7 @@ module _ (c : Context) where
 
   abbrev pub LineBreaks : TypeTree → List Declarator → StructType → FaultKind → ℕ → Type 0
   LineBreaks base [] s kind at = ⊥
-  LineBreaks base (d ∷ ds) s kind at = MemberBreaks base d s kind at ⊎ ((next : StructType) × (MemberGives base d s next × LineBreaks base ds next kind at))
+  LineBreaks base (d ∷ ds) s kind at = NewMemberBreaks base d s kind at ⊎ ((next : StructType) × (MemberGives base d s next × LineBreaks base ds next kind at))
 
   abbrev pub MembersGive : List Members → StructType → StructType → Type 0
   MembersGive [] s after = after ≡ s

@@ -45,8 +45,8 @@ abbrev pub CallsDefined : SourceTree → Context → Type 0
 CallsDefined t c = (token : ℕ) (name : List ℕ) → HasCall token name (events_of t) → HasFunction name c.scope → is_defined_in t name ≡ true
 
 -- Each item keeps the rules by the declarations before it, of which there are none before the first one; `main` is defined, and so is what is called.
-abbrev pub TextFits : SourceTree → Type 0
-TextFits t = (c : Context) × (ItemsGive nothing t.items c × HasMain t c × CallsDefined t c)
+abbrev pub TextKeepsRules : SourceTree → Type 0
+TextKeepsRules t = (c : Context) × (ItemsGive nothing t.items c × HasMain t c × CallsDefined t c)
 
 -- a function of the text that no item defines is called there (6.9p5)
 abbrev pub CallsUndefined : SourceTree → Context → ℕ → Type 0

@@ -12,7 +12,7 @@ ghost use Rattle.c_types_expressions.specs.declared.walk.Walk.{Walk};
 ghost use Rattle.c_types_faults.specs.Agrees.{Agrees};
 ghost use Rattle.c_types_faults.specs.ExprBreaks.{Breaks};
 ghost use Rattle.c_types_faults.specs.Exprs.{IsOperand};
-ghost use Rattle.c_types_faults.specs.Texts.{TextBreaks, TextFits};
+ghost use Rattle.c_types_faults.specs.Texts.{TextBreaks, TextKeepsRules};
 ghost use Rattle.c_types_faults.specs.Known.{Known};
 
 /// Where identifiers denote what the walk knows of them: an expression at which the walk meets a fault breaks a rule of that kind
@@ -40,6 +40,6 @@ pub fn a_refused_text_breaks_a_rule()
 /// A tree of the grammar without a fault keeps the rules, and a text that keeps them breaks none. So of the trees of the grammar
 /// exactly those are refused that break a rule.
 pub fn an_accepted_text_keeps_the_rules()
-    ensures fits { (t : SourceTree) (known : Walk) → IsShaped t → walk_tree t ≡ Fine tt known → TextFits t }
-    ensures silent { (t : SourceTree) (kind : FaultKind) (token : ℕ) → TextFits t → TextBreaks t kind token → ⊥ }
+    ensures fits { (t : SourceTree) (known : Walk) → IsShaped t → walk_tree t ≡ Fine tt known → TextKeepsRules t }
+    ensures silent { (t : SourceTree) (kind : FaultKind) (token : ℕ) → TextKeepsRules t → TextBreaks t kind token → ⊥ }
 {}

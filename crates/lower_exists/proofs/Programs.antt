@@ -15,7 +15,7 @@ use Rattle.c_meaning.specs.Trees.{has_value}
 use Rattle.lower_relation.specs.Functions.{BodyIn, Lowered, callee_with}
 use Rattle.lower_relation.specs.Room.{function_room}
 use Rattle.lower_exists.specs.Functions.{BodyBuilt}
-use Rattle.lower_exists.specs.Programs.{Brings, HasProgram}
+use Rattle.lower_exists.specs.Programs.{Brings, HasGraphProgram}
 use Rattle.lower_exists.proofs.Functions.{function}
 use Rattle.lower_exists.proofs.Numbered.{few_nodes, found, functions_from, name_past, name_within, their_names}
 use Rattle.lower_exists.proofs.Turning.{counted_down, length_all, turned_all, turned_stands}
@@ -94,7 +94,7 @@ module _ (src : Source) where
     }
 
     -- the program does what the source means
-    pub has_program : HasProgram src table
+    pub has_program : HasGraphProgram src table
     has_program = record {
       program = program;
       graph = record { lowered = lowered; main = refl; objects = named.objects };

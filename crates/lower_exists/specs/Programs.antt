@@ -21,7 +21,7 @@ pub record Brings (src : Source) (texts : List Text) (globals : List Global) (ta
   pub objects : src.objects ≡ Some (map (global_object (length globals)) globals ++ map text_object texts)
 
 -- a program that is its graph, with the table's sites and names of functions, and with no more nodes than there is room for
-pub record HasProgram (src : Source) (table : TableParts) : Type 0 where
+pub record HasGraphProgram (src : Source) (table : TableParts) : Type 0 where
   pub program : ProgramParts
   pub graph : IsGraphOf src program
   pub table_is : table_of program ≡ table

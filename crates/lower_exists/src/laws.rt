@@ -15,7 +15,7 @@ ghost use Rattle.lower_relation.specs.Statements.{Runs};
 ghost use Rattle.lower_exists.specs.Built.{Builds, StandFrom, all_ends};
 ghost use Rattle.lower_exists.specs.Emits.{BuildsAll};
 ghost use Rattle.lower_exists.specs.Functions.{BodyBuilt};
-ghost use Rattle.lower_exists.specs.Programs.{Brings, HasProgram};
+ghost use Rattle.lower_exists.specs.Programs.{Brings, HasGraphProgram};
 
 /// Nodes stand in every list that has them, from where they are in it on.
 pub fn nodes_stand_where_they_are_put()
@@ -43,5 +43,5 @@ pub fn each_body_has_nodes()
 /// Each source that brings what a program has besides, its texts, its globals, its sites and names for its functions, has a program that is its
 /// graph, and so does what it means. Nothing else is asked of it, and the program has no more nodes than there is room for.
 pub fn each_source_has_a_program()
-    ensures { (src : Source) (texts : List Text) (globals : List Global) (table : TableParts) → Brings src texts globals table → HasProgram src table }
+    ensures { (src : Source) (texts : List Text) (globals : List Global) (table : TableParts) → Brings src texts globals table → HasGraphProgram src table }
 {}
