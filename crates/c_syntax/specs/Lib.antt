@@ -11,3 +11,4 @@ pub mod FirstToken
 pub mod WellFormed
 pub mod Limits
 pub mod Tokens
+pub mod Kept

@@ -7,7 +7,7 @@ use std::alloc::Global;
 use std::marker::Model;
 
 /// The tokens of a text. There are at most 100,000 of them, their lines never fall and are from 1 to 1,048,577, and their
-/// strings have together at most 1,048,576 bytes. Contracts see them as a list.
+/// strings have together fewer than 1,048,576 bytes. Contracts see them as a list.
 #[derive(Drop)]
 pub struct Tokens {
     list: Vec<Token>,
