@@ -324,11 +324,11 @@ abbrev pub piece_len : Piece → ℕ
 piece_len (Text values) = length values
 piece_len _ = 0
 
--- a piece takes at least one byte, and at least as many as its string has
+-- a piece takes at least one byte, and more than its string has
 pub record ReadsPiece (bytes : List ℕ) (x : Piece × List ℕ) : Type 0 where
   pub splits : Splits bytes x.1
   pub less : length x.1 < length bytes
-  pub short : piece_len x.0 + length x.1 ≤ length bytes
+  pub short : piece_len x.0 + length x.1 < length bytes
   pub named : IsNamed x.0
 
 -- a piece without a string

@@ -3,7 +3,7 @@ ghost use Rattle.c_lexer_pieces.specs.Reading.{small_value, hexadecimal_at, radi
 ghost use Rattle.c_lexer_pieces.specs.Values.{class_of, base_of, kind_of};
 ghost use Rattle.c_lexer_pieces.specs.Bytes.{digit_value};
 ghost use Rattle.c_lexer_pieces.specs.PieceFacts.{Fits};
-ghost use Rattle.c_syntax.specs.Tokens.{ConstantFits};
+ghost use Rattle.c_syntax.specs.Tokens.{AtLeastChar, ConstantFits};
 
 use crate::bytes::{Class, begins, begins_with, split_run};
 use crate::comments::strip;
@@ -113,7 +113,7 @@ fn suffix_at(bytes: &[u8]) -> (bool, &[u8])
 #[tactic(auto, unfolding(crate::specs::Values::kind_of))]
 fn kind_of(radix: Radix, suffixed: bool, value: u64) -> Option<Kind>
     ensures value { result ≡ kind_of radix suffixed value }
-    ensures fits { IfSome result (λ k. ConstantFits k (pos value)) }
+    ensures fits { IfSome result (λ k. ConstantFits k (pos value) × AtLeastChar (pos value)) }
 {
     if !suffixed && value < TWO_TO_31 {
         return Some(Kind::Int);

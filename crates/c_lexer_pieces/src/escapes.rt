@@ -2,7 +2,7 @@ ghost use Rattle.std.specs.Prelude.{◌≡◌, ◌≤◌, ◌<◌, option_map, I
 ghost use Rattle.c_lexer_pieces.specs.Reading.{byte_of, octal_at, hexadecimal_escape_at, escape_at, element_at, character_at, text_at};
 ghost use Rattle.c_lexer_pieces.specs.Values.{simple_escape, signed_byte};
 ghost use Rattle.c_lexer_pieces.specs.PieceFacts.{Fits};
-ghost use Rattle.c_syntax.specs.Tokens.{ConstantFits};
+ghost use Rattle.c_syntax.specs.Tokens.{AtLeastChar, ConstantFits};
 
 use crate::bytes::{Class, begins, split_run};
 use crate::comments::strip;
@@ -99,7 +99,7 @@ pub(crate) fn element_at(quote: u8, bytes: &[u8]) -> Option<(u8, &[u8])>
 /// A byte as a signed number of 8 bits.
 fn signed_byte(b: u8) -> i64
     ensures value { result ≡ signed_byte b }
-    ensures fits { ConstantFits Kind.Int result }
+    ensures fits { ConstantFits Kind.Int result × AtLeastChar result }
 {
     if b < 128 {
         i64::from(b)
