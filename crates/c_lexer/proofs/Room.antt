@@ -1,23 +1,25 @@
 -- A step leaves room for what is left.
-use Rattle.std.proofs.Common.{◌+◌, ◌-◌, ◌≤◌, ℕ, length, Bool, true, false, cond, eqb, ltb, List, [], ◌++◌, Option, Some, None, sum_by, ap, sym, subst, arith, length-append}
+use Rattle.std.proofs.Common.{◌+◌, ◌-◌, ◌≤◌, ◌<◌, ℕ, length, map, Bool, true, false, cond, eqb, ltb, List, [], ◌∷◌, ◌++◌, Option, Some, None, sum_by, ap, sym, subst, arith, length-append}
 use Rattle.std.specs.Prelude.{All, IfSome}
+use Rattle.std.specs.List.Sorted.{IsNonDecreasing}
 use Rattle.std.specs.Str.{bytes_eq}
 use Rattle.std.proofs.lemmas.List.{map-append, length-take}
 use Rattle.std.proofs.lemmas.List.Sums.{sum_by-append, count_by-le-length}
+use Rattle.std.proofs.lemmas.List.Sorted.{IsNonDecreasingBy-push}
 use Rattle.std.proofs.lemmas.List.Elements.{All-append, All-weaker, All-nil, All-cons}
 use Rattle.c_syntax.specs.declared.token.Token.{Token}
 use Rattle.c_syntax.specs.declared.token.TokenKind.{TokenKind}
 use Rattle.c_syntax.specs.declared.token.Word.{Word}
 use Rattle.c_syntax.specs.declared.parts.Constant.{Constant}
-use Rattle.c_syntax.specs.Tokens.{text_len, lines_of}
+use Rattle.c_syntax.specs.Tokens.{IsAtLeastChar, IsOfBytes, IsTokens, KindFits, NameFits, lines_of, text_len}
 use Rattle.c_lexer.specs.declared.lexer.Lexer.{Lexer}
 use Rattle.c_lexer_pieces.specs.Piece.{Piece, Nothing, Name, Constant', Text, Punctuator, Definition, Known}
 use Rattle.c_lexer_pieces.specs.Found.{known_by}
 use Rattle.c_lexer_pieces.specs.Spellings.{word_of}
 use Rattle.c_lexer.specs.Lexing.{kind_at, known_after, name_kind, word_kind, with_line}
-use Rattle.c_syntax.specs.Limits.{most_tokens}
+use Rattle.c_syntax.specs.Limits.{greatest_line, most_bytes, most_tokens}
 use Rattle.c_lexer_pieces.specs.Bytes.{newlines}
-use Rattle.c_lexer.specs.State.{Roomy, Advances, between, AllFit}
+use Rattle.c_lexer.specs.State.{Roomy, Advances, between, AllFit, TokenFits}
 use Rattle.c_lexer_pieces.specs.PieceFacts.{PieceFits, Fits}
 use Rattle.c_lexer_pieces.proofs.Fronts.{ReadsPiece, piece_len}
 
@@ -49,6 +51,28 @@ line-kept line (Some k) = All-cons (λ x. x ≤ line) line [] (omega arith) (All
 newlines-le : (left rest : List ℕ) → length rest ≤ length left → newlines (between left rest) + length rest ≤ length left
 newlines-le left rest h =
     omega (arith, count_by-le-length (λ b. eqb b 10) (between left rest), length-take (length left - length rest) left)
+
+-- each of some, and one more
+all-push : {A B : Type 0} (P : B → Type 0) (f : A → B) (ts : List A) (t : A) → All P (map f ts) → P (f t) → All P (map f (ts ++ t ∷ []))
+all-push P f ts t all one = subst (All P) (sym (map-append f ts (t ∷ []))) (All-append P (map f ts) (f t ∷ []) all (All-cons P (f t) [] one (All-nil P)))
+
+-- One more token, on no earlier line, is kept like those before it.
+pub tokens-push : (ts : List Token) (t : Token) → IsTokens ts → length ts < most_tokens → 1 ≤ t.line → t.line ≤ greatest_line → All (λ x. x ≤ t.line) (lines_of ts)
+    → sum_by text_len ts + sum_by text_len (t ∷ []) < most_bytes → TokenFits t.kind → IsTokens (ts ++ t ∷ [])
+tokens-push ts t keeps few first last lines text fits =
+    let kind : Token → TokenKind = λ x. x.kind in
+    let line : Token → ℕ = λ x. x.line in
+    record {
+      few = omega (arith, length-append ts (t ∷ []));
+      ordered = subst IsNonDecreasing (sym (map-append line ts (t ∷ []))) (IsNonDecreasingBy-push (λ x. x) (lines_of ts) t.line keeps.ordered (λ d some. lines (length (lines_of ts) - 1) d (omega (arith, some))));
+      from_one = all-push (λ l. 1 ≤ l) line ts t keeps.from_one first;
+      within = all-push (λ l. l ≤ greatest_line) line ts t keeps.within last;
+      text = omega (arith, text, sum_by-append text_len ts (t ∷ []));
+      constants = all-push KindFits kind ts t keeps.constants fits.0;
+      least = all-push IsAtLeastChar kind ts t keeps.least fits.1;
+      names = all-push NameFits kind ts t keeps.names fits.2;
+      bytes = all-push IsOfBytes kind ts t keeps.bytes fits.3;
+    }
 
 -- tokens with or without some more
 pub record Kept (count line line' room : ℕ) (tokens : List Token) : Type 0 where

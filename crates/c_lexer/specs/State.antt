@@ -1,9 +1,9 @@
 -- The lexer's state, and what one step makes of it.
-use Rattle.std.specs.Prelude.{◌≡◌, ℕ, ◌+◌, ◌-◌, ◌≤◌, nat_lt, if◌then◌else◌, List, ◌++◌, length, take, sum_by, All, Option, Some, None, IfSome, ◌⊎◌, slice_index}
+use Rattle.std.specs.Prelude.{◌≡◌, ℕ, ◌+◌, ◌-◌, ◌≤◌, ◌<◌, nat_lt, if◌then◌else◌, List, ◌++◌, length, take, sum_by, All, Option, Some, None, IfSome, ◌⊎◌, slice_index}
 use Rattle.c_syntax.specs.declared.token.Token.{Token}
 use Rattle.c_syntax.specs.declared.token.TokenKind.{TokenKind}
 use Rattle.c_syntax.specs.Limits.{most_bytes, most_tokens, greatest_line}
-use Rattle.c_syntax.specs.Tokens.{text_len, lines_of, KindFits}
+use Rattle.c_syntax.specs.Tokens.{IsAtLeastChar, IsOfBytes, KindFits, NameFits, lines_of, text_len}
 use Rattle.c_lexer.specs.declared.error.LexError.{LexError}
 use Rattle.c_lexer.specs.declared.error.LexError.TheVariants as error
 use Rattle.c_lexer.specs.declared.lexer.Lexer.{Lexer}
@@ -22,6 +22,10 @@ between left rest = take (length left - length rest) left
 -- The constants that names stand for fit.
 abbrev pub AllFit : Known → Type 0
 AllFit known = (name : List ℕ) → IfSome (known name) Fits
+
+-- what a token keeps of itself
+abbrev pub TokenFits : TokenKind → Type 0
+TokenFits k = KindFits k × IsAtLeastChar k × NameFits k × IsOfBytes k
 
 -- Numbers and lines fit, whatever is left.
 pub record Roomy (l : Lexer) : Type 0 where
@@ -56,5 +60,5 @@ pub record MayFollow (tokens : List Token) (count line : ℕ) (kind : Option Tok
   pub first_line : 1 ≤ line
   pub last_line : line ≤ greatest_line
   pub kept_lines : All (λ x. x ≤ line) (lines_of tokens)
-  pub text : sum_by text_len tokens + sum_by text_len (with_line line kind) ≤ most_bytes
-  pub fits : IfSome kind KindFits
+  pub text : sum_by text_len tokens + sum_by text_len (with_line line kind) < most_bytes
+  pub fits : IfSome kind TokenFits

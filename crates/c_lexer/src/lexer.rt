@@ -1,12 +1,11 @@
 ghost use Rattle.std.specs.Prelude.{◌≡◌, ◌≤◌, ◌<◌, ◌+◌, ◌^◌, ◌∷◌, [], length, ℕ, List, IfOk, IfErr, IfSome, OnOk};
 ghost use Rattle.c_syntax.specs.Limits.{most_bytes};
-ghost use Rattle.c_syntax.specs.Tokens.{KindFits};
 ghost use Rattle.c_lexer_pieces.specs.Bytes.{newlines};
 ghost use Rattle.c_lexer_pieces.specs.Cutting.{piece_at, fresh_from};
 ghost use Rattle.c_lexer_pieces.specs.Found.{piece_of, known_by};
 ghost use Rattle.c_lexer.specs.Refusals.{can_begin, refusal_for};
 ghost use Rattle.c_lexer.specs.Lexing.{kind_at, name_kind, constant_kind, known_after, with_line};
-ghost use Rattle.c_lexer.specs.State.{AllFit, kept_with, MayFollow};
+ghost use Rattle.c_lexer.specs.State.{AllFit, kept_with, MayFollow, TokenFits};
 ghost use Rattle.c_lexer_pieces.specs.PieceFacts.{Fits, IsNamed, PieceFits};
 ghost use Rattle.cbi_base.specs.Name.{IsName};
 
@@ -70,7 +69,7 @@ fn kind_of(
     requires fits { PieceFits (piece_of found.now) }
     requires known_fit { AllFit (known_by defined.now) }
     ensures value { IfOk result (λ k. k ≡ kind_at (known_by defined.now) (piece_of found.now)) }
-    ensures fits { IfOk result (λ k. IfSome k KindFits) }
+    ensures fits { IfOk result (λ k. IfSome k TokenFits) }
 {
     match found {
         Found::Nothing => Ok(None),
@@ -82,8 +81,8 @@ fn kind_of(
         }
         Found::Constant { constant } => Ok(Some(constant_kind(*constant))),
         Found::Text { values } => {
-            let bytes = Seq::from_vec(values.clone()?);
-            Ok(Some(TokenKind::Text { bytes }))
+            let kind = text_kind(alloc, values.as_slice())?;
+            Ok(Some(kind))
         }
         Found::Punctuator { sign } => Ok(Some(TokenKind::Punctuator { sign: *sign })),
     }
@@ -91,7 +90,7 @@ fn kind_of(
 
 fn constant_kind(constant: Constant) -> TokenKind
     ensures value { result ≡ constant_kind constant }
-    ensures fits { Fits constant → KindFits result }
+    ensures fits { Fits constant → TokenFits result }
 {
     TokenKind::Constant {
         kind: constant.kind,
@@ -99,10 +98,18 @@ fn constant_kind(constant: Constant) -> TokenKind
     }
 }
 
+fn text_kind(alloc: Global, values: &[u8]) -> Result<TokenKind, Memory>
+    ensures value { IfOk result (λ k. k ≡ TokenKind.Text values.now) }
+    ensures fits { IfOk result TokenFits }
+{
+    let bytes = Seq::from_vec(Vec::from_slice(alloc, values)?);
+    Ok(TokenKind::Text { bytes })
+}
+
 fn name_kind(alloc: Global, constant: Option<Constant>, name: &[u8]) -> Result<TokenKind, Memory>
     requires { IsName name.now }
     ensures value { IfOk result (λ k. k ≡ name_kind constant name.now) }
-    ensures fits { IfSome constant Fits → IfOk result KindFits }
+    ensures fits { IfSome constant Fits → IfOk result TokenFits }
 {
     if let Some(constant) = constant {
         return Ok(constant_kind(constant));
