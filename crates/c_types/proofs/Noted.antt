@@ -13,6 +13,7 @@ use Rattle.c_types_expressions.specs.declared.walk.Walk.{Walk}
 use Rattle.c_types.specs.Parts.{Part, Expression, Use, Declared, Begins}
 use Rattle.c_types_expressions.specs.Walked.{Walked, Fine, Faulty, ◌>>=◌, replaced, with_type, with_variable}
 use Rattle.c_types_expressions.specs.ExprWalk.{with_use}
+pub use Rattle.c_types_expressions.proofs.Giving.{Gives, gives_more, gives_then}
 use Rattle.c_types.proofs.Options.{some_is}
 
 -- what the walk has noted: at which tokens a type and a variable, the variables, how many are numbered, and the structs
@@ -93,23 +94,9 @@ step_then ps qs s t u h k = (k.0 ∙ ap (noting_all qs) h.0 ∙ sym (noting_both
 pub step_done : (ps : List Part) (s t u : Stage) → Step ps s t → Step [] t u → Step ps s u
 step_done ps s t u h k = (k.0 ∙ h.0, (λ f. k.1 (h.1 f)), k.2 ∙ h.2)
 
--- where the walk goes on, its value and what is known after it are as wanted
-abbrev pub Gives : {A : Type 0} → (A → Walk → Type 0) → Walked A → Type 0
-Gives P (Fine x v) = P x v
-Gives P (Faulty kind token) = Unit {0}
-
 -- where the walk goes on, it has noted the parts
 abbrev pub Notes : {A : Type 0} → List Part → Stage → Walked A → Type 0
 Notes ps s r = Gives (λ x v. Step ps s (stage v)) r
-
-pub gives_then : {A B : Type 0} (P : A → Walk → Type 0) (Q : B → Walk → Type 0) (r : Walked A) (next : A → Walk → Walked B) → Gives P r →
-    ((x : A) (v : Walk) → P x v → Gives Q (next x v)) → Gives Q (r >>= next)
-gives_then P Q (Fine x v) next h k = k x v h
-gives_then P Q (Faulty kind token) next h k = tt
-
-pub gives_more : {A : Type 0} (P Q : A → Walk → Type 0) (r : Walked A) → ((x : A) (v : Walk) → P x v → Q x v) → Gives P r → Gives Q r
-gives_more P Q (Fine x v) k h = k x v h
-gives_more P Q (Faulty kind token) k h = tt
 
 -- parts that are noted behind others
 pub behind : {A : Type 0} (ps qs : List Part) (s t : Stage) (r : Walked A) → Step ps s t → Notes qs t r → Notes (ps ++ qs) s r

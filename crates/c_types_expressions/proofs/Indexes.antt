@@ -13,6 +13,12 @@ use Rattle.c_types_expressions.specs.declared.names.ScopeEntry.TheVariants.{Open
 use Rattle.c_types_expressions.specs.Indexed.{IsIndex, IsPopped, IsPushed, IsSame, but_last, declarations, depth_of, last_of, stack_of}
 use Rattle.c_types_expressions.specs.Names.{found, is_here, or_before}
 
+-- no more scopes are open than there are entries
+pub depth_short : (entries : List ScopeEntry) → depth_of entries ≤ length entries
+depth_short [] = omega arith
+depth_short (Opens ∷ rest) = omega (arith, depth_short rest)
+depth_short (Declares name m ∷ rest) = omega (arith, depth_short rest)
+
 pub last_first : {A : Type 0} (xs : List A) (x : A) → reverse (xs ++ x ∷ []) ≡ x ∷ reverse xs
 last_first xs x = reverse-append xs (x ∷ [])
 

@@ -1,4 +1,5 @@
-ghost use Rattle.std.specs.Prelude.{◌≡◌, ◌++◌, ◌∷◌, [], true, IfOk, Ok, slice_get};
+ghost use Rattle.std.specs.Prelude.{◌≡◌, ◌<◌, ◌++◌, ◌∷◌, [], true, IfOk, Ok, OnOk, length, slice_get, sum_by};
+ghost use Rattle.c_syntax.specs.Limits.{most_bytes};
 ghost use Rattle.c_syntax.specs.ExprTree as e;
 ghost use Rattle.c_syntax.specs.Plain.{plain_expr, plain_exprs, plain_links, plain_operators};
 ghost use Rattle.c_rules.specs.Conversions.{null_of, string_of, value_type};
@@ -7,6 +8,7 @@ ghost use Rattle.c_rules.specs.Selecting.{chosen, member_behind, member_of, sequ
 ghost use Rattle.c_rules.specs.TypeTree.{Void};
 ghost use Rattle.c_types_expressions.specs.ExprWalk.{assigning, base_type, called, flat, format_of, is_printf, looked, named, of_function, of_variable, prefixed, selected, selected_as, string_cells, tagged, walk_expr, walk_exprs, walk_links, walk_postfix, walk_whole, with_stars};
 ghost use Rattle.c_types_expressions.specs.Names.{meaning_of};
+ghost use Rattle.c_types_expressions.specs.Room.{HasLeft, expr_text, exprs_text, items_in, links_text, postfix_text};
 ghost use Rattle.c_types_expressions.specs.Walked.{IsWalked};
 
 use crate::names::Meaning;
@@ -36,7 +38,8 @@ fn looked(alloc: Global, walk: &mut Walk, token: u32, answer: Looked) -> Result<
 
 /// The struct that a tag means.
 fn tagged(walk: &mut Walk, token: u32, meaning: Option<Meaning>) -> Result<Type, Stop>
-    ensures { IsWalked (tagged token meaning walk.old) result walk.new }
+    ensures walked { IsWalked (tagged token meaning walk.old) result walk.new }
+    ensures left { OnOk result (HasLeft 0 0 walk.old walk.new) }
 {
     match meaning {
         Some(Meaning::Struct { index }) => Ok(Type::new(CType::Struct { tag: index })),
@@ -46,7 +49,8 @@ fn tagged(walk: &mut Walk, token: u32, meaning: Option<Meaning>) -> Result<Type,
 
 /// The base of a type.
 pub fn base_type(walk: &mut Walk, base: &Base) -> Result<Type, Stop>
-    ensures { IsWalked (base_type base.now walk.old) result walk.new }
+    ensures walked { IsWalked (base_type base.now walk.old) result walk.new }
+    ensures left { OnOk result (HasLeft 0 0 walk.old walk.new) }
 {
     match base {
         Base::Void { .. } => Ok(Type::new(CType::Void)),
@@ -141,17 +145,15 @@ fn called_as(
 }
 
 /// How many cells a string has: its bytes, and the closing zero.
-pub fn string_cells(parts: &[Seq<u8>]) -> Result<u32, Memory>
-    ensures { IfOk result (λ n. n ≡ string_cells parts.now) }
+pub fn string_cells(parts: &[Seq<u8>]) -> u32
+    requires { sum_by length parts.now < most_bytes }
+    ensures { result ≡ string_cells parts.now }
 {
     let mut bytes: u32 = 0;
     for part in parts {
-        let Ok(more) = u32::try_from(part.len()) else {
-            return Err(Memory);
-        };
-        bytes = bytes.checked_add(more).ok_or(Memory)?;
+        bytes += part.len() as u32;
     }
-    bytes.checked_add(1).ok_or(Memory)
+    bytes + 1
 }
 
 /// Notes the member that a `.` or `->` at the token names.
@@ -312,10 +314,10 @@ fn called_at(
 
 /// Adjacent strings.
 fn string_at(alloc: Global, walk: &mut Walk, token: u32, parts: &[Seq<u8>]) -> Result<Operand, Stop>
+    requires { sum_by length parts.now < most_bytes }
     ensures { IsWalked (looked token (Ok (string_of (string_cells parts.now))) walk.old) result walk.new }
 {
-    let cells = string_cells(parts)?;
-    let string = string_of(alloc, cells)?;
+    let string = string_of(alloc, string_cells(parts))?;
     looked(alloc, walk, token, Ok(string))
 }
 
@@ -327,14 +329,15 @@ fn null_at(alloc: Global, walk: &mut Walk, token: u32) -> Result<Operand, Stop>
     looked(alloc, walk, token, Ok(null))
 }
 
-/// Walks an expression.
+/// The operand that an expression is, behind the walk through it.
 #[cycle(walk_expr)]
-pub fn walk_expr(alloc: Global, walk: &mut Walk, expr: &Expr) -> Result<Operand, Stop>
+fn operand_of(alloc: Global, walk: &mut Walk, expr: &Expr) -> Result<Operand, Stop>
+    requires { expr_text (plain_expr expr.now) < most_bytes }
     ensures { IsWalked (walk_expr (plain_expr expr.now) walk.old) result walk.new }
 {
     match expr {
         Expr::Comma { token, operands } => {
-            let operands = walk_exprs(alloc, walk, operands.as_slice())?;
+            let operands = operands_of(alloc, walk, operands.as_slice())?;
             sequenced_at(alloc, walk, *token, operands)
         }
         Expr::Assign {
@@ -343,8 +346,8 @@ pub fn walk_expr(alloc: Global, walk: &mut Walk, expr: &Expr) -> Result<Operand,
             target,
             value,
         } => {
-            let target = walk_expr(alloc, walk, target)?;
-            let value = walk_expr(alloc, walk, value)?;
+            let target = operand_of(alloc, walk, target)?;
+            let value = operand_of(alloc, walk, value)?;
             assigned_at(alloc, walk, *token, compound_of(*sign), target, value)
         }
         Expr::Conditional {
@@ -353,13 +356,13 @@ pub fn walk_expr(alloc: Global, walk: &mut Walk, expr: &Expr) -> Result<Operand,
             first,
             second,
         } => {
-            let condition = walk_expr(alloc, walk, condition)?;
-            let first = walk_expr(alloc, walk, first)?;
-            let second = walk_expr(alloc, walk, second)?;
+            let condition = operand_of(alloc, walk, condition)?;
+            let first = operand_of(alloc, walk, first)?;
+            let second = operand_of(alloc, walk, second)?;
             chosen_at(alloc, walk, *token, condition, first, second)
         }
         Expr::Chain { first, links, .. } => {
-            let first = walk_expr(alloc, walk, first)?;
+            let first = operand_of(alloc, walk, first)?;
             walk_links(alloc, walk, first, links.as_slice())
         }
         Expr::Cast {
@@ -369,7 +372,7 @@ pub fn walk_expr(alloc: Global, walk: &mut Walk, expr: &Expr) -> Result<Operand,
             operand,
         } => {
             let base = base_type(walk, base)?;
-            let operand = walk_expr(alloc, walk, operand)?;
+            let operand = operand_of(alloc, walk, operand)?;
             cast_at(alloc, walk, *token, *stars, base, operand)
         }
         Expr::Prefix {
@@ -377,7 +380,7 @@ pub fn walk_expr(alloc: Global, walk: &mut Walk, expr: &Expr) -> Result<Operand,
             operator,
             operand,
         } => {
-            let operand = walk_expr(alloc, walk, operand)?;
+            let operand = operand_of(alloc, walk, operand)?;
             prefixed_at(alloc, walk, *token, *operator, operand)
         }
         Expr::SizeOfType { token, base, stars } => {
@@ -385,7 +388,7 @@ pub fn walk_expr(alloc: Global, walk: &mut Walk, expr: &Expr) -> Result<Operand,
             measured_at(alloc, walk, *token, *stars, base)
         }
         Expr::Postfix { primary, operators } => {
-            let primary = walk_expr(alloc, walk, primary)?;
+            let primary = operand_of(alloc, walk, primary)?;
             walk_postfix(alloc, walk, primary, operators.as_slice())
         }
         Expr::Name { token, name } => {
@@ -397,7 +400,7 @@ pub fn walk_expr(alloc: Global, walk: &mut Walk, expr: &Expr) -> Result<Operand,
             name,
             arguments,
         } => {
-            let arguments = walk_exprs(alloc, walk, arguments.as_slice())?;
+            let arguments = operands_of(alloc, walk, arguments.as_slice())?;
             called_at(alloc, walk, *token, name, arguments)
         }
         Expr::Constant { token, kind, value } => {
@@ -405,7 +408,7 @@ pub fn walk_expr(alloc: Global, walk: &mut Walk, expr: &Expr) -> Result<Operand,
         }
         Expr::Strings { token, parts } => string_at(alloc, walk, *token, parts.as_slice()),
         Expr::Paren { token, inner } => {
-            let inner = walk_expr(alloc, walk, inner)?;
+            let inner = operand_of(alloc, walk, inner)?;
             looked(alloc, walk, *token, Ok(enclosed(inner)))
         }
         Expr::Null { token } => null_at(alloc, walk, *token),
@@ -413,14 +416,16 @@ pub fn walk_expr(alloc: Global, walk: &mut Walk, expr: &Expr) -> Result<Operand,
     }
 }
 
-/// Walks several expressions.
+/// The operands that several expressions are.
 #[cycle(walk_expr)]
-pub fn walk_exprs(alloc: Global, walk: &mut Walk, exprs: &[Expr]) -> Result<Seq<Operand>, Stop>
-    ensures { IsWalked (walk_exprs (plain_exprs exprs.now) [] walk.old) result walk.new }
+fn operands_of(alloc: Global, walk: &mut Walk, exprs: &[Expr]) -> Result<Seq<Operand>, Stop>
+    requires { exprs_text (plain_exprs exprs.now) < most_bytes }
+    ensures walked { IsWalked (walk_exprs (plain_exprs exprs.now) [] walk.old) result walk.new }
+    ensures many { IfOk result (λ xs. length xs ≡ items_in (plain_exprs exprs.now)) }
 {
     let mut done = Seq::new(alloc);
     for expr in exprs {
-        done.push(walk_expr(alloc, walk, expr)?)?;
+        done.push(operand_of(alloc, walk, expr)?)?;
     }
     Ok(done)
 }
@@ -433,11 +438,12 @@ fn walk_links(
     first: Operand,
     links: &[Link],
 ) -> Result<Operand, Stop>
+    requires { links_text (plain_links links.now) < most_bytes }
     ensures { IsWalked (walk_links (plain_links links.now) first walk.old) result walk.new }
 {
     let mut left = first;
     for link in links {
-        let right = walk_expr(alloc, walk, &link.operand)?;
+        let right = operand_of(alloc, walk, &link.operand)?;
         let answer = chained(walk.structs.as_slice(), binary_of(link.sign), left, right);
         left = looked(alloc, walk, link.token, answer)?;
     }
@@ -452,13 +458,14 @@ fn walk_postfix(
     first: Operand,
     operators: &[PostfixOperator],
 ) -> Result<Operand, Stop>
+    requires { postfix_text (plain_operators operators.now) < most_bytes }
     ensures { IsWalked (walk_postfix (plain_operators operators.now) first walk.old) result walk.new }
 {
     let mut left = first;
     for operator in operators {
         left = match operator {
             PostfixOperator::Index { token, index } => {
-                let index = walk_expr(alloc, walk, index)?;
+                let index = operand_of(alloc, walk, index)?;
                 let answer = indexed(walk.structs.as_slice(), left, index);
                 looked(alloc, walk, *token, answer)?
             }
@@ -475,6 +482,25 @@ fn walk_postfix(
         };
     }
     Ok(left)
+}
+
+/// Walks an expression. It declares nothing.
+pub fn walk_expr(alloc: Global, walk: &mut Walk, expr: &Expr) -> Result<Operand, Stop>
+    requires { expr_text (plain_expr expr.now) < most_bytes }
+    ensures walked { IsWalked (walk_expr (plain_expr expr.now) walk.old) result walk.new }
+    ensures left { OnOk result (HasLeft 0 0 walk.old walk.new) }
+{
+    operand_of(alloc, walk, expr)
+}
+
+/// Walks several expressions. They declare nothing, and each is one operand.
+pub fn walk_exprs(alloc: Global, walk: &mut Walk, exprs: &[Expr]) -> Result<Seq<Operand>, Stop>
+    requires { exprs_text (plain_exprs exprs.now) < most_bytes }
+    ensures walked { IsWalked (walk_exprs (plain_exprs exprs.now) [] walk.old) result walk.new }
+    ensures many { IfOk result (λ xs. length xs ≡ items_in (plain_exprs exprs.now)) }
+    ensures left { OnOk result (HasLeft 0 0 walk.old walk.new) }
+{
+    operands_of(alloc, walk, exprs)
 }
 
 /// The bytes of adjacent strings, one after another.
@@ -513,7 +539,9 @@ fn is_printf(meaning: Option<Meaning>) -> bool
 
 /// Walks the whole expression of a statement, which may be a `printf`.
 pub fn walk_whole(alloc: Global, walk: &mut Walk, expr: &Expr) -> Result<Operand, Stop>
-    ensures { IsWalked (walk_whole (plain_expr expr.now) walk.old) result walk.new }
+    requires { expr_text (plain_expr expr.now) < most_bytes }
+    ensures walked { IsWalked (walk_whole (plain_expr expr.now) walk.old) result walk.new }
+    ensures left { OnOk result (HasLeft 0 0 walk.old walk.new) }
 {
     match expr {
         Expr::Call {
@@ -533,9 +561,10 @@ fn walk_call(
     name: &Name,
     arguments: &[Expr],
 ) -> Result<Operand, Stop>
+    requires { exprs_text (plain_exprs arguments.now) < most_bytes }
     ensures { IsWalked (walk_whole (e.Call token name.now (plain_exprs arguments.now)) walk.old) result walk.new }
 {
-    let operands = walk_exprs(alloc, walk, arguments)?;
+    let operands = operands_of(alloc, walk, arguments)?;
     let meaning = walk.names.meaning_of(name);
     if is_printf(meaning) {
         let answer = formatted(alloc, arguments, operands.as_slice())?;

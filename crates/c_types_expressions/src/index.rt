@@ -1,4 +1,4 @@
-ghost use Rattle.std.specs.Prelude.{◌≡◌, [], ◌∷◌, List, OnOk, OnErr};
+ghost use Rattle.std.specs.Prelude.{◌≡◌, ◌<◌, [], ◌∷◌, List, OnOk, OnErr};
 ghost use Rattle.c_types_expressions.specs.Indexed.{IsIndex, IsPopped, IsPushed, IsSame, last_of, stack_of};
 ghost use Rattle.c_types_expressions.specs.Names.{found, is_here};
 ghost use Rattle.c_types_expressions.specs.declared.names.ScopeEntry.{ScopeEntry};
@@ -12,7 +12,7 @@ use std::collections::HashMap;
 /// A declaration of a name: how many scopes were opened around it, and what it means.
 #[derive(Clone, Copy, Drop)]
 pub struct ScopedMeaning {
-    pub depth: u32,
+    pub depth: usize,
     pub meaning: Meaning,
 }
 
@@ -24,7 +24,7 @@ type Stacks = HashMap<Vec<u8>, Vec<ScopedMeaning>>;
 pub struct Index {
     alloc: Global,
     stacks: Stacks,
-    depth: u32,
+    depth: usize,
 }
 
 /// The latest declaration of a name.
@@ -111,13 +111,12 @@ impl Index {
         Ok(())
     }
 
-    /// A scope begins. After `Memory` nothing has changed.
-    pub fn open(&mut self) -> Result<(), Memory>
-        ensures ok { OnOk result ((entries : List ScopeEntry) → IsIndex entries self.old → IsIndex (Opens ∷ entries) self.new) }
-        ensures err { OnErr result (self.new ≡ self.old) }
+    /// A scope begins.
+    pub fn open(&mut self)
+        requires { self.old.depth < usize.MAX }
+        ensures { (entries : List ScopeEntry) → IsIndex entries self.old → IsIndex (Opens ∷ entries) self.new }
     {
-        self.depth = self.depth.checked_add(1).ok_or(Memory)?;
-        Ok(())
+        self.depth += 1;
     }
 
     /// Takes the latest entry.

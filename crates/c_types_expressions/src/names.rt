@@ -112,7 +112,7 @@ impl Names {
         ensures { OnOk result (self.new ≡ Opens ∷ self.old) }
     {
         self.entries.reserve(1)?;
-        self.index.open()?;
+        self.index.open();
         self.entries.push(ScopeEntry::Opens)?;
         Ok(())
     }

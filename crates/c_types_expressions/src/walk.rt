@@ -1,6 +1,8 @@
-ghost use Rattle.std.specs.Prelude.{◌≡◌, IfErr, IfOk};
+ghost use Rattle.std.specs.Prelude.{◌≡◌, ◌≤◌, IfOk, OnOk};
+ghost use Rattle.c_syntax.specs.Limits.{most_tokens};
 ghost use Rattle.c_types_expressions.specs.Beginning.{beginning};
 ghost use Rattle.c_types_expressions.specs.declared.walk.Stop.TheVariants as stop;
+ghost use Rattle.c_types_expressions.specs.Room.{HasLeft, HasRoom};
 ghost use Rattle.c_types_expressions.specs.Walked.{Fine, IsWalked, closing, counted_in, numbered, opened, unless, with_type, with_variable};
 
 use crate::names::{Meaning, Names, ScopeEntry};
@@ -129,19 +131,17 @@ impl Walk {
 }
 
 /// The number of items so far, as the number of the next one.
-pub fn next_number(count: usize) -> Result<u32, Stop>
-    ensures ok { IfOk result (λ n. n ≡ count) }
-    ensures err { IfErr result (λ e. e ≡ stop.Memory) }
+pub fn next_number(count: usize) -> u32
+    requires { count ≤ most_tokens }
+    ensures { result ≡ count }
 {
-    match u32::try_from(count) {
-        Ok(number) => Ok(number),
-        Err(_) => Err(Stop::Memory),
-    }
+    count as u32
 }
 
 /// A fault at the token where something is wrong.
 pub fn unless(walk: &mut Walk, wrong: bool, kind: FaultKind, index: u32) -> Result<(), Stop>
-    ensures { IsWalked (unless wrong kind index walk.old) result walk.new }
+    ensures walked { IsWalked (unless wrong kind index walk.old) result walk.new }
+    ensures left { OnOk result (HasLeft 0 0 walk.old walk.new) }
 {
     if wrong {
         return Err(Stop::fault(kind, index));
@@ -160,17 +160,19 @@ pub fn note_type(walk: &mut Walk, token: u32, ctype: Type)
 }
 
 /// The next variable, global or of the present function.
-fn number_variable(walk: &mut Walk, global: bool) -> Result<Variable, Stop>
-    ensures { IsWalked (Fine (numbered global walk.old) (counted_in global walk.old)) result walk.new }
+fn number_variable(walk: &mut Walk, global: bool) -> Variable
+    requires { HasRoom 1 walk.old }
+    ensures number { result ≡ numbered global walk.old }
+    ensures counted { walk.new ≡ counted_in global walk.old }
 {
     if global {
         let index = walk.globals;
-        walk.globals = index.checked_add(1).ok_or(Stop::Memory)?;
-        return Ok(Variable::Global { index });
+        walk.globals += 1;
+        return Variable::Global { index };
     }
     let index = walk.locals;
-    walk.locals = index.checked_add(1).ok_or(Stop::Memory)?;
-    Ok(Variable::Local { index })
+    walk.locals += 1;
+    Variable::Local { index }
 }
 
 /// One more variable, whose name stands at the token.
@@ -181,10 +183,12 @@ pub fn add_variable(
     name: &Name,
     ctype: Type,
 ) -> Result<(), Stop>
-    ensures { IsWalked (Fine tt (with_variable global token name.now ctype walk.old)) result walk.new }
+    requires { HasRoom 1 walk.old }
+    ensures walked { IsWalked (Fine tt (with_variable global token name.now ctype walk.old)) result walk.new }
+    ensures left { OnOk result (HasLeft 1 0 walk.old walk.new) }
 {
-    let place = next_number(walk.variables.len())?;
-    let variable = number_variable(walk, global)?;
+    let place = next_number(walk.variables.len());
+    let variable = number_variable(walk, global);
     let meaning = Meaning::Variable { index: place };
     walk.names.declare(name, meaning)?;
     walk.variables.push(VariableEntry {
@@ -200,7 +204,8 @@ pub fn add_variable(
 
 /// A scope begins.
 pub fn open_scope(walk: &mut Walk) -> Result<(), Stop>
-    ensures { IsWalked (Fine tt (opened walk.old)) result walk.new }
+    ensures walked { IsWalked (Fine tt (opened walk.old)) result walk.new }
+    ensures left { OnOk result (HasLeft 0 0 walk.old walk.new) }
 {
     walk.names.open()?;
     Ok(())
@@ -208,7 +213,8 @@ pub fn open_scope(walk: &mut Walk) -> Result<(), Stop>
 
 /// The latest scope ends, and with it those of its variables.
 pub fn close_scope(walk: &mut Walk)
-    ensures { closing tt walk.old ≡ Fine tt walk.new }
+    ensures closed { closing tt walk.old ≡ Fine tt walk.new }
+    ensures left { HasLeft 0 0 walk.old walk.new }
 {
     let last = walk.latest;
     while let Some(ScopeEntry::Declares { meaning, .. }) = walk.names.pop() {
