@@ -2,3 +2,4 @@ pub mod Declarators
 pub mod Initialisers
 pub mod StatementWalk
 pub mod ItemWalk
+pub mod Room

@@ -1,7 +1,10 @@
-ghost use Rattle.std.specs.Prelude.{◌≡◌, IfOk, option_map, length};
+ghost use Rattle.std.specs.Prelude.{◌≡◌, ◌<◌, ◌≤◌, IfOk, OnOk, option_map, length};
+ghost use Rattle.c_syntax.specs.Limits.{most_bytes, most_tokens};
 ghost use Rattle.c_syntax.specs.Plain.{plain_expr, plain_exprs, plain_initial};
 ghost use Rattle.c_rules.specs.Plain.{plain_type};
 ghost use Rattle.c_types_walk.specs.Initialisers.{all_initialise, cells_of_string, completes, expressed, initialises, is_char, is_constant, is_number, is_text, known_length, length_of, listed, spelled, takes_items, valued, walk_initial, with_length};
+ghost use Rattle.c_types_walk.specs.Room.{initial_needs, initial_text};
+ghost use Rattle.c_types_expressions.specs.Room.{HasLeft, expr_text};
 ghost use Rattle.c_types_expressions.specs.Walked.{IsWalked};
 
 use c_rules::{CType, FaultKind, Operand, Type, assignable, is_scalar};
@@ -90,11 +93,10 @@ fn listed(
     items: &[Expr],
     xs: &[Operand],
 ) -> Result<Option<Type>, Memory>
+    requires { length xs.now ≤ most_tokens }
     ensures { IfOk result (λ t. t ≡ listed global (plain_exprs items.now) xs.now ctype.now) }
 {
-    let Ok(count) = u32::try_from(xs.len()) else {
-        return Err(Memory);
-    };
+    let count = xs.len() as u32;
     match ctype.shape() {
         CType::Array { of, length } => {
             if !is_scalar(of) || !takes_items(*length, xs.len()) {
@@ -187,16 +189,17 @@ fn expressed(
 }
 
 /// How many cells the expression has as a string, if it is one.
-fn cells_of_string(expr: &Expr) -> Result<Option<u32>, Memory>
-    ensures { IfOk result (λ n. n ≡ cells_of_string (plain_expr expr.now)) }
+fn cells_of_string(expr: &Expr) -> Option<u32>
+    requires { expr_text (plain_expr expr.now) < most_bytes }
+    ensures { result ≡ cells_of_string (plain_expr expr.now) }
 {
     match expr {
-        Expr::Strings { parts, .. } => Ok(Some(string_cells(parts.as_slice())?)),
-        Expr::Comma { .. } | Expr::Assign { .. } | Expr::Conditional { .. } => Ok(None),
-        Expr::Chain { .. } | Expr::Cast { .. } | Expr::Prefix { .. } => Ok(None),
-        Expr::SizeOfType { .. } | Expr::Postfix { .. } | Expr::Name { .. } => Ok(None),
-        Expr::Call { .. } | Expr::Constant { .. } | Expr::Paren { .. } => Ok(None),
-        Expr::Null { .. } | Expr::EndOfFile { .. } => Ok(None),
+        Expr::Strings { parts, .. } => Some(string_cells(parts.as_slice())),
+        Expr::Comma { .. } | Expr::Assign { .. } | Expr::Conditional { .. } => None,
+        Expr::Chain { .. } | Expr::Cast { .. } | Expr::Prefix { .. } => None,
+        Expr::SizeOfType { .. } | Expr::Postfix { .. } | Expr::Name { .. } => None,
+        Expr::Call { .. } | Expr::Constant { .. } | Expr::Paren { .. } => None,
+        Expr::Null { .. } | Expr::EndOfFile { .. } => None,
     }
 }
 
@@ -208,9 +211,10 @@ fn valued(
     value: &Expr,
     x: &Operand,
 ) -> Result<Option<Type>, Memory>
+    requires { expr_text (plain_expr value.now) < most_bytes }
     ensures { IfOk result (λ t. t ≡ valued global ctype.now (plain_expr value.now) x.now (cells_of_string (plain_expr value.now))) }
 {
-    match cells_of_string(value)? {
+    match cells_of_string(value) {
         None => expressed(alloc, global, ctype, value, x),
         Some(cells) => {
             if is_text(ctype.shape()) {
@@ -223,7 +227,8 @@ fn valued(
 
 /// The completed type, or a fault at the initialiser's first token.
 fn completes(walk: &mut Walk, index: u32, ctype: Option<Type>) -> Result<Type, Stop>
-    ensures { IsWalked (completes index ctype walk.old) result walk.new }
+    ensures walked { IsWalked (completes index ctype walk.old) result walk.new }
+    ensures left { OnOk result (HasLeft 0 0 walk.old walk.new) }
 {
     match ctype {
         None => Err(Stop::fault(FaultKind::Initialiser, index)),
@@ -239,7 +244,10 @@ pub fn walk_initial(
     ctype: &Type,
     initial: &Option<Initial>,
 ) -> Result<Type, Stop>
-    ensures { IsWalked (walk_initial global ctype.now (option_map plain_initial initial.now) walk.old) result walk.new }
+    requires few { initial_needs (option_map plain_initial initial.now) ≤ most_tokens }
+    requires text { initial_text (option_map plain_initial initial.now) < most_bytes }
+    ensures walked { IsWalked (walk_initial global ctype.now (option_map plain_initial initial.now) walk.old) result walk.new }
+    ensures left { OnOk result (HasLeft 0 0 walk.old walk.new) }
 {
     match initial {
         None => Ok(ctype.try_clone(alloc)?),

@@ -1,8 +1,14 @@
-ghost use Rattle.std.specs.Prelude.{◌≡◌, ◌||◌, IfOk, map, option_map, unwrap_or, length, true};
+ghost use Rattle.std.specs.Prelude.{◌≡◌, ◌<◌, ◌||◌, IfOk, OnOk, map, option_map, unwrap_or, length, sum_by, true};
+ghost use Rattle.std.specs.List.{flat_map};
+ghost use Rattle.c_syntax.specs.Limits.{most_bytes};
 ghost use Rattle.c_syntax.specs.Plain.{plain_entries, plain_item};
+ghost use Rattle.c_syntax.specs.Spelling.{item_kinds};
+ghost use Rattle.c_syntax.specs.Tokens.{kind_text_len};
 ghost use Rattle.c_types_walk.specs.ItemWalk.{clashes, declares, entered, is_defined, known_as, typed_function, types_of, walk_body, walk_function, walk_item, walk_items, with_definition, with_function};
+ghost use Rattle.c_types_walk.specs.Room.{body_text, entries_text, function_needs, item_needs, item_text};
 ghost use Rattle.c_types_expressions.specs.ExprWalk.{with_stars};
 ghost use Rattle.c_types_expressions.specs.Names.{found};
+ghost use Rattle.c_types_expressions.specs.Room.{HasLeft, HasRoom};
 ghost use Rattle.c_types_expressions.specs.Walked.{Fine, IsWalked};
 
 use crate::params::{add_params, listed, types_of, walk_params};
@@ -68,12 +74,14 @@ fn add_function(
     function: FunctionType,
     known: Option<u32>,
 ) -> Result<(), Stop>
-    ensures { IsWalked (Fine tt (with_function name.now function known walk.old)) result walk.new }
+    requires { HasRoom 1 walk.old }
+    ensures walked { IsWalked (Fine tt (with_function name.now function known walk.old)) result walk.new }
+    ensures left { OnOk result (HasLeft 1 0 walk.old walk.new) }
 {
     if known.is_some() {
         return Ok(());
     }
-    let index = next_number(walk.functions.len())?;
+    let index = next_number(walk.functions.len());
     walk.names.declare(name, Meaning::Function { index })?;
     walk.functions.push(FunctionEntry {
         name: name.try_clone()?,
@@ -85,7 +93,8 @@ fn add_function(
 
 /// A function's own faults.
 fn declares(walk: &mut Walk, token: u32, taken: bool, gives: &Type) -> Result<(), Stop>
-    ensures { IsWalked (declares token taken gives.now walk.old) result walk.new }
+    ensures walked { IsWalked (declares token taken gives.now walk.old) result walk.new }
+    ensures left { OnOk result (HasLeft 0 0 walk.old walk.new) }
 {
     if taken {
         return Err(Stop::fault(FaultKind::Redeclared, token));
@@ -98,9 +107,11 @@ fn declares(walk: &mut Walk, token: u32, taken: bool, gives: &Type) -> Result<()
 
 /// The definition of a function is noted.
 fn add_definition(walk: &mut Walk, function: u32, first: u32) -> Result<(), Stop>
-    ensures { IsWalked (Fine tt (with_definition function first walk.old)) result walk.new }
+    requires { HasRoom 1 walk.old }
+    ensures walked { IsWalked (Fine tt (with_definition function first walk.old)) result walk.new }
+    ensures left { OnOk result (HasLeft 1 0 walk.old walk.new) }
 {
-    let number = next_number(walk.definitions.len())?;
+    let number = next_number(walk.definitions.len());
     let count = walk.locals;
     walk.definitions.push(Definition {
         function,
@@ -113,7 +124,9 @@ fn add_definition(walk: &mut Walk, function: u32, first: u32) -> Result<(), Stop
 
 /// The scope of a function begins with its parameters.
 fn enter(alloc: Global, walk: &mut Walk, params: &[Parameter]) -> Result<(), Stop>
-    ensures { IsWalked (Fine tt (entered params.now walk.old)) result walk.new }
+    requires { HasRoom (length params.now) walk.old }
+    ensures walked { IsWalked (Fine tt (entered params.now walk.old)) result walk.new }
+    ensures left { OnOk result (HasLeft (length params.now) 0 walk.old walk.new) }
 {
     walk.locals = 0;
     open_scope(walk)?;
@@ -130,13 +143,16 @@ fn walk_body(
     body: &Seq<Entry>,
     known: Option<u32>,
 ) -> Result<(), Stop>
-    ensures { IsWalked (walk_body head.now.token function head.now.name.now head.now.params.now (plain_entries body.now) known walk.old) result walk.new }
+    requires room { HasRoom (function_needs (length head.now.params.now) (Some (plain_entries body.now))) walk.old }
+    requires text { entries_text (plain_entries body.now) < most_bytes }
+    ensures walked { IsWalked (walk_body head.now.token function head.now.name.now head.now.params.now (plain_entries body.now) known walk.old) result walk.new }
+    ensures left { OnOk result (HasLeft (function_needs (length head.now.params.now) (Some (plain_entries body.now))) 0 walk.old walk.new) }
 {
     let index = match known {
         Some(index) => index,
-        None => next_number(walk.functions.len())?,
+        None => next_number(walk.functions.len()),
     };
-    let first = next_number(walk.variables.len())?;
+    let first = next_number(walk.variables.len());
     let twice = is_defined(index, walk.defined_as.as_slice());
     let taken = clashes(walk, head.name, known) || twice;
     let gives = function.gives.try_clone(alloc)?;
@@ -156,8 +172,11 @@ fn walk_function(
     function: FunctionType,
     body: &Option<Seq<Entry>>,
 ) -> Result<(), Stop>
-    ensures { IsWalked (typed_function head.now.token function head.now.name.now head.now.params.now
+    requires room { HasRoom (function_needs (length head.now.params.now) (option_map plain_entries body.now)) walk.old }
+    requires text { body_text (option_map plain_entries body.now) < most_bytes }
+    ensures walked { IsWalked (typed_function head.now.token function head.now.name.now head.now.params.now
         (option_map plain_entries body.now) walk.old) result walk.new }
+    ensures left { OnOk result (HasLeft (function_needs (length head.now.params.now) (option_map plain_entries body.now)) 0 walk.old walk.new) }
 {
     let meaning = walk.names.find(head.name);
     let known = known_as(walk, meaning, &function);
@@ -189,7 +208,10 @@ fn function_type(
 
 /// An item of a text.
 fn walk_item(alloc: Global, walk: &mut Walk, item: &Item) -> Result<(), Stop>
-    ensures { IsWalked (walk_item (plain_item item.now) walk.old) result walk.new }
+    requires room { HasRoom (item_needs (plain_item item.now)) walk.old }
+    requires text { item_text (plain_item item.now) < most_bytes }
+    ensures walked { IsWalked (walk_item (plain_item item.now) walk.old) result walk.new }
+    ensures left { OnOk result (HasLeft (item_needs (plain_item item.now)) 0 walk.old walk.new) }
 {
     match item {
         Item::Struct {
@@ -221,6 +243,8 @@ fn walk_item(alloc: Global, walk: &mut Walk, item: &Item) -> Result<(), Stop>
 
 /// The items of a text, in order.
 pub fn walk_items(alloc: Global, walk: &mut Walk, items: &[Item]) -> Result<(), Stop>
+    requires room { HasRoom (length (flat_map item_kinds (map plain_item items.now))) walk.old }
+    requires text { sum_by kind_text_len (flat_map item_kinds (map plain_item items.now)) < most_bytes }
     ensures { IsWalked (walk_items (map plain_item items.now) walk.old) result walk.new }
 {
     for item in items {

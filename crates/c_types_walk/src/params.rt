@@ -1,5 +1,6 @@
-ghost use Rattle.std.specs.Prelude.{◌≡◌, [], IfOk};
+ghost use Rattle.std.specs.Prelude.{◌≡◌, [], IfOk, OnOk, length};
 ghost use Rattle.c_types_walk.specs.ItemWalk.{has_length, is_among, is_length, is_named, listed, looked_param, named_param, param_type, scalar_param, types_of, walk_param, walk_params, with_param, with_params};
+ghost use Rattle.c_types_expressions.specs.Room.{HasLeft, HasRoom};
 ghost use Rattle.c_types_expressions.specs.Walked.{Fine, IsWalked};
 
 use c_rules::{FaultKind, Type, is_scalar, pointer_to};
@@ -79,7 +80,8 @@ fn scalar_param(
     bound: &Option<Bound>,
     param: Parameter,
 ) -> Result<Parameter, Stop>
-    ensures { IsWalked (scalar_param index bound.now param.ctype param walk.old) result walk.new }
+    ensures walked { IsWalked (scalar_param index bound.now param.ctype param walk.old) result walk.new }
+    ensures left { OnOk result (HasLeft 0 0 walk.old walk.new) }
 {
     if is_scalar(param.ctype.shape()) && has_length(bound) {
         return Ok(param);
@@ -96,7 +98,8 @@ fn named_param(
     ctype: Type,
     before: &[Parameter],
 ) -> Result<Parameter, Stop>
-    ensures { IsWalked (named_param index known.now ctype before.now walk.old) result walk.new }
+    ensures walked { IsWalked (named_param index known.now ctype before.now walk.old) result walk.new }
+    ensures left { OnOk result (HasLeft 0 0 walk.old walk.new) }
 {
     if is_reserved(&known.name) || is_among(&known.name, before) {
         return Err(Stop::fault(FaultKind::Redeclared, index));
@@ -117,7 +120,8 @@ fn looked_param(
     ctype: Type,
     before: &[Parameter],
 ) -> Result<Parameter, Stop>
-    ensures { IsWalked (looked_param body param.now.token param.now.name ctype before.now walk.old) result walk.new }
+    ensures walked { IsWalked (looked_param body param.now.token param.now.name ctype before.now walk.old) result walk.new }
+    ensures left { OnOk result (HasLeft 0 0 walk.old walk.new) }
 {
     let token = param.token;
     match &param.name {
@@ -140,7 +144,8 @@ fn walk_param(
     param: &Param,
     before: &[Parameter],
 ) -> Result<Parameter, Stop>
-    ensures { IsWalked (walk_param body param.now before.now walk.old) result walk.new }
+    ensures walked { IsWalked (walk_param body param.now before.now walk.old) result walk.new }
+    ensures left { OnOk result (HasLeft 0 0 walk.old walk.new) }
 {
     let base = base_type(walk, &param.base)?;
     let ctype = with_stars(alloc, param.stars, &base)?;
@@ -154,7 +159,9 @@ pub fn walk_params(
     body: bool,
     params: &[Param],
 ) -> Result<Seq<Parameter>, Stop>
-    ensures { IsWalked (walk_params body params.now [] walk.old) result walk.new }
+    ensures walked { IsWalked (walk_params body params.now [] walk.old) result walk.new }
+    ensures many { IfOk result (λ ps. length ps ≡ length params.now) }
+    ensures left { OnOk result (HasLeft 0 0 walk.old walk.new) }
 {
     let mut done = Seq::new(alloc);
     for param in params {
@@ -177,7 +184,9 @@ pub fn types_of(alloc: Global, params: &[Parameter]) -> Result<Seq<Type>, Memory
 
 /// A parameter becomes a local, if it has a name.
 fn add_param(alloc: Global, walk: &mut Walk, param: &Parameter) -> Result<(), Stop>
-    ensures { IsWalked (Fine tt (with_param param.now.token param.now.name param.now.ctype walk.old)) result walk.new }
+    requires { HasRoom 1 walk.old }
+    ensures walked { IsWalked (Fine tt (with_param param.now.token param.now.name param.now.ctype walk.old)) result walk.new }
+    ensures left { OnOk result (HasLeft 1 0 walk.old walk.new) }
 {
     match &param.name {
         None => Ok(()),
@@ -190,7 +199,9 @@ fn add_param(alloc: Global, walk: &mut Walk, param: &Parameter) -> Result<(), St
 
 /// The parameters become locals.
 pub fn add_params(alloc: Global, walk: &mut Walk, params: &[Parameter]) -> Result<(), Stop>
-    ensures { IsWalked (Fine tt (with_params params.now walk.old)) result walk.new }
+    requires { HasRoom (length params.now) walk.old }
+    ensures walked { IsWalked (Fine tt (with_params params.now walk.old)) result walk.new }
+    ensures left { OnOk result (HasLeft (length params.now) 0 walk.old walk.new) }
 {
     for param in params {
         add_param(alloc, walk, param)?;

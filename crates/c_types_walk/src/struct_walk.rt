@@ -1,5 +1,6 @@
 ghost use Rattle.std.specs.Prelude.{◌≡◌, OnOk, IfOk};
 ghost use Rattle.c_types_walk.specs.ItemWalk.{defined, typed_member, walk_declarators, walk_member, walk_members, walk_struct, with_tag};
+ghost use Rattle.c_types_expressions.specs.Room.{HasLeft, HasRoom};
 ghost use Rattle.c_types_expressions.specs.Walked.{Fine, IsWalked};
 
 use crate::declarators::declared_type;
@@ -19,7 +20,8 @@ fn typed_member(
     ctype: Option<Type>,
     known: StructType,
 ) -> Result<StructType, Stop>
-    ensures { IsWalked (typed_member declarator.now ctype known walk.old) result walk.new }
+    ensures walked { IsWalked (typed_member declarator.now ctype known walk.old) result walk.new }
+    ensures left { OnOk result (HasLeft 0 0 walk.old walk.new) }
 {
     let Some(ctype) = ctype else {
         return Err(Stop::fault(FaultKind::Object, declarator.token));
@@ -41,7 +43,8 @@ fn walk_member(
     declarator: &Declarator,
     known: StructType,
 ) -> Result<StructType, Stop>
-    ensures { IsWalked (walk_member base.now declarator.now known walk.old) result walk.new }
+    ensures walked { IsWalked (walk_member base.now declarator.now known walk.old) result walk.new }
+    ensures left { OnOk result (HasLeft 0 0 walk.old walk.new) }
 {
     if member_named(&declarator.name, known.members.as_slice()).is_some() {
         return Err(Stop::fault(FaultKind::Redeclared, declarator.token));
@@ -58,7 +61,8 @@ fn walk_declarators(
     declarators: &[Declarator],
     first: StructType,
 ) -> Result<StructType, Stop>
-    ensures { IsWalked (walk_declarators base.now declarators.now first walk.old) result walk.new }
+    ensures walked { IsWalked (walk_declarators base.now declarators.now first walk.old) result walk.new }
+    ensures left { OnOk result (HasLeft 0 0 walk.old walk.new) }
 {
     let mut known = first;
     for declarator in declarators {
@@ -74,7 +78,8 @@ fn walk_members(
     members: &[Members],
     first: StructType,
 ) -> Result<StructType, Stop>
-    ensures { IsWalked (walk_members members.now first walk.old) result walk.new }
+    ensures walked { IsWalked (walk_members members.now first walk.old) result walk.new }
+    ensures left { OnOk result (HasLeft 0 0 walk.old walk.new) }
 {
     let mut known = first;
     for line in members {
@@ -86,16 +91,19 @@ fn walk_members(
 
 /// A tag comes into scope.
 fn declare_tag(walk: &mut Walk, tag: &Name) -> Result<(), Stop>
-    ensures { IsWalked (Fine tt (with_tag tag.now walk.old)) result walk.new }
+    requires { HasRoom 1 walk.old }
+    ensures walked { IsWalked (Fine tt (with_tag tag.now walk.old)) result walk.new }
+    ensures left { OnOk result (HasLeft 0 0 walk.old walk.new) }
 {
-    let index = next_number(walk.structs.len())?;
+    let index = next_number(walk.structs.len());
     walk.tags.declare(tag, Meaning::Struct { index })?;
     Ok(())
 }
 
 /// A struct with all its members.
 fn defined(walk: &mut Walk, token: u32, twice: bool, known: StructType) -> Result<(), Stop>
-    ensures { IsWalked (defined token twice known walk.old) result walk.new }
+    ensures walked { IsWalked (defined token twice known walk.old) result walk.new }
+    ensures left { OnOk result (HasLeft 1 0 walk.old walk.new) }
 {
     if twice {
         return Err(Stop::fault(FaultKind::Redeclared, token));
@@ -115,7 +123,9 @@ pub fn walk_struct(
     tag: &Name,
     members: &[Members],
 ) -> Result<(), Stop>
-    ensures { IsWalked (walk_struct token tag.now members.now walk.old) result walk.new }
+    requires { HasRoom 1 walk.old }
+    ensures walked { IsWalked (walk_struct token tag.now members.now walk.old) result walk.new }
+    ensures left { OnOk result (HasLeft 1 0 walk.old walk.new) }
 {
     let twice = walk.tags.is_here(tag);
     declare_tag(walk, tag)?;
