@@ -3,6 +3,7 @@
 
 ghost use Rattle.std.specs.Prelude.{◌≡◌, ℕ, Err, IfOk};
 ghost use Rattle.c_syntax.specs.ItemTree.{SourceTree};
+ghost use Rattle.c_syntax.specs.Kept.{IsKeptTree};
 ghost use Rattle.c_syntax.specs.Plain.{plain_tree};
 ghost use Rattle.c_syntax.specs.Spelling.{tree_kinds};
 ghost use Rattle.c_syntax.specs.WellFormed.{IsShaped};
@@ -18,12 +19,14 @@ use std::alloc::Global;
 /// The tree of a list of tokens. Want of memory is free.
 pub fn parse(alloc: Global, tokens: &Tokens) -> Result<Tree, ParseError>
     ensures tree { IfOk result (λ t. IsTreeOf tokens.now (plain_tree t)) }
+    ensures kept { IfOk result (λ t. IsKeptTree (plain_tree t)) }
     ensures syntax { (index item : ℕ) → result ≡ Err (ParseError.Syntax index item) → Refuses tokens.now index item }
 
     // .. and wherever there is a tree it is the answer, and where there is none they are refused, unless memory runs out.
     ensures read { (t : SourceTree) → IsTreeOf tokens.now t → IsReadAs t result }
     ensures refused { ((t : SourceTree) → IsTreeOf tokens.now t → ⊥) → IsRefused result }
 {
+    let _kept = tokens.as_slice();
     program::tree(alloc, tokens)
 }
 
