@@ -1,5 +1,4 @@
 pub mod Hiding
-pub mod Known
 pub mod Noted
 pub mod NotedExprs
 pub mod NotedStatements

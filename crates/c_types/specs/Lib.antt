@@ -4,3 +4,4 @@ pub mod Hiding
 pub mod Parts
 pub mod Laid
 pub mod Numbers
+pub mod CheckedTree

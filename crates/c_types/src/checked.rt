@@ -1,20 +1,33 @@
-ghost use Rattle.std.specs.Prelude.{◌≡◌, Some};
-ghost use Rattle.c_syntax.specs.Plain.{plain_tree};
-ghost use Rattle.c_types.specs.Fault.{known_in, walk_tree};
+ghost use Rattle.std.specs.Prelude.{◌≡◌, option_copied};
+ghost use Rattle.c_types.specs.Answers.{span_holds};
 
 use crate::answers::{ends_behind, note_at};
 use c_rules::{CType, StructType, Type, cells_of};
 use c_syntax::Tree;
 use c_types_expressions::{Definition, FunctionEntry, Meaning, Variable, VariableEntry, Walk};
 use cbi_base::Name;
+use std::marker::Model;
 
 /// A tree without a fault, with what is known of it.
 #[derive(Drop)]
 pub struct Checked {
     tree: Tree,
     walk: Walk,
-    /// What is known is what the walk through the tree comes to.
-    ghost walked: { known_in (walk_tree (plain_tree tree)) ≡ Some walk },
+}
+
+impl Model for Checked {
+    ghost use Rattle.std.specs.Coded.{codes};
+    ghost use Rattle.c_syntax.specs.contracts.tree.Tree as whole_tree;
+    ghost use Rattle.c_types_expressions.specs.contracts.walk.Walk as whole_walk;
+    ghost use Rattle.c_types.specs.CheckedTree.{CheckedTree, ComesTo};
+
+    ghost Value = { CheckedTree };
+
+    ghost coded = { Prim.hlevel (codes, whole_tree.the_row.coded, whole_walk.the_row.coded) };
+
+    ghost view = { λ c. record { tree = c.tree; walk = c.walk } };
+
+    ghost invariant = { λ c. ComesTo c.tree c.walk };
 }
 
 /// Why a tree is refused: the number of the kind of its first fault and the index of the token at which that stands, or
@@ -25,8 +38,19 @@ pub enum TypeFault {
     Memory,
 }
 
+/// Whether the token lies in a scope that begins behind the variable's name and has this last token.
+fn span_holds(token: u32, variable: Option<&VariableEntry>, end: Option<&Option<u32>>) -> bool
+    ensures { result ≡ span_holds token (option_copied variable.entry) (option_copied end.entry) }
+{
+    match (variable, end) {
+        (Some(entry), Some(end)) => entry.from < token && ends_behind(token, end),
+        _ => false,
+    }
+}
+
 impl Checked {
     ghost use Rattle.std.specs.Prelude.{◌≡◌, ◌≤◌, IsTrue, option_copied, option_map};
+    ghost use Rattle.c_syntax.specs.Kept.{IsKeptTree};
     ghost use Rattle.c_syntax.specs.Plain.{plain_tree};
     ghost use Rattle.c_rules.specs.Plain.{plain_type};
     ghost use Rattle.c_rules.specs.Sizes.{cells_of, is_complete, most_cells};
@@ -37,17 +61,22 @@ impl Checked {
 
     /// A tree through which the walk came, with what it came to know.
     pub(crate) fn new(tree: Tree, walk: Walk) -> Checked
-        requires { walk_tree (plain_tree tree) ≡ Fine tt walk }
+        requires walked { walk_tree (plain_tree tree) ≡ Fine tt walk }
+        requires kept { IsKeptTree (plain_tree tree) }
         ensures same { tree_of result ≡ plain_tree tree }
         ensures known { known_of result ≡ walk }
     {
         Checked { tree, walk }
     }
 
-    /// What is known of a checked tree is always what the walk through it comes to. It does nothing: a caller learns it.
+    /// What is known of a checked tree is always what the walk through it comes to, and the tree is one that a parser gives. It does nothing: a
+    /// caller learns it.
     pub fn facts(&self)
-        ensures { IsChecked self.now }
-    {}
+        ensures walked { IsChecked self.now }
+        ensures kept { IsKeptTree (tree_of self.now) }
+    {
+        let _tree = &self.tree;
+    }
 
     /// The tree itself.
     pub fn tree(&self) -> &Tree
@@ -186,11 +215,8 @@ impl Checked {
     pub fn scope_holds(&self, place: usize, token: u32) -> bool
         ensures { result ≡ scope_holds (known_of self.now) place token }
     {
-        let entry = self.walk.variables.as_slice().get(place);
-        let end = self.walk.ends.as_slice().get(place);
-        match (entry, end) {
-            (Some(entry), Some(end)) => entry.from < token && ends_behind(token, end),
-            _ => false,
-        }
+        let variables = self.walk.variables.as_slice();
+        let ends = self.walk.ends.as_slice();
+        span_holds(token, variables.get(place), ends.get(place))
     }
 }

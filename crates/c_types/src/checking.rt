@@ -1,4 +1,5 @@
 ghost use Rattle.std.specs.Prelude.{◌≡◌, None, IfOk, IfErr, OnOk, Some};
+ghost use Rattle.c_syntax.specs.Kept.{IsKeptTree};
 ghost use Rattle.c_syntax.specs.Plain.{plain_tree};
 ghost use Rattle.c_types.specs.Answers.{IsChecked, IsTypeFault, tree_of};
 ghost use Rattle.c_types.specs.Fault.{begins_program, fault_of, first_undefined, has_main, is_main, lacks_definition, last_fault};
@@ -85,8 +86,9 @@ fn last_fault(
     }
 }
 
-/// Walks a tree. It is accepted exactly where the walk meets no fault; else the answer is its first fault.
+/// Walks a tree, as a parser gives it. It is accepted exactly where the walk meets no fault; else the answer is its first fault.
 pub fn check(alloc: Global, tree: Tree) -> Result<Checked, TypeFault>
+    requires kept { IsKeptTree (plain_tree tree) }
     ensures accepted { OnOk result (fault_of (plain_tree tree) ≡ None) }
     ensures same { IfOk result (λ c. tree_of c ≡ plain_tree tree) }
     ensures known { IfOk result (λ c. IsChecked c) }
