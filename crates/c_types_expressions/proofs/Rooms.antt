@@ -1,5 +1,5 @@
--- How much room the walk leaves: all of it after an expression, and all but for one thing after a variable.
-use Rattle.std.proofs.Common.{◌≡◌, ℕ, ◌≤◌, Bool, true, false, List, [], ◌∷◌, ◌++◌, length, Option, Some, None, Result, Ok, Err, OnOk, if◌then◌else◌, slice_get, refl, ap, subst, arith, length-append}
+-- An expression declares nothing, and leaves all the room that there was.
+use Rattle.std.proofs.Common.{◌≡◌, ℕ, ◌≤◌, Bool, true, false, List, [], ◌∷◌, ◌++◌, length, Option, Some, None, Result, Ok, Err, OnOk, if◌then◌else◌, slice_get, refl, ap, subst, arith}
 use Rattle.c_syntax.specs.declared.parts.Base.{Base}
 use Rattle.c_syntax.specs.declared.parts.Base.TheVariants as base
 use Rattle.c_syntax.specs.ExprTree as e
@@ -23,7 +23,7 @@ use Rattle.c_types_expressions.specs.declared.walk.Walk.{Walk}
 use Rattle.c_types_expressions.specs.ExprWalk.{base_type, called, format_of, is_printf, looked, named, of_function, of_variable, selected, string_cells, tagged, walk_expr, walk_exprs, walk_links, walk_postfix, walk_whole, whole_call, with_call}
 use Rattle.c_types_expressions.specs.Names.{found, meaning_of}
 use Rattle.c_types_expressions.specs.Room.{HasLeft, HasRoom, things_in}
-use Rattle.c_types_expressions.specs.Walked.{Walked, ◌>>=◌, IsWalked, numbered, with_variable}
+use Rattle.c_types_expressions.specs.Walked.{Walked, ◌>>=◌, IsWalked}
 use Rattle.c_types_expressions.proofs.Giving.{Gives, gives_then}
 
 -- how many things were declared, and how many of them are variables, globals and locals
@@ -40,15 +40,6 @@ left_same w v h =
     let variables : length v.variables ≡ length w.variables = ap (λ (q : Numbers). q.1) h in
     let globals : v.globals ≡ w.globals = ap (λ (q : Numbers). q.2) h in
     let locals : v.locals ≡ w.locals = ap (λ (q : Numbers). q.3) h in
-    record { few = omega arith; globals = omega arith; locals = omega arith }
-
--- a variable takes one place
-pub variable_left : (global : Bool) (token : ℕ) (name : List ℕ) (of : TypeTree) (w : Walk) → HasLeft 1 0 w (with_variable global token name of w)
-variable_left true token name of w =
-    let more = length-append w.variables (record { name = name; variable = numbered true w; from = token } ∷ []) in
-    record { few = omega arith; globals = omega arith; locals = omega arith }
-variable_left false token name of w =
-    let more = length-append w.variables (record { name = name; variable = numbered false w; from = token } ∷ []) in
     record { few = omega arith; globals = omega arith; locals = omega arith }
 
 module _ (n : Numbers) where
