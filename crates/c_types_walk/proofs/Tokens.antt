@@ -34,7 +34,7 @@ initial_long None = omega arith
 initial_long (Some (s.Value value)) = omega arith
 initial_long (Some (s.Braced token items comma)) = simp length-append (omega (arith, exprs_long items))
 
--- a variable has a name
+-- a variable has a name, and each item of its initialiser but the first a comma
 start_long : (x : StartTree) → start_needs x ≤ length (start_kinds x)
 start_long x = simp length-append (omega (arith, initial_long x.initial))
 
@@ -42,10 +42,11 @@ starts_behind : (xs : List StartTree) → starts_need xs ≤ length (after_comma
 starts_behind [] = omega arith
 starts_behind (x ∷ xs) = omega (arith, starts_behind xs, start_long x, length-append (a_sign sign.Comma ++ start_kinds x) (after_commas start_kinds xs))
 
-starts_long : (xs : List StartTree) → starts_need xs ≤ length (with_commas start_kinds xs)
+pub starts_long : (xs : List StartTree) → starts_need xs ≤ length (with_commas start_kinds xs)
 starts_long [] = omega arith
 starts_long (x ∷ xs) = omega (arith, starts_behind xs, start_long x, length-append (start_kinds x) (after_commas start_kinds xs))
 
+-- so have all of a declaration
 declaration_long : (d : DeclarationTree) → declaration_needs d ≤ length (declaration_kinds d)
 declaration_long d = simp length-append (omega (arith, starts_long d.starts))
 
