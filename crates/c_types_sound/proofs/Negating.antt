@@ -1,6 +1,6 @@
 -- A constant that is no less than the least `char`, and lies in its kind, may have a `-` before it.
 use Rattle.std.proofs.Common.{◌≡◌, arith, ℤ, pos, neg_ℤ, Bool, true, false, ◌&&◌, [], ◌∷◌}
-use Rattle.std.specs.Prelude.{IsTrue, int_le}
+use Rattle.std.specs.Prelude.{int_le}
 use Rattle.std.specs.List.{AllByRecursion}
 use Rattle.std.proofs.lemmas.Int.{ints}
 use Rattle.std.proofs.lemmas.Bool.{false≢true}
@@ -11,14 +11,9 @@ use Rattle.cbi_base.specs.Kind.{greatest_of, least_of, lies_in}
 use Rattle.c_syntax.specs.declared.token.TokenKind.{TokenKind}
 use Rattle.c_syntax.specs.declared.token.TokenKind.TheVariants as token
 use Rattle.c_syntax.specs.Spelling.{Kinds}
-use Rattle.c_syntax.specs.Tokens.{ConstantFits, KindFits}
+use Rattle.c_syntax.specs.Tokens.{AtLeastChar, ConstantFits, IsAtLeastChar, KindFits}
 use Rattle.c_types_never_stuck.specs.TypedText.{Negates}
 use Rattle.c_types_sound.specs.Accepted.{IsNegatable}
-
--- a number that digits without a sign, or a character, can stand for
-abbrev pub IsUnsigned : TokenKind → Type 0
-IsUnsigned (token.Constant kind value) = IsTrue (int_le (neg_ℤ (pos 128)) value)
-IsUnsigned k = Unit {0}
 
 joined : (a b : Bool) → a ≡ true → b ≡ true → (a && b) ≡ true
 joined true b h k = k
@@ -28,13 +23,13 @@ int_negates : (value : ℤ) → int_le (neg_ℤ (pos 128)) value ≡ true → in
 int_negates value low high = joined (int_le (least_of kind.Int) (neg_ℤ value)) (int_le (neg_ℤ value) (greatest_of kind.Int)) (grind (arith, ints, low, high))
     (grind (arith, ints, low, high))
 
-pub constant_negates : (k : Kind) (value : ℤ) → ConstantFits k value → int_le (neg_ℤ (pos 128)) value ≡ true → Negates k value
+pub constant_negates : (k : Kind) (value : ℤ) → ConstantFits k value → AtLeastChar value → Negates k value
 constant_negates kind.Int value h low = int_negates value low (both (int_le (least_of kind.Int) value) (int_le value (greatest_of kind.Int)) h.1).1
 constant_negates kind.Unsigned value h low = tt
 constant_negates kind.Char value h low = absurd (false≢true h.0)
 
 -- tokens as the lexer makes them
-pub tokens_negate : (ks : Kinds) → AllByRecursion KindFits ks → AllByRecursion IsUnsigned ks → AllByRecursion IsNegatable ks
+pub tokens_negate : (ks : Kinds) → AllByRecursion KindFits ks → AllByRecursion IsAtLeastChar ks → AllByRecursion IsNegatable ks
 tokens_negate [] h k = tt
 tokens_negate (token.Constant kind value ∷ ks) h k = (constant_negates kind value h.0 k.0, tokens_negate ks h.1 k.1)
 tokens_negate (token.Name name ∷ ks) h k = (tt, tokens_negate ks h.1 k.1)
