@@ -8,7 +8,6 @@ use Rattle.cbi_base.proofs.NumberLemmas.{both}
 use Rattle.cbi_base.specs.declared.scalar.Kind.{Kind}
 use Rattle.cbi_base.specs.declared.scalar.Kind.TheVariants as kind
 use Rattle.cbi_base.specs.Kind.{greatest_of, least_of, lies_in}
-use Rattle.c_syntax.specs.declared.token.TokenKind.{TokenKind}
 use Rattle.c_syntax.specs.declared.token.TokenKind.TheVariants as token
 use Rattle.c_syntax.specs.Spelling.{Kinds}
 use Rattle.c_syntax.specs.Tokens.{AtLeastChar, ConstantFits, IsAtLeastChar, KindFits}

@@ -26,3 +26,4 @@ pub mod ProgramGlobals
 pub mod Numbers
 pub mod Functions
 pub mod Limits
+pub mod Whole

@@ -10,7 +10,7 @@ use Rattle.c_syntax.specs.declared.token.TokenKind.{TokenKind}
 use Rattle.c_syntax.specs.declared.token.TokenKind.TheVariants as kind
 use Rattle.c_syntax.specs.ItemTree.{SourceTree}
 use Rattle.c_syntax.specs.Spelling.{Kinds, text_kinds, tree_kinds}
-use Rattle.c_syntax.specs.Tokens.{kind_text_len}
+use Rattle.c_syntax.specs.Tokens.{IsOfBytes, kind_text_len}
 use Rattle.c_types_expressions.specs.declared.walk.Walk.{Walk}
 use Rattle.c_meaning.specs.Known.{facts_of}
 use Rattle.c_meaning.specs.Literals.{Literal, literals, texts_of}
@@ -20,7 +20,6 @@ use Rattle.flow.specs.Program.{AreTexts}
 use Rattle.c_types_sound.specs.Accepted.{IsAcceptedTree}
 use Rattle.c_types_sound.specs.Sited.{IsSited}
 use Rattle.c_types_sound.proofs.Rising.{Rise, items_rise}
-use Rattle.lower_parts_fit.specs.Brought.{IsOfBytes}
 use Rattle.lower_parts_fit.proofs.Strings.{items_fewer}
 
 -- the bytes of a string

@@ -1,8 +1,5 @@
 -- What a program takes of a text.
-use Rattle.std.specs.Prelude.{ℕ, length, ◌≡◌, ◌<◌, [], Option, Some, None, true}
-use Rattle.std.specs.List.{All}
-use Rattle.c_syntax.specs.declared.token.TokenKind.{TokenKind}
-use Rattle.c_syntax.specs.declared.token.TokenKind.TheVariants.{Text}
+use Rattle.std.specs.Prelude.{ℕ, length, ◌≡◌, [], Option, Some, None, true}
 use Rattle.c_types_expressions.specs.declared.walk.Definition.{Definition}
 use Rattle.c_meaning.specs.Facts.{Facts, Signature}
 use Rattle.c_meaning.specs.Trees.{has_value}
@@ -17,8 +14,3 @@ pub record IsSigned (facts : Facts) (number : ℕ) (d : Definition) : Type 0 whe
   pub own : Signature
   pub is : facts.signature number ≡ Some own
   pub counts : length own.locals ≡ d.count
-
--- a string is one of bytes
-abbrev pub IsOfBytes : TokenKind → Type 0
-IsOfBytes (Text bytes) = All (λ b. b < 256) bytes
-IsOfBytes token = Unit {0}

@@ -4,7 +4,7 @@ use Rattle.std.specs.List.{AllByRecursion}
 use Rattle.c_syntax.specs.ItemTree.{SourceTree}
 use Rattle.c_syntax.specs.Limits.{most_tokens}
 use Rattle.c_syntax.specs.Spelling.{tree_kinds}
-use Rattle.c_syntax.specs.Tokens.{KindFits}
+use Rattle.c_syntax.specs.Tokens.{IsOfBytes, KindFits}
 use Rattle.c_types_expressions.specs.declared.walk.Walk.{Walk}
 use Rattle.flow.specs.declared.site.Site.{Site}
 use Rattle.flow.specs.declared.site.TableParts.{TableParts}
@@ -12,7 +12,6 @@ use Rattle.sites.specs.declared.schemes.Schemes.{Schemes}
 use Rattle.sites.specs.Table.{functions_of, sites_of}
 use Rattle.c_types_sound.specs.Accepted.{IsAcceptedTree}
 use Rattle.c_types_sound.specs.Sited.{IsSited}
-use Rattle.lower_parts_fit.specs.Brought.{IsOfBytes}
 
 -- these are the sites of the text for some schemes, or there are none
 abbrev pub AreSitesOf : SourceTree → Walk → List Site → Type 0

@@ -8,4 +8,4 @@ mod programs;
 
 pub use globals::globals_of_an_accepted_text_fit;
 pub use parts::{functions_of_an_accepted_text_fit, texts_of_an_accepted_text_fit};
-pub use programs::parts_of_an_accepted_text_are_a_program;
+pub use programs::{kept_texts_are_whole, parts_of_an_accepted_text_are_a_program};

@@ -3,6 +3,7 @@ ghost use Rattle.std.specs.List.{All, AllByRecursion};
 ghost use Rattle.cbi_base.specs.Name.{IsName};
 ghost use Rattle.c_syntax.specs.ItemTree.{SourceTree};
 ghost use Rattle.c_syntax.specs.Spelling.{tree_kinds};
+ghost use Rattle.c_syntax.specs.Tokens.{IsOfBytes};
 ghost use Rattle.c_types_expressions.specs.declared.walk.Definition.{Definition};
 ghost use Rattle.c_types_expressions.specs.declared.walk.Walk.{Walk};
 ghost use Rattle.c_meaning.specs.Known.{facts_of};
@@ -15,7 +16,7 @@ ghost use Rattle.sites.specs.Table.{functions_of};
 ghost use Rattle.c_types_sound.specs.Accepted.{IsAcceptedTree};
 ghost use Rattle.c_types_sound.specs.Sited.{IsSited, count_of};
 ghost use Rattle.lower_facts.specs.Signatures.{AreSized};
-ghost use Rattle.lower_parts_fit.specs.Brought.{IsMainSignature, IsOfBytes, IsSigned};
+ghost use Rattle.lower_parts_fit.specs.Brought.{IsMainSignature, IsSigned};
 
 /// The strings of an accepted text are texts of a program: few, and of few bytes together. They are of bytes where the strings among its tokens are.
 pub fn texts_of_an_accepted_text_fit()
