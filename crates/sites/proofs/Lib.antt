@@ -3,5 +3,7 @@ pub mod Kept
 pub mod Rises
 pub mod RisesBodies
 pub mod RisesTable
+pub mod Standing
+pub mod Parting
 pub mod Named
 pub mod Keeping

@@ -17,9 +17,10 @@ use Rattle.sites.specs.declared.spots.Spot.TheVariants as spot
 use Rattle.sites.specs.Bodies.{entries_spots}
 use Rattle.sites.specs.Rising.{RisesWithin}
 use Rattle.sites.specs.SitesAt.{Body, stand_on, sites_standing, sites_at_token, sites_at, sites_in}
+use Rattle.sites.specs.Standing.{item_spots}
 use Rattle.sites.specs.Table.{body_with, defined_by, item_sites, items_sites, sites_of}
 use Rattle.sites.proofs.Owners.{standing}
-use Rattle.sites.proofs.Rises.{Rises, len4, paren-length}
+use Rattle.sites.proofs.Rises.{Rises, len4, paren-length, wider}
 use Rattle.sites.proofs.RisesBodies.{brace-length, rises-entries}
 
 in_order : (low high : ℕ) (xs : List Site) → RisesWithin low high xs → low ≤ high
@@ -67,22 +68,30 @@ rises-in b low high (spot.Change token target ∷ rest) r =
     (rises-in b token high rest r.2)
 rises-in b low high (spot.Constant value ∷ rest) r = rises-in b low high rest r
 
--- the sites of an item stand within it
+-- what an item holds stands within it
+pub rises-held : (at : ℕ) (x : ItemTree) → ItemAt at x → Rises at (at + length (item_kinds x)) (item_spots x)
+rises-held at (i.Struct token tag members) p = omega arith
+rises-held at (i.Declaration d) p = omega arith
+rises-held at (i.Function token b stars name ps None) p = omega arith
+rises-held at (i.Function token b stars name ps (Some body)) p =
+    let ts = type_kinds b stars in
+    let from = at + length ts + 2 + length (params_kinds ps) + 2 in
+    let whole : length (item_kinds (i.Function token b stars name ps (Some body))) ≡ length ts + length (a_name name) + length (parenthesized
+    (params_kinds ps)) + length (braced (entry_kinds body)) =
+    len4 ts (a_name name) (parenthesized (params_kinds ps)) (braced (entry_kinds body)) in
+    wider from (from + length (entry_kinds body)) at _ (entries_spots body) (omega arith)
+    (omega (arith, whole, paren-length (params_kinds ps), brace-length (entry_kinds body)))
+    (rises-entries from body p.3)
+
+-- and so do its sites
 pub rises-item : (w : Walk) (lines : List ℕ) (schemes : Schemes) (number at : ℕ) (x : ItemTree) → ItemAt at x →
     RisesWithin at (at + length (item_kinds x)) (item_sites w lines schemes number x)
 rises-item w lines schemes number at (i.Struct token tag members) p = omega arith
 rises-item w lines schemes number at (i.Declaration d) p = omega arith
 rises-item w lines schemes number at (i.Function token b stars name ps None) p = omega arith
 rises-item w lines schemes number at (i.Function token b stars name ps (Some body)) p =
-    let ts = type_kinds b stars in
-    let from = at + length ts + 2 + length (params_kinds ps) + 2 in
-    let spots = entries_spots body in
-    let whole : length (item_kinds (i.Function token b stars name ps (Some body))) ≡ length ts + length (a_name name) + length (parenthesized
-    (params_kinds ps)) + length (braced (entry_kinds body)) =
-    len4 ts (a_name name) (parenthesized (params_kinds ps)) (braced (entry_kinds body)) in
-    within from (from + length (entry_kinds body)) at _ (sites_in (body_with w lines schemes number spots) spots) (omega arith)
-    (omega (arith, whole, paren-length (params_kinds ps), brace-length (entry_kinds body)))
-    (rises-in (body_with w lines schemes number spots) from (from + length (entry_kinds body)) spots (rises-entries from body p.3))
+    let x = i.Function token b stars name ps (Some body) in
+    rises-in (body_with w lines schemes number (entries_spots body)) at (at + length (item_kinds x)) (entries_spots body) (rises-held at x p)
 
 rises-items : (w : Walk) (lines : List ℕ) (schemes : Schemes) (number at : ℕ) (xs : List ItemTree) → EachAt ItemAt item_kinds 0 at xs →
     RisesWithin at (at + length (flat_map item_kinds xs)) (items_sites w lines schemes number xs)

@@ -4,6 +4,7 @@ pub mod Constants
 pub mod Visible
 pub mod Noted
 pub mod SitesAt
+pub mod Standing
 pub mod Table
 pub mod Adding
 pub mod Ground

@@ -2,6 +2,7 @@ ghost use Rattle.std.specs.Prelude.{◌≡◌, ◌++◌, ◌∷◌, [], OnOk, ma
 ghost use Rattle.c_syntax.specs.Plain.{plain_declaration, plain_entries, plain_expr, plain_for_start, plain_initial, plain_start, plain_statement};
 ghost use Rattle.sites.specs.declared.spots.Spot.TheVariants as spot;
 ghost use Rattle.sites.specs.Bodies.{declaration_spots, entries_spots, for_spots, for_start_spots, initial_spots, start_spots, starts_spots, statement_spots};
+ghost use Rattle.sites.specs.Standing.{StandAtTokens};
 
 use crate::spots::{Spot, push_change, push_expr, push_exprs, push_part};
 use c_syntax::{Declaration, Entry, Expr, ForStart, Initial, Start, Statement};
@@ -14,13 +15,13 @@ fn push_initial(
     name_token: u32,
     initial: &Option<Initial>,
 ) -> Result<(), Memory>
+    requires { StandAtTokens (initial_spots name_token (option_map plain_initial initial.now)) }
     ensures { OnOk result (spots.new ≡ spots.old ++ initial_spots name_token (option_map plain_initial initial.now)) }
 {
     match initial {
         None => Ok(()),
         Some(Initial::Value { value }) => {
-            let equal = name_token.checked_add(1).ok_or(Memory)?;
-            push_change(spots, equal, Some(name_token))?;
+            push_change(spots, name_token + 1, Some(name_token))?;
             push_expr(spots, value)
         }
         Some(Initial::Braced { items, .. }) => push_exprs(spots, items.as_slice()),
@@ -29,6 +30,7 @@ fn push_initial(
 
 /// Adds what a declared variable holds.
 fn push_start(spots: &mut Seq<Spot>, start: &Start) -> Result<(), Memory>
+    requires { StandAtTokens (start_spots (plain_start start.now)) }
     ensures { OnOk result (spots.new ≡ spots.old ++ start_spots (plain_start start.now)) }
 {
     push_initial(spots, start.declarator.name_token, &start.initial)
@@ -36,6 +38,7 @@ fn push_start(spots: &mut Seq<Spot>, start: &Start) -> Result<(), Memory>
 
 /// Adds what several declared variables hold.
 fn push_starts(spots: &mut Seq<Spot>, starts: &[Start]) -> Result<(), Memory>
+    requires { StandAtTokens (starts_spots (map plain_start starts.now)) }
     ensures { OnOk result (spots.new ≡ spots.old ++ starts_spots (map plain_start starts.now)) }
 {
     for start in starts {
@@ -46,6 +49,7 @@ fn push_starts(spots: &mut Seq<Spot>, starts: &[Start]) -> Result<(), Memory>
 
 /// Adds what a declaration of locals holds.
 fn push_declaration(spots: &mut Seq<Spot>, declaration: &Declaration) -> Result<(), Memory>
+    requires { StandAtTokens (declaration_spots (plain_declaration declaration.now)) }
     ensures { OnOk result (spots.new ≡ spots.old ++ declaration_spots (plain_declaration declaration.now)) }
 {
     push_starts(spots, declaration.starts.as_slice())
@@ -53,6 +57,7 @@ fn push_declaration(spots: &mut Seq<Spot>, declaration: &Declaration) -> Result<
 
 /// Adds what a `for` does first.
 fn push_for_start(spots: &mut Seq<Spot>, start: &ForStart) -> Result<(), Memory>
+    requires { StandAtTokens (for_start_spots (plain_for_start start.now)) }
     ensures { OnOk result (spots.new ≡ spots.old ++ for_start_spots (plain_for_start start.now)) }
 {
     match start {
@@ -81,6 +86,7 @@ fn push_branch(spots: &mut Seq<Spot>, token: u32, word: BranchWord) -> Result<()
 /// Adds what a statement holds.
 #[cycle(push_statement)]
 pub fn push_statement(spots: &mut Seq<Spot>, statement: &Statement) -> Result<(), Memory>
+    requires { StandAtTokens (statement_spots (plain_statement statement.now)) }
     ensures { OnOk result (spots.new ≡ spots.old ++ statement_spots (plain_statement statement.now)) }
 {
     match statement {
@@ -140,6 +146,7 @@ pub fn push_statement(spots: &mut Seq<Spot>, statement: &Statement) -> Result<()
 /// Adds what the entries of a block or of a body hold.
 #[cycle(push_statement)]
 pub fn push_entries(spots: &mut Seq<Spot>, entries: &[Entry]) -> Result<(), Memory>
+    requires { StandAtTokens (entries_spots (plain_entries entries.now)) }
     ensures { OnOk result (spots.new ≡ spots.old ++ entries_spots (plain_entries entries.now)) }
 {
     for entry in entries {

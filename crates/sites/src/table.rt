@@ -1,4 +1,5 @@
-ghost use Rattle.std.specs.Prelude.{◌≡◌, ◌<◌, ◌++◌, length, IfOk, IfErr, IsErr, OnOk};
+ghost use Rattle.std.specs.Prelude.{◌≡◌, ◌<◌, ◌≤◌, ◌++◌, length, IfOk, IfErr, IsErr, OnOk};
+ghost use Rattle.c_syntax.specs.Limits.{most_tokens};
 ghost use Rattle.c_syntax.specs.Plain.{plain_entries, plain_item};
 ghost use Rattle.c_types.specs.Answers.{known_of, tree_of, type_at};
 ghost use Rattle.flow.specs.Limits.{site_limit};
@@ -8,6 +9,7 @@ ghost use Rattle.sites.specs.Bodies.{entries_spots};
 ghost use Rattle.sites.specs.Ground.{body_of};
 ghost use Rattle.sites.specs.Noted.{IsNoted};
 ghost use Rattle.sites.specs.SitesAt.{branch_sites, change_sites, gives_scalar, is_observed, return_sites, sites_at, sites_in, token_of};
+ghost use Rattle.sites.specs.Standing.{StandAtTokens, item_spots};
 ghost use Rattle.sites.specs.Table.{body_sites, defined_by, functions_of, item_sites, sites_of};
 
 use crate::constants::constants_of;
@@ -142,17 +144,17 @@ fn add_body(
     checked: &Checked,
     again: &[Option<u32>],
     schemes: Schemes,
-    number: usize,
+    function: u32,
     body: &[Entry],
 ) -> Result<(), SiteError>
-    requires { IsNoted schemes (known_of checked.now) again.now }
+    requires noted { IsNoted schemes (known_of checked.now) again.now }
+    requires tokens { StandAtTokens (entries_spots (plain_entries body.now)) }
     ensures { IsAdded sites.old
-        (body_sites (known_of checked.now) (tree_of checked.now).lines schemes number (entries_spots (plain_entries body.now))) result sites.new }
+        (body_sites (known_of checked.now) (tree_of checked.now).lines schemes function (entries_spots (plain_entries body.now))) result sites.new }
 {
     let mut spots = Seq::new(alloc);
     push_entries(&mut spots, body)?;
     let constants = constants_of(alloc, spots.as_slice())?;
-    let function = u32::try_from(number).map_err(|_| SiteError::Memory)?;
     let ground = Ground {
         checked,
         schemes,
@@ -172,7 +174,9 @@ fn add_item(
     schemes: Schemes,
     item: &Item,
 ) -> Result<(), SiteError>
-    requires { IsNoted schemes (known_of checked.now) again.now }
+    requires noted { IsNoted schemes (known_of checked.now) again.now }
+    requires few { length parts.old.functions ≤ most_tokens }
+    requires tokens { StandAtTokens (item_spots (plain_item item.now)) }
     ensures sites { IsAdded parts.old.sites
         (item_sites (known_of checked.now) (tree_of checked.now).lines schemes (length parts.old.functions) (plain_item item.now))
         result parts.new.sites }
@@ -184,7 +188,7 @@ fn add_item(
             body: Some(body),
             ..
         } => {
-            let number = parts.functions.len();
+            let function = parts.functions.len() as u32;
             parts.functions.push(name.try_clone()?)?;
             add_body(
                 alloc,
@@ -192,7 +196,7 @@ fn add_item(
                 checked,
                 again,
                 schemes,
-                number,
+                function,
                 body.as_slice(),
             )
         }
@@ -211,6 +215,7 @@ pub fn site_table(
     ensures too_many { IfErr result (λ e. e ≡ error.TooManySites → site_limit < length (sites_of (tree_of checked.now) (known_of checked.now) schemes)) }
     ensures refused { site_limit < length (sites_of (tree_of checked.now) (known_of checked.now) schemes) → IsErr result }
 {
+    checked.facts();
     let mut parts = TableParts {
         sites: Seq::new(alloc),
         functions: Seq::new(alloc),

@@ -1,4 +1,4 @@
-use Rattle.std.proofs.Common.{◌≡◌, ◌<◌, inl, inr, [], ◌++◌, length, map, drop, ◌∙◌, ap, sym, subst, arith}
+use Rattle.std.proofs.Common.{◌≡◌, ◌+◌, ◌<◌, inl, inr, [], ◌++◌, length, map, drop, ◌∙◌, ap, sym, subst, arith}
 use Rattle.std.specs.List.{All}
 use Rattle.std.proofs.lemmas.List.{append-nil, drop_all}
 use Rattle.c_syntax.specs.Plain.{plain_item}
@@ -8,7 +8,16 @@ use Rattle.flow.specs.declared.site.Site.{Site}
 use Rattle.flow.specs.Limits.{site_limit}
 use Rattle.sites.specs.Table.{defined_in, functions_of, items_sites, sites_of}
 use Rattle.sites.proofs.Owners.{owned}
+use Rattle.sites.proofs.Standing.{AreToCome, next_is, tokens}
 use Rattle.sites.proofs.table.site_table.Goals as goal
+
+pub add_item-requires-clause-tokens : goal.add_item-requires-clause-tokens
+add_item-requires-clause-tokens c =
+    let items = c.as_slice-item-items.result.now in
+    let at = c.loop-item.item-index in
+    tokens (length c.loop-item.parts.functions) (plain_item c.item-item.result) (map plain_item (drop (at + 1) items))
+    (subst (AreToCome (length c.loop-item.parts.functions)) (next_is plain_item items at c.item-item.result c.loop-item-test.true c.item-item.is)
+    c.loop-item.invariant.left)
 
 pub returns-clause-too_many : goal.returns-clause-too_many
 returns-clause-too_many c is =

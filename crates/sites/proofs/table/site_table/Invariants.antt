@@ -2,6 +2,7 @@ use Rattle.std.proofs.Common.{◌≡◌, ◌++◌, length, map, drop}
 use Rattle.c_syntax.specs.Plain.{plain_item}
 use Rattle.c_types.specs.Answers.{known_of, tree_of}
 use Rattle.sites.specs.Table.{defined_in, functions_of, items_sites, sites_of}
+use Rattle.sites.proofs.Standing.{AreToCome}
 use Rattle.sites.proofs.table.site_table.Given as goal
 
 -- with those of the items that are left it is all of them
@@ -11,4 +12,5 @@ invariant-loop-item l = record {
       (drop l.item-index l.item-items))
       ≡ sites_of (tree_of l.checked) (known_of l.checked) l.schemes;
   functions : l.parts.functions ++ defined_in (map plain_item (drop l.item-index l.item-items)) ≡ functions_of (tree_of l.checked);
+  left : AreToCome (length l.parts.functions) (map plain_item (drop l.item-index l.item-items));
 }
