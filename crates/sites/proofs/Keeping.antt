@@ -1,7 +1,5 @@
 -- What is kept of each name, after a token was written at one name, and while the variables are gone through.
-use Rattle.std.proofs.Common.{◌≡◌, ℕ, ◌+◌, ◌<◌, Bool, true, false, List, [], ◌∷◌, ◌++◌, length, drop, get_or, if◌then◌else◌, Vec, Option, Some, sym, ap, ◌∙◌, subst, ⊎_elim}
-use Rattle.std.specs.Prelude.{reverse}
-use Rattle.std.proofs.lemmas.List.{at_drop_more, reverse-append}
+use Rattle.std.proofs.Common.{◌≡◌, ℕ, Bool, true, false, List, if◌then◌else◌, Vec, Some, sym, ap, ◌∙◌, subst, ⊎_elim}
 use Rattle.std.proofs.lemmas.Bool.{cases_Bool, cond-true, cond-false}
 use Rattle.std.specs.Cmp.Lexicographic.{bytes_decides, nat_list_eq_equiv}
 use Rattle.std.specs.Global.{Global}
@@ -10,8 +8,7 @@ use Rattle.std.specs.Str.{bytes_eq}
 use Rattle.std.specs.Map.{lookup, IsKeyTest, AreApart, KeepsOthers}
 use Rattle.c_types_expressions.specs.Indexed.{is_key}
 use Rattle.sites.specs.Noted.{IsKept, first_in}
-use Rattle.c_types_expressions.specs.declared.walk.VariableEntry.{VariableEntry}
-use Rattle.sites.specs.Visible.{all_again, declared_again, least}
+use Rattle.sites.specs.Visible.{least}
 
 other_entries : {K X : Type 0} (eq : K → K → Bool) (test : K → Bool) (old new : List (K × X)) → KeepsOthers eq test old new →
     (other : K → Bool) → IsKeyTest eq other → AreApart test other → lookup other new ≡ lookup other old
@@ -47,16 +44,3 @@ kept key name m n from x same is h =
     (λ other. written key.items m n x h other
     ∙ at_name key.items other (λ o. Some (least from (first_in m.entries o))) (Some x) (first_in m.entries other)
     (ap (λ (k : ℕ). Some k) (is ∙ ap (λ b. least from (first_in m.entries b)) (sym same))))
-
--- one variable more, before those that were gone through
-pub gone_through : (variables : List VariableEntry) (place i : ℕ) (v : VariableEntry) (again : List (Option ℕ)) (found : Option ℕ)
-    (old new : List (Vec ℕ Global × ℕ)) → place ≡ i + 1 → i < length variables → v ≡ get_or variables i v →
-    reverse again ≡ all_again (drop place variables) → ((name : List ℕ) → first_in old name ≡ declared_again name (drop place variables)) →
-    found ≡ first_in old v.name → IsKept v.name v.from old new →
-    (reverse (again ++ found ∷ []) ≡ all_again (drop i variables)) × ((name : List ℕ) → first_in new name ≡ declared_again name (drop i variables))
-gone_through variables place i v again found old new next low at told firsts is stays =
-    let left : drop i variables ≡ v ∷ drop place variables =
-    at_drop_more (λ l. l) variables i v low ∙ ap (λ w. w ∷ drop (i + 1) variables) (sym at) ∙ ap (λ k. v ∷ drop k variables) (sym next) in (
-      reverse-append again (found ∷ []) ∙ ap (λ l. found ∷ l) told ∙ ap (λ o. o ∷ all_again (drop place variables)) (is ∙ firsts v.name) ∙ ap all_again (sym left),
-      λ name. stays name ∙ ap (λ o. if bytes_eq v.name name then Some (least v.from o) else o) (firsts name) ∙ ap (declared_again name) (sym left),
-    )

@@ -6,4 +6,5 @@ pub mod RisesTable
 pub mod Standing
 pub mod Parting
 pub mod Named
+pub mod Looking
 pub mod Keeping

@@ -16,7 +16,7 @@ left_at [] (suc n) v later is = absurd (grind (arith, is))
 left_at (x ∷ xs) zero v later is = (grind (arith, is), grind (arith, is))
 left_at (x ∷ xs) (suc n) v later is = left_at xs n v later is
 
-unheld : (token : ℕ) (v : VariableEntry) (end : Option (Option ℕ)) → nat_lt v.from token ≡ false → span_holds token (Some v) end ≡ false
+pub unheld : (token : ℕ) (v : VariableEntry) (end : Option (Option ℕ)) → nat_lt v.from token ≡ false → span_holds token (Some v) end ≡ false
 unheld token v None is = refl
 unheld token v (Some end) is = ap (λ b. b && ends_behind token end) is
 
@@ -25,7 +25,7 @@ either : (token from other : ℕ) (c : Bool) → nat_lt other from ≡ c → nat
 either token from other true less is = (grind (arith, nat_tests), is)
 either token from other false less is = (grind (arith, nat_tests), grind (arith, nat_tests))
 
-behind : (token from : ℕ) (rest : Option ℕ) → nat_le token (least from rest) ≡ true → (nat_lt from token ≡ false) × (is_clear token rest ≡ true)
+pub behind : (token from : ℕ) (rest : Option ℕ) → nat_le token (least from rest) ≡ true → (nat_lt from token ≡ false) × (is_clear token rest ≡ true)
 behind token from None is = (grind (arith, nat_tests), refl)
 behind token from (Some other) is = either token from other (nat_lt other from) refl is
 

@@ -2,6 +2,7 @@ pub mod Spots
 pub mod Bodies
 pub mod Constants
 pub mod Visible
+pub mod Near
 pub mod Noted
 pub mod SitesAt
 pub mod Standing

@@ -1,16 +1,35 @@
--- What is noted of variables before their sites are made: nothing where no pairs are wanted.
-use Rattle.std.specs.Prelude.{◌≡◌, ℕ, true, if◌then◌else◌, List, Vec, Option, Some}
+-- What is noted of the variables while the bodies are gone through, where pairs are wanted.
+use Rattle.std.specs.Prelude.{◌≡◌, ℕ, ◌≤◌, true, if◌then◌else◌, List, Vec, Option, Some}
 use Rattle.std.specs.Global.{Global}
 use Rattle.std.specs.Map.{lookup}
 use Rattle.std.specs.Str.{bytes_eq}
 use Rattle.c_types_expressions.specs.Indexed.{is_key}
 use Rattle.c_types_expressions.specs.declared.walk.Walk.{Walk}
+use Rattle.sites.specs.declared.noted.Noted.{Noted}
 use Rattle.sites.specs.declared.schemes.Schemes.{Schemes}
+use Rattle.sites.specs.Near.{AreEnough, all_firsts, lasting}
 use Rattle.sites.specs.Visible.{all_again, least}
 
--- where pairs are wanted, it is noted of each variable where a later one takes its name again
-abbrev pub IsNoted : Schemes → Walk → List (Option ℕ) → Type 0
-IsNoted schemes w again = schemes.pairs ≡ true → again ≡ all_again w.variables
+-- It is noted of each variable where a later one takes its name again, and where it or a later one begins; and which of those seen last at
+-- some token that isn't behind this one.
+pub record IsNotedTo (w : Walk) (at : ℕ) (n : Noted) : Type 0 where
+  pub again : n.again ≡ all_again w.variables
+  pub firsts : n.firsts ≡ all_firsts w.variables
+  pub since : ℕ
+  pub before : since ≤ at
+  pub near : n.near.items ≡ lasting w since n.seen
+
+-- It is enough for the pairs at the token.
+pub record IsEnough (w : Walk) (n : Noted) (token : ℕ) : Type 0 where
+  pub again : n.again ≡ all_again w.variables
+  pub near : AreEnough w n.near.items token
+
+-- so, where pairs are wanted
+pub record IsNotedFor (schemes : Schemes) (w : Walk) (at : ℕ) (n : Noted) : Type 0 where
+  pub wanted : schemes.pairs ≡ true → IsNotedTo w at n
+
+abbrev pub IsEnoughFor : Schemes → Walk → Noted → ℕ → Type 0
+IsEnoughFor schemes w n token = schemes.pairs ≡ true → IsEnough w n token
 
 -- the token that is kept of a name
 abbrev pub first_in : List (Vec ℕ Global × ℕ) → List ℕ → Option ℕ

@@ -1,5 +1,5 @@
 -- Where the constructs of a body and of an item stand.
-use Rattle.std.specs.Prelude.{ℕ, ◌<◌, List, [], ◌∷◌, Some, IfSome}
+use Rattle.std.specs.Prelude.{ℕ, ◌≤◌, ◌<◌, List, [], ◌∷◌, Some, IfSome}
 use Rattle.c_syntax.specs.ItemTree as i
 use Rattle.c_syntax.specs.ItemTree.{ItemTree}
 use Rattle.c_syntax.specs.Limits.{most_tokens}
@@ -19,6 +19,23 @@ IsToken token = token < most_tokens
 -- the sites of these constructs stand at tokens of a text
 pub record StandAtTokens (spots : List Spot) : Type 0 where
   pub each : EachToken IsToken spots
+
+-- it isn't before the other, or isn't behind it
+abbrev pub IsFrom : ℕ → ℕ → Type 0
+IsFrom low token = low ≤ token
+
+abbrev pub IsUpTo : ℕ → ℕ → Type 0
+IsUpTo high token = token ≤ high
+
+-- the sites of these constructs don't stand before the token
+pub record StandFrom (low : ℕ) (spots : List Spot) : Type 0 where
+  pub each : EachToken (IsFrom low) spots
+
+-- the index of an item's first token
+abbrev pub begins_at : ItemTree → ℕ
+begins_at (i.Struct token tag members) = token
+begins_at (i.Function token b stars name ps body) = token
+begins_at (i.Declaration d) = d.token
 
 -- what an item holds for sites: the body of a definition
 abbrev pub item_spots : ItemTree → List Spot

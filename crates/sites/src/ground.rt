@@ -4,6 +4,7 @@ ghost use Rattle.sites.specs.Adding.{IsAdded};
 ghost use Rattle.sites.specs.Ground.{body_of};
 ghost use Rattle.sites.specs.SitesAt.{site_on, stand_at};
 
+use crate::noted::Noted;
 use crate::schemes::{Schemes, SiteError};
 use c_types::Checked;
 use cbi_base::Seq;
@@ -17,8 +18,8 @@ pub struct Ground<'a> {
     pub schemes: Schemes,
     pub function: u32,
     pub constants: &'a [i64],
-    /// For each variable the least token behind which a later one has its name, where pairs are wanted.
-    pub again: &'a [Option<u32>],
+    /// What is noted of the variables, where pairs are wanted.
+    pub noted: &'a Noted,
 }
 
 /// Where a site stands: the number of its function, its line and its token.

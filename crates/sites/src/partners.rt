@@ -1,11 +1,13 @@
-ghost use Rattle.std.specs.Prelude.{◌≡◌, IfOk, ◌+◌, ◌∷◌, [], Some, map, drop, length, option_copied, slice_get, ◌<◌, ◌^◌};
+ghost use Rattle.std.specs.Prelude.{◌≡◌, suc, ◌∷◌, [], Some, map, drop, option_copied, slice_get};
 ghost use Rattle.c_rules.specs.Plain.{plain_type};
 ghost use Rattle.c_types.specs.Answers.{declared_at, known_of};
 ghost use Rattle.flow.specs.declared.site.Partner.TheVariants as partner;
 ghost use Rattle.sites.specs.Adding.{IsAdded};
 ghost use Rattle.sites.specs.Ground.{body_of};
+ghost use Rattle.sites.specs.Near.{TellsBehind, clear_by, hidden_among, is_named, partner_at};
+ghost use Rattle.sites.specs.Noted.{IsEnough};
 ghost use Rattle.sites.specs.SitesAt.{pair_on, named_pairs, pairs_of, pairs_on, partners_of};
-ghost use Rattle.sites.specs.Visible.{all_again, declared_again, is_hidden, is_partner, is_type, slot_of, variable_partners};
+ghost use Rattle.sites.specs.Visible.{all_again, is_partner, is_type, slot_of, variable_partners};
 
 use crate::ground::{Ground, Stand, add_site};
 use crate::noted::is_clear;
@@ -26,27 +28,45 @@ fn slot_of(variable: Variable) -> Slot
     }
 }
 
-/// Whether one of these variables, of which the first has this place, hides the name at the token.
-fn is_hidden(
-    checked: &Checked,
-    token: u32,
-    name: &Name,
-    place: usize,
-    later: &[VariableEntry],
-) -> bool
-    requires { place + length later.now < 2 ^ 64 }
-    ensures { result ≡ is_hidden (known_of checked.now) token name.now place later.now }
+/// The variable at the place.
+fn variable_at(checked: &Checked, place: usize) -> Option<&VariableEntry>
+    ensures { option_copied result ≡ slice_get (known_of checked.now).variables place }
 {
-    let mut place = place;
-    let mut left = later;
-    while let [variable, later @ ..] = left {
-        if variable.name.bytes() == name.bytes() && checked.scope_holds(place, token) {
+    checked.variables().get(place)
+}
+
+/// Whether the variable at the place has the name.
+fn is_named(checked: &Checked, place: usize, name: &Name) -> bool
+    ensures { result ≡ is_named name.now (slice_get (known_of checked.now).variables place) }
+{
+    match variable_at(checked, place) {
+        None => false,
+        Some(variable) => variable.name.bytes() == name.bytes(),
+    }
+}
+
+/// Whether the variable at one of these places hides the name at the token.
+fn is_hidden(checked: &Checked, token: u32, name: &Name, places: &[usize]) -> bool
+    ensures { result ≡ hidden_among (known_of checked.now) token name.now places.now }
+{
+    let mut left = places;
+    while let [place, later @ ..] = left {
+        if is_named(checked, *place, name) && checked.scope_holds(*place, token) {
             return true;
         }
-        place += 1;
         left = later;
     }
     false
+}
+
+/// Whether what is noted of the variable at the place tells that no later one takes its name before the token.
+fn is_clear_by(again: &[Option<u32>], place: usize, token: u32) -> bool
+    ensures { result ≡ clear_by token (slice_get again.now place) }
+{
+    match again.get(place) {
+        None => false,
+        Some(found) => is_clear(token, *found),
+    }
 }
 
 /// Whether the variable whose name stands at the token has this type.
@@ -67,35 +87,35 @@ struct Target<'a> {
     ctype: &'a CType,
 }
 
-/// Whether the variable at the place, with those declared later, is a partner at the token.
-#[tactic(auto, using(crate::proofs::Named::not_hidden))]
+/// Whether the variable at the place is a partner at the token, where the later places tell what is hidden.
+#[tactic(auto, using(crate::proofs::Looking::clear_is))]
 fn is_partner(
-    checked: &Checked,
+    ground: &Ground<'_>,
     token: u32,
     target: &Target<'_>,
     place: usize,
     variable: &VariableEntry,
-    again: Option<u32>,
-    later: &[VariableEntry],
+    later: &[usize],
 ) -> bool
-    requires again { again ≡ declared_again variable.now.name later.now }
-    requires behind { later.now ≡ drop (place + 1) (known_of checked.now).variables }
-    requires within { place + 1 + length later.now < 2 ^ 64 }
-    ensures { result ≡ is_partner (known_of checked.now) token target.now.place (plain_type target.now.ctype.now) place variable.now later.now }
+    requires there { slice_get (known_of ground.now.checked.now).variables place ≡ Some variable.now }
+    requires again { ground.now.noted.now.again ≡ all_again (known_of ground.now.checked.now).variables }
+    requires behind { TellsBehind (known_of ground.now.checked.now) token place later.now }
+    ensures { result ≡ is_partner (known_of ground.now.checked.now) token target.now.place (plain_type target.now.ctype.now) place variable.now
+        (drop (suc place) (known_of ground.now.checked.now).variables) }
 {
     if place == target.place as usize {
         return false;
     }
-    if !has_type(checked, variable.from, target.ctype) {
+    if !has_type(ground.checked, variable.from, target.ctype) {
         return false;
     }
-    if !checked.scope_holds(place, token) {
+    if !ground.checked.scope_holds(place, token) {
         return false;
     }
-    if is_clear(token, again) {
+    if is_clear_by(ground.noted.again.as_slice(), place, token) {
         return true;
     }
-    !is_hidden(checked, token, &variable.name, place + 1, later)
+    !is_hidden(ground.checked, token, &variable.name, later)
 }
 
 /// Adds the site that compares the target with a partner.
@@ -135,33 +155,71 @@ fn add_variable_pair(
     add_pair(sites, stand, target, Partner::Variable { name, slot })
 }
 
+/// Adds the site that compares the target with this variable, which stands at the place, if that is a partner.
+fn add_if_partner(
+    sites: &mut Seq<Site>,
+    ground: &Ground<'_>,
+    stand: Stand,
+    target: &Target<'_>,
+    place: usize,
+    variable: &VariableEntry,
+    later: &[usize],
+) -> Result<(), SiteError>
+    requires there { slice_get (known_of ground.now.checked.now).variables place ≡ Some variable.now }
+    requires again { ground.now.noted.now.again ≡ all_again (known_of ground.now.checked.now).variables }
+    requires behind { TellsBehind (known_of ground.now.checked.now) stand.token place later.now }
+    ensures { IsAdded sites.old
+        (map (pair_on stand target.now.entry.now.name (slot_of target.now.entry.now.variable))
+        (partner_at (known_of ground.now.checked.now) stand.token target.now.place (plain_type target.now.ctype.now) place (Some variable.now)))
+        result sites.new }
+{
+    if !is_partner(ground, stand.token, target, place, variable, later) {
+        return Ok(());
+    }
+    add_variable_pair(sites, stand, target.entry, variable)
+}
+
+/// Adds the site that compares the target with the variable at the place, if that is a partner.
+fn add_partner(
+    sites: &mut Seq<Site>,
+    ground: &Ground<'_>,
+    stand: Stand,
+    target: &Target<'_>,
+    place: usize,
+    later: &[usize],
+) -> Result<(), SiteError>
+    requires again { ground.now.noted.now.again ≡ all_again (known_of ground.now.checked.now).variables }
+    requires behind { TellsBehind (known_of ground.now.checked.now) stand.token place later.now }
+    ensures { IsAdded sites.old
+        (map (pair_on stand target.now.entry.now.name (slot_of target.now.entry.now.variable))
+        (partner_at (known_of ground.now.checked.now) stand.token target.now.place (plain_type target.now.ctype.now) place
+        (slice_get (known_of ground.now.checked.now).variables place)))
+        result sites.new }
+{
+    match variable_at(ground.checked, place) {
+        None => Ok(()),
+        Some(variable) => add_if_partner(sites, ground, stand, target, place, variable, later),
+    }
+}
+
 /// Adds the sites that compare the target with variables.
 fn add_variable_pairs(
     sites: &mut Seq<Site>,
-    checked: &Checked,
-    again: &[Option<u32>],
+    ground: &Ground<'_>,
     stand: Stand,
     target: &Target<'_>,
 ) -> Result<(), SiteError>
-    requires { again.now ≡ all_again (known_of checked.now).variables }
+    requires { IsEnough (known_of ground.now.checked.now) ground.now.noted.now stand.token }
     ensures { IsAdded sites.old
         (map (pair_on stand target.now.entry.now.name (slot_of target.now.entry.now.variable))
-        (variable_partners (known_of checked.now) stand.token target.now.place (plain_type target.now.ctype.now) 0 (known_of checked.now).variables))
+        (variable_partners (known_of ground.now.checked.now) stand.token target.now.place (plain_type target.now.ctype.now) 0
+        (known_of ground.now.checked.now).variables))
         result sites.new }
 {
-    let mut place = 0;
-    let mut left = checked.variables();
-    let mut flags = again;
-    while let [variable, later @ ..] = left {
-        let [found, more @ ..] = flags else {
-            return Ok(());
-        };
-        if is_partner(checked, stand.token, target, place, variable, *found, later) {
-            add_variable_pair(sites, stand, target.entry, variable)?;
-        }
-        place += 1;
+    let mut left = ground.noted.near.as_slice();
+    while let [place, later @ ..] = left {
+        add_partner(sites, ground, stand, target, *place, later)?;
         left = later;
-        flags = more;
     }
     Ok(())
 }
@@ -201,21 +259,14 @@ fn add_partners(
     stand: Stand,
     target: &Target<'_>,
 ) -> Result<(), SiteError>
-    requires { ground.now.again.now ≡ all_again (known_of ground.now.checked.now).variables }
+    requires { IsEnough (known_of ground.now.checked.now) ground.now.noted.now stand.token }
     ensures { IsAdded sites.old
         (map (pair_on stand target.now.entry.now.name (slot_of target.now.entry.now.variable))
         (partners_of (known_of ground.now.checked.now) ground.now.constants.now stand.token target.now.place (plain_type target.now.ctype.now)))
         result sites.new }
 {
-    add_variable_pairs(sites, ground.checked, ground.again, stand, target)?;
+    add_variable_pairs(sites, ground, stand, target)?;
     add_constant_pairs(sites, stand, target.entry, ground.constants)
-}
-
-/// The variable at the place.
-fn variable_at(checked: &Checked, place: u32) -> Option<&VariableEntry>
-    ensures { option_copied result ≡ slice_get (known_of checked.now).variables place }
-{
-    checked.variables().get(place as usize)
 }
 
 /// Adds the pairs of the variable at the place, which has this type.
@@ -226,12 +277,12 @@ fn add_pairs_of(
     place: u32,
     ctype: &CType,
 ) -> Result<(), SiteError>
-    requires { ground.now.again.now ≡ all_again (known_of ground.now.checked.now).variables }
+    requires { IsEnough (known_of ground.now.checked.now) ground.now.noted.now stand.token }
     ensures { IsAdded sites.old
         (pairs_of (body_of ground.now) stand place (plain_type ctype.now) (slice_get (known_of ground.now.checked.now).variables place))
         result sites.new }
 {
-    match variable_at(ground.checked, place) {
+    match variable_at(ground.checked, place as usize) {
         None => Ok(()),
         Some(entry) => {
             let target = Target {
@@ -252,7 +303,7 @@ fn add_pairs_on(
     place: u32,
     target: u32,
 ) -> Result<(), SiteError>
-    requires { ground.now.again.now ≡ all_again (known_of ground.now.checked.now).variables }
+    requires { IsEnough (known_of ground.now.checked.now) ground.now.noted.now stand.token }
     ensures { IsAdded sites.old (pairs_on (body_of ground.now) stand (Some place) (declared_at (known_of ground.now.checked.now) target)) result sites.new }
 {
     match ground.checked.declared_type(target as usize) {
@@ -273,7 +324,7 @@ pub fn add_pairs(
     stand: Stand,
     target: u32,
 ) -> Result<(), SiteError>
-    requires { ground.now.again.now ≡ all_again (known_of ground.now.checked.now).variables }
+    requires { IsEnough (known_of ground.now.checked.now) ground.now.noted.now stand.token }
     ensures { IsAdded sites.old (named_pairs (body_of ground.now) stand target) result sites.new }
 {
     match ground.checked.place_at(target as usize) {

@@ -1,5 +1,6 @@
 ghost use Rattle.std.specs.Prelude.{◌≡◌, ◌++◌, OnOk, option_map};
 ghost use Rattle.c_syntax.specs.Plain.{plain_expr, plain_exprs, plain_links, plain_operators};
+ghost use Rattle.sites.specs.SitesAt.{token_of};
 ghost use Rattle.sites.specs.Spots.{changed, expr_spots, exprs_spots, is_sizeof, is_step, joined, links_spots, named, part_spots, postfix_spots, stepped};
 
 use c_syntax::{Expr, Link, PostfixOperator, PrefixOperator, Sign};
@@ -17,6 +18,17 @@ pub enum Spot {
     Change { token: u32, target: u32 },
     /// A constant has this value.
     Constant { value: i64 },
+}
+
+/// The token at which the sites of a construct stand.
+pub fn token_of(spot: &Spot) -> Option<u32>
+    ensures { result ≡ token_of spot.now }
+{
+    match spot {
+        Spot::Branch { token, .. } | Spot::Call { token, .. } => Some(*token),
+        Spot::Change { token, .. } => Some(*token),
+        Spot::Constant { .. } => None,
+    }
 }
 
 /// The token of a name that stands alone.

@@ -1,26 +1,25 @@
-ghost use Rattle.std.specs.Prelude.{◌≡◌, ◌<◌, ◌≤◌, ◌++◌, length, IfOk, IfErr, IsErr, OnOk};
+ghost use Rattle.std.specs.Prelude.{◌≡◌, ◌<◌, ◌≤◌, ◌++◌, length, IfOk, IfErr, IfSome, IsErr, OnOk};
 ghost use Rattle.c_syntax.specs.Limits.{most_tokens};
-ghost use Rattle.c_syntax.specs.Plain.{plain_entries, plain_item};
+ghost use Rattle.c_syntax.specs.Plain.{plain_item};
 ghost use Rattle.c_types.specs.Answers.{known_of, tree_of, type_at};
 ghost use Rattle.flow.specs.Limits.{site_limit};
 ghost use Rattle.sites.specs.declared.schemes.SiteError.TheVariants as error;
 ghost use Rattle.sites.specs.Adding.{IsAdded};
-ghost use Rattle.sites.specs.Bodies.{entries_spots};
 ghost use Rattle.sites.specs.Ground.{body_of};
-ghost use Rattle.sites.specs.Noted.{IsNoted};
+ghost use Rattle.sites.specs.Noted.{IsEnoughFor, IsNotedFor};
 ghost use Rattle.sites.specs.SitesAt.{branch_sites, change_sites, gives_scalar, is_observed, return_sites, sites_at, sites_in, token_of};
-ghost use Rattle.sites.specs.Standing.{StandAtTokens, item_spots};
+ghost use Rattle.sites.specs.Standing.{EachToken, StandAtTokens, StandFrom, begins_at, item_spots};
 ghost use Rattle.sites.specs.Table.{body_sites, defined_by, functions_of, item_sites, sites_of};
 
 use crate::constants::constants_of;
 use crate::ground::{Ground, Stand, add_site, stand_at};
-use crate::noted::noted_for;
+use crate::noted::{Noted, note_body, noted_for};
 use crate::partners::add_pairs;
 use crate::schemes::{Schemes, SiteError};
-use crate::spots::Spot;
+use crate::spots::{Spot, token_of};
 use crate::statements::push_entries;
 use c_rules::is_scalar;
-use c_syntax::{Entry, Item};
+use c_syntax::Item;
 use c_types::Checked;
 use cbi_base::{Name, Seq};
 use flow::{BranchWord, Site, SiteKind, SiteTable, TableParts};
@@ -87,7 +86,7 @@ fn add_change(
     stand: Stand,
     target: u32,
 ) -> Result<(), SiteError>
-    requires { IsNoted ground.now.schemes (known_of ground.now.checked.now) ground.now.again.now }
+    requires { IsEnoughFor ground.now.schemes (known_of ground.now.checked.now) ground.now.noted.now stand.token }
     ensures { IsAdded sites.old (change_sites (body_of ground.now) stand target) result sites.new }
 {
     if !ground.schemes.pairs {
@@ -96,20 +95,9 @@ fn add_change(
     add_pairs(sites, ground, stand, target)
 }
 
-/// The token at which the sites of a construct stand.
-fn token_of(spot: &Spot) -> Option<u32>
-    ensures { result ≡ token_of spot.now }
-{
-    match spot {
-        Spot::Branch { token, .. } | Spot::Call { token, .. } => Some(*token),
-        Spot::Change { token, .. } => Some(*token),
-        Spot::Constant { .. } => None,
-    }
-}
-
 /// Adds the sites that stand at a construct.
 fn add_sites_at(sites: &mut Seq<Site>, ground: &Ground<'_>, spot: &Spot) -> Result<(), SiteError>
-    requires { IsNoted ground.now.schemes (known_of ground.now.checked.now) ground.now.again.now }
+    requires { IfSome (token_of spot.now) (IsEnoughFor ground.now.schemes (known_of ground.now.checked.now) ground.now.noted.now) }
     ensures { IsAdded sites.old (sites_at (body_of ground.now) spot.now) result sites.new }
 {
     let Some(token) = token_of(spot) else {
@@ -128,7 +116,7 @@ fn add_sites_at(sites: &mut Seq<Site>, ground: &Ground<'_>, spot: &Spot) -> Resu
 
 /// Adds the sites of a body's constructs.
 fn add_sites_in(sites: &mut Seq<Site>, ground: &Ground<'_>, spots: &[Spot]) -> Result<(), SiteError>
-    requires { IsNoted ground.now.schemes (known_of ground.now.checked.now) ground.now.again.now }
+    requires { EachToken (IsEnoughFor ground.now.schemes (known_of ground.now.checked.now) ground.now.noted.now) spots.now }
     ensures { IsAdded sites.old (sites_in (body_of ground.now) spots.now) result sites.new }
 {
     for spot in spots {
@@ -137,32 +125,28 @@ fn add_sites_in(sites: &mut Seq<Site>, ground: &Ground<'_>, spots: &[Spot]) -> R
     Ok(())
 }
 
-/// Adds the sites of a function's body.
+/// Adds the sites of the constructs that a function's body holds.
 fn add_body(
     alloc: Global,
     sites: &mut Seq<Site>,
     checked: &Checked,
-    again: &[Option<u32>],
+    noted: &Noted,
     schemes: Schemes,
     function: u32,
-    body: &[Entry],
+    spots: &[Spot],
 ) -> Result<(), SiteError>
-    requires noted { IsNoted schemes (known_of checked.now) again.now }
-    requires tokens { StandAtTokens (entries_spots (plain_entries body.now)) }
-    ensures { IsAdded sites.old
-        (body_sites (known_of checked.now) (tree_of checked.now).lines schemes function (entries_spots (plain_entries body.now))) result sites.new }
+    requires { EachToken (IsEnoughFor schemes (known_of checked.now) noted.now) spots.now }
+    ensures { IsAdded sites.old (body_sites (known_of checked.now) (tree_of checked.now).lines schemes function spots.now) result sites.new }
 {
-    let mut spots = Seq::new(alloc);
-    push_entries(&mut spots, body)?;
-    let constants = constants_of(alloc, spots.as_slice())?;
+    let constants = constants_of(alloc, spots)?;
     let ground = Ground {
         checked,
         schemes,
         function,
         constants: constants.as_slice(),
-        again,
+        noted,
     };
-    add_sites_in(sites, &ground, spots.as_slice())
+    add_sites_in(sites, &ground, spots)
 }
 
 /// Adds what an item has: a function that it defines, and the sites of that.
@@ -170,34 +154,41 @@ fn add_item(
     alloc: Global,
     parts: &mut TableParts,
     checked: &Checked,
-    again: &[Option<u32>],
+    noted: &mut Noted,
     schemes: Schemes,
     item: &Item,
 ) -> Result<(), SiteError>
-    requires noted { IsNoted schemes (known_of checked.now) again.now }
     requires few { length parts.old.functions ≤ most_tokens }
     requires tokens { StandAtTokens (item_spots (plain_item item.now)) }
+    requires behind { StandFrom (begins_at (plain_item item.now)) (item_spots (plain_item item.now)) }
+    requires noted { IsNotedFor schemes (known_of checked.now) (begins_at (plain_item item.now)) noted.old }
     ensures sites { IsAdded parts.old.sites
         (item_sites (known_of checked.now) (tree_of checked.now).lines schemes (length parts.old.functions) (plain_item item.now))
         result parts.new.sites }
     ensures functions { OnOk result (parts.new.functions ≡ parts.old.functions ++ defined_by (plain_item item.now)) }
+    ensures noted { OnOk result (IsNotedFor schemes (known_of checked.now) (begins_at (plain_item item.now)) noted.new) }
 {
     match item {
         Item::Function {
+            token,
             name,
             body: Some(body),
             ..
         } => {
             let function = parts.functions.len() as u32;
             parts.functions.push(name.try_clone()?)?;
+            let mut spots = Seq::new(alloc);
+            push_entries(&mut spots, body.as_slice())?;
+            let spots = spots.as_slice();
+            note_body(noted, checked, schemes, *token, spots)?;
             add_body(
                 alloc,
                 &mut parts.sites,
                 checked,
-                again,
+                noted,
                 schemes,
                 function,
-                body.as_slice(),
+                spots,
             )
         }
         _ => Ok(()),
@@ -220,9 +211,9 @@ pub fn site_table(
         sites: Seq::new(alloc),
         functions: Seq::new(alloc),
     };
-    let again = noted_for(alloc, checked, schemes)?;
+    let mut noted = noted_for(alloc, checked, schemes)?;
     for item in checked.tree().items.as_slice() {
-        add_item(alloc, &mut parts, checked, again.as_slice(), schemes, item)?;
+        add_item(alloc, &mut parts, checked, &mut noted, schemes, item)?;
     }
     match SiteTable::new(parts.sites, parts.functions) {
         Some(table) => Ok(table),

@@ -12,5 +12,5 @@ invariant-loop-item l = record {
       (drop l.item-index l.item-items))
       ≡ sites_of (tree_of l.checked) (known_of l.checked) l.schemes;
   functions : l.parts.functions ++ defined_in (map plain_item (drop l.item-index l.item-items)) ≡ functions_of (tree_of l.checked);
-  left : AreToCome (length l.parts.functions) (map plain_item (drop l.item-index l.item-items));
+  left : AreToCome l.schemes (known_of l.checked) l.noted (length l.parts.functions) (map plain_item (drop l.item-index l.item-items));
 }
