@@ -6,16 +6,16 @@ use Rattle.c_syntax.specs.declared.token.Sign.TheVariants as sign
 use Rattle.c_syntax.specs.StatementTree.{StartTree}
 use Rattle.c_syntax.specs.ItemTree as item
 use Rattle.c_syntax.specs.ItemTree.{ItemTree, SourceTree}
-use Rattle.c_syntax.specs.Spelling.{a_sign, after_commas, base_kinds, declarator_kinds, item_kinds, start_kinds, with_commas}
+use Rattle.c_syntax.specs.Spelling.{a_sign, base_kinds, item_kinds, start_kinds, with_commas}
 use Rattle.c_types_expressions.specs.declared.walk.Walk.{Walk}
+use Rattle.c_types_walk.specs.Room.{starts_need}
+use Rattle.c_types_walk.proofs.Tokens.{starts_long}
 use Rattle.c_meaning.specs.Globals.{first_objects, starts_of}
 use Rattle.flow.specs.Limits.{global_limit}
 use Rattle.lower_globals.proofs.Counted.{globals_are}
 use Rattle.c_types_never_stuck.proofs.Constants.{text_is_source}
 use Rattle.c_types_sound.specs.Accepted.{IsAcceptedTree}
 use Rattle.c_types_sound.specs.Sited.{IsSited}
-use Rattle.c_types_sound.proofs.Declaring.{name_inside}
-use Rattle.c_types_sound.proofs.Initialising.{equals_kinds}
 use Rattle.c_types_sound.proofs.Whole.{none_fits}
 
 -- the objects are there before any run
@@ -23,19 +23,12 @@ pub objects_there : (tree : SourceTree) (z : Walk) → IsAcceptedTree tree z →
 objects_there tree z a = (text_is_source tree z [] (none_fits tree z a)).objects
 
 -- each declared variable has a token of its own
-start_some : (x : StartTree) → 1 ≤ length (start_kinds x)
-start_some x = omega (arith, name_inside x.declarator, length-append (declarator_kinds x.declarator) (equals_kinds x.initial))
+starts_few : (xs : List StartTree) → length xs ≤ starts_need xs
+starts_few [] = omega arith
+starts_few (x ∷ xs) = omega (arith, starts_few xs)
 
--- so have those behind a comma each
-starts_behind : (xs : List StartTree) → length xs ≤ length (after_commas start_kinds xs)
-starts_behind [] = omega arith
-starts_behind (x ∷ xs) =
-    omega (arith, starts_behind xs, start_some x, length-append (a_sign sign.Comma ++ start_kinds x) (after_commas start_kinds xs))
-
--- so have all of a declaration
 starts_some : (xs : List StartTree) → length xs ≤ length (with_commas start_kinds xs)
-starts_some [] = omega arith
-starts_some (x ∷ xs) = omega (arith, starts_behind xs, start_some x, length-append (start_kinds x) (after_commas start_kinds xs))
+starts_some xs = omega (arith, starts_few xs, starts_long xs)
 
 -- so have all of an item
 item_some : (x : ItemTree) → length (starts_of x) ≤ length (item_kinds x)

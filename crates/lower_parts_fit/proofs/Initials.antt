@@ -21,6 +21,7 @@ use Rattle.c_rules.specs.TypeTree as t
 use Rattle.c_rules.specs.TypeTree.{TypeTree}
 use Rattle.c_types_expressions.specs.declared.walk.Walk.{Walk}
 use Rattle.c_types_expressions.specs.ExprWalk.{looked, string_cells, walk_expr, walk_exprs}
+pub use Rattle.c_types_expressions.specs.Room.{items_in}
 use Rattle.c_types_walk.specs.Initialisers.{all_initialise, cells_of_string, completes, initialises, is_constant, is_minus, is_number, listed, valued, walk_initial}
 use Rattle.c_types_expressions.specs.Walked.{Walked, Fine, Faulty}
 use Rattle.c_types.proofs.Noted.{Gives, gives_more, gives_then}
@@ -31,11 +32,6 @@ use Rattle.c_types_sound.proofs.Constant.{AllConstant, all_constant}
 abbrev pub bytes_in : ExprTree → ℕ
 bytes_in (e.Strings token parts) = sum_by length parts
 bytes_in x = 0
-
--- how many expressions there are
-abbrev pub items_in : ExprList → ℕ
-items_in e.no_exprs = 0
-items_in (e.more_exprs x rest) = items_in rest + 1
 
 -- an initialiser gives no more cells to a variable of the type than it has
 abbrev pub Takes : TypeTree → Option InitialTree → Type 0
