@@ -1,4 +1,8 @@
 //! How far a text is read, with an answer where it isn't.
+ghost use Rattle.std.specs.Prelude.{IfSome};
+ghost use Rattle.c_syntax.specs.Kept.{IsKeptTree};
+ghost use Rattle.c_syntax.specs.Plain.{plain_tree};
+
 use c_lexer::lex;
 use c_parser::{ParseError, parse};
 use c_syntax::{Tokens, Tree, line_of};
@@ -34,7 +38,9 @@ fn push_syntax(tokens: &Tokens, index: usize, item: usize, out: &mut Page) {
     out.debug(item);
 }
 
-fn tree_with(tokens: &Tokens, out: &mut Page) -> Option<Tree> {
+fn tree_with(tokens: &Tokens, out: &mut Page) -> Option<Tree>
+    ensures { IfSome result (λ tree. IsKeptTree (plain_tree tree)) }
+{
     match parse(out.alloc(), tokens) {
         Ok(tree) => Some(tree),
         Err(ParseError::Memory) => {
@@ -49,7 +55,9 @@ fn tree_with(tokens: &Tokens, out: &mut Page) -> Option<Tree> {
 }
 
 /// The tree of a text, or why it has none.
-pub(crate) fn tree_of(text: &[u8], out: &mut Page) -> Option<Tree> {
+pub(crate) fn tree_of(text: &[u8], out: &mut Page) -> Option<Tree>
+    ensures { IfSome result (λ tree. IsKeptTree (plain_tree tree)) }
+{
     match tokens_of(text, out) {
         Some(tokens) => tree_with(&tokens, out),
         None => None,
@@ -63,7 +71,9 @@ fn push_fault(kind: u8, index: usize, out: &mut Page) {
     out.debug(index);
 }
 
-fn checked_tree(tree: Tree, out: &mut Page) -> Option<Checked> {
+fn checked_tree(tree: Tree, out: &mut Page) -> Option<Checked>
+    requires { IsKeptTree (plain_tree tree) }
+{
     match check(out.alloc(), tree) {
         Ok(checked) => Some(checked),
         Err(TypeFault::Memory) => {

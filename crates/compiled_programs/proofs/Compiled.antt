@@ -1,6 +1,5 @@
 -- From the program of an accepted text to what the text is compiled to, by a plan.
-use Rattle.std.proofs.Common.{◌≡◌, ℕ, ◌<◌, ◌≤◌, refl, ap, subst, arith, ◌∙◌, List, length, Option, Some, None, Ok}
-use Rattle.std.specs.List.{All}
+use Rattle.std.proofs.Common.{◌≡◌, ℕ, ◌≤◌, refl, ap, subst, arith, ◌∙◌, List, length, Option, Some, None, Ok}
 use Rattle.c_syntax.specs.ItemTree.{SourceTree}
 use Rattle.c_types_expressions.specs.declared.walk.Walk.{Walk}
 use Rattle.flow.specs.declared.program.ProgramParts.{ProgramParts}
@@ -29,11 +28,9 @@ use Rattle.compiler.specs.Compiled.{DoesPlan}
 use Rattle.compiler.specs.Does.{DoesText}
 use Rattle.compiler.specs.Kept.{MayPart}
 use Rattle.compiler.specs.Planned.{FitsPlan, part_in, planned_sites}
-use Rattle.compiler.proofs.Bytes.{tree_bytes, tree_fits, tree_short}
 use Rattle.compiler.proofs.Doing.{Never, NeverPlain, few_beside, kept_names, kept_result, looks, may_clone, sampled_does}
-use Rattle.compiler.proofs.Fitting.{tree_accepted}
+use Rattle.compiler.proofs.Fitting.{tree_whole}
 use Rattle.compiler.proofs.Planning.{planned_are}
-use Rattle.compiler.proofs.Siting.{tree_sited}
 use Rattle.compiled_programs.specs.Exists.{HasCompiled}
 
 -- what each ready text has
@@ -45,15 +42,9 @@ abbrev pub AllClone : Type 0
 AllClone = (p : ProgramParts) → IsProgram p → MayClone p → HasClone p
 
 module _ (clones : AllClone) (sampled : SampledRuns) (all : AllHave) (never : Never) (never_plain : NeverPlain) (text : List ℕ) (by : Plan)
-    (tree : SourceTree) (known : Walk) (bytes : All (λ b. b < 256) text) (accepted : IsAccepted text tree known) (fits : FitsPlan by tree known) where
+    (tree : SourceTree) (known : Walk) (accepted : IsAccepted text tree known) (fits : FitsPlan by tree known) where
   whole : IsWholeText tree known
-  whole = record {
-    accepted = tree_accepted text tree known accepted;
-    sited = tree_sited text accepted.tokens tree accepted.has_tree;
-    constants = tree_fits text accepted.tokens tree accepted.has_tree;
-    bytes = tree_bytes text accepted.tokens tree bytes accepted.has_tree;
-    short = tree_short text accepted.tokens tree accepted.has_tree;
-  }
+  whole = tree_whole text tree known accepted
 
   abbrev table : TableParts
   table = record { sites = planned_sites by tree known; functions = functions_of tree }

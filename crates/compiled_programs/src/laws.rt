@@ -1,6 +1,5 @@
 //! Laws of the definitions, each on a function of its own without a body.
-ghost use Rattle.std.specs.Prelude.{ℕ, ◌<◌, List};
-ghost use Rattle.std.specs.List.{All};
+ghost use Rattle.std.specs.Prelude.{ℕ, List};
 ghost use Rattle.c_syntax.specs.ItemTree.{SourceTree};
 ghost use Rattle.c_types_expressions.specs.declared.walk.Walk.{Walk};
 ghost use Rattle.compiler.specs.declared.plan.Plan.{Plan};
@@ -14,11 +13,11 @@ use compiler::accepted_texts_never_fault;
 use sampling::sampled_runs;
 use text_programs::each_ready_text_has_a_program;
 
-/// Each accepted text of bytes has a program that it is compiled to, by each plan for whose sites a program has room: the plain one, and the full and
+/// Each accepted text has a program that it is compiled to, by each plan for whose sites a program has room: the plain one, and the full and
 /// the sampled one with all sites or a part of them. So no text is left without one but for want of memory.
 pub fn each_accepted_text_has_a_program()
-    ensures { (text : List ℕ) (plan : Plan) (tree : SourceTree) (known : Walk) → All (λ b. b < 256) text → IsAccepted text tree known
-        → FitsPlan plan tree known → MayPart (part_in plan) → HasCompiled text plan }
+    ensures { (text : List ℕ) (plan : Plan) (tree : SourceTree) (known : Walk) → IsAccepted text tree known → FitsPlan plan tree known
+        → MayPart (part_in plan) → HasCompiled text plan }
 {
     accepted_texts_never_fault();
     each_ready_text_has_a_program();

@@ -1,17 +1,15 @@
--- The tree of an accepted text is an accepted tree.
+-- The tree of an accepted text keeps what its tokens do, and is a whole text.
 use Rattle.std.proofs.Common.{ℕ, List}
 use Rattle.c_syntax.specs.ItemTree.{SourceTree}
+use Rattle.c_syntax.specs.Kept.{IsKeptTree}
 use Rattle.c_types_expressions.specs.declared.walk.Walk.{Walk}
-use Rattle.c_types_sound.specs.Accepted.{IsAcceptedTree}
+use Rattle.c_parser.proofs.Keeping.{kept-tree}
+use Rattle.lower_parts_fit.specs.Ready.{IsWholeText}
+use Rattle.lower_parts_fit.proofs.Whole.{kept_whole}
 use Rattle.compiler.specs.Accepted.{IsAccepted}
-use Rattle.compiler.proofs.Constants.{tree_constants}
-use Rattle.compiler.proofs.Strings.{tree_strings}
 
--- its types, its strings and its constants
-pub tree_accepted : (text : List ℕ) (tree : SourceTree) (known : Walk) → IsAccepted text tree known → IsAcceptedTree tree known
-tree_accepted text tree known h = record {
-  formed = h.has_tree.is_tree.well_formed;
-  walked = h.checks;
-  short = tree_strings text h.tokens tree h.has_tree;
-  constants = tree_constants text h.tokens tree h.has_tree;
-}
+pub tree_kept : (text : List ℕ) (tree : SourceTree) (known : Walk) → IsAccepted text tree known → IsKeptTree tree
+tree_kept text tree known h = kept-tree h.tokens tree h.has_tree.has_tokens.keeps h.has_tree.is_tree
+
+pub tree_whole : (text : List ℕ) (tree : SourceTree) (known : Walk) → IsAccepted text tree known → IsWholeText tree known
+tree_whole text tree known h = kept_whole tree known (tree_kept text tree known h) h.checks

@@ -1,11 +1,6 @@
-pub mod Bytes
-pub mod Constants
 pub mod Fitting
 pub mod Lining
 pub mod Rejecting
-pub mod Siting
-pub mod Spelled
-pub mod Strings
 pub mod Agreeing
 pub mod Doing
 pub mod Planning

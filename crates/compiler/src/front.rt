@@ -1,10 +1,8 @@
 ghost use Rattle.std.specs.Prelude.{◌≡◌, IfErr, IfOk, IsErr};
-ghost use Rattle.std.specs.List.{AllByRecursion};
-ghost use Rattle.c_syntax.specs.Spelling.{tree_kinds};
+ghost use Rattle.c_syntax.specs.Kept.{IsKeptTree};
 ghost use Rattle.c_syntax.specs.Tokens.{line_at, lines_of};
 ghost use Rattle.c_syntax.specs.Plain.{plain_tree};
 ghost use Rattle.c_types.specs.Answers.{known_of, tree_of};
-ghost use Rattle.lower_parts_fit.specs.Brought.{IsOfBytes};
 ghost use Rattle.compiler.specs.Accepted.{HasTokens, HasTree, IsAccepted};
 ghost use Rattle.compiler.specs.Rejected.{IsRejectedText, RejectedBy};
 
@@ -42,6 +40,7 @@ fn tokens_of(alloc: Global, text: &[u8]) -> Result<Tokens, TextError>
 fn tree_with(alloc: Global, text: &[u8], tokens: &Tokens) -> Result<Tree, TextError>
     requires { HasTokens text.now tokens.now }
     ensures tree { IfOk result (λ tree. HasTree text.now tokens.now (plain_tree tree)) }
+    ensures kept { IfOk result (λ tree. IsKeptTree (plain_tree tree)) }
     ensures refused { IfErr result (RejectedBy text.now) }
 {
     match parse(alloc, tokens) {
@@ -60,7 +59,6 @@ fn tree_with(alloc: Global, text: &[u8], tokens: &Tokens) -> Result<Tree, TextEr
 /// tree it is the first token from which no tree goes on; that it is the first one, no clause says.
 pub fn accept(alloc: Global, text: &[u8]) -> Result<Checked, TextError>
     ensures accepted { IfOk result (λ c. IsAccepted text.now (tree_of c) (known_of c)) }
-    ensures bytes { IfOk result (λ c. AllByRecursion IsOfBytes (tree_kinds (tree_of c))) }
     ensures refused { IfErr result (RejectedBy text.now) }
     ensures refused_only { IsRejectedText text.now → IsErr result }
 {

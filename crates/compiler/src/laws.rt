@@ -1,13 +1,11 @@
-ghost use Rattle.std.specs.Prelude.{◌≡◌, ◌≢◌, ◌<◌, ◌≤◌, ℕ, List, [], length};
-ghost use Rattle.std.specs.List.{All, AllByRecursion};
+ghost use Rattle.std.specs.Prelude.{◌≡◌, ◌≢◌, ℕ, List, []};
+ghost use Rattle.std.specs.List.{All};
 ghost use Rattle.cbi_base.specs.declared.outcome.Outcome.TheVariants.{Trapped};
 ghost use Rattle.cbi_base.specs.declared.refusal.Refusal.{Refusal};
 ghost use Rattle.cbi_base.specs.declared.refusal.Refusal.TheVariants.{TooManySites};
 ghost use Rattle.cbi_base.specs.declared.trap.Trap.TheVariants.{Internal};
 ghost use Rattle.c_syntax.specs.ItemTree.{SourceTree};
-ghost use Rattle.c_syntax.specs.Limits.{most_tokens};
-ghost use Rattle.c_syntax.specs.Spelling.{tree_kinds};
-ghost use Rattle.c_syntax.specs.Tokens.{KindFits};
+ghost use Rattle.c_syntax.specs.Kept.{IsKeptTree};
 ghost use Rattle.c_types_expressions.specs.declared.walk.Walk.{Walk};
 ghost use Rattle.c_meaning.specs.Texts.{text_meaning};
 ghost use Rattle.flow.specs.declared.program.ProgramParts.{ProgramParts};
@@ -18,7 +16,6 @@ ghost use Rattle.flow.specs.State.{Ending};
 ghost use Rattle.sites.specs.declared.schemes.Schemes.{Schemes};
 ghost use Rattle.sites.specs.Table.{sites_of};
 ghost use Rattle.c_types_sound.specs.Sited.{IsSited, local_counts};
-ghost use Rattle.lower_parts_fit.specs.Brought.{IsOfBytes};
 ghost use Rattle.compiler.specs.Accepted.{IsAccepted};
 ghost use Rattle.compiler.specs.Rejected.{IsRejectedText, RejectsText};
 ghost use Rattle.compiler.specs.Compiled.{IsCompiled};
@@ -64,12 +61,10 @@ pub fn sites_of_accepted_texts_stand()
     sites_of_an_accepted_text_stand();
 }
 
-/// Constants of an accepted text lie in their kinds, its strings are of bytes, and its tokens are few.
+/// An accepted text's tokens are few. Their constants lie in their kinds, their names are names, and their strings are of bytes, and together shorter
+/// than a text.
 pub fn tokens_of_accepted_texts_fit()
-    ensures constants { (text : List ℕ) (tree : SourceTree) (known : Walk) → IsAccepted text tree known → AllByRecursion KindFits (tree_kinds tree) }
-    ensures bytes { (text : List ℕ) (tree : SourceTree) (known : Walk) → All (λ b. b < 256) text → IsAccepted text tree known
-        → AllByRecursion IsOfBytes (tree_kinds tree) }
-    ensures short { (text : List ℕ) (tree : SourceTree) (known : Walk) → IsAccepted text tree known → length (tree_kinds tree) ≤ most_tokens }
+    ensures { (text : List ℕ) (tree : SourceTree) (known : Walk) → IsAccepted text tree known → IsKeptTree tree }
 {}
 
 /// A text has one meaning in all plans: its plain, full and sampled programs end and write the same, on each input, within each bound of turns and

@@ -6,7 +6,6 @@ ghost use Rattle.flow.specs.declared.site.Site.{Site};
 ghost use Rattle.flow.specs.Program.{table_of};
 ghost use Rattle.sites.specs.Table.{functions_of};
 ghost use Rattle.clone_paths.specs.Cloned.{MayClone};
-ghost use Rattle.lower_parts_fit.specs.Ready.{IsWholeText};
 ghost use Rattle.flow.specs.Ready.{IsReady};
 ghost use Rattle.compiler.specs.Accepted.{IsAccepted};
 ghost use Rattle.compiler.specs.Compiled.{DoesPlan, IsCompiled};
@@ -17,15 +16,13 @@ ghost use Rattle.compiler.specs.Refused.{CrowdedBy, IsRefusedText, RefusedBy};
 
 use crate::compile_error::CompileError;
 use crate::front::accept;
-use crate::laws::{
-    accepted_texts_never_fault, one_accepted_text, sites_of_accepted_texts_stand,
-    tokens_of_accepted_texts_fit,
-};
+use crate::laws::{accepted_texts_never_fault, one_accepted_text};
 use crate::plan::{Plan, part_in, schemes_of};
 use c_types::Checked;
 use cbi_base::{Memory, Refusal};
 use flow::{Program, SiteTable};
 use lower::lower;
+use lower_parts_fit::kept_texts_are_whole;
 use sampling::sample;
 use site_parts::{Part, keep_part};
 use sites::{SiteError, schemes_choose_sites, site_table};
@@ -83,13 +80,14 @@ fn by_plan(alloc: Global, program: Program, plan: Plan) -> Result<Program, Memor
 /// The program of a checked text, by a plan. Refused with TooManySites exactly where the sites of the plan are more than 65,536, which those of a
 /// plain program never are.
 fn compile_checked(alloc: Global, checked: &Checked, plan: Plan) -> Result<Program, CompileError>
-    requires text { IsWholeText (tree_of checked.now) (known_of checked.now) }
     requires part { MayPart (part_in plan) }
     ensures compiled { (text : List ℕ) → IsAccepted text (tree_of checked.now) (known_of checked.now) → IfOk result (IsCompiled text plan) }
     ensures fits { OnOk result (FitsPlan plan (tree_of checked.now) (known_of checked.now)) }
     ensures refused { IfErr result (CrowdedBy plan (tree_of checked.now) (known_of checked.now)) }
 {
     accepted_texts_never_fault();
+    kept_texts_are_whole();
+    checked.facts();
     let table = sites_for(alloc, checked, plan)?;
     let program = lower(alloc, checked, &table)?;
     let planned = by_plan(alloc, program, plan)?;
@@ -107,8 +105,6 @@ pub fn compile(alloc: Global, text: &[u8], plan: Plan) -> Result<Program, Compil
     ensures refused_only { IsRefusedText plan text.now → IsErr result }
 {
     one_accepted_text();
-    sites_of_accepted_texts_stand();
-    tokens_of_accepted_texts_fit();
     let checked = accept(alloc, text)?;
     compile_checked(alloc, &checked, plan)
 }

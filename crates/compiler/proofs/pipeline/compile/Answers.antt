@@ -1,5 +1,4 @@
 use Rattle.std.proofs.lemmas.Result.{err_from_is_err_and}
-use Rattle.compiler.proofs.Fitting.{tree_accepted}
 use Rattle.compiler.proofs.Refusing.{crowded_result, fits_each, not_accepted, refused_fails}
 use Rattle.compiler.proofs.pipeline.compile.Goals as goal
 
@@ -22,12 +21,3 @@ returns-clause-refused c =
 
 pub returns-clause-refused_only : goal.returns-clause-refused_only
 returns-clause-refused_only c = refused_fails c.args.plan c.args.text.now _ _ c.compile_checked.result c.in_ok-checked.ensures.accepted c.compile_checked.ensures.fits
-
-pub compile_checked-requires-clause-text : goal.compile_checked-requires-clause-text
-compile_checked-requires-clause-text c = record {
-  accepted = tree_accepted c.args.text.now _ _ c.in_ok-checked.ensures.accepted;
-  sited = c.sites_of_accepted_texts_stand.ensures.sited c.args.text.now _ _ c.in_ok-checked.ensures.accepted;
-  constants = c.tokens_of_accepted_texts_fit.ensures.constants c.args.text.now _ _ c.in_ok-checked.ensures.accepted;
-  bytes = c.in_ok-checked.ensures.bytes;
-  short = c.tokens_of_accepted_texts_fit.ensures.short c.args.text.now _ _ c.in_ok-checked.ensures.accepted;
-}

@@ -22,12 +22,12 @@ returns-clause-compiled c = λ text accepted.
 
 pub by_plan-requires-clause-may_clone : goal.by_plan-requires-clause-may_clone
 by_plan-requires-clause-may_clone c =
-    may_clone (tree_of c.args.checked.now) _ _ c.in_ok-program.ensures.plain (few_beside (tree_of c.args.checked.now) c.in_ok-table.table _ c.in_ok-program.program c.in_ok-table.ensures.sites c.in_ok-program.ensures.few) c.requires.text.short
+    may_clone (tree_of c.args.checked.now) _ _ c.in_ok-program.ensures.plain (few_beside (tree_of c.args.checked.now) c.in_ok-table.table _ c.in_ok-program.program c.in_ok-table.ensures.sites c.in_ok-program.ensures.few) c.facts.ensures.kept.few
     c.in_ok-table.ensures.fits
 
 pub lower-requires : goal.lower-requires
 lower-requires c = record {
-  whole = c.requires.text;
+  whole = c.kept_texts_are_whole.ensures (tree_of c.args.checked.now) (known_of c.args.checked.now) c.facts.ensures.kept c.facts.ensures.walked;
   sites = planned_are c.args.plan (tree_of c.args.checked.now) (known_of c.args.checked.now) _ c.in_ok-table.ensures.sites;
   functions = c.in_ok-table.ensures.functions;
 }
