@@ -7,3 +7,4 @@ pub mod Serving
 pub mod Taking
 pub mod Visiting
 pub mod Ordered
+pub mod Wanting

@@ -1,5 +1,5 @@
 -- What becomes of values and places.
-use Rattle.std.proofs.Common.{◌≡◌, ℕ, refl, List, [], ◌∷◌, ◌++◌, length, true, false, Option, Some, None}
+use Rattle.std.proofs.Common.{◌≡◌, ℕ, refl, sym, subst, List, [], ◌∷◌, ◌++◌, length, true, false, Option, Some, None}
 use Rattle.cbi_base.specs.declared.scalar.Want.TheVariants as want
 use Rattle.flow.specs.declared.node.Node.{Node}
 use Rattle.flow.specs.declared.node.Node.TheVariants as node
@@ -12,39 +12,56 @@ use Rattle.lower_relation.specs.Operators.{LoadThrough, Pointed}
 use Rattle.lower_relation.specs.Values.{Discarded, LoadAt}
 use Rattle.lower_nodes.specs.Made.{Made, MadeFor, MadeWays, Part}
 use Rattle.lower_nodes.specs.Purposes.{Takes, TakesPlace, TakesThrough, is_single, ways}
+use Rattle.lower_nodes.specs.Ends.{WantedAlike, purpose_ends}
+use Rattle.lower_nodes.specs.Standing.{AllLike, Allowed, Like, Allowance, Stood}
+use Rattle.lower_nodes.specs.declared.purpose.Purpose.{Purpose}
 use Rattle.lower_nodes.specs.declared.purpose.Purpose.TheVariants as purpose
-use Rattle.lower_nodes.proofs.Building.{carried, either_made, later_self, nothing_made, one_made, stays_put, then_made, view_made}
+use Rattle.lower_nodes.proofs.Building.{either_made, later_self, nothing_made, one_made, stays_put, stood_put, then_made, view_made}
+use Rattle.lower_nodes.proofs.Wanting.{as_effect, as_truth, as_value}
 
 pub fork_made : (n0 n1 : List Node) (i yes_at no_at : ℕ) → i ≡ length n0 → n1 ≡ n0 ++ node.Fork yes_at no_at ∷ [] → MadeWays (λ G. ForkTo G) n0 n1 i (ways yes_at no_at)
-fork_made n0 n1 i yes_at no_at at is = view_made (λ (w : Ways). view.Forks w.yes_to w.no_to) (node.Fork yes_at no_at) n0 n1 i (ways yes_at no_at) refl at is (λ all b. b)
+fork_made n0 n1 i yes_at no_at at is =
+    view_made (λ (w : Ways). view.Forks w.yes_to w.no_to) (node.Fork yes_at no_at) n0 n1 i (ways yes_at no_at) refl at is (λ all b. b)
+    (λ s l same like. record { same = refl; visits = λ h. h; fork = λ f. f })
 
 -- a path before a fork
 pub tests_made : (R : Part ℕ) (n0 n1 n2 : List Node) (f i yes_at no_at : ℕ) → f ≡ length n0 → n1 ≡ n0 ++ node.Fork yes_at no_at ∷ [] → Made R n1 n2 i f →
     MadeWays (λ G. R G then ForkTo G) n0 n2 i (ways yes_at no_at)
 tests_made R n0 n1 n2 f i yes_at no_at at is made = then_made R (λ G. ForkTo G) n0 n1 n2 i f (ways yes_at no_at) (fork_made n0 n1 f yes_at no_at at is) made
 
+took_value : (s : Allowance) (n : List Node) (next j : ℕ) (l : Purpose) → WantedAlike (purpose.Value next) l → AllLike s n (next ∷ []) (purpose_ends l) → Takes (Allowed s) j l →
+    Stood s (length n) n next j
+took_value s n next j (purpose.Value to) same like h = stood_put s n next j (subst (λ q. Like s n next q) (sym h) like.0)
+took_value s n next j (purpose.Effect to) same like h = absurd same
+took_value s n next j (purpose.Truth yes_at no_at) same like h = absurd same
+
 pub take_value : (n : List Node) (next : ℕ) → MadeFor (λ G. Takes G) n n next (purpose.Value next)
-take_value n next = record { does = λ fin l. refl; keeps = later_self 0 n; leads = λ below. stays_put n next below }
+take_value n next = record {
+  does = λ fin l. refl;
+  keeps = later_self 0 n;
+  leads = λ below. stays_put n next below;
+  stands = λ s j l same like h. took_value s n next j l same like h;
+}
 
 pub take_effect : (n0 n1 : List Node) (i next : ℕ) → i ≡ length n0 → n1 ≡ n0 ++ node.Drop next ∷ [] → MadeFor (λ G. Takes G) n0 n1 i (purpose.Effect next)
 take_effect n0 n1 i next at is =
-    carried (λ G. Does G (node.Drop 0)) (λ G. Takes G) next (purpose.Effect next) (λ G i h. h) (λ n b. b) n0 n1 i (one_made (node.Drop 0) (node.Drop next) n0 n1 i next refl at is)
+    as_effect (λ G. Does G (node.Drop 0)) (λ G. Takes G) (λ G i k h. h) (λ G i k h. h) n0 n1 i next (one_made (node.Drop 0) (node.Drop next) n0 n1 i next refl at is)
 
 pub take_truth : (n0 n1 : List Node) (i yes_at no_at : ℕ) → i ≡ length n0 → n1 ≡ n0 ++ node.Fork yes_at no_at ∷ [] → MadeFor (λ G. Takes G) n0 n1 i (purpose.Truth yes_at no_at)
-take_truth n0 n1 i yes_at no_at at is = carried (λ G. ForkTo G) (λ G. Takes G) (ways yes_at no_at) (purpose.Truth yes_at no_at) (λ G i h. h) (λ n b. b) n0 n1 i (fork_made n0 n1 i yes_at no_at at is)
+take_truth n0 n1 i yes_at no_at at is = as_truth (λ G. ForkTo G) (λ G. Takes G) (λ G i w h. h) (λ G i w h. h) n0 n1 i yes_at no_at (fork_made n0 n1 i yes_at no_at at is)
 
 pub place_value : (of : Option ValueType) (n0 n1 : List Node) (i next : ℕ) → Made (λ G. LoadAt G of) n0 n1 i next → MadeFor (λ G. TakesPlace G of) n0 n1 i (purpose.Value next)
-place_value of n0 n1 i next made = carried (λ G. LoadAt G of) (λ G. TakesPlace G of) next (purpose.Value next) (λ G i h. h) (λ n b. b) n0 n1 i made
+place_value of n0 n1 i next made = as_value (λ G. LoadAt G of) (λ G. TakesPlace G of) (λ G i k h. h) (λ G i k h. h) n0 n1 i next made
 
 pub place_effect : (of : Option ValueType) (n0 n1 : List Node) (i next : ℕ) → Made (λ G. Discarded G (is_struct of) of) n0 n1 i next →
     MadeFor (λ G. TakesPlace G of) n0 n1 i (purpose.Effect next)
 place_effect of n0 n1 i next made =
-    carried (λ G. Discarded G (is_struct of) of) (λ G. TakesPlace G of) next (purpose.Effect next) (λ G i h. h) (λ n b. b) n0 n1 i made
+    as_effect (λ G. Discarded G (is_struct of) of) (λ G. TakesPlace G of) (λ G i k h. h) (λ G i k h. h) n0 n1 i next made
 
 pub place_truth : (of : Option ValueType) (n0 n1 n2 : List Node) (f i yes_at no_at : ℕ) → f ≡ length n0 → n1 ≡ n0 ++ node.Fork yes_at no_at ∷ [] →
     Made (λ G. LoadAt G of) n1 n2 i f → MadeFor (λ G. TakesPlace G of) n0 n2 i (purpose.Truth yes_at no_at)
 place_truth of n0 n1 n2 f i yes_at no_at at is made =
-    carried (λ G. LoadAt G of then ForkTo G) (λ G. TakesPlace G of) (ways yes_at no_at) (purpose.Truth yes_at no_at) (λ G i h. h) (λ n b. b) n0 n2 i
+    as_truth (λ G. LoadAt G of then ForkTo G) (λ G. TakesPlace G of) (λ G i w h. h) (λ G i w h. h) n0 n2 i yes_at no_at
     (tests_made (λ G. LoadAt G of) n0 n1 n2 f i yes_at no_at at is made)
 
 -- a test of a pointer, with the load of null that is the trap
@@ -58,18 +75,18 @@ pointed_made n0 n1 n2 n3 trap fork i k at1 is1 at2 is2 at3 is3 =
 
 pub through_value : (of : Option ValueType) (n0 n1 : List Node) (i next : ℕ) → Made (λ G. LoadThrough G of) n0 n1 i next →
     MadeFor (λ G. TakesThrough G of) n0 n1 i (purpose.Value next)
-through_value of n0 n1 i next made = carried (λ G. LoadThrough G of) (λ G. TakesThrough G of) next (purpose.Value next) (λ G i h. h) (λ n b. b) n0 n1 i made
+through_value of n0 n1 i next made = as_value (λ G. LoadThrough G of) (λ G. TakesThrough G of) (λ G i k h. h) (λ G i k h. h) n0 n1 i next made
 
 pub through_effect : (of : Option ValueType) (n0 n1 n2 : List Node) (m i next : ℕ) → Made (λ G. Discarded G (is_struct of) of) n0 n1 m next → Made (λ G. Pointed G) n1 n2 i m →
     MadeFor (λ G. TakesThrough G of) n0 n2 i (purpose.Effect next)
 through_effect of n0 n1 n2 m i next discarded made =
-    carried (λ G. Pointed G then Discarded G (is_struct of) of) (λ G. TakesThrough G of) next (purpose.Effect next) (λ G i h. h) (λ n b. b) n0 n2 i
+    as_effect (λ G. Pointed G then Discarded G (is_struct of) of) (λ G. TakesThrough G of) (λ G i k h. h) (λ G i k h. h) n0 n2 i next
     (then_made (λ G. Pointed G) (λ G. Discarded G (is_struct of) of) n0 n1 n2 i m next discarded made)
 
 pub through_truth : (of : Option ValueType) (n0 n1 n2 : List Node) (f i yes_at no_at : ℕ) → f ≡ length n0 → n1 ≡ n0 ++ node.Fork yes_at no_at ∷ [] →
     Made (λ G. LoadThrough G of) n1 n2 i f → MadeFor (λ G. TakesThrough G of) n0 n2 i (purpose.Truth yes_at no_at)
 through_truth of n0 n1 n2 f i yes_at no_at at is made =
-    carried (λ G. LoadThrough G of then ForkTo G) (λ G. TakesThrough G of) (ways yes_at no_at) (purpose.Truth yes_at no_at) (λ G i h. h) (λ n b. b) n0 n2 i
+    as_truth (λ G. LoadThrough G of then ForkTo G) (λ G. TakesThrough G of) (λ G i w h. h) (λ G i w h. h) n0 n2 i yes_at no_at
     (tests_made (λ G. LoadThrough G of) n0 n1 n2 f i yes_at no_at at is made)
 
 pub ruleset takes_made = (take_value, take_effect, take_truth)

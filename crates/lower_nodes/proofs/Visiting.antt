@@ -6,21 +6,23 @@ use Rattle.flow.specs.declared.node.View.TheVariants as view
 use Rattle.c_meaning.specs.Facts.{Facts, Sites}
 use Rattle.c_meaning.specs.Visits.{listed}
 use Rattle.lower_relation.specs.Operators.{Assigned, Decided}
-use Rattle.lower_relation.specs.Paths.{Does, ForkTo, MarksAll, Nothing, Ways}
+use Rattle.lower_relation.specs.Paths.{Does, ForkTo, MarksAll, Nothing}
 use Rattle.lower_nodes.specs.Made.{Made, MadeWays}
 use Rattle.lower_nodes.specs.Purposes.{ways}
-use Rattle.lower_nodes.proofs.Building.{nothing_made, one_made, then_made, view_made}
+use Rattle.lower_nodes.proofs.Building.{nothing_made, one_made, then_made, view_made, visit_resembles}
 use Rattle.lower_nodes.proofs.Lists.{list_step}
+use Rattle.lower_nodes.proofs.Taking.{fork_made}
 
 one_mark : (site : ℕ) (n0 n1 : List Node) (i k : ℕ) → i ≡ length n0 → n1 ≡ n0 ++ node.Mark site k ∷ [] → Made (λ G. λ i k. G i (view.Marks site k)) n0 n1 i k
-one_mark site n0 n1 i k at is = view_made (λ k. view.Marks site k) (node.Mark site k) n0 n1 i k refl at is (λ all b. b)
+one_mark site n0 n1 i k at is =
+    view_made (λ k. view.Marks site k) (node.Mark site k) n0 n1 i k refl at is (λ all b. b) (λ s l same like. visit_resembles s n0 site k l like.0)
 
 -- one more mark before those that were put
 pub marks_step : (sites : List ℕ) (m j : ℕ) (n0 n1 n2 : List Node) (entry i k : ℕ) → m ≡ j + 1 → j < length sites →
     Made (λ G. MarksAll G (drop m sites)) n0 n1 entry k → i ≡ length n1 → n2 ≡ n1 ++ node.Mark (get_or sites j 0) entry ∷ [] →
     Made (λ G. MarksAll G (drop j sites)) n0 n2 i k
 marks_step sites m j n0 n1 n2 entry i k e low rest at is =
-    list_step (λ l G. MarksAll G l) (λ G. λ i k. G i (view.Marks (get_or sites j 0) k)) sites m j 0 n0 n1 n2 entry i k e low (λ G i h. h) rest
+    list_step (λ l G. MarksAll G l) (λ G. λ i k. G i (view.Marks (get_or sites j 0) k)) sites m j 0 n0 n1 n2 entry i k e low (λ G i k h. h) (λ G i k h. h) rest
     (one_mark (get_or sites j 0) n1 n2 i entry at is)
 
 -- the mark of the one site
@@ -34,7 +36,7 @@ pub decided_made : (facts : Facts) (sites : Sites) (token : ℕ) (site : Option 
     MadeWays (λ G. Decided G facts sites token) n0 n2 i (ways yes_at no_at)
 decided_made facts sites token site n0 n1 n2 f i yes_at no_at e at is marks =
     then_made (λ G. MarksAll G (listed (sites.branch_at token))) (λ G. ForkTo G) n0 n1 n2 i f (ways yes_at no_at)
-    (view_made (λ (w : Ways). view.Forks w.yes_to w.no_to) (node.Fork yes_at no_at) n0 n1 f (ways yes_at no_at) refl at is (λ all b. b))
+    (fork_made n0 n1 f yes_at no_at at is)
     (subst (λ s. Made (λ G. MarksAll G (listed s)) n1 n2 i f) e marks)
 
 -- a store, with the marks behind it

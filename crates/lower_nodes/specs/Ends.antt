@@ -30,3 +30,14 @@ purpose_ends (purpose.Truth yes_at no_at) = yes_at ∷ no_at ∷ []
 -- to where a statement is left
 abbrev pub all_ends : Exits → List ℕ
 all_ends x = x.next ∷ x.breaks ∷ x.continues ∷ x.gives ∷ x.leaves ∷ []
+
+-- of whatever form they are
+abbrev pub Any : {K : Type 0} → K → K → Type 0
+Any k l = Unit {0}
+
+-- a value that is wanted for the same
+abbrev pub WantedAlike : Purpose → Purpose → Type 0
+WantedAlike (purpose.Value next) (purpose.Value other) = Unit {0}
+WantedAlike (purpose.Effect next) (purpose.Effect other) = Unit {0}
+WantedAlike (purpose.Truth yes_at no_at) (purpose.Truth other_yes other_no) = Unit {0}
+WantedAlike p q = ⊥

@@ -6,3 +6,4 @@ pub mod Parts
 pub mod Prefixes
 pub mod Ends
 pub mod Reach
+pub mod Standing
