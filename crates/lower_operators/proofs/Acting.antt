@@ -36,8 +36,10 @@ library_acted library.Putchar number n x n0 n1 i k e at is = one_made (node.Put 
 library_acted library.Puts number n x n0 n1 i k e at is = one_made (node.Puts 0) x n0 n1 i k (same_node x (node.Puts k) e) at is
 library_acted library.Malloc number n x n0 n1 i k e at is = one_made (node.Alloc 0) x n0 n1 i k (same_node x (node.Alloc k) e) at is
 library_acted library.Free number n x n0 n1 i k e at is = one_made (node.Free 0) x n0 n1 i k (same_node x (node.Free k) e) at is
-library_acted library.Exit number n x n0 n1 i k e at is = view_made (λ k. view.Halts node.Exit) x n0 n1 i k (same_node x node.Exit e) at is (λ all b. tt)
-library_acted library.Abort number n x n0 n1 i k e at is = view_made (λ k. view.Halts node.Abort) x n0 n1 i k (same_node x node.Abort e) at is (λ all b. tt)
+library_acted library.Exit number n x n0 n1 i k e at is =
+    view_made (λ k. view.Halts node.Exit) x n0 n1 i k (same_node x node.Exit e) at is (λ all b. tt) (λ s l same like. record { same = refl; visits = λ h. h; fork = λ f. f })
+library_acted library.Abort number n x n0 n1 i k e at is =
+    view_made (λ k. view.Halts node.Abort) x n0 n1 i k (same_node x node.Abort e) at is (λ all b. tt) (λ s l same like. record { same = refl; visits = λ h. h; fork = λ f. f })
 library_acted library.Assert number n x n0 n1 i k e at is = one_made (node.Check 0) x n0 n1 i k (same_node x (node.Check k) e) at is
 library_acted library.Printf number n x n0 n1 i k e at is = cc
 
@@ -56,7 +58,8 @@ printf_acted library.Printf number n n0 n1 i k e made = made
 module _ (facts : Facts) (xs : ExprList) where
   pub function_acted : (number : ℕ) (n0 n1 : List Node) (i k : ℕ) → i ≡ length n0 → n1 ≡ n0 ++ node.Call number k ∷ [] →
       Made (λ G. Acts G facts (called.Function number) xs) n0 n1 i k
-  function_acted number n0 n1 i k at is = view_made (λ k. view.Calls number k) (node.Call number k) n0 n1 i k refl at is (λ all b. b)
+  function_acted number n0 n1 i k at is =
+      view_made (λ k. view.Calls number k) (node.Call number k) n0 n1 i k refl at is (λ all b. b) (λ s l same like. record { same = refl; visits = λ h. h; fork = λ f. f })
 
   pub call_acted : (f : Library) (number : Option ℕ) (ys : ExprList) (m : ℕ) (n0 n1 : List Node) (i k : ℕ) → number ≡ number_of_first facts xs →
       ys ≡ others xs → m ≡ count ys → Made (λ G. LibraryActs G f number m) n0 n1 i k → Made (λ G. Acts G facts (called.Library f) xs) n0 n1 i k

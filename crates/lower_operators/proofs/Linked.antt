@@ -1,5 +1,5 @@
 -- What `&&` and `||` do with their left values, and what stands before an operator of a chain.
-use Rattle.std.proofs.Common.{◌≡◌, ℕ, zero, suc, ◌+◌, ◌<◌, ◌∙◌, ap, refl, arith, List, [], ◌∷◌, ◌++◌, length, get_or, Option, true, false, rules}
+use Rattle.std.proofs.Common.{◌≡◌, ℕ, zero, suc, ◌+◌, ◌<◌, ◌∙◌, ap, refl, sym, subst, arith, List, [], ◌∷◌, ◌++◌, length, get_or, Option, true, false, rules}
 use Rattle.std.specs.Prelude.{pos}
 use Rattle.cbi_base.specs.declared.scalar.Kind.TheVariants.{Int}
 use Rattle.c_syntax.specs.declared.expr.Link.{Link}
@@ -9,33 +9,42 @@ use Rattle.c_meaning.specs.declared.value_type.ValueType.{ValueType}
 use Rattle.c_meaning.specs.Facts.{Facts, Sites}
 use Rattle.lower_relation.specs.Operators.{Decided}
 use Rattle.lower_relation.specs.Paths.{Does}
-use Rattle.lower_operators.specs.Linking.{Shortcut, To, either_end, type_before}
-use Rattle.lower_nodes.specs.Made.{Made, MadeTo, MadeWays, Part}
+use Rattle.lower_operators.specs.Linking.{Says, Shortcut, ToRight, side_ends, sides, type_before}
+use Rattle.lower_nodes.specs.Ends.{Any}
+use Rattle.lower_nodes.specs.Made.{MadeTo, MadeWays}
 use Rattle.lower_nodes.specs.Purposes.{ways}
-use Rattle.lower_nodes.proofs.Building.{carried, either_made, later_self, row, stays_put}
+use Rattle.lower_nodes.specs.Standing.{Like}
+use Rattle.lower_nodes.proofs.Building.{carried, either_made, later_self, row, stays_put, stood_put}
 
 -- one way of a condition goes on at what was put before
-to_made : (n : List Node) (right k : ℕ) → MadeTo (either_end right) (λ G. To right) n n right k
-to_made n right k = record { does = λ fin l. refl; keeps = later_self 0 n; leads = λ below. stays_put n right (below.0, tt) }
+right_stays : (n : List Node) (right next : ℕ) → MadeTo side_ends Any (λ G. ToRight) n n right (sides right next)
+right_stays n right next = record {
+  does = λ fin l. refl;
+  keeps = later_self 0 n;
+  leads = λ below. stays_put n right (below.0, tt);
+  stands = λ s j l same like h. stood_put s n right j (subst (λ q. Like s n right q) (sym h) like.0);
+}
 
--- what goes on at one node, beside the other
-beside : (R : Part ℕ) (right : ℕ) (n0 n1 : List Node) (i k : ℕ) → Made R n0 n1 i k → MadeTo (either_end right) R n0 n1 i k
-beside R right n0 n1 i k made = carried R R k k (λ G i h. h) (λ n b. b.1) n0 n1 i made
+-- the other one says what the whole is
+says_made : (n : ℕ) (n0 n1 : List Node) (right i k : ℕ) → i ≡ length n0 → n1 ≡ n0 ++ node.Push Int (pos n) k ∷ [] → MadeTo side_ends Any (λ G. Says G n) n0 n1 i (sides right k)
+says_made n n0 n1 right i k at is =
+    carried (λ G. Does G (node.Push Int (pos n) 0)) (λ G. Says G n) k (sides right k) (λ G i h. h) (λ m b. b.1) (λ s m j l same like h. (l.next, tt, like.1, h)) n0 n1 i
+    (row (node.Push Int (pos n) 0) _ at is (search rules))
 
 -- what `&&` and `||` do with their left values
 pub shortcut_both : (facts : Facts) (sites : Sites) (token right : ℕ) (n0 n1 n2 : List Node) (zero_at i k : ℕ) → zero_at ≡ length n0 →
     n1 ≡ n0 ++ node.Push Int (pos 0) k ∷ [] → MadeWays (λ G. Decided G facts sites token) n1 n2 i (ways right zero_at) →
-    MadeTo (either_end right) (λ G. Shortcut G facts sites true token right) n0 n2 i k
+    MadeTo side_ends Any (λ G. Shortcut G facts sites true token) n0 n2 i (sides right k)
 shortcut_both facts sites token right n0 n1 n2 zero_at i k at new decided =
-    either_made (λ G. Decided G facts sites token) (λ G. To right) (λ G. Does G (node.Push Int (pos 0) 0)) n0 n1 n1 n2 i right zero_at k
-    (beside (λ G. Does G (node.Push Int (pos 0) 0)) right n0 n1 zero_at k (row (node.Push Int (pos 0) 0) _ at new (search rules))) (to_made n1 right k) decided
+    either_made (λ G. Decided G facts sites token) (λ G. ToRight) (λ G. Says G 0) n0 n1 n1 n2 i right zero_at (sides right k)
+    (says_made 0 n0 n1 right zero_at k at new) (right_stays n1 right k) decided
 
 pub shortcut_either : (facts : Facts) (sites : Sites) (token right : ℕ) (n0 n1 n2 : List Node) (one_at i k : ℕ) → one_at ≡ length n0 →
     n1 ≡ n0 ++ node.Push Int (pos 1) k ∷ [] → MadeWays (λ G. Decided G facts sites token) n1 n2 i (ways one_at right) →
-    MadeTo (either_end right) (λ G. Shortcut G facts sites false token right) n0 n2 i k
+    MadeTo side_ends Any (λ G. Shortcut G facts sites false token) n0 n2 i (sides right k)
 shortcut_either facts sites token right n0 n1 n2 one_at i k at new decided =
-    either_made (λ G. Decided G facts sites token) (λ G. Does G (node.Push Int (pos 1) 0)) (λ G. To right) n0 n0 n1 n2 i one_at right k
-    (to_made n0 right k) (beside (λ G. Does G (node.Push Int (pos 1) 0)) right n0 n1 one_at k (row (node.Push Int (pos 1) 0) _ at new (search rules))) decided
+    either_made (λ G. Decided G facts sites token) (λ G. Says G 1) (λ G. ToRight) n0 n0 n1 n2 i one_at right (sides right k)
+    (right_stays n0 right k) (says_made 1 n0 n1 right one_at k at new) decided
 
 module _ (facts : Facts) (sites : Sites) where
   type_next : (left : Option ValueType) (links : List Link) (j : ℕ) (d : Link) → j < length links → d ≡ get_or links j d →

@@ -27,15 +27,26 @@ type_before facts left links zero = left
 type_before facts left [] (suc j) = left
 type_before facts left (x ∷ links) (suc j) = type_before facts (facts.type_at x.token) links j
 
--- it goes on at the right side, or behind the whole
-abbrev pub either_end : ℕ → ℕ → List ℕ
-either_end right k = right ∷ k ∷ []
+-- where `&&` and `||` go on from their left sides: at the right one, or behind the whole
+pub record Sides : Type 0 where
+  pub right : ℕ
+  pub next : ℕ
 
--- control is at this node
-abbrev pub To : ℕ → Path ℕ
-To j i k = i ≡ j
+abbrev pub sides : ℕ → ℕ → Sides
+sides right next = record { right = right; next = next }
+
+abbrev pub side_ends : Sides → List ℕ
+side_ends k = k.right ∷ k.next ∷ []
+
+-- control is at the right side
+abbrev pub ToRight : Path Sides
+ToRight i k = i ≡ k.right
+
+-- this is the value of the whole
+abbrev pub Says : Graph → ℕ → Path Sides
+Says G n i k = Does G (node.Push Int (pos n) 0) i k.next
 
 -- what `&&`, or else `||`, does with its left value: a false one, or a true one, is the value of the whole, and with another one its right side follows
-abbrev pub Shortcut : Graph → Facts → Sites → Bool → ℕ → ℕ → Path ℕ
-Shortcut G facts sites true token right = Either (Decided G facts sites token) (To right) (Does G (node.Push Int (pos 0) 0))
-Shortcut G facts sites false token right = Either (Decided G facts sites token) (Does G (node.Push Int (pos 1) 0)) (To right)
+abbrev pub Shortcut : Graph → Facts → Sites → Bool → ℕ → Path Sides
+Shortcut G facts sites true token = Either (Decided G facts sites token) ToRight (Says G 0)
+Shortcut G facts sites false token = Either (Decided G facts sites token) (Says G 1) ToRight

@@ -1,5 +1,5 @@
 -- Which arguments a call passes, as which types, and what is done behind them.
-use Rattle.std.specs.Prelude.{ℕ, ◌==◌, Bool, false, List, [], ◌∷◌, length, Option, Some, None}
+use Rattle.std.specs.Prelude.{ℕ, ◌==◌, Bool, true, false, List, [], ◌∷◌, length, Option, Some, None}
 use Rattle.cbi_base.specs.declared.scalar.Kind.TheVariants.{Int, Unsigned}
 use Rattle.c_rules.specs.declared.library.Library.{Library}
 use Rattle.c_rules.specs.declared.library.Library.TheVariants as library
@@ -103,6 +103,14 @@ fits facts (called.Function number) xs = takes (facts.signature number) (count x
 fits facts (called.Library f) xs = library_fits facts f xs
 fits facts called.Unknown xs = false
 
+-- whether it is a function of the library that takes one argument
+abbrev pub takes_one : Called → Bool
+takes_one (called.Library library.Getchar) = false
+takes_one (called.Library library.Abort) = false
+takes_one (called.Library library.Printf) = false
+takes_one (called.Library f) = true
+takes_one c = false
+
 -- the node of a function of the library: `printf` has one for each format
 abbrev pub library_node : Library → ℕ → Option Node
 library_node library.Getchar next = Some (node.Get next)
@@ -138,3 +146,12 @@ module _ (G : Graph) where
   Acts facts (called.Function number) xs i k = G i (view.Calls number k)
   Acts facts (called.Library f) xs i k = LibraryActs f (number_of_first facts xs) (count (others xs)) i k
   Acts facts called.Unknown xs i k = Nothing i k
+
+  -- a path, where this is known to hold
+  abbrev pub Where : Bool → Path ℕ → Path ℕ
+  Where true R = R
+  Where false R = Nothing
+
+  -- What is left of a call whose arguments aren't those that it takes: no run of a checked text comes there.
+  abbrev pub Unfit : Facts → Called → ExprList → Path ℕ
+  Unfit facts c xs = Where (takes_one c) (Acts facts c xs)

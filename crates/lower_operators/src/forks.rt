@@ -1,6 +1,6 @@
 ghost use Rattle.std.specs.Prelude.{◌≡◌};
 ghost use Rattle.c_meaning.specs.Trees.{joint};
-ghost use Rattle.lower_operators.specs.Forking.{all_fork, forks_at, no_before, yes_before};
+ghost use Rattle.lower_operators.specs.Forking.{forks_at, is_short, no_before, yes_before};
 ghost use Rattle.lower_facts.specs.Facts.{sites_in};
 
 use c_syntax::{Link, Sign};
@@ -8,28 +8,23 @@ use lower_facts::TreeFacts;
 use lower_trees::{Joint, joint_by};
 
 /// Whether the operator needs no value of its left side: it is `&&` or `||`, without a site.
-fn forks_at(facts: &TreeFacts, link: &Link) -> bool
+pub fn forks_at(facts: &TreeFacts, link: &Link) -> bool
     ensures { result ≡ forks_at ((sites_in facts.now).branch_at link.now.token) (joint link.now.sign) }
 {
     if facts.branch_at(link.token).is_some() {
         return false;
     }
-    match joint_by(link.sign) {
+    is_short(link.sign)
+}
+
+/// Whether the operator is `&&` or `||`.
+pub fn is_short(sign: Sign) -> bool
+    ensures { result ≡ is_short (joint sign) }
+{
+    match joint_by(sign) {
         Joint::Both | Joint::Either => true,
         Joint::Computes { .. } | Joint::Unjoined => false,
     }
-}
-
-/// Whether that holds of all the operators.
-pub fn all_fork(facts: &TreeFacts, links: &[Link]) -> bool
-    ensures { result ≡ all_fork (sites_in facts.now) links.now }
-{
-    for link in links {
-        if !forks_at(facts, link) {
-            return false;
-        }
-    }
-    true
 }
 
 /// Where a left side that is true goes on.

@@ -90,7 +90,7 @@ pub fn put_given(
         }
         Giving::Nothing => match purpose {
             Purpose::Effect { next } => Ok(next),
-            Purpose::Value { .. } | Purpose::Truth { .. } => {
+            _ => {
                 let i = put_stuck(graph, 0)?;
                 Ok(i)
             }

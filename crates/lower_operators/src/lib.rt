@@ -10,9 +10,9 @@ mod sole;
 mod spots;
 mod voids;
 
-pub use forks::{all_fork, no_before, yes_before};
+pub use forks::{forks_at, is_short, no_before, yes_before};
 pub use giving::{Giving, giving_of, is_refused, put_given};
-pub use library::{fits, number_of_text, passed, put_acts, wanted_by};
+pub use library::{fits, number_of_text, passed, put_acts, put_unfit, wanted_by};
 pub use links::{begins_null, put_shortcut, type_before};
 pub use printing::{Wanted, type_wanted};
 pub use sole::put_sole;

@@ -5,7 +5,7 @@ ghost use Rattle.c_meaning.specs.Trees.{count};
 ghost use Rattle.c_syntax.specs.Plain.{plain_expr, plain_exprs};
 ghost use Rattle.lower_relation.specs.Expressions.{number_of_text};
 ghost use Rattle.lower_nodes.specs.Made.{Made};
-ghost use Rattle.lower_operators.specs.Passing.{Acts, Formats, LibraryActs, number_of_first, text_of_first, type_of_first, fits, library_fits, library_node, library_types, others, passed, takes, types_passed};
+ghost use Rattle.lower_operators.specs.Passing.{Acts, Formats, LibraryActs, Unfit, number_of_first, text_of_first, type_of_first, fits, library_fits, library_node, library_types, others, passed, takes, takes_one, types_passed};
 ghost use Rattle.lower_operators.specs.Taken.{wanted_types};
 ghost use Rattle.lower_facts.specs.Facts.{facts_in};
 
@@ -262,4 +262,38 @@ pub fn put_acts(
         }
         Called::Unknown => Ok(next),
     }
+}
+
+/// Whether it is a function of the library that takes one argument.
+fn takes_one(called: Called) -> bool
+    ensures { result ≡ takes_one called }
+{
+    match called {
+        Called::Library { function } => !matches!(
+            function,
+            Library::Getchar | Library::Abort | Library::Printf
+        ),
+        Called::Function { .. } | Called::Unknown => false,
+    }
+}
+
+/// What is left of a call whose arguments aren't those that it takes: no run of a checked text comes there.
+#[tactic(auto, using(lower_nodes::proofs::Building::parts_made))]
+pub fn put_unfit(
+    graph: &mut Graph,
+    facts: &TreeFacts,
+    called: Called,
+    arguments: &[Expr],
+    next: u32,
+) -> Result<u32, Memory>
+    requires few { length arguments.now ≤ node_limit }
+    requires room { length graph.old + 1 ≤ node_limit }
+    ensures made { IfOk result (λ i. Made (λ G. Unfit G (facts_in facts.now) called (plain_exprs arguments.now)) graph.old graph.new i next) }
+    ensures few { IfOk result (λ i. length graph.new ≤ length graph.old + 1) }
+{
+    if takes_one(called) {
+        let i = put_acts(graph, facts, called, arguments, next)?;
+        return Ok(i);
+    }
+    Ok(next)
 }
