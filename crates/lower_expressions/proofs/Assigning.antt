@@ -1,5 +1,5 @@
 -- Assignments, and the operators of commas.
-use Rattle.std.proofs.Common.{◌≡◌, inr, ℕ, zero, suc, ◌+◌, ◌-◌, ◌<◌, ◌≤◌, ◌∙◌, ap, subst, sym, refl, arith, List, [], ◌∷◌, length, drop, get_or}
+use Rattle.std.proofs.Common.{◌≡◌, inl, inr, ℕ, zero, suc, ◌+◌, ◌-◌, ◌<◌, ◌≤◌, ◌∙◌, ap, subst, sym, refl, arith, List, [], ◌∷◌, length, drop, get_or}
 use Rattle.std.proofs.lemmas.List.{length-drop}
 use Rattle.cbi_base.specs.declared.operators.Binary.{Binary}
 use Rattle.c_syntax.specs.ExprTree as e
@@ -18,13 +18,16 @@ use Rattle.lower_relation.specs.Paths.{Graph, ◌then◌, Emitted, Stuck}
 use Rattle.lower_relation.specs.Values.{Valued, WantedValue}
 use Rattle.lower_nodes.specs.Made.{Made, MadeAlone, MadeFor, Part}
 use Rattle.lower_nodes.specs.Parts.{effect_part, place_part, serving, value_part}
-use Rattle.lower_nodes.specs.Purposes.{Serves, Takes}
+use Rattle.lower_nodes.specs.Purposes.{Serves, Takes, ways}
+use Rattle.lower_nodes.specs.Standing.{Allowed, Allowance}
 use Rattle.lower_expressions.specs.Weights.{exprs_weight, weight}
 use Rattle.lower_nodes.specs.declared.purpose.Purpose.{Purpose}
 use Rattle.lower_nodes.specs.declared.purpose.Purpose.TheVariants as purpose
-use Rattle.lower_nodes.proofs.Building.{surely_made, ◌and_then◌, carried}
+use Rattle.lower_nodes.proofs.Building.{surely_made, ◌and_then◌, both_ways}
 use Rattle.lower_nodes.proofs.Lists.{list_step}
 use Rattle.lower_nodes.proofs.Serving.{valued_made}
+use Rattle.lower_nodes.proofs.Wanting.{effect_of}
+use Rattle.lower_expressions.proofs.Forking.{last_forks}
 
 alone : (xs : List Expr) (j : ℕ) (d : Expr) → length xs ≡ j + 1 → d ≡ get_or xs j d → drop j xs ≡ d ∷ []
 alone [] j d e at = absurd (omega (arith, e))
@@ -42,7 +45,7 @@ module _ (facts : Facts) (sites : Sites) where
     assign_made : (n0 n1 n2 : List Node) (after i : ℕ) → MadeFor (λ G. Takes G) n0 n1 after p → Made (assigns (assignment sign)) n1 n2 i after →
         MadeFor (serving facts sites (e.Assign token sign target value)) n0 n2 i p
     assign_made n0 n1 n2 after i taken made =
-        carried (λ G. Serves (Valued G (assigns (assignment sign) G))) (serving facts sites (e.Assign token sign target value)) p p (λ G i h. h) (λ n b. b) n0 n2 i
+        both_ways (λ G. Serves (Valued G (assigns (assignment sign) G))) (serving facts sites (e.Assign token sign target value)) p (λ G i p h. h) (λ s i p h. h) n0 n2 i
         (valued_made (assigns (assignment sign)) p n0 n1 n2 i after taken made)
 
     pub assign_plain : (n0 n1 n2 n3 n4 : List Node) (after stored found i : ℕ) → Plain ≡ assignment sign → MadeFor (λ G. Takes G) n0 n1 after p →
@@ -65,18 +68,32 @@ module _ (facts : Facts) (sites : Sites) where
   comma_serves G n m rest (purpose.Effect next) i h = h
   comma_serves G n m rest (purpose.Truth yes_at no_at) i h = inr h
 
+  -- and so in a graph of nodes that may be
+  serves_comma : (s : Allowance) (n : ℕ) (m : Emitted) (rest : ExprList) (p : Purpose) (i : ℕ) → Serves (Comma (Allowed s) (suc n) m (LastDoes (Allowed s) facts sites rest)) i p →
+      (m.effect then Serves (LastDoes (Allowed s) facts sites rest)) i p
+  serves_comma s n m rest (purpose.Value next) i h = h
+  serves_comma s n m rest (purpose.Effect next) i h = h
+  serves_comma s n m rest (purpose.Truth yes_at no_at) i h =
+      elim h [ inl t ↦ (t.1.0, t.1.1, last_forks s facts sites rest t.1.0 t.0 (ways yes_at no_at) t.1.2) | inr t ↦ t ]
+
   count_plain : (xs : List Expr) → count (plain_exprs xs) ≡ length xs
   count_plain [] = refl
   count_plain (x ∷ xs) = ap suc (count_plain xs)
 
-  abbrev lasts : Purpose → List Expr → Part Purpose
-  lasts p xs G = Serves (LastDoes G facts sites (plain_exprs xs))
+  abbrev lasts : List Expr → Part Purpose
+  lasts xs G = Serves (LastDoes G facts sites (plain_exprs xs))
 
   comma_into : (G : Graph) (x : Expr) (xs : List Expr) (n : ℕ) (p : Purpose) (i : ℕ) → length xs ≡ suc n →
-      (effect_part facts sites (plain_expr x) G then lasts p xs G) i p → lasts p (x ∷ xs) G i p
+      (effect_part facts sites (plain_expr x) G then lasts xs G) i p → lasts (x ∷ xs) G i p
   comma_into G x xs n p i e h =
       subst (λ c. Serves (Comma G c (emitted G facts sites (plain_expr x)) (LastDoes G facts sites (plain_exprs xs))) i p) (sym (count_plain xs ∙ e))
       (comma_serves G n (emitted G facts sites (plain_expr x)) (LastDoes G facts sites (plain_exprs xs)) p i h)
+
+  comma_out : (s : Allowance) (x : Expr) (xs : List Expr) (n : ℕ) (p : Purpose) (i : ℕ) → length xs ≡ suc n →
+      lasts (x ∷ xs) (Allowed s) i p → (effect_part facts sites (plain_expr x) (Allowed s) then lasts xs (Allowed s)) i p
+  comma_out s x xs n p i e h =
+      serves_comma s n (emitted (Allowed s) facts sites (plain_expr x)) (plain_exprs xs) p i
+      (subst (λ c. Serves (Comma (Allowed s) c (emitted (Allowed s) facts sites (plain_expr x)) (LastDoes (Allowed s) facts sites (plain_exprs xs))) i p) (count_plain xs ∙ e) h)
 
   -- one more operand before the last ones
   pub comma_step : (p : Purpose) (operands : List Expr) (m j : ℕ) (d : Expr) (n0 n1 n2 : List Node) (entry i : ℕ) → m ≡ j + 1 → m < length operands →
@@ -85,10 +102,11 @@ module _ (facts : Facts) (sites : Sites) where
       MadeFor (λ G. Serves (LastDoes G facts sites (plain_exprs (drop j operands)))) n0 n2 i p
   comma_step p operands m j d n0 n1 n2 entry i e low at rest made =
       let more : length (drop (j + 1) operands) ≡ suc (length operands - (j + 1) - 1) = omega (arith, e, low, length-drop (j + 1) operands) in
-      list_step (lasts p) (effect_part facts sites (plain_expr (get_or operands j d))) operands m j d n0 n1 n2 entry i p e (omega (arith, e, low))
-      (λ G i h. comma_into G (get_or operands j d) (drop (j + 1) operands) (length operands - (j + 1) - 1) p i more h) rest
+      list_step lasts (effect_part facts sites (plain_expr (get_or operands j d))) operands m j d n0 n1 n2 entry i p e (omega (arith, e, low))
+      (λ G i p h. comma_into G (get_or operands j d) (drop (j + 1) operands) (length operands - (j + 1) - 1) p i more h)
+      (λ s i p h. comma_out s (get_or operands j d) (drop (j + 1) operands) (length operands - (j + 1) - 1) p i more h) rest
       (subst (λ q. Made (effect_part facts sites (plain_expr q)) n1 n2 i entry) at
-      (carried (serving facts sites (plain_expr d)) (effect_part facts sites (plain_expr d)) (purpose.Effect entry) entry (λ G i h. h) (λ n b. b) n1 n2 i made))
+      (effect_of (serving facts sites (plain_expr d)) (effect_part facts sites (plain_expr d)) (λ G i k h. h) (λ s i k h. h) n1 n2 i entry made))
 
   -- the last operand alone
   pub last_made : (p : Purpose) (operands : List Expr) (j : ℕ) (d : Expr) (n0 n1 : List Node) (i : ℕ) → length operands ≡ j + 1 → d ≡ get_or operands j d →

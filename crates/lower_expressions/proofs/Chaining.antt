@@ -1,9 +1,7 @@
 -- Chains: operators of one level.
-use Rattle.std.proofs.Common.{◌≡◌, inl, ℕ, zero, suc, ◌+◌, ◌<◌, ◌≤◌, ◌∙◌, ap, subst, sym, arith, List, [], ◌∷◌, length, drop, get_or, Option, true, false}
-use Rattle.std.specs.Prelude.{pos}
+use Rattle.std.proofs.Common.{◌≡◌, refl, ℕ, zero, suc, ◌+◌, ◌<◌, ◌≤◌, ◌∙◌, ap, subst, sym, arith, List, [], ◌∷◌, length, take, drop, get_or, Option, true, false}
 use Rattle.std.proofs.lemmas.List.{drop_all, drop_more}
 use Rattle.cbi_base.specs.declared.operators.Binary.{Binary}
-use Rattle.cbi_base.specs.declared.scalar.Kind.TheVariants.{Int}
 use Rattle.c_syntax.specs.ExprTree as e
 use Rattle.c_syntax.specs.ExprTree.{ExprTree, LinkList}
 use Rattle.c_syntax.specs.declared.expr.Link.{Link}
@@ -12,59 +10,27 @@ use Rattle.c_types_expressions.specs.ExprWalk.{binary_of}
 use Rattle.c_syntax.specs.Plain.{plain_expr, plain_links}
 use Rattle.c_syntax.proofs.PlainExprs.{plain_link_before}
 use Rattle.flow.specs.declared.node.Node.{Node}
-use Rattle.flow.specs.declared.node.Node.TheVariants as node
 use Rattle.c_meaning.specs.declared.value_type.ValueType.{ValueType}
 use Rattle.c_meaning.specs.Facts.{Facts, Sites}
 use Rattle.c_meaning.specs.Operation.{operation}
 use Rattle.c_meaning.specs.Trees as tree
 use Rattle.c_meaning.specs.Trees.{Joint, Both, Computes, Unjoined, begins_null, is_null_beside, joint, operand_type, type_of}
 use Rattle.lower_relation.specs.Expressions.{LinksDo, emitted}
-use Rattle.lower_relation.specs.Operators.{Decided, Flagged, Linked, Operates}
-use Rattle.lower_relation.specs.Paths.{Graph, ◌then◌, Does, Either, Stuck, Ways}
+use Rattle.lower_relation.specs.Operators.{Flagged, Linked, Operates}
+use Rattle.lower_relation.specs.Paths.{◌then◌, Stuck}
 use Rattle.lower_relation.specs.Values.{NullOr, Valued}
-use Rattle.lower_operators.specs.Linking.{Shortcut, To, either_end, link_part, type_before}
-use Rattle.lower_relation.specs.Functions.{standing}
-use Rattle.lower_nodes.specs.Ends.{AllBelow}
-use Rattle.lower_nodes.specs.Made.{Made, MadeAlone, MadeFor, MadeTo, Part, CameOut}
-use Rattle.lower_nodes.specs.Parts.{serving}
+use Rattle.lower_operators.specs.Linking.{Shortcut, link_part, side_ends, sides, type_before}
+use Rattle.lower_nodes.specs.Ends.{Any, one_end}
+use Rattle.lower_nodes.specs.Made.{Made, MadeAlone, MadeFor, MadeTo, Part}
+use Rattle.lower_nodes.specs.Parts.{serving, value_part}
 use Rattle.lower_nodes.specs.Purposes.{Serves, Takes}
 use Rattle.lower_expressions.specs.Weights.{links_weight, weight}
 use Rattle.lower_nodes.specs.declared.purpose.Purpose.{Purpose}
 use Rattle.lower_nodes.specs.declared.purpose.Purpose.TheVariants as purpose
 use Rattle.lower_operators.proofs.Linked.{type_after}
-use Rattle.lower_nodes.proofs.Building.{◌and_then◌, back_both, below_more, carried, later_self, later_trans, nothing_made, surely_made, then_made}
+use Rattle.lower_nodes.proofs.Building.{◌and_then◌, Joined, both_ways, joined_made, nothing_made, surely_made, then_made}
 use Rattle.lower_nodes.proofs.Serving.{valued_made}
-
-cut_stands : (R : Part ℕ) (S : Part ℕ) (n0 n1 n2 : List Node) (right i k : ℕ) → Made R n0 n1 right k → MadeTo (either_end right) S n1 n2 i k → AllBelow (length n0) (k ∷ []) →
-    CameOut (length n0) n2 i
-cut_stands R S n0 n1 n2 right i k made cut below =
-    let second : CameOut (length n0) n1 right = made.leads below in
-    let first : CameOut (length n1) n2 i = cut.leads (second.inside, below_more (length n0) (length n1) (k ∷ []) made.keeps.longer below) in
-    record { inside = first.inside; back = back_both (length n0) n1 n2 second.back cut.keeps first.back }
-
-joined_yes : (D : Part Ways) (R S : Part ℕ) (n0 n1 n2 : List Node) (right i k : ℕ) → Made R n0 n1 right k → MadeTo (either_end right) (λ G. Either (D G) (To right) (S G)) n1 n2 i k →
-    Made (λ G. Either (D G) (R G) (S G)) n0 n2 i k
-joined_yes D R S n0 n1 n2 right i k made cut = record {
-  does = λ fin l.
-      let e : Either (D (standing fin)) (To right) (S (standing fin)) i k =
-      cut.does fin (later_trans (length n0) (length n1) n2 n2 fin made.keeps.longer (later_self 0 n2) l) in
-      let r : R (standing fin) right k = made.does fin (later_trans (length n0) (length n0) n1 n2 fin (omega arith) cut.keeps l) in
-      (e.0, e.1, e.2, subst (λ j. R (standing fin) j k) (sym e.3) r, e.4);
-  keeps = later_trans 0 0 n0 n1 n2 (omega arith) made.keeps cut.keeps;
-  leads = λ below. cut_stands R (λ G. Either (D G) (To right) (S G)) n0 n1 n2 right i k made cut below;
-}
-
-joined_no : (D : Part Ways) (R S : Part ℕ) (n0 n1 n2 : List Node) (right i k : ℕ) → Made S n0 n1 right k → MadeTo (either_end right) (λ G. Either (D G) (R G) (To right)) n1 n2 i k →
-    Made (λ G. Either (D G) (R G) (S G)) n0 n2 i k
-joined_no D R S n0 n1 n2 right i k made cut = record {
-  does = λ fin l.
-      let e : Either (D (standing fin)) (R (standing fin)) (To right) i k =
-      cut.does fin (later_trans (length n0) (length n1) n2 n2 fin made.keeps.longer (later_self 0 n2) l) in
-      let s : S (standing fin) right k = made.does fin (later_trans (length n0) (length n0) n1 n2 fin (omega arith) cut.keeps l) in
-      (e.0, e.1, e.2, e.3, subst (λ j. S (standing fin) j k) (sym e.4) s);
-  keeps = later_trans 0 0 n0 n1 n2 (omega arith) made.keeps cut.keeps;
-  leads = λ below. cut_stands S (λ G. Either (D G) (R G) (To right)) n0 n1 n2 right i k made cut below;
-}
+use Rattle.lower_nodes.proofs.Wanting.{same_effect, same_value}
 
 abbrev rest_of : Link → LinkList → LinkList
 rest_of x rest = e.more_links x.token x.sign (plain_expr x.operand) rest
@@ -81,6 +47,12 @@ pub link_weighs : (links : List Link) (j : ℕ) (d : Link) → j < length links 
 link_weighs [] j d low at = absurd (omega (arith, low))
 link_weighs (x ∷ xs) zero d low at = rw (at, plain_cons x xs) (omega arith)
 link_weighs (x ∷ xs) (suc j) d low at = rw (plain_cons x xs) (omega (arith, link_weighs xs j d (omega (arith, low)) at))
+
+-- of those before a place there is less
+pub front_weighs : (links : List Link) (j : ℕ) → links_weight (plain_links (take j links)) ≤ links_weight (plain_links links)
+front_weighs links zero = omega arith
+front_weighs [] (suc j) = omega arith
+front_weighs (x ∷ xs) (suc j) = rw (plain_cons x xs, plain_cons x (take j xs)) (omega (arith, front_weighs xs j))
 
 module _ (facts : Facts) (sites : Sites) where
   -- none is put yet
@@ -105,14 +77,20 @@ module _ (facts : Facts) (sites : Sites) where
   module _ (token : ℕ) (left right : Option ValueType) (R : Part ℕ) where
     -- `&&` and `||`
     pub both_made : (n0 n1 n2 n3 : List Node) (flagged right_at i k : ℕ) → Made (λ G. Flagged G) n0 n1 flagged k → Made R n1 n2 right_at flagged →
-        MadeTo (either_end right_at) (λ G. Shortcut G facts sites true token right_at) n2 n3 i k → Made (λ G. Linked G facts sites Both token left right (R G)) n0 n3 i k
+        MadeTo side_ends Any (λ G. Shortcut G facts sites true token) n2 n3 i (sides right_at k) → Made (λ G. Linked G facts sites Both token left right (R G)) n0 n3 i k
     both_made n0 n1 n2 n3 flagged right_at i k flags made cut =
-        joined_yes (λ G. Decided G facts sites token) (λ G. R G then Flagged G) (λ G. Does G (node.Push Int (pos 0) 0)) n0 n2 n3 right_at i k (made and_then flags) cut
+        both_ways (Joined (λ G. Shortcut G facts sites true token) (λ G. R G then Flagged G) sides (λ t. t)) (λ G. Linked G facts sites Both token left right (R G)) k
+        (λ G i k h. (h.1.0, h.1.1, h.1.2, subst (λ j. (R G then Flagged G) j k) (sym h.1.3) h.2, h.1.4)) (λ s i k h. (h.0, (h.0, h.1, h.2, refl, h.4), h.3)) n0 n3 i
+        (joined_made {h = one_end} (λ G. Shortcut G facts sites true token) (λ G. R G then Flagged G) sides (λ t. t) n0 n2 n3 i right_at k (λ n b. b) (λ n b m. (m, b))
+        (λ s n u b. b) (λ s n u q b m. (m, b)) (made and_then flags) cut)
 
     pub either_links : (n0 n1 n2 n3 : List Node) (flagged right_at i k : ℕ) → Made (λ G. Flagged G) n0 n1 flagged k → Made R n1 n2 right_at flagged →
-        MadeTo (either_end right_at) (λ G. Shortcut G facts sites false token right_at) n2 n3 i k → Made (λ G. Linked G facts sites tree.Either token left right (R G)) n0 n3 i k
+        MadeTo side_ends Any (λ G. Shortcut G facts sites false token) n2 n3 i (sides right_at k) → Made (λ G. Linked G facts sites tree.Either token left right (R G)) n0 n3 i k
     either_links n0 n1 n2 n3 flagged right_at i k flags made cut =
-        joined_no (λ G. Decided G facts sites token) (λ G. Does G (node.Push Int (pos 1) 0)) (λ G. R G then Flagged G) n0 n2 n3 right_at i k (made and_then flags) cut
+        both_ways (Joined (λ G. Shortcut G facts sites false token) (λ G. R G then Flagged G) sides (λ t. t)) (λ G. Linked G facts sites tree.Either token left right (R G)) k
+        (λ G i k h. (h.1.0, h.1.1, h.1.2, h.1.3, subst (λ j. (R G then Flagged G) j k) (sym h.1.4) h.2)) (λ s i k h. (h.1, (h.0, h.1, h.2, h.3, refl), h.4)) n0 n3 i
+        (joined_made {h = one_end} (λ G. Shortcut G facts sites false token) (λ G. R G then Flagged G) sides (λ t. t) n0 n2 n3 i right_at k (λ n b. b) (λ n b m. (m, b))
+        (λ s n u b. b) (λ s n u q b m. (m, b)) (made and_then flags) cut)
 
     pub computes_made : (o : Binary) (n0 n1 n2 : List Node) (done i k : ℕ) → Made (λ G. Operates G (operation o left right)) n0 n1 done k → Made R n1 n2 i done →
         Made (λ G. Linked G facts sites (Computes o) token left right (R G)) n0 n2 i k
@@ -129,21 +107,13 @@ module _ (facts : Facts) (sites : Sites) where
       subst (λ j. Made (λ G. Linked G facts sites j token left (operand_type (is_null_beside (binary_of sign) left operand) (type_of facts operand))
       (NullOr G (is_null_beside (binary_of sign) left operand) (emitted G facts sites operand))) n0 n1 i k) e made
 
-  abbrev chain_value : ExprTree → LinkList → Part ℕ
-  chain_value first links G =
-      NullOr G (begins_null facts first links) (emitted G facts sites first)
-      then LinksDo G facts sites (operand_type (begins_null facts first links) (type_of facts first)) links
-
-  chain_serves : (G : Graph) (first : ExprTree) (links : LinkList) (p : Purpose) (i : ℕ) → Serves (Valued G (chain_value first links G)) i p →
-      Serves (emitted G facts sites (e.Chain 0 first links)) i p
-  chain_serves G first links (purpose.Value next) i h = h
-  chain_serves G first links (purpose.Effect next) i h = h
-  chain_serves G first links (purpose.Truth yes_at no_at) i h = inl h
-
-  -- the operators of one level
-  pub chain_made : (first : ExprTree) (links : LinkList) (p : Purpose) (n0 n1 n2 n3 : List Node) (after done i : ℕ) → MadeFor (λ G. Takes G) n0 n1 after p →
-      Made (λ G. LinksDo G facts sites (operand_type (begins_null facts first links) (type_of facts first)) links) n1 n2 done after →
-      Made (λ G. NullOr G (begins_null facts first links) (emitted G facts sites first)) n2 n3 i done → MadeFor (serving facts sites (e.Chain 0 first links)) n0 n3 i p
-  chain_made first links p n0 n1 n2 n3 after done i taken linked made =
-      carried (λ G. Serves (Valued G (chain_value first links G))) (serving facts sites (e.Chain 0 first links)) p p (λ G i h. chain_serves G first links p i h) (λ n b. b) n0 n3 i
-      (valued_made (chain_value first links) p n0 n1 n3 i after taken (made and_then linked))
+  -- the operators of one level, by their value
+  pub chain_made : (first : ExprTree) (links : LinkList) (p : Purpose) (n0 n1 n2 : List Node) (after i : ℕ) → ((yes_at no_at : ℕ) → p ≡ purpose.Truth yes_at no_at → ⊥) →
+      MadeFor (λ G. Takes G) n0 n1 after p → Made (value_part facts sites (e.Chain 0 first links)) n1 n2 i after → MadeFor (serving facts sites (e.Chain 0 first links)) n0 n2 i p
+  chain_made first links (purpose.Value next) n0 n1 n2 after i other taken made =
+      same_value (λ G. Serves (Valued G (value_part facts sites (e.Chain 0 first links) G))) (serving facts sites (e.Chain 0 first links)) (λ G i k h. h) (λ s i k h. h) n0 n2 i next
+      (valued_made (value_part facts sites (e.Chain 0 first links)) (purpose.Value next) n0 n1 n2 i after taken made)
+  chain_made first links (purpose.Effect next) n0 n1 n2 after i other taken made =
+      same_effect (λ G. Serves (Valued G (value_part facts sites (e.Chain 0 first links) G))) (serving facts sites (e.Chain 0 first links)) (λ G i k h. h) (λ s i k h. h) n0 n2 i next
+      (valued_made (value_part facts sites (e.Chain 0 first links)) (purpose.Effect next) n0 n1 n2 i after taken made)
+  chain_made first links (purpose.Truth yes_at no_at) n0 n1 n2 after i other taken made = absurd (other yes_at no_at refl)

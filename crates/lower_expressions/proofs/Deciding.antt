@@ -1,9 +1,8 @@
 -- A condition with the site of its statement.
-use Rattle.std.proofs.Common.{◌≡◌, ℕ, refl, sym, ◌∙◌, subst, List, [], ◌∷◌, ◌++◌, length, Option, Some, None}
+use Rattle.std.proofs.Common.{◌≡◌, ℕ, sym, ◌∙◌, subst, List, [], ◌∷◌, ◌++◌, length, Option, Some, None}
 use Rattle.c_syntax.specs.ExprTree.{ExprTree}
 use Rattle.flow.specs.declared.node.Node.{Node}
 use Rattle.flow.specs.declared.node.Node.TheVariants as node
-use Rattle.flow.specs.declared.node.View.TheVariants as view
 use Rattle.c_meaning.specs.Facts.{Facts, Sites}
 use Rattle.lower_relation.specs.Expressions.{Condition, emitted}
 use Rattle.lower_relation.specs.Operators.{DecidesAt}
@@ -12,8 +11,10 @@ use Rattle.lower_nodes.specs.Made.{Made, MadeFor, MadeWays}
 use Rattle.lower_nodes.specs.Parts.{serving, value_part}
 use Rattle.lower_nodes.specs.Purposes.{ways}
 use Rattle.lower_nodes.specs.declared.purpose.Purpose.TheVariants as purpose
-use Rattle.lower_nodes.proofs.Building.{carried, then_made, view_made}
+use Rattle.lower_nodes.proofs.Building.{then_made}
+use Rattle.lower_nodes.proofs.Taking.{fork_made}
 use Rattle.lower_nodes.proofs.Visiting.{mark_made}
+use Rattle.lower_nodes.proofs.Wanting.{truth_of}
 
 module _ (facts : Facts) (sites : Sites) (token : ℕ) (x : ExprTree) (site : Option ℕ) (found : site ≡ sites.branch_at token) where
   decides : (o : Option ℕ) (n0 n1 : List Node) (i : ℕ) (k : Ways) → o ≡ site →
@@ -27,8 +28,8 @@ module _ (facts : Facts) (sites : Sites) (token : ℕ) (x : ExprTree) (site : Op
       MadeWays (λ G. Condition G facts sites token x) n0 n1 i (ways yes_at no_at)
   unsited_made n0 n1 i yes_at no_at none made =
       decides None n0 n1 i (ways yes_at no_at) (sym none)
-      (carried (serving facts sites x) (λ G. DecidesAt G facts sites None (emitted G facts sites x).value (emitted G facts sites x).truth) (purpose.Truth yes_at no_at)
-      (ways yes_at no_at) (λ G i h. h) (λ n b. b) n0 n1 i made)
+      (truth_of (serving facts sites x) (λ G. DecidesAt G facts sites None (emitted G facts sites x).value (emitted G facts sites x).truth)
+      (λ G i w h. h) (λ p i w h. h) n0 n1 i yes_at no_at made)
 
   -- with a site its value is before the mark, and the fork behind it
   pub sited_made : (number : ℕ) (n0 n1 n2 n3 : List Node) (fork mark i yes_at no_at : ℕ) → site ≡ Some number →
@@ -38,7 +39,7 @@ module _ (facts : Facts) (sites : Sites) (token : ℕ) (x : ExprTree) (site : Op
       decides (Some number) n0 n3 i (ways yes_at no_at) (sym is)
       (then_made (value_part facts sites x) (λ G. MarksAll G (number ∷ []) then ForkTo G) n0 n2 n3 i mark (ways yes_at no_at)
       (then_made (λ G. MarksAll G (number ∷ [])) (λ G. ForkTo G) n0 n1 n2 mark fork (ways yes_at no_at)
-      (view_made (λ (w : Ways). view.Forks w.yes_to w.no_to) (node.Fork yes_at no_at) n0 n1 fork (ways yes_at no_at) refl at1 is1 (λ all b. b))
+      (fork_made n0 n1 fork yes_at no_at at1 is1)
       (mark_made number n1 n2 mark fork at2 is2)) value)
 
 pub ruleset conditions_made = (unsited_made, sited_made)

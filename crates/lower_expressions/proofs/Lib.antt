@@ -9,3 +9,4 @@ pub mod Postfixing
 pub mod Rooms
 pub mod Spotting
 pub mod Turning
+pub mod Forking

@@ -16,7 +16,8 @@ use Rattle.lower_nodes.specs.Made.{Made}
 use Rattle.lower_operators.specs.Spots.{first_part, others, place_after, place_before, token_after, type_behind}
 use Rattle.lower_expressions.specs.Weights.{postfix_weight}
 use Rattle.lower_operators.proofs.Spotted.{others_plain, place_alone, place_next, token_alone, type_next}
-use Rattle.lower_nodes.proofs.Building.{carried, nothing_made, then_made}
+use Rattle.lower_nodes.specs.Standing.{Allowed}
+use Rattle.lower_nodes.proofs.Building.{both_ways, nothing_made, then_made}
 
 -- what is left to emit
 weighs : (x : PostfixOperator) (rest : PostfixList) → postfix_weight (plain_postfix x e.no_postfix) ≤ postfix_weight (plain_postfix x rest)
@@ -60,6 +61,15 @@ module _ (facts : Facts) (sites : Sites) where
   first_then G taken known of (e.increment token rest) i k h = h
   first_then G taken known of (e.decrement token rest) i k h = h
 
+  then_first : (G : Graph) (taken known : Bool) (of : Option ValueType) (l : PostfixList) (i k : ℕ) → Behind G facts sites taken known of l i k →
+      (first_part facts sites (taken || has_more (others l)) known of l G then Behind G facts sites taken (place_after l) (facts.type_at (token_after l)) (others l)) i k
+  then_first G taken known of e.no_postfix i k h = (i, refl, h)
+  then_first G taken known of (e.index token x rest) i k h = (h.2.2.0, (h.0, h.1, (h.2.0, h.2.1, h.2.2.1)), h.2.2.2)
+  then_first G taken known of (e.member token name rest) i k h = h
+  then_first G taken known of (e.arrow token name rest) i k h = (h.2.0, (h.0, h.1, h.2.1), h.2.2)
+  then_first G taken known of (e.increment token rest) i k h = h
+  then_first G taken known of (e.decrement token rest) i k h = h
+
   -- one more operator before those that were put
   pub behind_step : (taken known : Bool) (of : Option ValueType) (xs : List PostfixOperator) (m j : ℕ) (d : PostfixOperator) (n0 n1 n2 : List Node) (entry i k : ℕ) →
       m ≡ j + 1 → j < length xs → d ≡ get_or xs j d →
@@ -86,10 +96,11 @@ module _ (facts : Facts) (sites : Sites) where
       let last3 : Made (λ G. Behind G facts sites taken (place_after whole) (facts.type_at (token_after whole)) (others whole)) n0 n1 entry k =
       subst (λ l. Made (λ G. Behind G facts sites taken (place_after whole) (facts.type_at (token_after whole)) l) n0 n1 entry k) (sym (others_plain d more)) last2 in
       subst (λ l. Made (λ G. Behind G facts sites taken (place_before known all j) (type_behind facts of all j) l) n0 n2 i k) (sym (operators_split xs j d low at))
-      (carried (λ G. first_part facts sites (taken || has_more (others whole)) (place_before known all j) (type_behind facts of all j) whole G
+      (both_ways (λ G. first_part facts sites (taken || has_more (others whole)) (place_before known all j) (type_behind facts of all j) whole G
       then Behind G facts sites taken (place_after whole) (facts.type_at (token_after whole)) (others whole))
-      (λ G. Behind G facts sites taken (place_before known all j) (type_behind facts of all j) whole) k k
-      (λ G i h. first_then G taken (place_before known all j) (type_behind facts of all j) whole i k h) (λ n b. b) n0 n2 i
+      (λ G. Behind G facts sites taken (place_before known all j) (type_behind facts of all j) whole) k
+      (λ G i k h. first_then G taken (place_before known all j) (type_behind facts of all j) whole i k h)
+      (λ s i k h. then_first (Allowed s) taken (place_before known all j) (type_behind facts of all j) whole i k h) n0 n2 i
       (then_made (first_part facts sites (taken || has_more (others whole)) (place_before known all j) (type_behind facts of all j) whole)
       (λ G. Behind G facts sites taken (place_after whole) (facts.type_at (token_after whole)) (others whole)) n0 n1 n2 i entry k last3 first'))
 

@@ -1,6 +1,6 @@
 -- How much room the parts of a list have.
 use Rattle.std.specs.Prelude.{IfOk}
-use Rattle.std.proofs.Common.{◌≡◌, ℕ, zero, suc, [], Result, Ok, Err, ◌+◌, ◌<◌, ◌≤◌, ◌∙◌, ap, refl, sym, arith, List, ◌∷◌, length, drop, get_or, true}
+use Rattle.std.proofs.Common.{◌≡◌, ℕ, zero, suc, [], Result, Ok, Err, ◌+◌, ◌<◌, ◌≤◌, ◌∙◌, ap, refl, sym, arith, List, ◌∷◌, length, take, drop, get_or, true}
 use Rattle.std.proofs.lemmas.List.{drop_more}
 use Rattle.c_syntax.specs.ExprTree as e
 use Rattle.c_syntax.specs.ExprTree.{ExprTree, ExprList, PostfixList}
@@ -69,6 +69,19 @@ module _ (sites : Sites) where
   links_rest links zero = omega arith
   links_rest [] (suc m) = omega arith
   links_rest (x ∷ links) (suc m) = omega (arith, links_more (x ∷ links) 1 0 x (omega arith) (omega arith) refl, links_rest links m)
+
+  -- those before a place, and those from it on, have the room of all
+  pub links_front : (links : List Link) (j : ℕ) →
+      links_room sites (plain_links (take j links)) + links_room sites (plain_links (drop j links)) ≡ links_room sites (plain_links links)
+  links_front links zero = omega arith
+  links_front [] (suc j) = omega arith
+  links_front (x ∷ links) (suc j) =
+      omega (arith, links_more (x ∷ take j links) 1 0 x (omega arith) (omega arith) refl, links_more (x ∷ links) 1 0 x (omega arith) (omega arith) refl, links_front links j)
+
+  -- so have those up to an operator, with that
+  pub links_last : (links : List Link) (j : ℕ) (d : Link) → j < length links → d ≡ get_or links j d →
+      7 + branches sites d.token + expr_room sites (plain_expr d.operand) + links_room sites (plain_links (take j links)) ≡ links_room sites (plain_links (take (j + 1) links))
+  links_last links j d low at = omega (arith, links_front links j, links_front links (j + 1), links_more links (j + 1) j d refl low at)
 
   pub postfix_rest : (xs : List PostfixOperator) (m : ℕ) → postfix_room sites (plain_operators (drop m xs)) ≤ postfix_room sites (plain_operators xs)
   postfix_rest xs zero = omega arith

@@ -15,8 +15,8 @@ use Rattle.lower_operators.specs.Spots.{spots_part}
 use Rattle.lower_operators.specs.Voids.{is_taken}
 use Rattle.lower_nodes.specs.declared.purpose.Purpose.{Purpose}
 use Rattle.lower_nodes.specs.declared.purpose.Purpose.TheVariants as purpose
-use Rattle.lower_nodes.proofs.Building.{carried}
 use Rattle.lower_nodes.proofs.Serving.{placed_made, valued_made}
+use Rattle.lower_nodes.proofs.Wanting.{same_effect, same_truth, same_value}
 
 module _ (facts : Facts) (sites : Sites) (primary : ExprTree) (operators : PostfixList) where
   abbrev pub spots : Bool → Part ℕ
@@ -33,15 +33,15 @@ module _ (facts : Facts) (sites : Sites) (primary : ExprTree) (operators : Postf
       subst (λ b. MadeFor (postfixed b) n0 n2 i p) (sym ends)
       (placed_made (type_of facts (e.Postfix primary operators)) (spots true) p n0 n1 n2 i after taken made)
 
-  value_serves : (G : Graph) (p : Purpose) (i : ℕ) → Serves (Valued G (spots (is_taken p) G)) i p → postfixed false G i p
-  value_serves G (purpose.Value next) i h = h
-  value_serves G (purpose.Effect next) i h = h
-  value_serves G (purpose.Truth yes_at no_at) i h = h
+  value_serves : (p : Purpose) (n0 n1 : List Node) (i : ℕ) → MadeFor (λ G. Serves (Valued G (spots (is_taken p) G))) n0 n1 i p → MadeFor (postfixed false) n0 n1 i p
+  value_serves (purpose.Value next) n0 n1 i made = same_value (λ G. Serves (Valued G (spots true G))) (postfixed false) (λ G i k h. h) (λ s i k h. h) n0 n1 i next made
+  value_serves (purpose.Effect next) n0 n1 i made = same_effect (λ G. Serves (Valued G (spots false G))) (postfixed false) (λ G i k h. h) (λ s i k h. h) n0 n1 i next made
+  value_serves (purpose.Truth yes_at no_at) n0 n1 i made =
+      same_truth (λ G. Serves (Valued G (spots true G))) (postfixed false) (λ G i w h. h) (λ s i w h. h) n0 n1 i yes_at no_at made
 
   -- or to a value
   pub postfix_value : (p : Purpose) (n0 n1 n2 : List Node) (after i : ℕ) → ends_as_place (is_place primary) operators ≡ false →
       MadeFor (λ G. Takes G) n0 n1 after p → Made (spots (is_taken p)) n1 n2 i after → MadeFor (serving facts sites (e.Postfix primary operators)) n0 n2 i p
   postfix_value p n0 n1 n2 after i ends taken made =
       subst (λ b. MadeFor (postfixed b) n0 n2 i p) (sym ends)
-      (carried (λ G. Serves (Valued G (spots (is_taken p) G))) (postfixed false) p p (λ G i h. value_serves G p i h) (λ n b. b) n0 n2 i
-      (valued_made (spots (is_taken p)) p n0 n1 n2 i after taken made))
+      (value_serves p n0 n2 i (valued_made (spots (is_taken p)) p n0 n1 n2 i after taken made))

@@ -15,7 +15,8 @@ use cbi_base::{Memory, Name};
 use lower_facts::TreeFacts;
 use lower_nodes::{Graph, Purpose, put_stuck};
 use lower_operators::{
-    Wanted, fits, giving_of, is_refused, passed, put_acts, put_given, type_wanted, wanted_by,
+    Wanted, fits, giving_of, is_refused, passed, put_acts, put_given, put_unfit, type_wanted,
+    wanted_by,
 };
 
 /// Arguments as values of these types, the first one first.
@@ -60,11 +61,12 @@ pub fn emit_call(
         return Ok(i);
     }
     let after = put_given(graph, facts, token, giving, purpose)?;
-    let acts = put_acts(graph, facts, called, arguments, after)?;
     if !fits(facts, called, arguments) {
-        let i = put_stuck(graph, acts)?;
+        let unfit = put_unfit(graph, facts, called, arguments, after)?;
+        let i = put_stuck(graph, unfit)?;
         return Ok(i);
     }
+    let acts = put_acts(graph, facts, called, arguments, after)?;
     let wanted = wanted_by(facts, called, arguments);
     let i = emit_arguments(graph, facts, wanted, passed(called, arguments), acts)?;
     Ok(i)

@@ -1,5 +1,5 @@
 ghost use Rattle.flow.specs.Limits.{node_limit};
-ghost use Rattle.std.specs.Prelude.{IfOk, length, ◌≤◌, ◌+◌};
+ghost use Rattle.std.specs.Prelude.{IfOk, length, take, ◌≤◌, ◌+◌};
 ghost use Rattle.c_syntax.specs.ExprTree as e;
 ghost use Rattle.c_syntax.specs.Plain.{plain_expr, plain_links};
 ghost use Rattle.lower_relation.specs.Expressions.{LinksDo, emitted};
@@ -7,12 +7,12 @@ ghost use Rattle.lower_relation.specs.Values.{NullOr};
 ghost use Rattle.lower_relation.specs.Room.{branches, expr_room, links_room};
 ghost use Rattle.lower_nodes.specs.Made.{Made, MadeFor};
 ghost use Rattle.lower_nodes.specs.Parts.{serving};
-ghost use Rattle.lower_nodes.specs.declared.purpose.Purpose.TheVariants as purpose;
 ghost use Rattle.lower_operators.specs.Linking.{link_part};
+ghost use Rattle.lower_expressions.specs.Truths.{chain_value};
 ghost use Rattle.lower_facts.specs.Facts.{facts_in, sites_in};
 
 use crate::expressions::emit_value;
-use crate::truths::emit_forked;
+use crate::truths::emit_chain_truth;
 use c_meaning::{ValueType, operation_of};
 use c_syntax::{Expr, Link};
 use c_types_expressions::binary_of;
@@ -20,7 +20,7 @@ use cbi_base::Memory;
 use flow::Node;
 use lower_facts::TreeFacts;
 use lower_nodes::{Graph, Purpose, put_flagged, put_operation, put_stuck, put_taken};
-use lower_operators::{all_fork, begins_null, put_shortcut, type_before};
+use lower_operators::{begins_null, put_shortcut, type_before};
 use lower_trees::{Joint, is_null_beside, joint_by, operand_type};
 
 /// The value, or a null pointer in its place.
@@ -109,47 +109,26 @@ pub fn emit_links(
     Ok(entry)
 }
 
-/// The operators of one level, by their value.
+/// The value of what stands before the operator with this index, or of the whole.
 #[cycle(emission)]
-pub fn emit_chain_value(
+pub fn emit_before(
     graph: &mut Graph,
     facts: &TreeFacts,
     first: &Expr,
     links: &[Link],
-    purpose: Purpose,
+    count: usize,
+    next: u32,
 ) -> Result<u32, Memory>
-    requires room { length graph.old + expr_room (sites_in facts.now) (e.Chain 0 (plain_expr first.now) (plain_links links.now)) ≤ node_limit }
-    ensures made { IfOk result (λ i. MadeFor (serving (facts_in facts.now) (sites_in facts.now) (e.Chain 0 (plain_expr first.now) (plain_links links.now))) graph.old graph.new i purpose) }
-    ensures few { IfOk result (λ i. length graph.new ≤ length graph.old + expr_room (sites_in facts.now) (e.Chain 0 (plain_expr first.now) (plain_links links.now))) }
+    requires within { count ≤ length links.now }
+    requires room { length graph.old + (1 + expr_room (sites_in facts.now) (plain_expr first.now) + links_room (sites_in facts.now) (plain_links (take count links.now))) ≤ node_limit }
+    ensures made { IfOk result (λ i. Made (chain_value (facts_in facts.now) (sites_in facts.now) (plain_expr first.now) links.now count) graph.old graph.new i next) }
+    ensures few { IfOk result (λ i. length graph.new ≤ length graph.old + (1 + expr_room (sites_in facts.now) (plain_expr first.now) + links_room (sites_in facts.now) (plain_links (take count links.now)))) }
 {
     let is_null = begins_null(facts, first, links);
-    let after = put_taken(graph, purpose)?;
     let own = facts.type_of(first);
     let left = operand_type(is_null, own);
-    let done = emit_links(graph, facts, left, links, after)?;
+    let done = emit_links(graph, facts, left, &links[..count], next)?;
     let i = emit_null_or(graph, facts, is_null, first, done)?;
-    Ok(i)
-}
-
-/// The truth of the operators of one level. `&&` and `||` need no value of their own for it, if no site is visited.
-#[cycle(emission)]
-pub fn emit_chain_truth(
-    graph: &mut Graph,
-    facts: &TreeFacts,
-    first: &Expr,
-    links: &[Link],
-    yes: u32,
-    no: u32,
-) -> Result<u32, Memory>
-    requires room { length graph.old + expr_room (sites_in facts.now) (e.Chain 0 (plain_expr first.now) (plain_links links.now)) ≤ node_limit }
-    ensures made { IfOk result (λ i. MadeFor (serving (facts_in facts.now) (sites_in facts.now) (e.Chain 0 (plain_expr first.now) (plain_links links.now))) graph.old graph.new i (purpose.Truth yes no)) }
-    ensures few { IfOk result (λ i. length graph.new ≤ length graph.old + expr_room (sites_in facts.now) (e.Chain 0 (plain_expr first.now) (plain_links links.now))) }
-{
-    if all_fork(facts, links) {
-        let i = emit_forked(graph, facts, first, links, yes, no)?;
-        return Ok(i);
-    }
-    let i = emit_chain_value(graph, facts, first, links, Purpose::Truth { yes, no })?;
     Ok(i)
 }
 
@@ -172,7 +151,8 @@ pub fn emit_chain(
             Ok(i)
         }
         _ => {
-            let i = emit_chain_value(graph, facts, first, links, purpose)?;
+            let after = put_taken(graph, purpose)?;
+            let i = emit_before(graph, facts, first, links, links.len(), after)?;
             Ok(i)
         }
     }

@@ -9,25 +9,26 @@ use Rattle.cbi_base.specs.declared.operators.Unary.TheVariants as unary
 use Rattle.flow.specs.declared.node.Node.TheVariants as node
 use Rattle.lower_nodes.proofs.Building.{row, surely_made, ◌and_then◌}
 use Rattle.lower_relation.specs.Paths.{Stuck}
-use Rattle.lower_nodes.proofs.Serving.{negated_truth, prefixed_made, through_made}
+use Rattle.lower_nodes.proofs.Serving.{for_value, negated_truth, prefixed_made, through_made}
 use Rattle.lower_relation.specs.Expressions.{emitted}
-use Rattle.lower_relation.specs.Room.{branches, exprs_room}
+use Rattle.lower_relation.specs.Room.{branches, exprs_room, links_room}
 use Rattle.lower_relation.specs.Values.{NullOr}
 use Rattle.c_meaning.specs.Visits.{listed}
 use Rattle.lower_expressions.proofs.Assigning.{assign_by, assign_plain, comma_step, last_made, lasts_whole, none_made, operand_weighs}
-use Rattle.lower_expressions.proofs.Chaining.{both_made, chain_made, computes_made, either_links, link_weighs, linked_by, links_none, links_step}
-use Rattle.lower_expressions.proofs.Choosing.{arm_dropped, arm_value_made, cast_effect, cast_nothing, cast_value, chosen_made, conditional_effect, conditional_taken}
+use Rattle.lower_expressions.proofs.Chaining.{front_weighs, both_made, chain_made, computes_made, either_links, link_weighs, linked_by, links_none, links_step}
+use Rattle.lower_expressions.proofs.Choosing.{arm_null_made, arm_void, arm_dropped, arm_value_made, cast_effect, cast_nothing, cast_value, chosen_made, conditional_effect, conditional_taken}
 use Rattle.lower_expressions.proofs.Deciding.{sited_made, unsited_made}
-use Rattle.lower_expressions.proofs.Forked.{forked_chain, leads_all, leads_step, leads_whole}
+use Rattle.lower_expressions.proofs.Forked.{null_truth, own_truth, before_made, chain_begun, chain_forked, leads_all, leads_step, sided_made, value_whole, valued_made}
+use Rattle.lower_expressions.proofs.Forking.{value_forks}
 use Rattle.lower_expressions.proofs.Passed.{arguments_none, arguments_step, call_made, refused_made, unfit_made}
-use Rattle.lower_expressions.proofs.Placing.{behind_nowhere, behind_place, comma_nowhere_made, prefix_nowhere, through_place}
+use Rattle.lower_expressions.proofs.Placing.{lone_place, behind_nowhere, behind_place, comma_nowhere_made, prefix_nowhere, through_place}
 use Rattle.lower_expressions.proofs.Postfixing.{behind_none, behind_step, behind_whole, operator_weighs}
-use Rattle.lower_expressions.proofs.Rooms.{exprs_long, exprs_rest, links_rest, postfix_rest, exprs_all, exprs_more, links_all, links_more, passed_room, postfix_all, postfix_more, wider}
+use Rattle.lower_expressions.proofs.Rooms.{links_front, links_last, exprs_long, exprs_rest, links_rest, postfix_rest, exprs_all, exprs_more, links_all, links_more, passed_room, postfix_all, postfix_more, wider}
 use Rattle.lower_expressions.proofs.Spotting.{postfix_place, postfix_value}
 use Rattle.lower_expressions.proofs.Turning.{turned_made, value_stuck_made, valued_else}
 use Rattle.lower_operators.specs.Taken.{wanted_types}
 use Rattle.lower_expressions.specs.Weights.{exprs_weight, links_weight, postfix_weight, weight}
-use Rattle.std.proofs.Common.{ap, arith, drop, length, refl, rules, sym, ◌+◌, ◌-◌, ◌<◌, ◌∙◌, ◌≡◌, ◌≤◌}
+use Rattle.std.proofs.Common.{ap, arith, drop, length, refl, rules, sym, take, ◌+◌, ◌-◌, ◌<◌, ◌∙◌, ◌≡◌, ◌≤◌}
 use Rattle.lower_facts.specs.Facts.{facts_in, sites_in}
 use Rattle.lower_trees.specs.Operators.{assignment_of, joint_of}
 use Rattle.lower_expressions.proofs.+emission.Goals as goal
@@ -204,7 +205,7 @@ pub operators::emit_negation-returns-clause-made : goal.operators::emit_negation
 operators::emit_negation-returns-clause-made t c = c.in_ok-i.ensures.made and_then row (node.Sole unary.Not 0) _ c.in_ok-sole.ensures.number c.in_ok-sole.ensures.added refl
 
 pub operators::emit_not-returns-in_ok-i-in-Truth-clause-made : goal.operators::emit_not-returns-in_ok-i-in-Truth-clause-made
-operators::emit_not-returns-in_ok-i-in-Truth-clause-made t c = rw c.in-Truth.is (negated_truth (facts_in c.args.facts.now) (sites_in c.args.facts.now) (λ G. emitted G (facts_in c.args.facts.now) (sites_in c.args.facts.now) (plain_expr c.args.operand.now)) _ _ _ c.in-Truth.yes c.in-Truth.no c.in_ok-i-in-Truth.ensures.made)
+operators::emit_not-returns-in_ok-i-in-Truth-clause-made t c = rw c.in-Truth.is (negated_truth (facts_in c.args.facts.now) (sites_in c.args.facts.now) (λ G. emitted G (facts_in c.args.facts.now) (sites_in c.args.facts.now) (plain_expr c.args.operand.now)) (λ p i k w h. value_forks p (facts_in c.args.facts.now) (sites_in c.args.facts.now) (plain_expr c.args.operand.now) i k w h) _ _ _ c.in-Truth.yes c.in-Truth.no c.in_ok-i-in-Truth.ensures.made)
 
 pub operators::emit_not-returns-in_ok-i-in_default-clause-made : goal.operators::emit_not-returns-in_ok-i-in_default-clause-made
 operators::emit_not-returns-in_ok-i-in_default-clause-made t c =
@@ -430,7 +431,7 @@ calls::emit_call-returns-then-is_refused-clause-made t c =
 pub calls::emit_call-returns-then-not-fits-clause-made : goal.calls::emit_call-returns-then-not-fits-clause-made
 calls::emit_call-returns-then-not-fits-clause-made t c =
     unfit_made (facts_in c.args.facts.now) (sites_in c.args.facts.now) c.args.token c.args.name.now _ (plain_exprs c.args.arguments.now) _ c.args.purpose
-    c.called_as-called.ensures c.giving_of-giving.ensures _ _ _ _ _ _ _ (sym c.if-is_refused.ensures) c.in_ok-after.ensures.made c.in_ok-acts.ensures.made
+    c.called_as-called.ensures c.giving_of-giving.ensures _ _ _ _ _ _ _ (sym c.if-is_refused.ensures) c.in_ok-after.ensures.made c.in_ok-unfit.ensures.made
     (sym c.if-not-fits.ensures) c.in_ok-i-2.ensures.made
 
 pub calls::emit_call-returns-clause-made : goal.calls::emit_call-returns-clause-made
@@ -498,37 +499,48 @@ pub chains::emit_links-returns-clause-few : goal.chains::emit_links-returns-clau
 chains::emit_links-returns-clause-few t c =
     omega (arith, c.loop-place.invariant.2, links_all (sites_in c.args.facts.now) c.args.links.now c.loop-place.place (omega (arith, c.loop-place-test.false)))
 
-pub chains::emit_chain_value-returns-clause-made : goal.chains::emit_chain_value-returns-clause-made
-chains::emit_chain_value-returns-clause-made t c =
-    chain_made (facts_in c.args.facts.now) (sites_in c.args.facts.now) (plain_expr c.args.first.now) (plain_links c.args.links.now) c.args.purpose _ _ _ _ _ _ _ c.in_ok-after.ensures.made
+pub chains::emit_before-returns-clause-made : goal.chains::emit_before-returns-clause-made
+chains::emit_before-returns-clause-made t c =
+    before_made (facts_in c.args.facts.now) (sites_in c.args.facts.now) (plain_expr c.args.first.now) c.args.links.now c.args.count _ _ _ _ _ _
     (rw (c.operand_type-left.ensures, c.type_of-own.ensures, c.begins_null-is_null.ensures) at c.in_ok-done.ensures.made)
     (rw c.begins_null-is_null.ensures at c.in_ok-i.ensures.made)
-
-pub chains::emit_chain_truth-returns-then-all_fork-clause-made : goal.chains::emit_chain_truth-returns-then-all_fork-clause-made
-chains::emit_chain_truth-returns-then-all_fork-clause-made t c = forked_chain (facts_in c.args.facts.now) (sites_in c.args.facts.now) (plain_expr c.args.first.now) (plain_links c.args.links.now) _ _ _ c.args.yes c.args.no c.in_ok-i.ensures.made
-
-pub chains::emit_chain_truth-returns-clause-made : goal.chains::emit_chain_truth-returns-clause-made
-chains::emit_chain_truth-returns-clause-made t c = c.in_ok-i-2.ensures.made
 
 pub chains::emit_chain-returns-in_ok-i-in-Truth-clause-made : goal.chains::emit_chain-returns-in_ok-i-in-Truth-clause-made
 chains::emit_chain-returns-in_ok-i-in-Truth-clause-made t c = rw c.in-Truth.is c.in_ok-i-in-Truth.ensures.made
 
 pub chains::emit_chain-returns-in_ok-i-in_default-clause-made : goal.chains::emit_chain-returns-in_ok-i-in_default-clause-made
-chains::emit_chain-returns-in_ok-i-in_default-clause-made t c = c.in_ok-i-in_default.ensures.made
+chains::emit_chain-returns-in_ok-i-in_default-clause-made t c =
+    chain_made (facts_in c.args.facts.now) (sites_in c.args.facts.now) (plain_expr c.args.first.now) (plain_links c.args.links.now) c.args.purpose _ _ _ _ _ c.in_default.not-Truth
+    c.in_ok-after-in_default.ensures.made
+    (value_whole (facts_in c.args.facts.now) (sites_in c.args.facts.now) (plain_expr c.args.first.now) c.args.links.now _ _ _ _ _ refl c.in_ok-i-in_default.ensures.made)
 
-pub truths::emit_forked-loop-place-init : goal.truths::emit_forked-loop-place-init
-truths::emit_forked-loop-place-init t c = (omega arith, leads_all (facts_in c.args.facts.now) (sites_in c.args.facts.now) (plain_expr c.args.first.now) c.args.links.now _ _, omega arith)
+pub truths::emit_right_truth-returns-clause-made : goal.truths::emit_right_truth-returns-clause-made
+truths::emit_right_truth-returns-clause-made t c =
+    rw (c.is_null_beside-is_null.ensures, c.binary_of-op.ensures, c.type_before-left.ensures, c.operand_type-start.ensures, c.type_of-own.ensures, c.begins_null-begins.ensures) at
+    c.in_ok-i.ensures.made
 
-pub truths::emit_forked-loop-place-preserved : goal.truths::emit_forked-loop-place-preserved
-truths::emit_forked-loop-place-preserved t c =
+pub truths::emit_valued_truth-returns-then-not-is_short-clause-made : goal.truths::emit_valued_truth-returns-then-not-is_short-clause-made
+truths::emit_valued_truth-returns-then-not-is_short-clause-made t c =
+    valued_made (facts_in c.args.facts.now) (sites_in c.args.facts.now) (plain_expr c.args.first.now) c.args.links.now (c.args.place + 1) c.args.place c.args.link.now refl c.requires.within
+    c.requires.here _ _ _ _ _ c.args.yes c.args.no (sym c.if-not-is_short.ensures) c.in_ok-fork.ensures.number c.in_ok-fork.ensures.added c.in_ok-i.ensures.made
+
+pub truths::emit_valued_truth-returns-clause-made : goal.truths::emit_valued_truth-returns-clause-made
+truths::emit_valued_truth-returns-clause-made t c =
+    sided_made (facts_in c.args.facts.now) (sites_in c.args.facts.now) (plain_expr c.args.first.now) c.args.links.now (c.args.place + 1) c.args.place c.args.link.now refl c.requires.within
+    c.requires.here _ _ _ _ _ _ _ c.args.yes c.args.no c.requires.valued (sym c.if-not-is_short.ensures) c.in_ok-right.ensures.made
+    (rw (c.yes_before-left_yes.ensures, c.no_before-left_no.ensures) at c.in_ok-decided.ensures.made) c.in_ok-i-2.ensures.made
+
+pub truths::emit_chain_truth-loop-place-init : goal.truths::emit_chain_truth-loop-place-init
+truths::emit_chain_truth-loop-place-init t c = (omega arith, leads_all (facts_in c.args.facts.now) (sites_in c.args.facts.now) (plain_expr c.args.first.now) c.args.links.now _ _, omega arith)
+
+pub truths::emit_chain_truth-loop-place-preserved : goal.truths::emit_chain_truth-loop-place-preserved
+truths::emit_chain_truth-loop-place-preserved t c =
     let next : c.loop-place.place ≡ c.loop-place.place - 1 + 1 = omega (arith, c.loop-place-test.true) in
     let low : c.loop-place.place - 1 < length c.args.links.now = omega (arith, c.loop-place.invariant.0, c.loop-place-test.true) in (
       omega (arith, low),
       rw (c.yes_before-left_yes.ensures, c.no_before-left_no.ensures)
           (leads_step (facts_in c.args.facts.now) (sites_in c.args.facts.now) (plain_expr c.args.first.now) c.args.links.now c.loop-place.place (c.loop-place.place - 1) c.index-links-place.result _ _ _ _ _ _ _
-          next low c.index-links-place.is c.requires.given c.loop-place.invariant.1
-          (rw (c.is_null_beside-is_null.ensures, c.binary_of-op.ensures, c.type_before-before.ensures, c.operand_type-left.ensures, c.type_of-own.ensures, c.begins_null-begins.ensures) at
-          c.in_ok-right.ensures.made)),
+          next low c.index-links-place.is (sym c.if-not-forks_at.ensures) c.loop-place.invariant.1 c.in_ok-right.ensures.made),
       omega (
         arith,
         c.in_ok-right.ensures.few,
@@ -537,14 +549,20 @@ truths::emit_forked-loop-place-preserved t c =
       ),
     )
 
-pub truths::emit_forked-returns-clause-made : goal.truths::emit_forked-returns-clause-made
-truths::emit_forked-returns-clause-made t c =
-    leads_whole (facts_in c.args.facts.now) (sites_in c.args.facts.now) (plain_expr c.args.first.now) c.args.links.now c.loop-place.place _ _ _ _ _ _ (omega (arith, c.loop-place-test.false)) c.loop-place.invariant.1
-    (rw c.begins_null-begins.ensures at c.in_ok-i.ensures.made)
+pub truths::emit_chain_truth-returns-then-not-forks_at-clause-made : goal.truths::emit_chain_truth-returns-then-not-forks_at-clause-made
+truths::emit_chain_truth-returns-then-not-forks_at-clause-made t c =
+    let next : c.loop-place.place ≡ c.loop-place.place - 1 + 1 = omega (arith, c.loop-place-test.true) in
+    chain_forked (facts_in c.args.facts.now) (sites_in c.args.facts.now) (plain_expr c.args.first.now) c.args.links.now c.loop-place.place _ _ _ _ c.args.yes c.args.no _
+    c.loop-place.invariant.1 (rw (sym next) at c.in_ok-i.ensures.made)
 
-pub truths::emit_forked-returns-clause-few : goal.truths::emit_forked-returns-clause-few
-truths::emit_forked-returns-clause-few t c =
-    omega (arith, c.in_ok-i.ensures.few, c.loop-place.invariant.2, links_all (sites_in c.args.facts.now) c.args.links.now c.loop-place.place (omega (arith, c.loop-place-test.false)))
+pub truths::emit_chain_truth-returns-clause-made : goal.truths::emit_chain_truth-returns-clause-made
+truths::emit_chain_truth-returns-clause-made t c =
+    chain_begun (facts_in c.args.facts.now) (sites_in c.args.facts.now) (plain_expr c.args.first.now) c.args.links.now c.loop-place.place _ _ _ _ c.args.yes c.args.no _
+    (omega (arith, c.loop-place-test.false)) c.loop-place.invariant.1 (rw c.begins_null-begins.ensures at c.in_ok-i-2.ensures.made)
+
+pub truths::emit_chain_truth-returns-clause-few : goal.truths::emit_chain_truth-returns-clause-few
+truths::emit_chain_truth-returns-clause-few t c =
+    omega (arith, c.in_ok-i-2.ensures.few, c.loop-place.invariant.2, links_all (sites_in c.args.facts.now) c.args.links.now c.loop-place.place (omega (arith, c.loop-place-test.false)))
 
 -- each argument weighs less than all of them
 pub calls::emit_arguments-emit_handed-requires : goal.calls::emit_arguments-emit_handed-requires
@@ -566,14 +584,55 @@ chains::emit_links-emit_link-requires t c =
     let more = links_more (sites_in c.args.facts.now) c.args.links.now c.loop-place.place (c.loop-place.place - 1) c.index-links-place.result next low c.index-links-place.is in
     omega (arith, weighs, more, links_rest (sites_in c.args.facts.now) c.args.links.now (c.loop-place.place - 1))
 
-pub truths::emit_forked-emit_null_truth-requires : goal.truths::emit_forked-emit_null_truth-requires
-truths::emit_forked-emit_null_truth-requires t c =
+pub chains::emit_before-emit_links-requires : goal.chains::emit_before-emit_links-requires
+chains::emit_before-emit_links-requires t c = omega (arith, front_weighs c.args.links.now c.args.count, c.requires.room)
+
+pub truths::emit_chain_truth-emit_right_truth-requires : goal.truths::emit_chain_truth-emit_right_truth-requires
+truths::emit_chain_truth-emit_right_truth-requires t c =
     let low : c.loop-place.place - 1 < length c.args.links.now = omega (arith, c.loop-place.invariant.0, c.loop-place-test.true) in
     let weighs : 8 + weight (plain_expr c.index-links-place.result.operand) ≤ links_weight (plain_links c.args.links.now) =
     link_weighs c.args.links.now (c.loop-place.place - 1) c.index-links-place.result low c.index-links-place.is in
     let next : c.loop-place.place ≡ c.loop-place.place - 1 + 1 = omega (arith, c.loop-place-test.true) in
     let more = links_more (sites_in c.args.facts.now) c.args.links.now c.loop-place.place (c.loop-place.place - 1) c.index-links-place.result next low c.index-links-place.is in
-    omega (arith, weighs, more, links_rest (sites_in c.args.facts.now) c.args.links.now (c.loop-place.place - 1))
+    (omega (arith, weighs), (low, omega (arith, more, links_rest (sites_in c.args.facts.now) c.args.links.now (c.loop-place.place - 1), c.loop-place.invariant.2, c.requires.room)))
+
+pub truths::emit_chain_truth-emit_valued_truth-requires : goal.truths::emit_chain_truth-emit_valued_truth-requires
+truths::emit_chain_truth-emit_valued_truth-requires t c =
+    let low : c.loop-place.place - 1 < length c.args.links.now = omega (arith, c.loop-place.invariant.0, c.loop-place-test.true) in
+    let next : c.loop-place.place ≡ c.loop-place.place - 1 + 1 = omega (arith, c.loop-place-test.true) in
+    let front = links_front (sites_in c.args.facts.now) c.args.links.now c.loop-place.place in
+    let same = ap (λ q. links_room (sites_in c.args.facts.now) (plain_links (take q c.args.links.now))) next in (
+      omega arith,
+      (low, (c.index-links-place.is, (sym c.if-not-forks_at.ensures, omega (arith, front, same, c.loop-place.invariant.2, c.requires.room)))),
+    )
+
+pub truths::emit_chain_truth-returns-then-not-forks_at-clause-few : goal.truths::emit_chain_truth-returns-then-not-forks_at-clause-few
+truths::emit_chain_truth-returns-then-not-forks_at-clause-few t c =
+    let next : c.loop-place.place ≡ c.loop-place.place - 1 + 1 = omega (arith, c.loop-place-test.true) in
+    let front = links_front (sites_in c.args.facts.now) c.args.links.now c.loop-place.place in
+    let same = ap (λ q. links_room (sites_in c.args.facts.now) (plain_links (take q c.args.links.now))) next in
+    omega (arith, front, same, c.loop-place.invariant.2, c.in_ok-i.ensures.few)
+
+pub truths::emit_valued_truth-emit_right_truth-requires : goal.truths::emit_valued_truth-emit_right_truth-requires
+truths::emit_valued_truth-emit_right_truth-requires t c =
+    let weighs = link_weighs c.args.links.now c.args.place c.args.link.now c.requires.within c.requires.here in
+    let last = links_last (sites_in c.args.facts.now) c.args.links.now c.args.place c.args.link.now c.requires.within c.requires.here in
+    (omega (arith, weighs), (c.requires.within, omega (arith, last, c.requires.room)))
+
+pub truths::emit_valued_truth-put_decided-requires : goal.truths::emit_valued_truth-put_decided-requires
+truths::emit_valued_truth-put_decided-requires t c =
+    let last = links_last (sites_in c.args.facts.now) c.args.links.now c.args.place c.args.link.now c.requires.within c.requires.here in
+    omega (arith, last, c.requires.room, c.in_ok-right.ensures.few)
+
+pub truths::emit_valued_truth-emit_before-requires-2 : goal.truths::emit_valued_truth-emit_before-requires-2
+truths::emit_valued_truth-emit_before-requires-2 t c =
+    let last = links_last (sites_in c.args.facts.now) c.args.links.now c.args.place c.args.link.now c.requires.within c.requires.here in
+    (omega arith, (omega (arith, c.requires.within), omega (arith, last, c.requires.room, c.in_ok-right.ensures.few, c.in_ok-decided.ensures.few)))
+
+pub truths::emit_valued_truth-returns-clause-few : goal.truths::emit_valued_truth-returns-clause-few
+truths::emit_valued_truth-returns-clause-few t c =
+    let last = links_last (sites_in c.args.facts.now) c.args.links.now c.args.place c.args.link.now c.requires.within c.requires.here in
+    omega (arith, last, c.in_ok-right.ensures.few, c.in_ok-decided.ensures.few, c.in_ok-i-2.ensures.few)
 
 -- and each operator behind an operand
 pub postfix::emit_behind-emit_operator-requires : goal.postfix::emit_behind-emit_operator-requires
@@ -607,3 +666,62 @@ choices::emit_last-emit-requires-in-loop-place t c =
 -- a call's arguments have room each, so they are no more than a program's nodes
 pub calls::emit_call-put_acts-requires-clause-few : goal.calls::emit_call-put_acts-requires-clause-few
 calls::emit_call-put_acts-requires-clause-few t c = omega (arith, exprs_long (sites_in c.args.facts.now) c.args.arguments.now)
+
+pub calls::emit_call-put_unfit-requires-clause-few : goal.calls::emit_call-put_unfit-requires-clause-few
+calls::emit_call-put_unfit-requires-clause-few t c = omega (arith, exprs_long (sites_in c.args.facts.now) c.args.arguments.now)
+
+pub expressions::emit_value-returns-clause-made : goal.expressions::emit_value-returns-clause-made
+expressions::emit_value-returns-clause-made t c = for_value (λ G. emitted G (facts_in c.args.facts.now) (sites_in c.args.facts.now) (plain_expr c.args.x.now)) _ _ _ _ c.in_ok-i.ensures.made
+
+pub expressions::emit_wanted-returns-then-is_null_as-clause-made : goal.expressions::emit_wanted-returns-then-is_null_as-clause-made
+expressions::emit_wanted-returns-then-is_null_as-clause-made t c =
+    rw (sym c.is_null_as.ensures ∙ c.if-is_null_as.true) (row (node.Null 0) _ c.in_ok-i.ensures.number c.in_ok-i.ensures.added refl)
+
+pub choices::emit_handed-returns-then-is_null_as-clause-made : goal.choices::emit_handed-returns-then-is_null_as-clause-made
+choices::emit_handed-returns-then-is_null_as-clause-made t c =
+    rw (sym c.is_null_as.ensures ∙ c.if-is_null_as.true) (row (node.Null 0) _ c.in_ok-i.ensures.number c.in_ok-i.ensures.added refl)
+
+pub choices::emit_arm_value-returns-then-is_null_as-clause-made : goal.choices::emit_arm_value-returns-then-is_null_as-clause-made
+choices::emit_arm_value-returns-then-is_null_as-clause-made t c =
+    arm_null_made (facts_in c.args.facts.now) (sites_in c.args.facts.now) c.args.want (plain_expr c.args.x.now) _ _ _ _ (sym c.is_null_as.ensures ∙ c.if-is_null_as.true)
+    c.in_ok-i.ensures.number c.in_ok-i.ensures.added
+
+pub choices::emit_arm_effect-returns-then-is_void-clause-made : goal.choices::emit_arm_effect-returns-then-is_void-clause-made
+choices::emit_arm_effect-returns-then-is_void-clause-made t c =
+    arm_void (is_null_as c.args.want (plain_expr c.args.x.now)) (type_of (facts_in c.args.facts.now) (plain_expr c.args.x.now)) c.args.want (λ G. emitted G (facts_in c.args.facts.now) (sites_in c.args.facts.now) (plain_expr c.args.x.now)) _ _ _ _
+    (sym c.is_void.ensures ∙ c.if-is_void.true) c.in_ok-i.ensures.made
+
+pub chains::emit_null_or-returns-then-is_null-clause-made : goal.chains::emit_null_or-returns-then-is_null-clause-made
+chains::emit_null_or-returns-then-is_null-clause-made t c = rw c.if-is_null.true (row (node.Null 0) _ c.in_ok-i.ensures.number c.in_ok-i.ensures.added refl)
+
+pub chains::emit_null_or-returns-clause-made : goal.chains::emit_null_or-returns-clause-made
+chains::emit_null_or-returns-clause-made t c = rw c.if-is_null.false c.in_ok-i-2.ensures.made
+
+pub truths::emit_null_truth-returns-then-is_null-clause-made : goal.truths::emit_null_truth-returns-then-is_null-clause-made
+truths::emit_null_truth-returns-then-is_null-clause-made t c =
+    rw c.if-is_null.true (null_truth (λ G. emitted G (facts_in c.args.facts.now) (sites_in c.args.facts.now) (plain_expr c.args.x.now)) _ _ _ _ _ c.args.yes c.args.no
+    c.in_ok-fork.ensures.number c.in_ok-fork.ensures.added c.in_ok-i.ensures.number c.in_ok-i.ensures.added)
+
+pub truths::emit_null_truth-returns-clause-made : goal.truths::emit_null_truth-returns-clause-made
+truths::emit_null_truth-returns-clause-made t c =
+    rw c.if-is_null.false (own_truth (λ G. emitted G (facts_in c.args.facts.now) (sites_in c.args.facts.now) (plain_expr c.args.x.now)) _ _ _ c.args.yes c.args.no c.in_ok-i-2.ensures.made)
+
+pub postfix::emit_spot-returns-then-known-clause-made : goal.postfix::emit_spot-returns-then-known-clause-made
+postfix::emit_spot-returns-then-known-clause-made t c = rw c.if-known.true c.in_ok-i.ensures.made
+
+pub postfix::emit_spot-returns-clause-made : goal.postfix::emit_spot-returns-clause-made
+postfix::emit_spot-returns-clause-made t c = rw c.if-known.false c.in_ok-i-2.ensures.made
+
+pub chains::emit_links-returns-clause-made : goal.chains::emit_links-returns-clause-made
+chains::emit_links-returns-clause-made t c =
+    let none : c.loop-place.place ≡ 0 = omega (arith, c.loop-place-test.false) in
+    rw none at c.loop-place.invariant.1
+
+pub calls::emit_arguments-returns-clause-made : goal.calls::emit_arguments-returns-clause-made
+calls::emit_arguments-returns-clause-made t c =
+    let none : c.loop-place.place ≡ 0 = omega (arith, c.loop-place-test.false) in
+    rw none at c.loop-place.invariant.1
+
+pub places::emit_lone_place-returns-then-operands-eq1-clause-made : goal.places::emit_lone_place-returns-then-operands-eq1-clause-made
+places::emit_lone_place-returns-then-operands-eq1-clause-made t c =
+    λ token. lone_place (facts_in c.args.facts.now) (sites_in c.args.facts.now) token c.args.operands.now _ _ _ _ _ c.if-operands-eq1.true (search rules) c.in_ok-i.ensures.made

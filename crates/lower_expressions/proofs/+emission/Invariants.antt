@@ -29,8 +29,8 @@ invariant-chains::emit_links-loop-place l =
     × (length l.graph ≤ length l.initial.graph + links_room (sites_in l.facts) (plain_links (drop l.place l.links)))
 
 -- the truth of what stands before the operator at this place leads to that of the chain
-abbrev pub invariant-truths::emit_forked-loop-place : goal.invariant-truths::emit_forked-loop-place
-invariant-truths::emit_forked-loop-place l =
+abbrev pub invariant-truths::emit_chain_truth-loop-place : goal.invariant-truths::emit_chain_truth-loop-place
+invariant-truths::emit_chain_truth-loop-place l =
     (l.place ≤ length l.links)
     × Leads (facts_in l.facts) (sites_in l.facts) (plain_expr l.first) l.links l.place l.initial.graph l.graph (ways l.yes_at l.no_at) (ways l.fn.yes l.fn.no)
     × (length l.graph ≤ length l.initial.graph + links_room (sites_in l.facts) (plain_links (drop l.place l.links)))
@@ -84,20 +84,23 @@ decreases-chains::emit_link l = 4 + weight (plain_expr l.link.now.operand)
 abbrev pub decreases-chains::emit_links : goal.decreases-chains::emit_links
 decreases-chains::emit_links l = 1 + links_weight (plain_links l.links.now)
 
-abbrev pub decreases-chains::emit_chain_value : goal.decreases-chains::emit_chain_value
-decreases-chains::emit_chain_value l = 3 + weight (plain_expr l.first.now) + links_weight (plain_links l.links.now)
-
-abbrev pub decreases-chains::emit_chain_truth : goal.decreases-chains::emit_chain_truth
-decreases-chains::emit_chain_truth l = 4 + weight (plain_expr l.first.now) + links_weight (plain_links l.links.now)
+abbrev pub decreases-chains::emit_before : goal.decreases-chains::emit_before
+decreases-chains::emit_before l = 3 + weight (plain_expr l.first.now) + links_weight (plain_links l.links.now)
 
 abbrev pub decreases-chains::emit_chain : goal.decreases-chains::emit_chain
-decreases-chains::emit_chain l = 5 + weight (plain_expr l.first.now) + links_weight (plain_links l.links.now)
+decreases-chains::emit_chain l = 6 + weight (plain_expr l.first.now) + links_weight (plain_links l.links.now)
 
 abbrev pub decreases-truths::emit_null_truth : goal.decreases-truths::emit_null_truth
 decreases-truths::emit_null_truth l = 2 + weight (plain_expr l.x.now)
 
-abbrev pub decreases-truths::emit_forked : goal.decreases-truths::emit_forked
-decreases-truths::emit_forked l = 3 + weight (plain_expr l.first.now) + links_weight (plain_links l.links.now)
+abbrev pub decreases-truths::emit_right_truth : goal.decreases-truths::emit_right_truth
+decreases-truths::emit_right_truth l = 3 + weight (plain_expr l.link.now.operand)
+
+abbrev pub decreases-truths::emit_valued_truth : goal.decreases-truths::emit_valued_truth
+decreases-truths::emit_valued_truth l = 4 + weight (plain_expr l.first.now) + links_weight (plain_links l.links.now)
+
+abbrev pub decreases-truths::emit_chain_truth : goal.decreases-truths::emit_chain_truth
+decreases-truths::emit_chain_truth l = 5 + weight (plain_expr l.first.now) + links_weight (plain_links l.links.now)
 
 abbrev pub decreases-choices::emit_handed : goal.decreases-choices::emit_handed
 decreases-choices::emit_handed l = 2 + weight (plain_expr l.x.now)
