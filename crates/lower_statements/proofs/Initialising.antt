@@ -67,7 +67,7 @@ pub starts_step : (facts : Facts) (sites : Sites) (starts : List Start) (m j : �
     Made (λ G. AllStart G facts sites (map plain_start (drop j starts))) n0 n2 i k
 starts_step facts sites starts m j d n0 n1 n2 entry i k e low is rest made =
     list_step (λ l G. AllStart G facts sites (map plain_start l)) (λ G. Starts G facts sites (plain_start (get_or starts j d))) starts m j d n0 n1 n2 entry i k e low
-    (λ G i h. h) rest (subst (λ s. Made (λ G. Starts G facts sites (plain_start s)) n1 n2 i entry) is made)
+    (λ G i k h. h) (λ G i k h. h) rest (subst (λ s. Made (λ G. Starts G facts sites (plain_start s)) n1 n2 i entry) is made)
 
 -- one more element before those that were put
 pub elements_step : (facts : Facts) (sites : Sites) (token : ℕ) (items : List Expr) (m j index : ℕ) (d : Expr) (n0 n1 n2 : List Node) (entry i k : ℕ) → m ≡ j + 1 →

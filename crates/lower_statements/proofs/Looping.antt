@@ -1,5 +1,6 @@
 -- Statements: a loop's `again` is put first and aimed last, and entries are put from the last one to the first.
 use Rattle.std.proofs.Common.{◌≡◌, ℕ, zero, suc, ◌+◌, ◌<◌, ◌≤◌, ◌≢◌, refl, ap, sym, ◌∙◌, subst, arith, List, [], ◌∷◌, ◌++◌, length, length-append, Some, slice_get, slice_set, option_map, drop, get_or, Option, None, Box, Bool, true, false, nat_eq}
+use Rattle.std.proofs.lemmas.Bool.{false≢true}
 use Rattle.std.proofs.lemmas.Bool.Decides.{nat_tests}
 use Rattle.std.proofs.lemmas.List.{drop_all, drop_more}
 use Rattle.c_syntax.specs.declared.statement.Declaration.{Declaration}
@@ -8,6 +9,7 @@ use Rattle.c_syntax.specs.declared.statement.Entry.TheVariants as entry
 use Rattle.c_syntax.specs.declared.statement.Statement.{Statement}
 use Rattle.c_syntax.specs.declared.statement.Statement.TheVariants as statement
 use Rattle.c_syntax.specs.declared.expr.Expr.{Expr}
+use Rattle.c_syntax.specs.ExprTree.{ExprTree}
 use Rattle.c_syntax.specs.StatementTree as tree
 use Rattle.c_syntax.specs.StatementTree.{EntryList, no_entries}
 use Rattle.std.specs.Global.{Global}
@@ -16,36 +18,24 @@ use Rattle.c_syntax.proofs.PlainStatements.{plain_declared_before, plain_if, pla
 use Rattle.flow.specs.declared.node.Node.{Node}
 use Rattle.flow.specs.declared.node.Node.TheVariants as node
 use Rattle.flow.specs.declared.node.View.TheVariants as view
+use Rattle.flow.specs.Code.{view_at}
 use Rattle.flow.specs.View.{view as view_of}
 use Rattle.c_meaning.specs.declared.value_type.ValueType.{ValueType}
+use Rattle.c_meaning.specs.Conversions.{is_null_as}
 use Rattle.c_meaning.specs.Facts.{Facts, Sites}
-use Rattle.lower_relation.specs.Expressions.{Condition}
+use Rattle.c_meaning.specs.Trees.{type_of}
+use Rattle.lower_relation.specs.Expressions.{Condition, emitted}
 use Rattle.lower_relation.specs.Initialisers.{Declares}
 use Rattle.lower_relation.specs.Paths.{Graph, Exits, Ways}
-use Rattle.lower_relation.specs.Statements.{DoDo, ForLoop, GoesOn, Runs, RunsAll, WhileDo, within_loop}
+use Rattle.lower_relation.specs.Statements.{DoDo, ForLoop, GoesOn, ReturnDo, Runs, RunsAll, WhileDo, within_loop}
+use Rattle.lower_relation.specs.Values.{WantedValue}
 use Rattle.lower_statements.specs.Exits.{SecondRuns}
 use Rattle.lower_relation.specs.Functions.{standing}
-use Rattle.lower_nodes.specs.Ends.{AllBelow, all_ends}
+use Rattle.lower_nodes.specs.Ends.{AllBelow, Any, all_ends}
 use Rattle.lower_nodes.specs.Made.{Later, LeadBack, LeadsBack, Made, MadeExits, MadeTo, MadeWays, Part, CameOut}
+use Rattle.lower_nodes.specs.Standing.{AllLike, AllStand, Allowed, Like, Allowance, Stands, Stood, fork_at, forks}
 use Rattle.lower_nodes.specs.Purposes.{ways}
-use Rattle.lower_nodes.proofs.Building.{back_both, below_more, either_made, later_self, later_trans, slice_append, stays_put}
-
--- Two parts of which one was put before the other make a third one. They go on where that one does, or the first at the entry of the second.
-pub both_made : {K L M : Type 0} → {f : K → List ℕ} → {g : L → List ℕ} → {h : M → List ℕ} → (R : Part K) (S : Part L) (T : Part M) (n0 n1 n2 : List Node) (i : ℕ) (k : K) (m : ℕ)
-    (l : L) (j : ℕ) (t : M) → ((G : Graph) → R G i k → S G m l → T G j t) → ((n : ℕ) → AllBelow n (h t) → AllBelow n (g l)) →
-    ((n : ℕ) → AllBelow n (h t) → m < n → AllBelow n (f k)) → ((n : ℕ) → m < n → i < n → j < n) → MadeTo g S n0 n1 m l → MadeTo f R n1 n2 i k → MadeTo h T n0 n2 j t
-both_made {h = h} R S T n0 n1 n2 i k m l j t into behind before first s r = record {
-  does = λ fin later. into (standing fin) (r.does fin (later_trans (length n0) (length n1) n2 n2 fin s.keeps.longer (later_self 0 n2) later))
-      (s.does fin (later_trans (length n0) (length n0) n1 n2 fin (omega arith) r.keeps later));
-  keeps = later_trans 0 0 n0 n1 n2 (omega arith) s.keeps r.keeps;
-  leads = λ below.
-      let second : CameOut (length n0) n1 m = s.leads (behind (length n0) below) in
-      let last : CameOut (length n1) n2 i = r.leads (before (length n1) (below_more (length n0) (length n1) (h t) s.keeps.longer below) second.inside) in
-      record {
-        inside = first (length n2) (omega (arith, second.inside, r.keeps.longer)) last.inside;
-        back = back_both (length n0) n1 n2 second.back r.keeps last.back;
-      };
-}
+use Rattle.lower_nodes.proofs.Building.{Joined, below_more, both_ways, either_made, joined_made, later_self, likes_more, slice_append, slice_end, stands_by, stays_put, stood_put}
 
 set_other : (xs : List Node) (a j : ℕ) (x : Node) → a ≢ j → slice_get (slice_set xs a x) j ≡ slice_get xs j
 set_other [] a j x ne = refl
@@ -88,104 +78,176 @@ set_by low a xs x i y back inside leads e at is false same =
 set_back : (low a : ℕ) (xs : List Node) (x : Node) → LeadBack (suc a) xs → a < length xs → LeadsBack a (length xs) (view_of x) → a ≡ low → LeadBack low (slice_set xs a x)
 set_back low a xs x back inside leads e = record { each = λ i y at is. set_by low a xs x i y back inside leads e at is (nat_eq a i) refl }
 
+-- where the parts of a loop go on: at its `again`, or where the loop is left
+pub record Loop : Type 0 where
+  pub again : ℕ
+  pub exits : Exits
+
+abbrev pub loop : ℕ → Exits → Loop
+loop again x = record { again = again; exits = x }
+
+abbrev pub loop_ends : Loop → List ℕ
+loop_ends l = l.again ∷ all_ends l.exits
+
+module _ (p : Allowance) (again head : ℕ) (n2 n3 : List Node) (was : slice_get n2 again ≡ Some (node.Again 0)) (set : n3 ≡ slice_set n2 again (node.Again head)) where
+  fork_by : (n : ℕ) → fork_at n2 n ≡ true → (here : Bool) → nat_eq again n ≡ here → fork_at n3 n ≡ true
+  fork_by n e true same =
+      let place : n ≡ again = grind (arith, nat_tests) in
+      absurd (false≢true (sym (ap (λ y. forks (view_at y)) (ap (slice_get n2) place ∙ was)) ∙ e))
+  fork_by n e false same =
+      let other : again ≢ n = λ q. absurd (grind (arith, nat_tests, q)) in
+      rw set (ap (λ y. forks (view_at y)) (set_other n2 again n (node.Again head) other) ∙ e)
+
+  -- a fork stays one where an `again` is aimed
+  fork_stays : (n : ℕ) → fork_at n2 n ≡ true → fork_at n3 n ≡ true
+  fork_stays n e = fork_by n e (nat_eq again n) refl
+
+  aimed_by : (low : ℕ) → again < length n2 → AllStand p (suc again) n2 → Stands p n3 (view.Turns head) → again ≡ low → (i : ℕ) (x : Node) → low ≤ i →
+      slice_get n3 i ≡ Some x → (here : Bool) → nat_eq again i ≡ here → Stands p n3 (view_of x)
+  aimed_by low above all turns e i x at is true same =
+      let place : i ≡ again = grind (arith, nat_tests) in
+      let some : Some x ≡ Some (node.Again head) = sym is ∙ ap (slice_get n3) place ∙ rw set (set_same n2 again (node.Again head) above) in
+      let x_is : x ≡ node.Again head = cc in
+      subst (λ y. Stands p n3 (view_of y)) (sym x_is) turns
+  aimed_by low above all turns e i x at is false same =
+      let other : again ≢ i = λ q. absurd (grind (arith, nat_tests, q)) in
+      let still : slice_get n2 i ≡ Some x = sym (set_other n2 again i (node.Again head) other) ∙ rw set at is in
+      stands_by p n2 n3 (view_of x) fork_stays (all.each i x (grind (arith, nat_tests)) still)
+
+  -- the nodes still stand, with the `again`
+  aimed_stand : (low : ℕ) → again < length n2 → AllStand p (suc again) n2 → Stands p n3 (view.Turns head) → again ≡ low → AllStand p low n3
+  aimed_stand low above all turns e = record { each = λ i x at is. aimed_by low above all turns e i x at is (nat_eq again i) refl }
+
 -- An `again` that is put first, and aimed when what goes on at it was put. The part between goes on at it, or where the whole does.
-pub aimed_made : {K : Type 0} → {f g : K → List ℕ} → (R S : Part K) (n0 n1 n2 n3 : List Node) (again head i : ℕ) (k : K) →
-    ((G : Graph) → R G i k → G again (view.Turns head) → S G i k) → ((n : ℕ) → AllBelow n (g k) → again < n → AllBelow n (f k)) → head ≡ i →
-    again ≡ length n0 → n1 ≡ n0 ++ node.Again 0 ∷ [] → MadeTo f R n1 n2 i k → n3 ≡ slice_set n2 again (node.Again head) → MadeTo g S n0 n3 i k
-aimed_made {g = g} R S n0 n1 n2 n3 again head i k into between same_head at is r set =
+pub aimed_made : (R : Part Loop) (S : Part Exits) (n0 n1 n2 n3 : List Node) (again i : ℕ) (x : Exits) →
+    ((G : Graph) → R G i (loop again x) → G again (view.Turns i) → S G i x) →
+    ((G : Graph) (j : ℕ) (y : Exits) → S G j y → (a : ℕ) × R G j (loop a y) × G a (view.Turns j)) →
+    again ≡ length n0 → n1 ≡ n0 ++ node.Again 0 ∷ [] → MadeTo loop_ends Any R n1 n2 i (loop again x) → n3 ≡ slice_set n2 again (node.Again i) → MadeExits S n0 n3 i x
+aimed_made R S n0 n1 n2 n3 again i x into out at is r set =
     let one : length n1 ≡ suc (length n0) = rw is (omega (arith, length-append n0 (node.Again 0 ∷ []))) in
+    let low : length n1 ≡ suc again = omega (arith, one, at) in
     let above : again < length n2 = omega (arith, one, r.keeps.longer, at) in
-    let same : length n3 ≡ length n2 = rw set (set_length n2 again (node.Again head)) in
-    let aimed : slice_get n3 again ≡ Some (node.Again head) = rw set (set_same n2 again (node.Again head) above) in
+    let same : length n3 ≡ length n2 = rw set (set_length n2 again (node.Again i)) in
+    let aimed : slice_get n3 again ≡ Some (node.Again i) = rw set (set_same n2 again (node.Again i) above) in
+    let first : slice_get n1 again ≡ Some (node.Again 0) = rw is (ap (slice_get (n0 ++ node.Again 0 ∷ [])) at ∙ slice_end n0 (node.Again 0)) in
+    let was : slice_get n2 again ≡ Some (node.Again 0) = r.keeps.same again (omega arith) (omega (arith, low)) ∙ first in
+    let begun : Later 0 n0 n1 =
+    record { longer = omega (arith, one); same = λ j from high. rw is (slice_append n0 (node.Again 0 ∷ []) j high) } in
     record {
       does = λ fin l. into (standing fin)
-          (r.does fin (later_set (length n0) (length n1) again n2 fin (node.Again head) (omega (arith, one)) (omega (arith, one, at)) (rw set at l)))
+          (r.does fin (later_set (length n0) (length n1) again n2 fin (node.Again i) (omega (arith, one)) (omega (arith, one, at)) (rw set at l)))
           (ap (option_map view_of) (l.same again (omega (arith, at)) (omega (arith, above, same)) ∙ aimed));
       keeps = record {
         longer = omega (arith, one, r.keeps.longer, same);
-        same = λ j low high. rw set (set_other n2 again j (node.Again head) (λ e. absurd (omega (arith, e, high, at))))
-            ∙ r.keeps.same j low (omega (arith, high, one)) ∙ rw is (slice_append n0 (node.Again 0 ∷ []) j high);
+        same = λ j from high. rw set (set_other n2 again j (node.Again i) (λ e. absurd (omega (arith, e, high, at))))
+            ∙ r.keeps.same j from (omega (arith, high, one)) ∙ begun.same j from high;
       };
       leads = λ below.
-          let inner : CameOut (length n1) n2 i = r.leads (between (length n1) (below_more (length n0) (length n1) (g k) (omega (arith, one)) below) (omega (arith, one, at))) in
-          let low : length n1 ≡ suc again = omega (arith, one, at) in
+          let inner : CameOut (length n1) n2 i = r.leads (omega (arith, one, at), below_more (length n0) (length n1) (all_ends x) (omega (arith, one)) below) in
           record {
             inside = omega (arith, inner.inside, same);
             back = subst (λ l. LeadBack (length n0) l) (sym set)
-                (set_back (length n0) again n2 (node.Again head) (subst (λ n. LeadBack n n2) low inner.back) above (omega (arith, inner.inside, same_head), tt) at);
+                (set_back (length n0) again n2 (node.Again i) (subst (λ n. LeadBack n n2) low inner.back) above (omega (arith, inner.inside), tt) at);
+          };
+      stands = λ p j y same like done.
+          let o = out (Allowed p) j y done in
+          let inner : Stood p (length n1) n2 i j =
+          r.stands p j (loop o.0 y) tt ((λ e. absurd (false≢true (o.2.turns e))), likes_more p n0 n1 (all_ends x) (all_ends y) begun like) o.1 in
+          let turns : Stands p n3 (view.Turns i) = record { fits = o.2.fits; visits = refl } in
+          record {
+            all = aimed_stand p again i n2 n3 was set (length n0) above (subst (λ n. AllStand p n n2) low inner.all) turns at;
+            like = λ e. fork_stays p again i n2 n3 was set i (inner.like e);
           };
     }
 
 -- what was put since the `again` lies behind it
-pub again_below : {K : Type 0} → {f : K → List ℕ} → (R : Part K) (n0 n1 n2 : List Node) (again i : ℕ) (k : K) → again ≡ length n0 → n1 ≡ n0 ++ node.Again 0 ∷ [] → MadeTo f R n1 n2 i k → again < length n2
+pub again_below : {K : Type 0} → {f : K → List ℕ} → {SameForm : K → K → Type 0} → (R : Part K) (n0 n1 n2 : List Node) (again i : ℕ) (k : K) → again ≡ length n0 → n1 ≡ n0 ++ node.Again 0 ∷ [] → MadeTo f SameForm R n1 n2 i k → again < length n2
 again_below R n0 n1 n2 again i k at is r =
     let one : length n1 ≡ suc (length n0) = rw is (omega (arith, length-append n0 (node.Again 0 ∷ []))) in
     omega (arith, one, r.keeps.longer, at)
 
--- a loop goes on at its `again`, or where it is left
-abbrev pub loop_ends : ℕ → Exits → List ℕ
-loop_ends again x = again ∷ all_ends x
+-- the body of a loop goes on in the loop, or where the loop is left
+abbrev in_loop : Loop → Exits
+in_loop l = within_loop l.again l.exits.next l.exits
 
--- so does its body, in the loop
-loop_below : (n again : ℕ) (x : Exits) → AllBelow n (loop_ends again x) → AllBelow n (all_ends (within_loop again x.next x))
-loop_below n again x b = (b.0, (b.1.0, (b.0, b.1.1.1.1)))
+-- the same where another node comes before the loop's `again`
+abbrev in_round : ℕ → Loop → Exits
+in_round next l = within_loop next l.exits.next l.exits
 
--- the body, and then the condition
-abbrev WhileParts : Part Ways → Part Exits → ℕ → ℕ → ℕ → Exits → Part Exits
-WhileParts C B again body head x G i k = C G head (ways body x.next) × B G body (within_loop again x.next x)
+-- the condition goes on at a node of the loop, or behind it
+abbrev into_loop : ℕ → Loop → Ways
+into_loop body l = ways body l.exits.next
+
+abbrev out_of_loop : Loop → Ways
+out_of_loop l = ways l.again l.exits.next
+
+-- the condition, and then the body
+abbrev WhileParts : Part Ways → Part Exits → Part Loop
+WhileParts C B = Joined C B into_loop in_loop
 
 pub while_parts : (C : Part Ways) (B : Part Exits) (n1 n2 n3 : List Node) (again body i : ℕ) (x : Exits) →
-    MadeExits B n1 n2 body (within_loop again x.next x) → MadeWays C n2 n3 i (ways body x.next) → MadeTo (loop_ends again) (WhileParts C B again body i x) n1 n3 i x
+    MadeExits B n1 n2 body (within_loop again x.next x) → MadeWays C n2 n3 i (ways body x.next) → MadeTo loop_ends Any (WhileParts C B) n1 n3 i (loop again x)
 while_parts C B n1 n2 n3 again body i x inside test =
-    both_made C B (WhileParts C B again body i x) n1 n2 n3 i (ways body x.next) body (within_loop again x.next x) i x (λ G c b. (c, b))
-    (λ n b. loop_below n again x b) (λ n b m. (m, (b.1.0, tt))) (λ n m j. j) inside test
+    joined_made C B into_loop in_loop n1 n2 n3 i body (loop again x) (λ n b. (b.0, (b.1.0, (b.0, b.1.1.1.1)))) (λ n b m. (m, (b.1.0, tt)))
+    (λ s n u b. (b.0, (b.1.0, (b.0, b.1.1.1.1)))) (λ s n u k b m. (m, (b.1.0, tt))) inside test
 
 pub while_made : (C : Part Ways) (B : Part Exits) (n0 n1 n2 n3 n4 : List Node) (again body i : ℕ) (x : Exits) →
     again ≡ length n0 → n1 ≡ n0 ++ node.Again 0 ∷ [] → MadeExits B n1 n2 body (within_loop again x.next x) → MadeWays C n2 n3 i (ways body x.next) →
     n4 ≡ slice_set n3 again (node.Again i) → MadeExits (λ G. WhileDo G (C G) (B G)) n0 n4 i x
 while_made C B n0 n1 n2 n3 n4 again body i x at is inside test set =
-    aimed_made (WhileParts C B again body i x) (λ G. WhileDo G (C G) (B G)) n0 n1 n3 n4 again i i x (λ G h turns. (body, again, h.0, h.1, turns)) (λ n b a. (a, b)) refl at is
+    aimed_made (WhileParts C B) (λ G. WhileDo G (C G) (B G)) n0 n1 n3 n4 again i x (λ G h turns. (h.0, again, h.1, h.2, turns)) (λ G j y h. (h.1, (h.0, h.2, h.3), h.4)) at is
     (while_parts C B n1 n2 n3 again body i x inside test) set
 
--- the condition, and then the body
-abbrev DoParts : Part Ways → Part Exits → ℕ → ℕ → ℕ → Exits → Part Exits
-DoParts C B again test head x G i k = B G head (within_loop test x.next x) × C G test (ways again x.next)
+-- the body, and then the condition
+abbrev DoParts : Part Ways → Part Exits → Part Loop
+DoParts C B = Joined B C in_round out_of_loop
 
 pub do_parts : (C : Part Ways) (B : Part Exits) (n1 n2 n3 : List Node) (again test i : ℕ) (x : Exits) →
-    MadeWays C n1 n2 test (ways again x.next) → MadeExits B n2 n3 i (within_loop test x.next x) → MadeTo (loop_ends again) (DoParts C B again test i x) n1 n3 i x
+    MadeWays C n1 n2 test (ways again x.next) → MadeExits B n2 n3 i (within_loop test x.next x) → MadeTo loop_ends Any (DoParts C B) n1 n3 i (loop again x)
 do_parts C B n1 n2 n3 again test i x tested inside =
-    both_made B C (DoParts C B again test i x) n1 n2 n3 i (within_loop test x.next x) test (ways again x.next) i x (λ G b c. (b, c))
-    (λ n b. (b.0, (b.1.0, tt))) (λ n b t. loop_below n test x (t, b.1)) (λ n m j. j) tested inside
+    joined_made B C in_round out_of_loop n1 n2 n3 i test (loop again x) (λ n b. (b.0, (b.1.0, tt))) (λ n b t. (t, (b.1.0, (t, b.1.1.1.1))))
+    (λ s n u b. (b.0, (b.1.0, tt))) (λ s n u k b t. (t, (b.1.0, (t, b.1.1.1.1)))) tested inside
 
 pub do_made : (C : Part Ways) (B : Part Exits) (n0 n1 n2 n3 n4 : List Node) (again test i : ℕ) (x : Exits) →
     again ≡ length n0 → n1 ≡ n0 ++ node.Again 0 ∷ [] → MadeWays C n1 n2 test (ways again x.next) → MadeExits B n2 n3 i (within_loop test x.next x) →
     n4 ≡ slice_set n3 again (node.Again i) → MadeExits (λ G. DoDo G (C G) (B G)) n0 n4 i x
 do_made C B n0 n1 n2 n3 n4 again test i x at is tested inside set =
-    aimed_made (DoParts C B again test i x) (λ G. DoDo G (C G) (B G)) n0 n1 n3 n4 again i i x (λ G h turns. (test, again, h.0, h.1, turns)) (λ n b a. (a, b)) refl at is
+    aimed_made (DoParts C B) (λ G. DoDo G (C G) (B G)) n0 n1 n3 n4 again i x (λ G h turns. (h.0, again, h.1, h.2, turns)) (λ G j y h. (h.1, (h.0, h.2, h.3), h.4)) at is
     (do_parts C B n1 n2 n3 again test i x tested inside) set
 
--- the third part, the body, and then the condition
-abbrev InnerParts : Part ℕ → Part Exits → ℕ → ℕ → ℕ → Exits → Part Exits
-InnerParts S B again step body x G i k = B G body (within_loop step x.next x) × S G step again
+-- the body, and then the third part
+abbrev InnerParts : Part ℕ → Part Exits → Part Loop
+InnerParts S B = Joined B S in_round (λ l. l.again)
 
-abbrev ForParts : Part Ways → Part ℕ → Part Exits → ℕ → ℕ → ℕ → ℕ → Exits → Part Exits
-ForParts C S B again step body head x G i k = C G head (ways body x.next) × B G body (within_loop step x.next x) × S G step again
+-- the condition, and then those two
+abbrev ForParts : Part Ways → Part ℕ → Part Exits → Part Loop
+ForParts C S B = Joined C (InnerParts S B) into_loop (λ l. l)
 
 pub for_parts : (C : Part Ways) (S : Part ℕ) (B : Part Exits) (n1 n2 n3 n4 : List Node) (again step body i : ℕ) (x : Exits) →
     Made S n1 n2 step again → MadeExits B n2 n3 body (within_loop step x.next x) → MadeWays C n3 n4 i (ways body x.next) →
-    MadeTo (loop_ends again) (ForParts C S B again step body i x) n1 n4 i x
+    MadeTo loop_ends Any (ForParts C S B) n1 n4 i (loop again x)
 for_parts C S B n1 n2 n3 n4 again step body i x stepped inside test =
-    both_made C (InnerParts S B again step body x) (ForParts C S B again step body i x) n1 n3 n4 i (ways body x.next) body x i x (λ G c h. (c, h.0, h.1))
-    (λ n b. b) (λ n b m. (m, (b.1.0, tt))) (λ n m j. j)
-    (both_made {h = loop_ends again} B S (InnerParts S B again step body x) n1 n2 n3 body (within_loop step x.next x) step again body x (λ G b s. (b, s))
-    (λ n b. (b.0, tt)) (λ n b s. loop_below n step x (s, b.1)) (λ n m j. j) stepped inside) test
+    joined_made C (InnerParts S B) into_loop (λ l. l) n1 n3 n4 i body (loop again x) (λ n b. b) (λ n b m. (m, (b.1.0, tt))) (λ s n u b. b) (λ s n u k b m. (m, (b.1.0, tt)))
+    (joined_made {h = loop_ends} B S in_round (λ l. l.again) n1 n2 n3 body step (loop again x) (λ n b. (b.0, tt)) (λ n b t. (t, (b.1.0, (t, b.1.1.1.1))))
+    (λ s n u b. (b.0, tt)) (λ s n u k b t. (t, (b.1.0, (t, b.1.1.1.1)))) stepped inside) test
 
 pub for_made : (C : Part Ways) (S : Part ℕ) (B : Part Exits) (n0 n1 n2 n3 n4 n5 : List Node) (again step body i : ℕ) (x : Exits) →
     again ≡ length n0 → n1 ≡ n0 ++ node.Again 0 ∷ [] → Made S n1 n2 step again → MadeExits B n2 n3 body (within_loop step x.next x) → MadeWays C n3 n4 i (ways body x.next) →
     n5 ≡ slice_set n4 again (node.Again i) → MadeExits (λ G. ForLoop G (C G) (S G) (B G)) n0 n5 i x
 for_made C S B n0 n1 n2 n3 n4 n5 again step body i x at is stepped inside test set =
-    aimed_made (ForParts C S B again step body i x) (λ G. ForLoop G (C G) (S G) (B G)) n0 n1 n4 n5 again i i x
-    (λ G h turns. (body, again, step, h.0, h.1, h.2, turns)) (λ n b a. (a, b)) refl at is (for_parts C S B n1 n2 n3 n4 again step body i x stepped inside test) set
+    aimed_made (ForParts C S B) (λ G. ForLoop G (C G) (S G) (B G)) n0 n1 n4 n5 again i x
+    (λ G h turns. (h.0, again, h.2.0, h.1, h.2.1, h.2.2, turns)) (λ G j y h. (h.1, (h.0, h.3, (h.2, h.4, h.5)), h.6)) at is
+    (for_parts C S B n1 n2 n3 n4 again step body i x stepped inside test) set
+
+-- no node is put, and control goes on at a node where the whole does
+goes_made : (f : Exits → ℕ) (n : List Node) (x : Exits) → ((m : ℕ) → AllBelow m (all_ends x) → f x < m) →
+    ((s : Allowance) (m : List Node) (y : Exits) → AllLike s m (all_ends x) (all_ends y) → Like s m (f x) (f y)) → MadeExits (λ G i y. i ≡ f y) n n (f x) x
+goes_made f n x below likes = record {
+  does = λ fin l. refl;
+  keeps = later_self 0 n;
+  leads = λ b. stays_put n (f x) (below (length n) b, tt);
+  stands = λ s j y same like done. stood_put s n (f x) j (subst (λ q. Like s n (f x) q) (sym done) (likes s n y like));
+}
 
 module _ (facts : Facts) (sites : Sites) (gives : ValueType) where
   -- an entry stands before those after it
@@ -198,23 +260,32 @@ module _ (facts : Facts) (sites : Sites) (gives : ValueType) where
       let one = subst (λ l. RunsAll G facts sites gives l i (record x { next = m })) (plain_stated_before s no_entries) h in
       subst (λ l. RunsAll G facts sites gives l i x) (sym (plain_stated_before s rest)) (one.0, one.1, subst (λ q. RunsAll G facts sites gives rest q x) (sym one.2) r)
 
+  -- and so it does in every graph where they stand
+  entry_behind : (G : Graph) (d : Entry) (rest : EntryList) (i : ℕ) (x : Exits) → RunsAll G facts sites gives (plain_entry d rest) i x →
+      (m : ℕ) × RunsAll G facts sites gives (plain_entry d no_entries) i (record x { next = m }) × RunsAll G facts sites gives rest m x
+  entry_behind G (entry.Declaration d) rest i x h =
+      let all = subst (λ l. RunsAll G facts sites gives l i x) (plain_declared_before d rest) h in
+      (all.0, subst (λ l. RunsAll G facts sites gives l i (record x { next = all.0 })) (sym (plain_declared_before d no_entries)) (all.0, all.1, refl), all.2)
+  entry_behind G (entry.Statement s) rest i x h =
+      let all = subst (λ l. RunsAll G facts sites gives l i x) (plain_stated_before s rest) h in
+      (all.0, subst (λ l. RunsAll G facts sites gives l i (record x { next = all.0 })) (sym (plain_stated_before s no_entries)) (all.0, all.1, refl), all.2)
+
   -- statements without nodes of their own
   pub empty_made : (token : ℕ) (n : List Node) (x : Exits) → MadeExits (λ G. Runs G facts sites gives (tree.Empty token)) n n x.next x
-  empty_made token n x = record { does = λ fin l. refl; keeps = later_self 0 n; leads = λ below. stays_put n x.next (below.0, tt) }
+  empty_made token n x = goes_made (λ y. y.next) n x (λ m b. b.0) (λ s m y l. l.0)
 
   pub break_made : (token : ℕ) (n : List Node) (x : Exits) → MadeExits (λ G. Runs G facts sites gives (tree.Break token)) n n x.breaks x
-  break_made token n x = record { does = λ fin l. refl; keeps = later_self 0 n; leads = λ below. stays_put n x.breaks (below.1.0, tt) }
+  break_made token n x = goes_made (λ y. y.breaks) n x (λ m b. b.1.0) (λ s m y l. l.1.0)
 
   pub continue_made : (token : ℕ) (n : List Node) (x : Exits) → MadeExits (λ G. Runs G facts sites gives (tree.Continue token)) n n x.continues x
-  continue_made token n x = record { does = λ fin l. refl; keeps = later_self 0 n; leads = λ below. stays_put n x.continues (below.1.1.0, tt) }
+  continue_made token n x = goes_made (λ y. y.continues) n x (λ m b. b.1.1.0) (λ s m y l. l.1.1.0)
 
   -- no entry is put yet
   pub entries_none : (entries : List Entry) (n : List Node) (x : Exits) →
       MadeExits (λ G. RunsAll G facts sites gives (plain_entries (drop (length entries) entries))) n n x.next x
   entries_none entries n x =
-      let none : MadeExits (λ G. RunsAll G facts sites gives no_entries) n n x.next x =
-      record { does = λ fin l. refl; keeps = later_self 0 n; leads = λ below. stays_put n x.next (below.0, tt) } in
-      subst (λ l. MadeExits (λ G. RunsAll G facts sites gives (plain_entries l)) n n x.next x) (sym (drop_all (length entries) entries (omega arith))) none
+      subst (λ l. MadeExits (λ G. RunsAll G facts sites gives (plain_entries l)) n n x.next x) (sym (drop_all (length entries) entries (omega arith)))
+      (goes_made (λ y. y.next) n x (λ m b. b.0) (λ s m y l. l.0))
 
   -- one more entry before those that were put
   pub entries_step : (entries : List Entry) (m j : ℕ) (d : Entry) (n0 n1 n2 : List Node) (first i : ℕ) (x : Exits) → m ≡ j + 1 → j < length entries → d ≡ get_or entries j d →
@@ -224,23 +295,45 @@ module _ (facts : Facts) (sites : Sites) (gives : ValueType) where
   entries_step entries m j d n0 n1 n2 first i x e low is rest made =
       let more : drop j entries ≡ d ∷ drop m entries =
       drop_more entries j d low ∙ ap (λ q. get_or entries j d ∷ drop q entries) (sym e) ∙ ap (λ y. y ∷ drop m entries) (sym is) in
+      let one : Part Exits = λ G. RunsAll G facts sites gives (plain_entry d no_entries) in
+      let rest_part : Part Exits = λ G. RunsAll G facts sites gives (plain_entries (drop m entries)) in
       subst (λ l. MadeExits (λ G. RunsAll G facts sites gives (plain_entries l)) n0 n2 i x) (sym more)
-      (both_made (λ G. RunsAll G facts sites gives (plain_entry d no_entries)) (λ G. RunsAll G facts sites gives (plain_entries (drop m entries)))
-      (λ G. RunsAll G facts sites gives (plain_entry d (plain_entries (drop m entries)))) n0 n1 n2 i (record x { next = first }) first x i x
-      (λ G h r. entry_before G d (plain_entries (drop m entries)) i first x h r)
-      (λ n b. b) (λ n b m. (m, b.1)) (λ n m j. j) rest made)
+      (both_ways (Joined one rest_part (λ q y. record y { next = q }) (λ y. y)) (λ G. RunsAll G facts sites gives (plain_entry d (plain_entries (drop m entries)))) x
+      (λ G i y h. entry_before G d (plain_entries (drop m entries)) i h.0 y h.1 h.2) (λ p i y h. entry_behind (Allowed p) d (plain_entries (drop m entries)) i y h) n0 n2 i
+      (joined_made one rest_part (λ q y. record y { next = q }) (λ y. y) n0 n1 n2 i first x (λ n b. b) (λ n b q. (q, b.1)) (λ s n u l. l) (λ s n u k l q. (q, l.1)) rest made))
 
   pub declared_made : (d : Declaration) (n0 n1 : List Node) (i : ℕ) (x : Exits) → Made (λ G. Declares G facts sites (plain_declaration d)) n0 n1 i x.next →
       MadeExits (λ G. RunsAll G facts sites gives (plain_entry (entry.Declaration d) no_entries)) n0 n1 i x
   declared_made d n0 n1 i x made =
       subst (λ l. MadeExits (λ G. RunsAll G facts sites gives l) n0 n1 i x) (sym (plain_declared_before d no_entries))
-      (record { does = λ fin l. (x.next, made.does fin l, refl); keeps = made.keeps; leads = λ below. made.leads (below.0, tt) })
+      (record {
+        does = λ fin l. (x.next, made.does fin l, refl);
+        keeps = made.keeps;
+        leads = λ below. made.leads (below.0, tt);
+        stands = λ p j y same like done. made.stands p j done.0 tt (subst (λ q. Like p n0 x.next q) (sym done.2) like.0, tt) done.1;
+      })
 
   pub stated_made : (s : Statement) (n0 n1 : List Node) (i : ℕ) (x : Exits) → MadeExits (λ G. Runs G facts sites gives (plain_statement s)) n0 n1 i x →
       MadeExits (λ G. RunsAll G facts sites gives (plain_entry (entry.Statement s) no_entries)) n0 n1 i x
   stated_made s n0 n1 i x made =
       subst (λ l. MadeExits (λ G. RunsAll G facts sites gives l) n0 n1 i x) (sym (plain_stated_before s no_entries))
-      (record { does = λ fin l. (x.next, made.does fin l, refl); keeps = made.keeps; leads = λ below. made.leads below })
+      (record {
+        does = λ fin l. (x.next, made.does fin l, refl);
+        keeps = made.keeps;
+        leads = λ below. made.leads below;
+        stands = λ p j y same like done. made.stands p j (record y { next = done.0 }) tt (subst (λ q. Like p n0 x.next q) (sym done.2) like.0, like.1) done.1;
+      })
+
+  -- a returned value
+  pub returned_made : (v : ExprTree) (n0 n1 : List Node) (i : ℕ) (x : Exits) →
+      Made (λ G. WantedValue G (is_null_as (Some gives) v) (type_of facts v) (Some gives) (emitted G facts sites v)) n0 n1 i x.gives →
+      MadeExits (λ G. ReturnDo G facts sites gives (Some v)) n0 n1 i x
+  returned_made v n0 n1 i x made = record {
+    does = λ fin l. made.does fin l;
+    keeps = made.keeps;
+    leads = λ below. made.leads (below.1.1.1.0, tt);
+    stands = λ p j y same like done. made.stands p j y.gives tt (like.1.1.1.0, tt) done;
+  }
 
   -- a condition before the two ways
   pub branch_made : (token : ℕ) (condition : Expr) (first : Box Statement Global) (second : Option (Box Statement Global)) (n0 n1 n2 n3 : List Node) (i yes_at no_at : ℕ)

@@ -1,5 +1,5 @@
 -- Arrays that begin as strings.
-use Rattle.std.specs.Prelude.{ℕ, Bool, true, false, Option, Some, slice_get}
+use Rattle.std.specs.Prelude.{ℕ, Bool, true, false, Option, Some, None, option_map, slice_get}
 use Rattle.std.specs.Option.{option_and_then}
 use Rattle.c_syntax.specs.ExprTree.{ExprTree}
 use Rattle.flow.specs.declared.program.Text.{Text}
@@ -19,6 +19,11 @@ is_array of = false
 -- the text with this number
 abbrev pub text_with : Facts → Option ℕ → Option Text
 text_with facts number = option_and_then (slice_get facts.statics.texts) number
+
+-- the number, where there is a text with it
+abbrev pub known_text : Facts → Option ℕ → Option ℕ
+known_text facts None = None
+known_text facts (Some number) = option_map (λ t. number) (slice_get facts.statics.texts number)
 
 -- all cells of the array are zero, and then it holds the bytes of the string
 abbrev pub StringSet : Graph → Facts → Sites → ℕ → ExprTree → Path ℕ

@@ -8,7 +8,8 @@ ghost use Rattle.lower_relation.specs.Expressions.{number_of_text};
 ghost use Rattle.lower_relation.specs.Initialisers.{AllStart, ArrayZeroed, Clears, Declares, ElementSet, ElementsSet, Initialised, OnLocal, ScalarSet, Spells, Starts, ValueSet, Zeroes};
 ghost use Rattle.lower_relation.specs.Room.{declaration_room, expr_room, exprs_room, initial_room, pairs, start_room};
 ghost use Rattle.lower_nodes.specs.Made.{Made};
-ghost use Rattle.lower_statements.specs.Strings.{StringSet, is_array, text_with};
+ghost use Rattle.lower_statements.specs.Locals.{local_of};
+ghost use Rattle.lower_statements.specs.Strings.{StringSet, is_array, known_text, text_with};
 ghost use Rattle.lower_facts.specs.Facts.{facts_in, sites_in};
 
 use c_meaning::ValueType;
@@ -31,27 +32,45 @@ fn want_of(of: Option<ValueType>) -> Option<Want>
     }
 }
 
+/// The number of the local variable that a name stands for.
+fn local_of(slot: Option<Slot>) -> Option<u32>
+    ensures { result ≡ local_of slot }
+{
+    match slot {
+        Some(Slot::Local { index }) => Some(index),
+        Some(Slot::Global { .. }) | None => None,
+    }
+}
+
 /// A declared variable is undefined from here on.
-#[tactic(auto, using(lower_nodes::proofs::Building::parts_made))]
 fn put_cleared(graph: &mut Graph, slot: Option<Slot>, next: u32) -> Result<u32, Memory>
     requires room { length graph.old + 2 ≤ node_limit }
     ensures made { IfOk result (λ i. Made (λ G. OnLocal G slot (Clears G)) graph.old graph.new i next) }
     ensures few { IfOk result (λ i. length graph.new ≤ length graph.old + 2) }
 {
-    match slot {
-        Some(Slot::Local { index }) => {
-            let i = graph.put(Node::Clear { index, next })?;
-            Ok(i)
-        }
-        _ => {
-            let i = put_stuck(graph, next)?;
-            Ok(i)
-        }
-    }
+    let Some(index) = local_of(slot) else {
+        let stuck = put_stuck(graph, next)?;
+        return Ok(stuck);
+    };
+    let i = graph.put(Node::Clear { index, next })?;
+    Ok(i)
+}
+
+/// All cells of a local variable are set so.
+fn put_zero(graph: &mut Graph, index: u32, want: Option<Want>, next: u32) -> Result<u32, Memory>
+    requires room { length graph.old + 2 ≤ node_limit }
+    ensures made { IfOk result (λ i. Made (λ G. Zeroes G want index) graph.old graph.new i next) }
+    ensures few { IfOk result (λ i. length graph.new ≤ length graph.old + 2) }
+{
+    let Some(want) = want else {
+        let stuck = put_stuck(graph, next)?;
+        return Ok(stuck);
+    };
+    let i = graph.put(Node::Zero { index, want, next })?;
+    Ok(i)
 }
 
 /// All cells of a local array are zero, or null.
-#[tactic(auto, using(lower_nodes::proofs::Building::parts_made))]
 fn put_zeroed(
     graph: &mut Graph,
     slot: Option<Slot>,
@@ -62,20 +81,26 @@ fn put_zeroed(
     ensures made { IfOk result (λ i. Made (λ G. OnLocal G slot (Zeroes G (want_of element))) graph.old graph.new i next) }
     ensures few { IfOk result (λ i. length graph.new ≤ length graph.old + 2) }
 {
-    match (slot, want_of(element)) {
-        (Some(Slot::Local { index }), Some(want)) => {
-            let i = graph.put(Node::Zero { index, want, next })?;
-            Ok(i)
-        }
-        _ => {
-            let i = put_stuck(graph, next)?;
-            Ok(i)
-        }
+    let Some(index) = local_of(slot) else {
+        let stuck = put_stuck(graph, next)?;
+        return Ok(stuck);
+    };
+    let i = put_zero(graph, index, want_of(element), next)?;
+    Ok(i)
+}
+
+/// The number of a string, where there is one with this number.
+fn known_text(facts: &TreeFacts, number: Option<u32>) -> Option<u32>
+    ensures { result ≡ known_text (facts_in facts.now) number }
+{
+    let text = number?;
+    match facts.texts().get(text as usize) {
+        None => None,
+        Some(_) => Some(text),
     }
 }
 
 /// The bytes of the string with this number are stored in a local array.
-#[tactic(auto, using(lower_nodes::proofs::Building::parts_made))]
 fn put_spell(
     graph: &mut Graph,
     facts: &TreeFacts,
@@ -87,20 +112,12 @@ fn put_spell(
     ensures made { IfOk result (λ i. Made (λ G. Spells G number (text_with (facts_in facts.now) number) index) graph.old graph.new i next) }
     ensures few { IfOk result (λ i. length graph.new ≤ length graph.old + 2) }
 {
-    let Some(text) = number else {
+    let Some(text) = known_text(facts, number) else {
         let stuck = put_stuck(graph, next)?;
         return Ok(stuck);
     };
-    match facts.texts().get(text as usize) {
-        None => {
-            let stuck = put_stuck(graph, next)?;
-            Ok(stuck)
-        }
-        Some(_) => {
-            let i = graph.put(Node::Spell { index, text, next })?;
-            Ok(i)
-        }
-    }
+    let i = graph.put(Node::Spell { index, text, next })?;
+    Ok(i)
 }
 
 /// The bytes of a string are stored in a local array.
@@ -115,16 +132,12 @@ fn put_spelled(
     ensures made { IfOk result (λ i. Made (λ G. OnLocal G slot (Spells G (number_of_text (facts_in facts.now) (plain_expr x.now)) (text_of (facts_in facts.now) (plain_expr x.now)))) graph.old graph.new i next) }
     ensures few { IfOk result (λ i. length graph.new ≤ length graph.old + 2) }
 {
-    match slot {
-        Some(Slot::Local { index }) => {
-            let i = put_spell(graph, facts, number_of_text(facts, x), index, next)?;
-            Ok(i)
-        }
-        Some(Slot::Global { .. }) | None => {
-            let stuck = put_stuck(graph, next)?;
-            Ok(stuck)
-        }
-    }
+    let Some(index) = local_of(slot) else {
+        let stuck = put_stuck(graph, next)?;
+        return Ok(stuck);
+    };
+    let i = put_spell(graph, facts, number_of_text(facts, x), index, next)?;
+    Ok(i)
 }
 
 /// A scalar is stored as by assignment, with the visits of the sites at the `=`.

@@ -1,5 +1,8 @@
-use Rattle.std.proofs.Common.{◌≡◌, ◌+◌, ◌-◌, ◌<◌, arith, length, refl}
+use Rattle.std.proofs.Common.{◌≡◌, ◌+◌, ◌-◌, ◌<◌, arith, drop, length, refl, subst}
+use Rattle.c_syntax.specs.Plain.{plain_exprs}
 use Rattle.lower_facts.specs.Facts.{facts_in, sites_in}
+use Rattle.lower_relation.specs.Initialisers.{ElementsSet}
+use Rattle.lower_nodes.specs.Made.{Made}
 use Rattle.lower_statements.proofs.Initialising.{elements_none, elements_step}
 use Rattle.lower_expressions.proofs.Rooms.{exprs_more, exprs_rest}
 use Rattle.lower_statements.proofs.Rooms.{items_long}
@@ -33,3 +36,9 @@ emit_element-requires c =
 
 pub overflow_cast-index : goal.overflow_cast-index
 overflow_cast-index c = omega (arith, c.loop-place.invariant.0, c.loop-place-test.true, items_long (sites_in c.args.facts.now) c.args.items.now)
+
+pub returns-clause-made : goal.returns-clause-made
+returns-clause-made c =
+    let first : c.loop-place.place ≡ 0 = omega (arith, c.loop-place-test.false) in
+    subst (λ m. Made (λ G. ElementsSet G (facts_in c.args.facts.now) (sites_in c.args.facts.now) c.args.token m (plain_exprs (drop m c.args.items.now))) c.args.graph.now
+    c.loop-place.graph c.loop-place.first c.args.next) first c.loop-place.invariant.1

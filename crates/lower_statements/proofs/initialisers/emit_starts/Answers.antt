@@ -1,5 +1,8 @@
-use Rattle.std.proofs.Common.{◌≡◌, ◌+◌, ◌-◌, ◌<◌, arith, length}
+use Rattle.std.proofs.Common.{◌≡◌, ◌+◌, ◌-◌, ◌<◌, arith, drop, length, map, subst}
+use Rattle.c_syntax.specs.Plain.{plain_start}
 use Rattle.lower_facts.specs.Facts.{facts_in, sites_in}
+use Rattle.lower_relation.specs.Initialisers.{AllStart}
+use Rattle.lower_nodes.specs.Made.{Made}
 use Rattle.lower_statements.proofs.Initialising.{starts_none, starts_step}
 use Rattle.lower_statements.proofs.Rooms.{starts_more, starts_rest}
 use Rattle.lower_statements.proofs.initialisers.emit_starts.Goals as goal
@@ -29,3 +32,9 @@ emit_start-requires c =
     let low : c.loop-place.place - 1 < length c.args.starts.now = omega (arith, c.loop-place.invariant.0, c.loop-place-test.true) in
     let more = starts_more (sites_in c.args.facts.now) c.args.starts.now c.loop-place.place (c.loop-place.place - 1) c.index-starts-place.result next low c.index-starts-place.is in
     omega (arith, c.loop-place.invariant.2, more, starts_rest (sites_in c.args.facts.now) c.args.starts.now (c.loop-place.place - 1))
+
+pub returns-clause-made : goal.returns-clause-made
+returns-clause-made c =
+    let first : c.loop-place.place ≡ 0 = omega (arith, c.loop-place-test.false) in
+    subst (λ m. Made (λ G. AllStart G (facts_in c.args.facts.now) (sites_in c.args.facts.now) (map plain_start (drop m c.args.starts.now))) c.args.graph.now
+    c.loop-place.graph c.loop-place.first c.args.next) first c.loop-place.invariant.1

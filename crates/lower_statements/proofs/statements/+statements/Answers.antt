@@ -1,10 +1,11 @@
 use denote.Param.Weighed.{at_most}
-use Rattle.std.proofs.Common.{◌≡◌, ◌+◌, ◌-◌, ◌<◌, ap, length, arith, option_map}
+use Rattle.std.proofs.Common.{◌≡◌, ◌+◌, ◌-◌, ◌<◌, ap, drop, length, arith, option_map, subst}
 use Rattle.c_syntax.proofs.statement.Entry.TheLaws.{the_size}
-use Rattle.c_syntax.specs.Plain.{plain_expr, plain_for_start, plain_statement}
+use Rattle.c_syntax.specs.Plain.{plain_entries, plain_expr, plain_for_start, plain_statement}
 use Rattle.c_syntax.proofs.PlainStatements as plain
 use Rattle.lower_relation.specs.Expressions.{Condition}
-use Rattle.lower_relation.specs.Statements.{ForLoop, ForStarts, OptionalCondition, OptionalEffect, Runs}
+use Rattle.lower_relation.specs.Statements.{ForLoop, ForStarts, OptionalCondition, OptionalEffect, Runs, RunsAll}
+use Rattle.lower_nodes.specs.Made.{MadeExits}
 use Rattle.lower_facts.specs.Facts.{facts_in, sites_in}
 use Rattle.lower_statements.specs.Exits.{exits_of}
 use Rattle.lower_nodes.proofs.Building.{then_made}
@@ -133,3 +134,12 @@ emit_entries-emit_entry-requires t c =
       more,
       entries_rest (sites_in c.args.facts.now) c.args.entries.now (c.loop-place.place - 1),
     )
+
+pub emit_entries-returns-clause-made : goal.emit_entries-returns-clause-made
+emit_entries-returns-clause-made t c =
+    let first : c.loop-place.place ≡ 0 = omega (arith, c.loop-place-test.false) in
+    subst (λ m. MadeExits (λ G. RunsAll G (facts_in c.args.facts.now) (sites_in c.args.facts.now) c.args.gives (plain_entries (drop m c.args.entries.now))) c.args.graph.now
+    c.loop-place.graph c.loop-place.first (exits_of c.args.exits)) first c.loop-place.invariant.1
+
+pub emit_statement-returns-in-Return-clause-made : goal.emit_statement-returns-in-Return-clause-made
+emit_statement-returns-in-Return-clause-made t c = rw (c.in-Return.is, plain.plain_return c.in-Return.token c.in-Return.value) c.emit_return.ensures.made
