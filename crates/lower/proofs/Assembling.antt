@@ -16,7 +16,7 @@ use Rattle.flow.specs.declared.scope.Names.{Names}
 use Rattle.flow.specs.declared.site.Site.{Site}
 use Rattle.flow.specs.declared.site.TableParts.{TableParts}
 use Rattle.flow.specs.Code.{Callee}
-use Rattle.flow.specs.Program.{AreTexts, IsProgram, parts_of}
+use Rattle.flow.specs.Program.{IsProgram, parts_of}
 use Rattle.flow.specs.Limits.{function_limit, local_limit, site_limit, text_limit}
 use Rattle.c_types.proofs.Options.{some_is}
 use Rattle.c_meaning.specs.Facts.{Signature}
@@ -28,14 +28,14 @@ use Rattle.lower_relation.specs.Functions.{IsGraphOf}
 use Rattle.lower_parts_fit.proofs.BegunGlobals.{objects_there}
 use Rattle.lower_parts_fit.proofs.DefinedFunctions.{as_many, few_defined}
 use Rattle.lower_parts_fit.proofs.Constants.{globals_begun}
-use Rattle.lower_parts_fit.proofs.Texts.{few_texts, texts_fit}
+use Rattle.lower_parts_fit.proofs.Texts.{few_texts}
 use Rattle.lower_parts_fit.specs.Parts.{ArePartsOf, FitsAsFunction}
 use Rattle.lower_parts_fit.specs.Ready.{IsReadyText}
 use Rattle.lower_facts.specs.declared.facts.TreeFacts.{TreeFacts}
 use Rattle.lower_facts.specs.Facts.{facts_in, known_in, source_in, table_in, tree_in}
 use Rattle.lower_globals.specs.Objects.{begun_with}
 use Rattle.lower_globals.specs.Starts.{IsBegunItem}
-use Rattle.lower.specs.Fits.{AreFitting, IsFitting, NodesStand}
+use Rattle.lower.specs.Fits.{AreFitting, IsFitting, NodesStand, names_in}
 use Rattle.lower.specs.Programs.{AreFunctionsOf, HasNoMore, IsFunctionOf, node_count}
 use Rattle.lower.proofs.Graphing.{graph_of}
 use Rattle.lower.proofs.Readying.{plain_program, ready_program}
@@ -48,10 +48,10 @@ ready_facts f tree w table e1 e2 ready =
     subst (λ (k : Walk). IsReadyText (tree_in f) k table) (sym e2) (subst (λ (t : SourceTree). IsReadyText t w table) (sym e1) ready)
 
 -- each function has a signature, and a body that fits
-pub fitting_facts : (f : TreeFacts) (table : TableParts) (names : Names) (count : ℕ) → table_in f ≡ table.sites → IsReadyText (tree_in f) (known_in f) table →
-    length table.sites ≤ site_limit → names ≡ names_of_text (tree_in f) (known_in f) table.sites → count ≡ length (known_in f).definitions → AreFitting (source_in f) names count
-fitting_facts f table names count e ready few known all =
-    rw (known, all) (subst (λ (xs : List Site). AreFitting (source_of (tree_in f) (known_in f) xs) (names_of_text (tree_in f) (known_in f) table.sites)
+pub fitting_facts : (f : TreeFacts) (table : TableParts) (count : ℕ) → table_in f ≡ table.sites → IsReadyText (tree_in f) (known_in f) table →
+    length table.sites ≤ site_limit → count ≡ length (known_in f).definitions → AreFitting (source_in f) (names_in f) count
+fitting_facts f table count e ready few all =
+    rw all (subst (λ (xs : List Site). AreFitting (source_of (tree_in f) (known_in f) xs) (names_of_text (tree_in f) (known_in f) xs)
     (length (known_in f).definitions)) (sym e) (are_fitting (tree_in f) (known_in f) table ready few))
 
 -- there are as many functions as names
@@ -69,10 +69,6 @@ pub own_few : (src : Source) (names : Names) (number : ℕ) (s : Signature) → 
 own_few src names number s fit e =
     let same : fit.signature ≡ s = some_is fit.signature s (sym fit.known ∙ sym e) in
     subst (λ (x : Signature). (length x.params ≤ length x.locals) × (length x.locals ≤ local_limit)) same (fit.params, fit.few)
-
--- the strings are texts of a program
-pub texts_are : (f : TreeFacts) (table : TableParts) → IsReadyText (tree_in f) (known_in f) table → AreTexts (facts_in f).statics.texts
-texts_are f table ready = texts_fit (tree_in f) (known_in f) ready.whole.accepted ready.whole.sited ready.whole.bytes
 
 none_there : {X : Type 0} (o : Option X) → IsSome o → None ≡ o → ⊥
 none_there None is e = false≢true is
@@ -118,18 +114,18 @@ fits_as tree walk table number f is stand = record {
 }
 
 -- all parts but those that are copied
-pub are_parts : (f : TreeFacts) (table : TableParts) (names : Names) (globals : List Global) (functions : List Function) → table_in f ≡ table.sites →
-    names ≡ names_of_text (tree_in f) (known_in f) table.sites → Some (begun_with (facts_in f).statics.texts globals) ≡ (source_in f).objects →
+pub are_parts : (f : TreeFacts) (table : TableParts) (globals : List Global) (functions : List Function) → table_in f ≡ table.sites →
+    Some (begun_with (facts_in f).statics.texts globals) ≡ (source_in f).objects →
     length globals ≡ (facts_in f).statics.globals → map (λ g. g.name) functions ≡ table.functions → AreFunctionsOf (source_in f) functions →
-    ((number : ℕ) (g : Function) → slice_get functions number ≡ Some g → NodesStand names number g) →
+    ((number : ℕ) (g : Function) → slice_get functions number ≡ Some g → NodesStand (names_in f) number g) →
     node_count functions ≤ 16 * length (tree_kinds (tree_in f)) + length table.sites → ArePartsOf (tree_in f) (known_in f) table globals functions
-are_parts f table names globals functions e known objects count called are stand few = record {
+are_parts f table globals functions e objects count called are stand few = record {
   objects = objects;
   count = count;
   names = called;
   each = λ number g at. fits_as (tree_in f) (known_in f) table number g
       (subst (λ (xs : List Site). IsFunctionOf (source_of (tree_in f) (known_in f) xs) number g) e (are number g at))
-      (subst (λ (n : Names). NodesStand n number g) known (stand number g at));
+      (subst (λ (xs : List Site). NodesStand (names_of_text (tree_in f) (known_in f) xs) number g) e (stand number g at));
   few = few;
 }
 

@@ -1,9 +1,9 @@
+pub mod Allowing
 pub mod Assembling
 pub mod Bodying
+pub mod Finishing
 pub mod Graphing
 pub mod Keeping
-pub mod Kept
-pub mod Naming
 pub mod Readying
 pub mod Rooms
 pub mod Siting

@@ -18,7 +18,8 @@ use Rattle.c_meaning.specs.Runs.{Source}
 use Rattle.c_meaning.specs.Texts.{is_branch}
 use Rattle.flow.specs.Ready.{ArePlain, IsBranch, IsBranchKind, IsPlain, IsReady}
 use Rattle.lower.specs.Programs.{AreFunctionsOf}
-use Rattle.lower.specs.Ready.{AllMayStand, forks, is_condition, may_stand}
+use Rattle.lower_nodes.specs.Standing.{forks}
+use Rattle.lower.specs.Ready.{AllMayStand, is_condition, may_stand}
 
 plain_view : (site_of : ℕ → Option Site) (nodes : List Node) (v : View) → may_stand site_of nodes v ≡ true → IsPlain v
 plain_view site_of nodes (view.Row op next) e = tt

@@ -2,13 +2,14 @@
 use Rattle.std.specs.Prelude.{◌≡◌, ℕ, Bool, List, Option}
 use Rattle.c_syntax.specs.StatementTree.{EntryList}
 use Rattle.flow.specs.declared.node.Node.{Node}
+use Rattle.flow.specs.declared.node.Node.TheVariants as node
 use Rattle.c_meaning.specs.declared.value_type.ValueType.{ValueType}
 use Rattle.c_meaning.specs.Facts.{Facts, Sites}
 use Rattle.c_meaning.specs.Trees.{has_value}
 use Rattle.lower_relation.specs.Functions.{BodyDoes, ComesTo, EndsAt, GivesAt, Leaves, standing}
-use Rattle.lower_relation.specs.Paths.{Exits}
+use Rattle.lower_relation.specs.Paths.{Does, Exits}
 use Rattle.lower_nodes.specs.Finished.{Finished}
-use Rattle.lower_nodes.specs.Made.{Part}
+use Rattle.lower_nodes.specs.Made.{Made, Part}
 
 -- where a function gives its value
 abbrev pub GivesPart : Bool → Part ℕ
@@ -18,13 +19,14 @@ GivesPart value G i k = GivesAt G value i
 abbrev pub EndPart : Bool → Bool → Part Exits
 EndPart is_main value G i x = EndsAt G is_main value (record x { next = i })
 
--- how a function is left
+-- how a function is left, seen from where it is left without a value
 abbrev pub LeavesPart : Bool → Bool → Part Exits
-LeavesPart is_main value G i x = Leaves G is_main value x
+LeavesPart is_main value G i x = (i ≡ x.leaves) × Leaves G is_main value x
 
--- control comes from one node to another
-abbrev pub ComesPart : Part ℕ
-ComesPart G i k = ComesTo G i k
+-- Where a function begins, with what was put for it: at the entry of its body, or at a node that passes control on to it.
+pub data Begins (old new : List Node) (i entry : ℕ) : Type 0 where
+  AtOnce : i ≡ entry → new ≡ old → Begins old new i entry
+  Before : Made (λ G. Does G (node.Pass 0)) old new i entry → Begins old new i entry
 
 -- the nodes do the body of a function with this result from the first of them on
 pub record BodyNodes (facts : Facts) (sites : Sites) (is_main : Bool) (gives : ValueType) (body : Option EntryList) (nodes : List Node) : Type 0 where

@@ -2,23 +2,21 @@ ghost use Rattle.std.specs.Prelude.{◌≡◌, ◌==◌, ◌+◌, ◌<◌, IfOk,
 ghost use Rattle.std.specs.Option.{option_copied};
 ghost use Rattle.c_syntax.specs.Plain.{plain_entries};
 ghost use Rattle.lower_relation.specs.Functions.{BodyDoes};
-ghost use Rattle.lower.specs.Bodies.{BodyNodes, ComesPart, EndPart, GivesPart, LeavesPart};
+ghost use Rattle.lower.specs.Bodies.{Begins, BodyNodes, EndPart, GivesPart, LeavesPart};
 ghost use Rattle.lower_statements.specs.Exits.{exits_of};
-ghost use Rattle.lower.specs.Fits.{HasFitting, bounds_with};
+ghost use Rattle.lower.specs.Fits.{HasFitting, StandWhereFitting, bounds_with, names_in};
 ghost use Rattle.lower.specs.Ready.{AllMayStand};
 ghost use Rattle.lower_relation.specs.Room.{body_room, function_room};
 ghost use Rattle.lower_nodes.specs.Ends.{AllBelow, all_ends};
-ghost use Rattle.lower_nodes.specs.Made.{Made, MadeAlone, MadeExits};
-ghost use Rattle.lower_nodes.specs.Reach.{LeadOn};
-ghost use Rattle.flow.specs.Limits.{local_limit, node_limit};
+ghost use Rattle.lower_nodes.specs.Made.{MadeAlone, MadeExits};
+ghost use Rattle.flow.specs.Limits.{node_limit};
 ghost use Rattle.flow.specs.Nodes.{NodesFit};
 ghost use Rattle.lower_facts.specs.Facts.{facts_in, sites_in, source_in};
 
-use crate::keep::keep;
 use c_meaning::ValueType;
 use c_syntax::Entry;
 use cbi_base::{Kind, Memory};
-use flow::{Bounds, Names, Node};
+use flow::Node;
 use lower_facts::{Signature, TreeFacts};
 use lower_nodes::{Graph, finish, put_stuck};
 use lower_statements::{Exits, emit_entries, next_at};
@@ -62,7 +60,7 @@ fn put_end(graph: &mut Graph, is_main: bool, value: bool, exits: Exits) -> Resul
 /// How a function is left. No `break` and no `continue` stands outside a loop.
 fn put_exits(graph: &mut Graph, is_main: bool, value: bool) -> Result<Exits, Memory>
     requires room { length graph.old + 6 ≤ node_limit }
-    ensures made { IfOk result (λ exits. MadeAlone (LeavesPart is_main value) graph.old graph.new 0 (exits_of exits)) }
+    ensures made { IfOk result (λ exits. MadeAlone (LeavesPart is_main value) graph.old graph.new (exits_of exits).leaves (exits_of exits)) }
     ensures below { IfOk result (λ exits. AllBelow (length graph.new) (all_ends (exits_of exits))) }
     ensures few { IfOk result (λ exits. length graph.new ≤ length graph.old + 6) }
 {
@@ -109,7 +107,7 @@ fn put_body(
 #[tactic(auto, using(crate::proofs::Bodying::start_parts))]
 fn put_start(graph: &mut Graph, entry: u32) -> Result<u32, Memory>
     requires room { length graph.old + 1 ≤ node_limit }
-    ensures begins { IfOk result (λ i. Made ComesPart graph.old graph.new i entry) }
+    ensures begins { IfOk result (λ i. Begins graph.old graph.new i entry) }
     ensures last { IfOk result (λ i. length graph.new ≡ i + 1) }
     ensures few { IfOk result (λ i. length graph.new ≤ length graph.old + 1) }
 {
@@ -120,7 +118,8 @@ fn put_start(graph: &mut Graph, entry: u32) -> Result<u32, Memory>
     Ok(i)
 }
 
-/// Nodes that do the body of a function with this result, in the order of a program.
+/// Nodes that do the body of a function with this result, in the order of a program. Where it is a body that fits, each of them may stand in a
+/// program, and in one that is to be sampled.
 fn body_nodes(
     alloc: Global,
     facts: &TreeFacts,
@@ -130,9 +129,8 @@ fn body_nodes(
 ) -> Result<Vec<Node>, Memory>
     requires room { function_room (sites_in facts.now) (option_map plain_entries (option_copied body)) ≤ node_limit }
     ensures body { IfOk result (λ nodes. BodyNodes (facts_in facts.now) (sites_in facts.now) is_main gives (option_map plain_entries (option_copied body.entry)) nodes.items) }
+    ensures stand { IfOk result (λ nodes. StandWhereFitting (source_in facts.now) gives (option_map plain_entries (option_copied body.entry)) nodes.items) }
     ensures some { IfOk result (λ nodes. 0 < length nodes.items) }
-    ensures leads { IfOk result (λ nodes. LeadOn nodes.items) }
-    ensures most { IfOk result (λ nodes. length nodes.items ≤ node_limit) }
     ensures few { IfOk result (λ nodes. length nodes.items ≤ function_room (sites_in facts.now) (option_map plain_entries (option_copied body.entry))) }
 {
     let mut graph = Graph::new(alloc);
@@ -148,29 +146,19 @@ fn body_nodes(
 pub fn emit_function(
     alloc: Global,
     facts: &TreeFacts<'_>,
-    names: &Names,
     number: u32,
     signature: &Signature,
 ) -> Result<Vec<Node>, Memory>
-    requires fits { HasFitting (source_in facts.now) names.now number signature.now ((source_in facts.now).body number) }
-    requires locals { length signature.now.locals ≤ local_limit }
+    requires fits { HasFitting (source_in facts.now) (names_in facts.now) number signature.now ((source_in facts.now).body number) }
     requires room { function_room (sites_in facts.now) ((source_in facts.now).body number) ≤ node_limit }
     ensures body { IfOk result (λ nodes. BodyNodes (facts_in facts.now) (sites_in facts.now) (number == (source_in facts.now).main) signature.now.result ((source_in facts.now).body number) nodes.items) }
     ensures stand { IfOk result (λ nodes. AllMayStand (sites_in facts.now).site nodes.items) }
     ensures entry { IfOk result (λ nodes. 0 < length nodes.items) }
-    ensures fit { IfOk result (λ nodes. NodesFit names.now (bounds_with number signature.now (length nodes.items)) nodes.items) }
+    ensures fit { IfOk result (λ nodes. NodesFit (names_in facts.now) (bounds_with number signature.now (length nodes.items)) nodes.items) }
     ensures few { IfOk result (λ nodes. length nodes.items ≤ function_room (sites_in facts.now) ((source_in facts.now).body number)) }
 {
     let is_main = number == facts.main();
     let body = facts.body(number);
     let nodes = body_nodes(alloc, facts, is_main, signature.gives(), body)?;
-    let locals = signature.locals().len() as u32;
-    let count = nodes.len() as u32;
-    let bounds = Bounds {
-        function: number,
-        locals,
-        nodes: count,
-    };
-    let kept = keep(alloc, facts, names, bounds, nodes.as_slice())?;
-    Ok(kept)
+    Ok(nodes)
 }

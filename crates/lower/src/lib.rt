@@ -2,8 +2,6 @@
 #![tactic(auto)]
 
 mod functions;
-mod keep;
-mod names;
 mod programs;
 
 pub use programs::lower;

@@ -3,24 +3,22 @@ ghost use Rattle.c_meaning.specs.Texts.{source_of};
 ghost use Rattle.c_types.specs.Answers.{known_of, tree_of};
 ghost use Rattle.flow.specs.Ready.{ArePlain, IsReady};
 ghost use Rattle.flow.specs.declared.program.Function.{Function};
-ghost use Rattle.flow.specs.Limits.{function_limit};
+ghost use Rattle.flow.specs.Limits.{function_limit, site_limit};
 ghost use Rattle.flow.specs.Program.{table_of};
 ghost use Rattle.std.specs.List.{All};
 ghost use Rattle.lower_relation.specs.Functions.{IsGraphOf};
 ghost use Rattle.lower_relation.specs.Room.{function_room, functions_room};
-ghost use Rattle.lower.specs.Fits.{AreFitting, IsFitting, NodesStand};
+ghost use Rattle.lower.specs.Fits.{AreFitting, IsFitting, NodesStand, names_in};
 ghost use Rattle.lower.specs.Means.{MeansText};
 ghost use Rattle.lower.specs.Programs.{AreFunctionsOf, HasNoMore, IsFunctionOf, node_count};
-ghost use Rattle.lower_nodes_fit.specs.TextNames.{names_of_text};
 ghost use Rattle.lower_parts_fit.specs.Ready.{IsReadyText};
 ghost use Rattle.lower_facts.specs.Facts.{known_in, sites_in, source_in, table_in, tree_in};
 ghost use Rattle.c_syntax.specs.Spelling.{tree_kinds};
 
 use crate::functions::emit_function;
-use crate::names::names_of;
 use c_types::Checked;
 use cbi_base::{Memory, Name, Seq};
-use flow::{Function, Names, Program, ProgramParts, SiteTable, copy_of, copy_sites, copy_texts};
+use flow::{Function, Program, ProgramParts, SiteTable, copy_of, copy_sites, copy_texts};
 use lower_facts::TreeFacts;
 use lower_globals::globals_of_text;
 use lower_nodes_fit::an_accepted_text_has_few_nodes;
@@ -32,21 +30,20 @@ use std::alloc::Global;
 fn function_of(
     alloc: Global,
     facts: &TreeFacts<'_>,
-    names: &Names,
     number: u32,
     name: &Name,
 ) -> Result<Function, Memory>
-    requires { IsFitting (source_in facts.now) names.now number }
+    requires { IsFitting (source_in facts.now) (names_in facts.now) number }
     ensures does { IfOk result (λ f. IsFunctionOf (source_in facts.now) number f) }
     ensures name { IfOk result (λ f. f.name ≡ name.now) }
-    ensures stand { IfOk result (λ f. NodesStand names.now number f) }
+    ensures stand { IfOk result (λ f. NodesStand (names_in facts.now) number f) }
     ensures few { IfOk result (λ f. length f.nodes ≤ function_room (sites_in facts.now) ((source_in facts.now).body number)) }
 {
     let Some(signature) = facts.signature(number) else {
         unreachable!()
     };
     let params = signature.params().len() as u32;
-    let nodes = emit_function(alloc, facts, names, number, signature)?;
+    let nodes = emit_function(alloc, facts, number, signature)?;
     Ok(Function {
         name: name.try_clone()?,
         value: has_value(signature.gives()),
@@ -60,22 +57,21 @@ fn function_of(
 fn functions_of(
     alloc: Global,
     facts: &TreeFacts<'_>,
-    names: &Names,
     called: &[Name],
 ) -> Result<Vec<Function>, Memory>
-    requires fitting { AreFitting (source_in facts.now) names.now (length called.now) }
+    requires fitting { AreFitting (source_in facts.now) (names_in facts.now) (length called.now) }
     requires as_many { length called.now ≡ length (known_in facts.now).definitions }
     requires few { length called.now ≤ function_limit }
     ensures are { IfOk result (λ fs. AreFunctionsOf (source_in facts.now) fs.items) }
     ensures all { IfOk result (λ fs. HasNoMore (source_in facts.now) (length fs.items)) }
     ensures names { IfOk result (λ fs. map (λ f. f.name) fs.items ≡ called.now) }
-    ensures stand { IfOk result (λ fs. (number : ℕ) (f : Function) → slice_get fs.items number ≡ Some f → NodesStand names.now number f) }
+    ensures stand { IfOk result (λ fs. (number : ℕ) (f : Function) → slice_get fs.items number ≡ Some f → NodesStand (names_in facts.now) number f) }
     ensures few { IfOk result (λ fs. node_count fs.items ≤ functions_room (sites_in facts.now) (source_in facts.now).body (length (known_in facts.now).definitions)) }
 {
     let mut functions = Vec::new(alloc);
     for name in called {
         let number = functions.len() as u32;
-        let function = function_of(alloc, facts, names, number, name)?;
+        let function = function_of(alloc, facts, number, name)?;
         functions.push(function)?;
     }
     Ok(functions)
@@ -89,14 +85,14 @@ fn named_functions(
 ) -> Result<Vec<Function>, Memory>
     requires sites { table_in facts.now ≡ table.now.sites }
     requires ready { IsReadyText (tree_in facts.now) (known_in facts.now) table.now }
+    requires few { length table.now.sites ≤ site_limit }
     ensures are { IfOk result (λ fs. AreFunctionsOf (source_in facts.now) fs.items) }
     ensures all { IfOk result (λ fs. HasNoMore (source_in facts.now) (length fs.items)) }
     ensures names { IfOk result (λ fs. map (λ f. f.name) fs.items ≡ table.now.functions) }
-    ensures stand { IfOk result (λ fs. (number : ℕ) (f : Function) → slice_get fs.items number ≡ Some f → NodesStand (names_of_text (tree_in facts.now) (known_in facts.now) table.now.sites) number f) }
+    ensures stand { IfOk result (λ fs. (number : ℕ) (f : Function) → slice_get fs.items number ≡ Some f → NodesStand (names_in facts.now) number f) }
     ensures few { IfOk result (λ fs. node_count fs.items ≤ functions_room (sites_in facts.now) (source_in facts.now).body (length (known_in facts.now).definitions)) }
 {
-    let names = names_of(alloc, facts, table)?;
-    let functions = functions_of(alloc, facts, &names, table.functions())?;
+    let functions = functions_of(alloc, facts, table.functions())?;
     Ok(functions)
 }
 
@@ -112,6 +108,7 @@ fn program_of(alloc: Global, facts: &TreeFacts<'_>, table: &SiteTable) -> Result
 {
     an_accepted_text_has_few_nodes();
     parts_of_an_accepted_text_are_a_program();
+    let sites = table.sites();
     let functions = named_functions(alloc, facts, table)?;
     let Some(globals) = globals_of_text(alloc, facts)? else {
         unreachable!()
@@ -121,7 +118,7 @@ fn program_of(alloc: Global, facts: &TreeFacts<'_>, table: &SiteTable) -> Result
         globals: Seq::from_vec(globals),
         functions: Seq::from_vec(functions),
         main: facts.main(),
-        sites: copy_sites(alloc, table.sites())?,
+        sites: copy_sites(alloc, sites)?,
     };
     let program = Program::of(alloc, parts)?;
     Ok(program)

@@ -32,14 +32,14 @@ use Rattle.lower_exists.proofs.Turning.{length_all}
 use Rattle.lower.specs.Bodies.{BodyNodes}
 use Rattle.lower.specs.Fits.{HasFitting, IsFitting, bounds_with}
 use Rattle.lower.specs.Programs.{AreFunctionsOf, HasNoMore, IsFunctionOf}
-use Rattle.lower.specs.Ready.{kept_node, kept_nodes}
 use Rattle.lower.proofs.Graphing.{graph_of}
-use Rattle.lower.proofs.Kept.{all_may_stand, body_kept}
-use Rattle.lower.proofs.Naming.{kept_fit}
 use Rattle.lower.proofs.Readying.{plain_program, ready_program}
 use Rattle.lower.proofs.Siting.{sites_apart}
 use Rattle.lower.proofs.Texts.{are_fitting}
+use Rattle.text_programs.specs.Kept.{kept_node, kept_nodes}
 use Rattle.text_programs.specs.Programs.{HasProgram}
+use Rattle.text_programs.proofs.Kept.{all_may_stand, body_kept}
+use Rattle.text_programs.proofs.KeptFit.{kept_fit}
 use Rattle.text_programs.proofs.Ordering.{ordered, ordered_lead, ordered_long, ordered_nodes}
 use Rattle.text_programs.proofs.Texts.{as_many_names, has_globals, no_more}
 

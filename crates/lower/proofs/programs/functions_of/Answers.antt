@@ -1,7 +1,7 @@
 use Rattle.std.proofs.Common.{[], ◌∷◌, ap, arith, length, length-append, subst, ◌≡◌, ◌≤◌}
 use Rattle.lower_facts.specs.Facts.{known_in, sites_in, source_in}
 use Rattle.lower_relation.specs.Room.{functions_room}
-use Rattle.lower.specs.Fits.{NodesStand}
+use Rattle.lower.specs.Fits.{NodesStand, names_in}
 use Rattle.lower.specs.Programs.{IsFunctionOf, node_count}
 use Rattle.lower.proofs.Graphing.{each_pushed, no_more_functions, seen_all, seen_pushed}
 use Rattle.lower.proofs.Rooms.{functions_more}
@@ -17,8 +17,8 @@ loop-name-preserved c = record {
       (seen_pushed (λ f. f.name) c.loop-name.functions.items c.in_ok-function.function c.args.called.now c.loop-name.name-index c.name-item.result (omega (arith, c.loop-name-test.true))
       c.loop-name.invariant.names c.in_ok-function.ensures.name c.name-item.is);
   stand = rw c.in_ok-push.ensures.items
-      (each_pushed (NodesStand c.args.names.now) c.loop-name.functions.items c.in_ok-function.function c.loop-name.invariant.stand
-      (subst (λ n. NodesStand c.args.names.now n c.in_ok-function.function) (omega (arith, c.len-number.ensures)) c.in_ok-function.ensures.stand));
+      (each_pushed (NodesStand (names_in c.args.facts.now)) c.loop-name.functions.items c.in_ok-function.function c.loop-name.invariant.stand
+      (subst (λ n. NodesStand (names_in c.args.facts.now) n c.in_ok-function.function) (omega (arith, c.len-number.ensures)) c.in_ok-function.ensures.stand));
   few =
       functions_more (sites_in c.args.facts.now) (source_in c.args.facts.now).body c.loop-name.functions.items _ c.in_ok-function.function c.len-number.result
       (omega (arith, c.len-number.ensures)) c.in_ok-push.ensures.items c.loop-name.invariant.few c.in_ok-function.ensures.few;

@@ -24,9 +24,12 @@ use Rattle.lower.specs.Keeps.{Apart, IsKept, Keeps}
 use Rattle.lower_nodes_fit.specs.Fitting.{FitsAsBody, fits_view, fitting}
 use Rattle.lower_nodes_fit.proofs.FittingNodes.{view_fits}
 use Rattle.lower_nodes_fit.proofs.NodesOfStatements as fits
-use Rattle.lower.specs.Ready.{AllMayStand, IsFree, forks, is_condition, kept_node, kept_nodes, may_stand, stays}
+use Rattle.lower_nodes.specs.Standing.{forks}
+use Rattle.lower.specs.Ready.{AllMayStand, IsFree, is_condition, may_stand}
+use Rattle.lower.proofs.Finishing.{renamed_fits, view_found}
 use Rattle.lower.proofs.Keeping.{body_into, comes_into, leaves_into}
 use Rattle.lower.proofs.Readying.{fork_is}
+use Rattle.text_programs.specs.Kept.{kept_node, kept_nodes, stays}
 
 -- each node changed, by its number
 abbrev changed_by : (ℕ → Node → Node) → List Node → List Node
@@ -146,18 +149,13 @@ module _ (names : Names) (bounds : Bounds) (site_of : ℕ → Option Site) (old 
         ∙ kept_each i x (slice_get old i) refl (sym (changed_at kept_old old i) ∙ at);
   }
 
-  -- what a node names doesn't depend on where it leads
-  renamed_fits : (v : View) → IsTrue (fits_view names bounds v) → IsTrue (fits_view names bounds (renamed ren v))
-  renamed_fits (view.Row op next) f = f
-  renamed_fits other f = f
-
   node_stays : (v : View) (n : Option Node) → option_map view_of n ≡ Some (renamed ren v) → IsTrue (fits_view names bounds v) →
       may_stand site_of nodes (renamed ren v) ≡ true → remains n ≡ true
   node_stays v None e f stands = absurd (cc)
   node_stays v (Some n) e f stands =
       let same : view_of n ≡ renamed ren v = cc in
       both (names_fit names bounds n) (may_stand site_of nodes (view_of n))
-      (view_fits names bounds n (subst (λ u. IsTrue (fits_view names bounds u)) (sym same) (renamed_fits v f)))
+      (view_fits names bounds n (subst (λ u. IsTrue (fits_view names bounds u)) (sym same) (renamed_fits names bounds ren v f)))
       (ap (may_stand site_of nodes) same ∙ stands)
 
   there : (i : ℕ) (v : View) (was : Option Node) → slice_get old i ≡ was → option_map view_of was ≡ Some v → IsTrue (fits_view names bounds v) →
@@ -192,10 +190,6 @@ module _ (names : Names) (bounds : Bounds) (site_of : ℕ → Option Site) (old 
   other_stands (view.Imports next) is = absurd is
   other_stands (view.Exports next) is = absurd is
   other_stands view.Nowhere is = refl
-
-  view_found : (x : Option Node) (v : View) → option_map view_of x ≡ Some v → view_at x ≡ v
-  view_found None v e = absurd (cc)
-  view_found (Some x) v e = cc
 
   fork_behind : (next when_true when_false : ℕ) (x : Option Node) → slice_get old next ≡ x → option_map view_of x ≡ Some (view.Forks when_true when_false) →
       forks (view_at (slice_get nodes (ren next))) ≡ true
