@@ -1,13 +1,13 @@
 use denote.Param.Weighed.{at_most}
-use Rattle.std.proofs.Common.{◌≡◌, ◌+◌, ◌-◌, ◌<◌, ap, drop, length, arith, option_map, subst}
+use Rattle.std.proofs.Common.{◌≡◌, ◌+◌, ◌-◌, ◌<◌, ap, drop, length, arith, option_map, subst, sym}
 use Rattle.c_syntax.proofs.statement.Entry.TheLaws.{the_size}
-use Rattle.c_syntax.specs.Plain.{plain_entries, plain_expr, plain_for_start, plain_statement}
+use Rattle.c_syntax.specs.Plain.{plain_entries, plain_expr, plain_for_start, plain_second, plain_statement}
 use Rattle.c_syntax.proofs.PlainStatements as plain
 use Rattle.lower_relation.specs.Expressions.{Condition}
 use Rattle.lower_relation.specs.Statements.{ForLoop, ForStarts, OptionalCondition, OptionalEffect, Runs, RunsAll}
 use Rattle.lower_nodes.specs.Made.{MadeExits}
 use Rattle.lower_facts.specs.Facts.{facts_in, sites_in}
-use Rattle.lower_statements.specs.Exits.{exits_of}
+use Rattle.lower_statements.specs.Exits.{SecondRuns, exits_of}
 use Rattle.lower_nodes.proofs.Building.{then_made}
 use Rattle.lower_statements.proofs.Looping.{again_below, break_made, continue_made, declared_made, do_made, do_parts, empty_made, entries_none, entries_step, for_made, for_parts, branch_made, stated_made, while_made, while_parts}
 use Rattle.lower_statements.proofs.Rooms.{entries_more, entries_rest}
@@ -143,3 +143,11 @@ emit_entries-returns-clause-made t c =
 
 pub emit_statement-returns-in-Return-clause-made : goal.emit_statement-returns-in-Return-clause-made
 emit_statement-returns-in-Return-clause-made t c = rw (c.in-Return.is, plain.plain_return c.in-Return.token c.in-Return.value) c.emit_return.ensures.made
+
+pub emit_second-returns-in_ok-i-in-Some-clause-made : goal.emit_second-returns-in_ok-i-in-Some-clause-made
+emit_second-returns-in_ok-i-in-Some-clause-made t c =
+    subst (λ second. MadeExits (λ G. SecondRuns G (facts_in c.args.facts.now) (sites_in c.args.facts.now) c.args.gives (plain_second second)) c.args.graph.now
+    c.emit_statement.new.graph c.in_ok-i-in-Some.i (exits_of c.args.exits))
+    (sym c.in-Some.is)
+    (subst (λ s. MadeExits (λ G. Runs G (facts_in c.args.facts.now) (sites_in c.args.facts.now) c.args.gives (plain_statement s)) c.args.graph.now c.emit_statement.new.graph
+    c.in_ok-i-in-Some.i (exits_of c.args.exits)) c.deref.ensures c.in_ok-i-in-Some.ensures.made)
