@@ -1,5 +1,5 @@
 -- Loads of cells that are found at once.
-use Rattle.std.proofs.Common.{◌≡◌, ℕ, true, false, if◌then◌else◌, slice_get, Option, Some, None, Ok, Err, refl, ap, sym, ◌∙◌}
+use Rattle.std.proofs.Common.{◌≡◌, ◌≤◌, ℕ, ℤ, pos, ◌+ℤ◌, int_le, length, arith, true, false, if◌then◌else◌, slice_get, Option, Some, None, Ok, Err, refl, ap, sym, ◌∙◌}
 use Rattle.std.specs.Option.{option_and_then}
 use Rattle.std.specs.FinMap.{get}
 use Rattle.cbi_base.specs.declared.scalar.Scalar.{Scalar}
@@ -8,8 +8,9 @@ use Rattle.cbi_base.specs.declared.scalar.Kind.TheVariants as kind
 use Rattle.cbi_base.specs.declared.scalar.Want.{Want}
 use Rattle.cbi_base.specs.declared.scalar.Want.TheVariants as want
 use Rattle.cbi_base.specs.declared.trap.Trap.TheVariants as trap
-use Rattle.cbi_base.specs.Objects.{Object, Objects, ◌>>=◌, live_or, is_wanted, found, loaded}
+use Rattle.cbi_base.specs.Objects.{Object, Objects, ◌>>=◌, live_or, is_wanted, found, loaded, moved, moved_in}
 use Rattle.c_store.specs.Word.{cell_of}
+use Rattle.std.proofs.lemmas.Bool.Decides.{nat_tests}
 
 undefined_unwanted : (w : Want) → is_wanted w Undefined ≡ false
 undefined_unwanted (want.Number kind.Char) = refl
@@ -37,3 +38,17 @@ loaded_there w number offset value o is wanted = in_object w offset value (get o
 pub cell_there : (number offset : ℕ) (value : Scalar) (o : Objects) (object : Object) → get o.live number ≡ Some object →
     slice_get object.cells offset ≡ Some value → cell_of number offset o ≡ Some value
 cell_there number offset value o object there is = ap (option_and_then (λ p. slice_get p.cells offset)) there ∙ is
+
+within : (a b : ℕ) → a ≤ b → int_le (pos a) (pos b) ≡ true
+within a b upto = grind (arith, nat_tests)
+
+moved_within : (number to : ℕ) (object : Object) → to ≤ length object.cells → moved_in number (pos to) object ≡ Ok (Place number to)
+moved_within number to object upto = rw (within 0 to (omega arith), within to (length object.cells) upto) refl
+
+pub moved_there : (number offset to : ℕ) (cells : ℤ) (o : Objects) (object : Object) → get o.live number ≡ Some object → pos to ≡ pos offset +ℤ cells →
+    to ≤ length object.cells → moved (Place number offset) cells o ≡ Ok (Place number to)
+unfolding moved
+moved_there number offset to cells o object there is upto =
+    ap (λ found. live_or found >>= λ p. moved_in number (pos offset +ℤ cells) p) there
+    ∙ ap (λ z. moved_in number z object) (sym is)
+    ∙ moved_within number to object upto

@@ -12,7 +12,8 @@ ghost use Rattle.c_store.specs.Word.{cell_of};
 ghost use Rattle.c_store.specs.Written.{after};
 
 use crate::block::Block;
-use crate::pointers::{check_pointers, elements, in_order, move_in, same_place};
+use crate::places::Guess;
+use crate::pointers::{check_pointers, elements, in_order, move_in, offset_in, same_place};
 use crate::table::Table;
 use crate::word::Word;
 use cbi_base::{Class, Memory, Order, Scalar, Trap, Want};
@@ -342,7 +343,21 @@ impl Objects {
         ensures { IfSome result (λ value. loaded want pointer self.now ≡ Ok value) }
     {
         let (object, offset) = pointer.place_parts()?;
-        let word = self.quick_cell(object, offset)?;
+        let word = self.quick_cell(Guess::Any, object, offset)?;
+        if word.is_wanted(want) {
+            Some(word)
+        } else {
+            None
+        }
+    }
+
+    /// The value in the first cell of a local of the running function, of the kind that is wanted. None tells nothing.
+    #[inline(always)]
+    #[tactic(auto, using(crate::proofs::Loading::loaded_there))]
+    pub fn local_value(&self, object: u64, want: Want) -> Option<Word>
+        ensures { IfSome result (λ value. loaded want (Scalar.Place object 0) self.now ≡ Ok value) }
+    {
+        let word = self.quick_cell(Guess::Last, object, 0)?;
         if word.is_wanted(want) {
             Some(word)
         } else {
@@ -360,10 +375,10 @@ impl Objects {
     /// A cell that is found without a search.
     #[inline(always)]
     #[tactic(auto, using(crate::proofs::Loading::cell_there))]
-    fn quick_cell(&self, object: u64, offset: u32) -> Option<Word>
+    fn quick_cell(&self, guess: Guess, object: u64, offset: u32) -> Option<Word>
         ensures { IfSome result (λ word. cell_of object offset self.now ≡ Some word) }
     {
-        self.table.quick(object)?.cell(offset)
+        self.table.quick(guess, object)?.cell(offset)
     }
 
     #[tactic(auto, unfolding(cbi_base::specs::Objects::loaded))]
@@ -421,9 +436,21 @@ impl Objects {
         }
     }
 
-    /// Stores a defined value at a pointer, where its cell is found without a search and can be written; false where nothing was done.
+    /// Stores a defined value at a place, where its cell is found without a search and can be written; false where nothing was done.
     #[inline(always)]
     #[tactic(auto, using(crate::proofs::Storing::stored_place, crate::proofs::Storing::lifted), unfolding(cbi_base::specs::Objects::stored))]
+    fn quick_store_in(&mut self, guess: Guess, object: u64, offset: u32, value: Word) -> bool
+        ensures done { IsTrue result → stored (Scalar.Place object offset) value self.old ≡ Ok self.new }
+        ensures nothing { IsFalse result → self.new ≡ self.old }
+    {
+        if value.is_undefined() {
+            return false;
+        }
+        self.table.quick_set(guess, object, offset, value)
+    }
+
+    /// Stores a defined value at a pointer, where its cell is found without a search and can be written; false where nothing was done.
+    #[inline(always)]
     pub fn quick_store(&mut self, pointer: Word, value: Word) -> bool
         ensures done { IsTrue result → stored pointer value self.old ≡ Ok self.new }
         ensures nothing { IsFalse result → self.new ≡ self.old }
@@ -431,10 +458,16 @@ impl Objects {
         let Some((object, offset)) = pointer.place_parts() else {
             return false;
         };
-        if value.is_undefined() {
-            return false;
-        }
-        self.table.quick_set(object, offset, value)
+        self.quick_store_in(Guess::Any, object, offset, value)
+    }
+
+    /// Stores a defined value in the first cell of a local of the running function; false where nothing was done.
+    #[inline(always)]
+    pub fn set_local(&mut self, object: u64, value: Word) -> bool
+        ensures done { IsTrue result → stored (Scalar.Place object 0) value self.old ≡ Ok self.new }
+        ensures nothing { IsFalse result → self.new ≡ self.old }
+    {
+        self.quick_store_in(Guess::Last, object, 0, value)
     }
 
     /// Stores a value at a pointer.
@@ -488,10 +521,40 @@ impl Objects {
         ensures value { IfSome result (λ n. option_map (λ o. length o.cells) (get self.now.live object) ≡ Some n) }
         ensures limit { IfSome result (λ n. n ≤ cell_limit) }
     {
-        let Some(block) = self.table.quick(object) else {
+        let Some(block) = self.quick_block(object) else {
             return None;
         };
         Some(block.len() as u32)
+    }
+
+    /// An object that is found without a search. It has no more cells than may live.
+    #[inline(always)]
+    fn quick_block(&self, object: u64) -> Option<&Block>
+        ensures there { IfSome result (λ b. get self.now.live object ≡ Some b.now) }
+        ensures limit { IfSome result (λ b. length b.now.cells ≤ cell_limit) }
+    {
+        let Some(block) = self.table.quick(Guess::Any, object) else {
+            return None;
+        };
+        Some(block)
+    }
+
+    /// The pointer moved by so many cells, and the value there of the kind that is wanted, where they are found without a search. None tells
+    /// nothing.
+    #[inline(always)]
+    pub fn quick_load_behind(&self, pointer: Word, cells: i64, want: Want) -> Option<(Word, Word)>
+        ensures moved { IfSome result (λ p. moved pointer cells self.now ≡ Ok p.0) }
+        ensures loaded { IfSome result (λ p. loaded want p.0 self.now ≡ Ok p.1) }
+    {
+        let (object, offset) = pointer.place_parts()?;
+        let block = self.quick_block(object)?;
+        let to = offset_in(offset, cells, block.len() as u32)?;
+        let word = block.cell(to)?;
+        if word.is_wanted(want) {
+            Some((Word::place(object, to), word))
+        } else {
+            None
+        }
     }
 
     /// The pointer moved by so many cells, where its object is found without a search and it stays within it. None tells nothing.

@@ -15,6 +15,14 @@ pub struct Notes {
     gap: u64,
 }
 
+/// Where a number is looked for without a search: at the place of one of the last, as a local of the running function is, or at each place that
+/// is worth a look.
+#[derive(Clone, Copy)]
+pub enum Guess {
+    Last,
+    Any,
+}
+
 /// Whether the number stands at this place.
 #[inline(always)]
 fn is_at(numbers: &[u64], place: usize, number: u64) -> bool
@@ -23,16 +31,24 @@ fn is_at(numbers: &[u64], place: usize, number: u64) -> bool
     place < numbers.len() && numbers[place] == number
 }
 
-/// The place of the number where no search is needed: as the last numbers rise one by one, so do the first ones from zero
-/// on, and others are noted.
+/// The place of the number where no search is needed: the last numbers rise one by one.
 #[inline(always)]
-pub fn guess(numbers: &[u64], notes: &Notes, number: u64) -> Option<usize>
+fn last_place(numbers: &[u64], notes: &Notes, number: u64) -> Option<usize>
     ensures { IfSome result (StandsAt numbers.now number) }
 {
     let place = number.wrapping_sub(notes.gap) as usize;
     if is_at(numbers, place, number) {
-        return Some(place);
+        Some(place)
+    } else {
+        None
     }
+}
+
+/// The place of the number where no search is needed: the first numbers rise one by one from zero on, and others are noted.
+#[inline(always)]
+fn other_place(numbers: &[u64], notes: &Notes, number: u64) -> Option<usize>
+    ensures { IfSome result (StandsAt numbers.now number) }
+{
     if number < numbers.len() as u64 && is_at(numbers, number as usize, number) {
         return Some(number as usize);
     }
@@ -41,6 +57,20 @@ pub fn guess(numbers: &[u64], notes: &Notes, number: u64) -> Option<usize>
         Some(place)
     } else {
         None
+    }
+}
+
+/// The place of the number where no search is needed.
+#[inline(always)]
+pub fn place_by(guess: Guess, numbers: &[u64], notes: &Notes, number: u64) -> Option<usize>
+    ensures { IfSome result (StandsAt numbers.now number) }
+{
+    if let Some(place) = last_place(numbers, notes, number) {
+        return Some(place);
+    }
+    match guess {
+        Guess::Last => None,
+        Guess::Any => other_place(numbers, notes, number),
     }
 }
 

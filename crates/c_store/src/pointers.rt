@@ -1,6 +1,6 @@
 //! What is asked of pointers apart from the objects that they lead to.
 
-ghost use Rattle.std.specs.Prelude.{◌≡◌, ◌≤◌, Ok, IfOk, unsigned_abs};
+ghost use Rattle.std.specs.Prelude.{◌≡◌, ◌≤◌, pos, ◌+ℤ◌, Ok, IfOk, IfSome, unsigned_abs};
 ghost use Rattle.cbi_base.specs.Objects.{of_pointers, same_place, in_order, elements, cell_limit};
 ghost use Rattle.c_store.specs.Places.{moved_to};
 
@@ -60,6 +60,18 @@ pub fn elements(size: u32, cells: i64) -> Result<i64, Trap>
         Ok(cells / size)
     } else {
         Err(Trap::Bounds)
+    }
+}
+
+/// An offset moved by so many cells in an object of this length, or to its end; None where that is not in it.
+#[inline(always)]
+pub fn offset_in(offset: u32, cells: i64, length: u32) -> Option<u32>
+    ensures moved { IfSome result (λ to. pos to ≡ pos offset +ℤ cells) }
+    ensures within { IfSome result (λ to. to ≤ length) }
+{
+    match i64::from(offset).checked_add(cells) {
+        Some(to) if 0 <= to && to <= i64::from(length) => Some(to as u32),
+        _ => None,
     }
 }
 

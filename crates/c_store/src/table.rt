@@ -6,7 +6,7 @@ ghost use Rattle.c_store.specs.Stacked.{IsRising, IsApart, StandsAt, IsMissing};
 ghost use Rattle.c_store.specs.Written.{stored_in, filled_in, after};
 
 use crate::block::Block;
-use crate::places::{Notes, guess, is_above, search};
+use crate::places::{Guess, Notes, is_above, place_by, search};
 use crate::word::Word;
 use cbi_base::{Class, Memory, Trap};
 use std::alloc::Global;
@@ -56,7 +56,7 @@ fn place_of(
     ensures found { IfSome result (StandsAt numbers.now number) }
     ensures missing { IfNone result (IsMissing numbers.now number) }
 {
-    if let Some(place) = guess(numbers, notes, number) {
+    if let Some(place) = place_by(Guess::Any, numbers, notes, number) {
         return Some(place);
     }
     if heap.contains_key(&number) {
@@ -82,7 +82,7 @@ impl Table {
     pub fn get(&self, number: u64) -> Option<&Block>
         ensures { option_copied result ≡ map.get self.now number }
     {
-        if let Some(block) = self.quick(number) {
+        if let Some(block) = self.quick(Guess::Any, number) {
             return Some(block);
         }
         self.get_by_search(number)
@@ -104,10 +104,10 @@ impl Table {
     /// The object of the number where it is found without a search.
     #[inline(always)]
     #[tactic(auto, using(crate::proofs::StackedLemmas::got_there))]
-    pub fn quick(&self, number: u64) -> Option<&Block>
+    pub fn quick(&self, guess: Guess, number: u64) -> Option<&Block>
         ensures { IfSome result (λ b. map.get self.now number ≡ Some b.now) }
     {
-        let place = guess(self.numbers.as_slice(), &self.notes, number)?;
+        let place = place_by(guess, self.numbers.as_slice(), &self.notes, number)?;
         Some(&self.blocks[place])
     }
 
@@ -154,11 +154,11 @@ impl Table {
 
     /// Stores a value in a cell of an object, where it is found without a search and can be written; false where nothing was done.
     #[inline(always)]
-    pub fn quick_set(&mut self, number: u64, offset: u32, value: Word) -> bool
+    pub fn quick_set(&mut self, guess: Guess, number: u64, offset: u32, value: Word) -> bool
         ensures done { IsTrue result → stored_in number offset value (map.get self.old number) self.old ≡ Ok self.new }
         ensures nothing { IsFalse result → self.new ≡ self.old }
     {
-        let Some(place) = guess(self.numbers.as_slice(), &self.notes, number) else {
+        let Some(place) = place_by(guess, self.numbers.as_slice(), &self.notes, number) else {
             return false;
         };
         let block = &mut self.blocks[place];
