@@ -19,4 +19,6 @@ pub use locals::Locals;
 pub use now::Now;
 pub use operands::Operands;
 pub use output::Output;
+pub use quick::quick_math;
+pub use rows::{byte_of, quick_behind, quick_move};
 pub use stop::Stop;

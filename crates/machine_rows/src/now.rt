@@ -1,4 +1,4 @@
-ghost use Rattle.std.specs.Prelude.{◌≡◌, ◌≤◌, ◌∷◌, [], length, IfOk, IfErr, OnOk};
+ghost use Rattle.std.specs.Prelude.{◌≡◌, ◌≤◌, ◌∷◌, [], length, IfOk, IfErr, IfSome, IfNone, OnOk};
 ghost use Rattle.std.specs.Result.{result_ok};
 ghost use Rattle.cbi_base.specs.declared.trap.Trap.TheVariants as trap;
 ghost use Rattle.cbi_base.specs.Objects.{object_limit};
@@ -120,6 +120,32 @@ impl<'a> Now<'a> {
         ensures kept { OnOk result (self.new.operands.below ≡ self.old.operands.below) }
     {
         self.operands.push(value)
+    }
+
+    /// Pushes a value. None where memory is wanting, and nothing was done.
+    #[inline(always)]
+    pub fn try_push(&mut self, value: Word) -> Option<()>
+        ensures pushed { IfSome result (λ _. data_of self.new ≡ pushed value (data_of self.old)) }
+        ensures kept { IfSome result (λ _. self.new.operands.below ≡ self.old.operands.below) }
+        ensures same { IfNone result (self.new ≡ self.old) }
+    {
+        match self.operands.push(value) {
+            Ok(()) => Some(()),
+            Err(_) => None,
+        }
+    }
+
+    /// Pushes two values, the second one last. None where memory is wanting, and nothing was done.
+    #[inline(always)]
+    pub fn try_push_two(&mut self, first: Word, second: Word) -> Option<()>
+        ensures pushed { IfSome result (λ _. data_of self.new ≡ pushed second (pushed first (data_of self.old))) }
+        ensures kept { IfSome result (λ _. self.new.operands.below ≡ self.old.operands.below) }
+        ensures same { IfNone result (self.new ≡ self.old) }
+    {
+        match self.operands.push_two(first, second) {
+            Ok(()) => Some(()),
+            Err(_) => None,
+        }
     }
 
     /// Pushes the next byte of the input as an `int`, or -1 at its end.

@@ -1,4 +1,4 @@
-ghost use Rattle.std.specs.Prelude.{◌≡◌, ◌≤◌, ◌∷◌, [], length};
+ghost use Rattle.std.specs.Prelude.{◌≡◌, ◌≤◌, ◌+◌, ◌∷◌, ◌++◌, [], length, IfSome, IfNone};
 ghost use Rattle.flow.specs.Limits.{output_limit};
 ghost use Rattle.flow.specs.Printing.{these};
 ghost use Rattle.machine_rows.specs.Printed.{IsPrinted, stop_in};
@@ -56,6 +56,22 @@ impl Output {
         }
         self.bytes.push(byte)?;
         Ok(())
+    }
+
+    /// Writes a byte. None where there is no room for it or memory is wanting, and nothing was done.
+    #[inline(always)]
+    pub fn try_put(&mut self, byte: u8) -> Option<()>
+        ensures written { IfSome result (λ _. self.new ≡ self.old ++ byte ∷ []) }
+        ensures room { IfSome result (λ _. length self.old + 1 ≤ output_limit) }
+        ensures same { IfNone result (self.new ≡ self.old) }
+    {
+        if self.bytes.len() >= OUTPUT_LIMIT {
+            return None;
+        }
+        match self.bytes.push(byte) {
+            Ok(()) => Some(()),
+            Err(_) => None,
+        }
     }
 
     /// Writes bytes as far as there is room for them.

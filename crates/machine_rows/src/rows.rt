@@ -2,7 +2,7 @@ ghost use Rattle.std.specs.Prelude.{◌≡◌, ◌≤◌, ◌<◌, ◌^◌, ◌*
 ghost use Rattle.c_store.specs.Word.{is_undefined};
 ghost use Rattle.cbi_base.specs.Arithmetic.{flag};
 ghost use Rattle.cbi_base.specs.Kind.{LiesIn};
-ghost use Rattle.cbi_base.specs.Objects.{allocated};
+ghost use Rattle.cbi_base.specs.Objects.{allocated, loaded};
 ghost use Rattle.cbi_base.specs.Scalars.{applied};
 ghost use Rattle.flow.specs.declared.node.Node.TheVariants as node;
 ghost use Rattle.flow.specs.Now.{byte_of};
@@ -12,7 +12,7 @@ ghost use Rattle.machine_rows.specs.Data.{data_of, no_statics};
 ghost use Rattle.machine_rows.specs.Effects.{IsActed, IsDone};
 
 use crate::now::Now;
-use crate::quick::quick;
+use crate::quick::quick_math;
 use crate::stop::Stop;
 use c_store::{Made, Objects, Word};
 use c_values::{apply_binary, apply_unary, convert};
@@ -172,12 +172,29 @@ fn move_by(objects: &Objects, size: i32, pointer: Word, by: Word) -> Result<Word
 
 /// A pointer moved by an `int` times so many cells, where its object is found without a search. None tells nothing.
 #[inline(always)]
-fn quick_move(objects: &Objects, size: i32, pointer: Word, by: Word) -> Option<Word>
+pub fn quick_move(objects: &Objects, size: i32, pointer: Word, by: Word) -> Option<Word>
     ensures { IfSome result (λ place. moved_by size pointer by objects.now ≡ Ok place) }
 {
     let value = by.int()?;
     let place = objects.quick_move(pointer, cells_of(value, i64::from(size)))?;
     Some(place)
+}
+
+/// A pointer moved by an `int` times so many cells, and the value there of the kind that is wanted, where its object is found without a search.
+/// None tells nothing.
+#[inline(always)]
+pub fn quick_behind(
+    objects: &Objects,
+    size: i32,
+    pointer: Word,
+    by: Word,
+    want: Want,
+) -> Option<(Word, Word)>
+    ensures moved { IfSome result (λ p. moved_by size pointer by objects.now ≡ Ok p.0) }
+    ensures loaded { IfSome result (λ p. loaded want p.0 objects.now ≡ Ok p.1) }
+{
+    let value = by.int()?;
+    objects.quick_load_behind(pointer, cells_of(value, i64::from(size)), want)
 }
 
 /// `move` of any pointer.
@@ -298,7 +315,7 @@ pub fn math(now: &mut Now<'_>, op: Binary, next: u32) -> Result<u32, Stop>
     ensures kept { OnOk result (now.new.operands.below ≡ now.old.operands.below) }
 {
     if let Some((left, right)) = now.operands.peek_two() {
-        if let Some(value) = quick(op, left, right) {
+        if let Some(value) = quick_math(op, left, right) {
             now.replace(2, Word::number(Kind::Int, value));
             return Ok(next);
         }
