@@ -1,9 +1,12 @@
 pub mod LookLemmas
 pub mod CallLemmas
+pub mod DoneLemmas
 pub mod StandingLemmas
 pub mod RowLemmas
 pub mod CountLemmas
 pub mod StartLemmas
 pub mod SeenLemmas
+pub mod WentLemmas
 pub mod ReachedLemmas
+pub mod StrideLemmas
 pub mod GoingLemmas

@@ -5,4 +5,5 @@ pub mod Standing
 pub mod Counted
 pub mod Begun
 pub mod Reached
+pub mod Strides
 pub mod Going

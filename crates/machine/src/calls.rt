@@ -10,12 +10,14 @@ ghost use Rattle.flow.specs.Limits.{node_limit, local_limit, active_limit};
 ghost use Rattle.flow.specs.Program.{IsProgram};
 ghost use Rattle.machine.specs.Entering.{IsEntered, IsArrival};
 ghost use Rattle.machine_rows.specs.Operands.{several_on};
-ghost use Rattle.machine.specs.Steps.{Follows, Nears, IsRunning, nodes_of, waited, resumed, Enters, IsEntry, Keeps};
+ghost use Rattle.machine_code.specs.Prepared.{nodes_of};
+ghost use Rattle.machine.specs.Steps.{Follows, Nears, IsRunning, waited, resumed, Enters, IsEntry, Keeps};
 
 use crate::state::{Frame, State};
 use c_store::{Made, Objects, Word};
 use cbi_base::{Kind, Memory, Outcome, Scalar, Trap};
-use flow::{Function, Node, Program};
+use flow::{Function, Node};
+use machine_code::{Prepared, Stride};
 use machine_rows::{Locals, Now, Stop};
 
 /// The most functions that are active at a time.
@@ -23,16 +25,16 @@ const ACTIVE_LIMIT: u32 = 512;
 
 /// A function of the program.
 #[inline(always)]
-pub fn function_of(program: &Program, number: u32) -> Option<&Function>
+pub fn function_of<'a>(program: &'a Prepared<'_>, number: u32) -> Option<&'a Function>
     ensures value { option_map (λ f. f.now) result ≡ slice_get program.now.functions number }
     ensures is_program { IsProgram program.now }
 {
-    program.functions().get(number as usize)
+    program.program().functions().get(number as usize)
 }
 
 /// The nodes of a function.
 #[inline(always)]
-pub fn nodes_of(program: &Program, number: u32) -> &[Node]
+pub fn nodes_of<'a>(program: &'a Prepared<'_>, number: u32) -> &'a [Node]
     ensures { result.now ≡ nodes_of (slice_get program.now.functions number) }
 {
     match function_of(program, number) {
@@ -43,7 +45,7 @@ pub fn nodes_of(program: &Program, number: u32) -> &[Node]
 
 /// Whether a function has a result.
 #[inline(always)]
-fn has_result(program: &Program, number: u32) -> bool
+fn has_result(program: &Prepared<'_>, number: u32) -> bool
     ensures { result ≡ has_result (callee_of (slice_get program.now.functions number)) }
 {
     match function_of(program, number) {
@@ -105,14 +107,21 @@ fn wait(state: &mut State<'_>, next: u32) -> Result<(), Memory>
     })
 }
 
-/// A function runs that has these nodes and these locals, without a copy of the countdown.
+/// A function runs that has these nodes, with their strides, and these locals, without a copy of the countdown.
 #[inline(always)]
-pub fn stand<'a>(state: &mut State<'a>, number: u32, nodes: &'a [Node], locals: Locals)
+pub fn stand<'a>(
+    state: &mut State<'a>,
+    number: u32,
+    nodes: &'a [Node],
+    strides: &'a [Stride],
+    locals: Locals,
+)
     requires { state.old.active < active_limit }
-    ensures { state.new ≡ record state.old { function = number; nodes = nodes.entry; now = record state.old.now { locals = locals }; copy = None; active = state.old.active + 1 } }
+    ensures { state.new ≡ record state.old { function = number; nodes = nodes.entry; strides = strides.entry; now = record state.old.now { locals = locals }; copy = None; active = state.old.active + 1 } }
 {
     state.function = number;
     state.nodes = nodes;
+    state.strides = strides;
     state.now.locals = locals;
     state.copy = None;
     state.active += 1;
@@ -121,7 +130,7 @@ pub fn stand<'a>(state: &mut State<'a>, number: u32, nodes: &'a [Node], locals: 
 /// Takes a function's arguments, and enters it.
 #[tactic(auto, using(crate::proofs::CallLemmas::few_locals))]
 fn enter<'a>(
-    program: &'a Program,
+    program: &'a Prepared<'a>,
     state: &mut State<'a>,
     number: u32,
     next: u32,
@@ -141,14 +150,20 @@ fn enter<'a>(
         function.locals.as_slice(),
     )?;
     wait(state, next)?;
-    stand(state, number, function.nodes.as_slice(), locals);
+    stand(
+        state,
+        number,
+        function.nodes.as_slice(),
+        program.strides(number),
+        locals,
+    );
     Ok(0)
 }
 
 /// Spends a turn, where one is left; takes a function's arguments, and enters it.
 #[tactic(auto, unfolding(flow::specs::Machine::next_of))]
 pub fn call<'a>(
-    program: &'a Program,
+    program: &'a Prepared<'a>,
     state: &mut State<'a>,
     place: u32,
     number: u32,
@@ -170,8 +185,8 @@ pub fn call<'a>(
 
 /// The objects of the running function die, and the one that waits goes on.
 #[inline(always)]
-fn resume<'a>(program: &'a Program, state: &mut State<'a>, frame: Frame)
-    ensures value { state.new ≡ resumed state.new.nodes frame state.old }
+fn resume<'a>(program: &'a Prepared<'a>, state: &mut State<'a>, frame: Frame)
+    ensures value { state.new ≡ resumed state.new.nodes state.new.strides frame state.old }
     ensures running { IsRunning program.entry.now state.new }
 {
     let locals = state.now.locals;
@@ -182,6 +197,7 @@ fn resume<'a>(program: &'a Program, state: &mut State<'a>, frame: Frame)
     state.now.operands.close();
     state.function = frame.function;
     state.nodes = nodes_of(program, frame.function);
+    state.strides = program.strides(frame.function);
     state.now.locals = frame.locals;
     state.copy = frame.copy;
     state.active = state.active.saturating_sub(1);
@@ -208,7 +224,7 @@ fn end_with(value: Word) -> Outcome
 /// Takes a value, and leaves the running function with it.
 #[inline(always)]
 #[tactic(auto, unfolding(flow::specs::Machine::next_of))]
-pub fn give<'a>(program: &'a Program, state: &mut State<'a>, place: u32) -> Result<u32, Stop>
+pub fn give<'a>(program: &'a Prepared<'a>, state: &mut State<'a>, place: u32) -> Result<u32, Stop>
     requires { place < node_limit }
     ensures next { Follows program.entry.now view.Gives place state.old result state.new }
     ensures nearer { Nears place state.old result state.new }
@@ -235,7 +251,7 @@ pub fn give<'a>(program: &'a Program, state: &mut State<'a>, place: u32) -> Resu
 /// Leaves the running function, with an undefined value where it has a result.
 #[inline(always)]
 #[tactic(auto, unfolding(flow::specs::Machine::next_of))]
-pub fn quit<'a>(program: &'a Program, state: &mut State<'a>, place: u32) -> Result<u32, Stop>
+pub fn quit<'a>(program: &'a Prepared<'a>, state: &mut State<'a>, place: u32) -> Result<u32, Stop>
     requires { place < node_limit }
     ensures next { Follows program.entry.now view.Quits place state.old result state.new }
     ensures nearer { Nears place state.old result state.new }

@@ -7,12 +7,12 @@ ghost use Rattle.machine.specs.Steps.{Follows, Nears, IsRunning, most_counted};
 use crate::look::look;
 use crate::state::State;
 use cbi_base::{Observation, Trap};
-use flow::Program;
+use machine_code::Prepared;
 use machine_rows::Stop;
 
 /// The countdown in force: the running function's copy, or the shared one.
 #[inline(always)]
-fn in_force(state: &State<'_>) -> u32
+pub fn in_force(state: &State<'_>) -> u32
     ensures { result ≡ force_in state.entry.now }
 {
     match state.copy {
@@ -36,7 +36,7 @@ pub fn set_force(state: &mut State<'_>, count: u32)
 #[inline(always)]
 #[tactic(auto, unfolding(flow::specs::Machine::next_of))]
 pub fn skip(
-    program: &Program,
+    program: &Prepared<'_>,
     state: &mut State<'_>,
     place: u32,
     by: u32,
@@ -59,7 +59,7 @@ pub fn skip(
 #[inline(always)]
 #[tactic(auto, unfolding(flow::specs::Machine::next_of))]
 pub fn pick(
-    program: &Program,
+    program: &Prepared<'_>,
     state: &mut State<'_>,
     place: u32,
     weight: u32,
@@ -85,7 +85,12 @@ pub fn pick(
 /// The running function takes a copy of the shared countdown.
 #[inline(always)]
 #[tactic(auto, unfolding(flow::specs::Machine::next_of))]
-pub fn import(program: &Program, state: &mut State<'_>, place: u32, next: u32) -> Result<u32, Stop>
+pub fn import(
+    program: &Prepared<'_>,
+    state: &mut State<'_>,
+    place: u32,
+    next: u32,
+) -> Result<u32, Stop>
     requires { IsLater place next }
     ensures next { Follows program.now (view.Imports next) place state.old result state.new }
     ensures nearer { Nears place state.old result state.new }
@@ -98,7 +103,12 @@ pub fn import(program: &Program, state: &mut State<'_>, place: u32, next: u32) -
 /// The running function gives its copy of the countdown back.
 #[inline(always)]
 #[tactic(auto, unfolding(flow::specs::Machine::next_of))]
-pub fn export(program: &Program, state: &mut State<'_>, place: u32, next: u32) -> Result<u32, Stop>
+pub fn export(
+    program: &Prepared<'_>,
+    state: &mut State<'_>,
+    place: u32,
+    next: u32,
+) -> Result<u32, Stop>
     requires { IsLater place next }
     ensures next { Follows program.now (view.Exports next) place state.old result state.new }
     ensures nearer { Nears place state.old result state.new }
@@ -116,7 +126,7 @@ pub fn export(program: &Program, state: &mut State<'_>, place: u32, next: u32) -
 #[inline(always)]
 #[tactic(auto, unfolding(flow::specs::Machine::next_of))]
 pub fn mark(
-    program: &Program,
+    program: &Prepared<'_>,
     state: &mut State<'_>,
     place: u32,
     site: u32,
@@ -127,7 +137,7 @@ pub fn mark(
     ensures nearer { Nears place state.old result state.new }
     ensures running { IsRunning program.now state.old → IsRunning program.now state.new }
 {
-    let seen = look(program, &state.now, site)?;
+    let seen = look(program.program(), &state.now, site)?;
     Err(Stop::Sees {
         observation: Observation { site, seen },
         draws: false,
@@ -139,7 +149,7 @@ pub fn mark(
 #[inline(always)]
 #[tactic(auto, unfolding(flow::specs::Machine::next_of))]
 pub fn test(
-    program: &Program,
+    program: &Prepared<'_>,
     state: &mut State<'_>,
     place: u32,
     site: u32,
@@ -157,7 +167,7 @@ pub fn test(
     if count > 0 {
         return Ok(next);
     }
-    let seen = look(program, &state.now, site)?;
+    let seen = look(program.program(), &state.now, site)?;
     Err(Stop::Sees {
         observation: Observation { site, seen },
         draws: true,

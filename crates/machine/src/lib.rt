@@ -8,7 +8,9 @@ mod runs;
 mod start;
 mod state;
 mod step;
+mod strides;
 mod watch;
 
 pub use flow::RunResult;
-pub use runs::run;
+pub use machine_code::Prepared;
+pub use runs::{run, run_prepared};

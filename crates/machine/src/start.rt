@@ -1,17 +1,17 @@
 ghost use Rattle.std.specs.Prelude.{◌≡◌, ◌<◌, [], IfOk, OnOk};
 ghost use Rattle.flow.specs.Limits.{active_limit};
-ghost use Rattle.machine.specs.Begun.{EntersMain, Begins, IsFresh};
+ghost use Rattle.machine.specs.Begun.{EntersMain, Begins, IsFresh, LooksAtNone};
 ghost use Rattle.machine.specs.Steps.{IsRunning};
 
 use crate::calls::{function_of, make_locals, stand};
 use crate::state::State;
 use cbi_base::Trap;
-use flow::Program;
+use machine_code::Prepared;
 use machine_rows::{Stop, make_first};
 use std::alloc::Global as Heap;
 
 /// Enters the main function.
-fn enter_main<'a>(program: &'a Program, state: &mut State<'a>) -> Result<u32, Stop>
+fn enter_main<'a>(program: &'a Prepared<'a>, state: &mut State<'a>) -> Result<u32, Stop>
     requires none { state.old.now.operands.top ≡ [] }
     requires room { state.old.active < active_limit }
     ensures next { EntersMain program.entry.now state.old result state.new }
@@ -19,8 +19,9 @@ fn enter_main<'a>(program: &'a Program, state: &mut State<'a>) -> Result<u32, St
     ensures work { state.new.work ≡ state.old.work }
     ensures same { OnOk result ((state.new.turns ≡ state.old.turns) × (state.new.below ≡ state.old.below)) }
     ensures entry { IfOk result (λ place. place ≡ 0) }
+    ensures unseen { LooksAtNone result }
 {
-    let number = program.main();
+    let number = program.program().main();
     let Some(function) = function_of(program, number) else {
         return Err(Stop::from(Trap::Internal));
     };
@@ -31,20 +32,27 @@ fn enter_main<'a>(program: &'a Program, state: &mut State<'a>) -> Result<u32, St
         function.locals.as_slice(),
         &[],
     )?;
-    stand(state, number, function.nodes.as_slice(), locals);
+    stand(
+        state,
+        number,
+        function.nodes.as_slice(),
+        program.strides(number),
+        locals,
+    );
     Ok(0)
 }
 
 /// Begins a run: makes the objects that are there from the start, and enters the main function.
-pub fn begin<'a>(alloc: Heap, program: &'a Program, state: &mut State<'a>) -> Result<u32, Stop>
+pub fn begin<'a>(alloc: Heap, program: &'a Prepared<'a>, state: &mut State<'a>) -> Result<u32, Stop>
     requires { IsFresh state.old }
     ensures next { Begins program.entry.now state.old result state.new }
     ensures running { OnOk result (IsRunning program.entry.now state.new) }
     ensures work { state.new.work ≡ state.old.work }
     ensures same { OnOk result ((state.new.turns ≡ state.old.turns) × (state.new.below ≡ [])) }
     ensures entry { IfOk result (λ place. place ≡ 0) }
+    ensures unseen { LooksAtNone result }
 {
-    if !make_first(alloc, &mut state.now.objects, program)? {
+    if !make_first(alloc, &mut state.now.objects, program.program())? {
         return Err(Stop::from(Trap::StackOverflow));
     }
     enter_main(program, state)

@@ -1,10 +1,11 @@
-ghost use Rattle.std.specs.Prelude.{◌≡◌};
+ghost use Rattle.std.specs.Prelude.{◌≡◌, IfOk};
 ghost use Rattle.flow.specs.declared.node.View.TheVariants as view;
 ghost use Rattle.flow.specs.Fits.{IsLater};
 ghost use Rattle.machine.specs.Steps.{Follows, Nears, IsRunning};
 
 use cbi_base::{Outcome, Stack, Trap, Work};
-use flow::{Node, Program};
+use flow::Node;
+use machine_code::{Prepared, Stride};
 use machine_rows::{Locals, Now, Stop};
 
 /// A function that waits for the one that it called: the node where it goes on, its locals, and its copy of the countdown.
@@ -16,12 +17,13 @@ pub struct Frame {
     pub copy: Option<u32>,
 }
 
-/// Where a run stands, but for its node: the running function and its nodes, the data, its copy of the countdown where it has one, the functions
-/// that wait, the latest first, how many functions are active, the turns left, the shared countdown, and the work.
+/// Where a run stands, but for its node: the running function, its nodes and their strides, the data, its copy of the countdown where it has one,
+/// the functions that wait, the latest first, how many functions are active, the turns left, the shared countdown, and the work.
 #[derive(Drop)]
 pub struct State<'a> {
     pub function: u32,
     pub nodes: &'a [Node],
+    pub strides: &'a [Stride],
     pub now: Now<'a>,
     pub copy: Option<u32>,
     pub below: Stack<Frame>,
@@ -35,7 +37,7 @@ pub struct State<'a> {
 #[inline(always)]
 #[tactic(auto, unfolding(flow::specs::Machine::next_of))]
 pub fn fork(
-    program: &Program,
+    program: &Prepared<'_>,
     state: &mut State<'_>,
     place: u32,
     yes: u32,
@@ -54,10 +56,17 @@ pub fn fork(
 /// Spends a turn, where one is left.
 #[inline(always)]
 #[tactic(auto, unfolding(flow::specs::Machine::next_of))]
-pub fn again(program: &Program, state: &mut State<'_>, place: u32, next: u32) -> Result<u32, Stop>
+pub fn again(
+    program: &Prepared<'_>,
+    state: &mut State<'_>,
+    place: u32,
+    next: u32,
+) -> Result<u32, Stop>
     ensures next { Follows program.now (view.Turns next) place state.old result state.new }
     ensures nearer { Nears place state.old result state.new }
     ensures running { IsRunning program.now state.old → IsRunning program.now state.new }
+    ensures goes { IfOk result (λ to. to ≡ next) }
+    ensures kept { state.new ≡ record state.old { turns = state.new.turns } }
 {
     if state.turns == 0 {
         return Err(Stop::Over {

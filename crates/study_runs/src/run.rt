@@ -9,8 +9,8 @@ use crate::made_run::{MadeRun, make_run};
 use crate::plan::StudyPlan;
 use cbi_base::{Memory, Outcome, ProgramId, Work};
 use collector::{AddFault, Collection};
-use flow::{Program, RunResult};
-use machine::run;
+use flow::RunResult;
+use machine::{Prepared, run_prepared};
 use machine_laws::reports_of_runs_are_taken;
 use probes::Probe;
 use report_file::{Report, RunSummary, label_of, make_report};
@@ -51,7 +51,7 @@ fn hold(collection: &mut Collection, report: Report) -> Result<(), RunsFault>
 /// Runs the program on the bank and the line that are made for this number, and adds the report to the collection, which has none of this number.
 pub fn add_run(
     alloc: Global,
-    program: &Program,
+    program: &Prepared<'_>,
     plan: StudyPlan,
     number: u32,
     collection: &mut Collection,
@@ -68,9 +68,9 @@ pub fn add_run(
 {
     made_lines_are_printable();
     reports_of_runs_are_taken();
-    let _main = program.main();
+    let _program = program.program();
     let MadeRun { mut bank, input } = make_run(alloc, plan.seed, plan.rate, number)?;
-    let ran = run(
+    let ran = run_prepared(
         alloc,
         program,
         input.as_slice(),

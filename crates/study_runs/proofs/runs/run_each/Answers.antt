@@ -2,14 +2,15 @@ use Rattle.std.proofs.Common.{◌∙◌, [], ap, refl}
 use Rattle.collector.specs.declared.collection.Held.{Held}
 use Rattle.collector.specs.Sites.{branches_of}
 use Rattle.flow.specs.declared.site.TableParts.{TableParts}
+use Rattle.flow.specs.Program.{table_of}
 use Rattle.study_runs.specs.Runs.{no_identity}
 use Rattle.study_runs.proofs.Going.{absent, begun, goes_on, left, own, room}
-use Rattle.study_runs.proofs.runs.run_all.Goals as goal
+use Rattle.study_runs.proofs.runs.run_each.Goals as goal
 
 pub loop-done-init : goal.loop-done-init
 loop-done-init g c =
     begun _ _ _ _ _ _
-    (c.in_ok-collection.ensures ∙ ap (λ (t : TableParts). let h : Held = record { program = no_identity; branches = branches_of t.sites; reports = [] } in h) c.table.ensures.value)
+    (c.in_ok-collection.ensures ∙ ap (λ (t : TableParts). let h : Held = record { program = no_identity; branches = branches_of t.sites; reports = [] } in h) (c.table.ensures.value ∙ ap table_of c.program.ensures.value))
     c.new-sums.ensures
 
 pub add_run-requires-clause-absent : goal.add_run-requires-clause-absent

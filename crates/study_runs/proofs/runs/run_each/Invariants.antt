@@ -1,5 +1,5 @@
 use Rattle.study_runs.proofs.Going.{HaveCome}
-use Rattle.study_runs.proofs.runs.run_all.Given as goal
+use Rattle.study_runs.proofs.runs.run_each.Given as goal
 
 -- the runs so far ended, and their reports are held
 abbrev pub invariant-loop-done : goal.invariant-loop-done
