@@ -37,7 +37,7 @@ same-refused-texts held words texts tells are refused =
     (subst (λ x. AreRefusedTexts (record { program = x; files = refused.texts.files })) program refused.refused)
 
 -- texts that hold reports
-no-bad-file : (texts : List (List ℕ)) (bundles : List Bundle) → AreSpelled texts bundles → HasNoFile texts → ⊥
+pub no-bad-file : (texts : List (List ℕ)) (bundles : List Bundle) → AreSpelled texts bundles → HasNoFile texts → ⊥
 no-bad-file [] bundles are bad = absurd bad
 no-bad-file (text ∷ more) [] are bad = absurd are
 no-bad-file (text ∷ more) (bundle ∷ bundles) are (inl none) = none bundle are.0
@@ -49,7 +49,7 @@ is_memory (Some fault.Memory) = true
 is_memory (Some _) = false
 
 -- no refusal tells of want of memory
-never-memory : (refusal : Refusal) → fault_of refusal ≡ Some fault.Memory → ⊥
+pub never-memory : (refusal : Refusal) → fault_of refusal ≡ Some fault.Memory → ⊥
 never-memory (BadByte line) h = false≢true (ap is_some h)
 never-memory (BadToken line) h = false≢true (ap is_some h)
 never-memory (Syntax line) h = false≢true (ap is_some h)

@@ -11,6 +11,7 @@ use Rattle.flow.specs.declared.site.Site.{Site}
 use Rattle.flow.specs.Spelling.{SpellsProgram}
 use Rattle.collector.specs.declared.collection.Bundle.{Bundle}
 use Rattle.collector.specs.declared.collection.Held.{Held as Collected}
+use Rattle.collector.specs.Collecting.{IsCollection}
 use Rattle.collector.specs.Sites.{branches_of}
 use Rattle.collector.specs.Spelling.{collection_text}
 use Rattle.command_base.specs.declared.done.Done.TheVariants.{Added}
@@ -64,12 +65,13 @@ begun-takes texts parts bundles id sites begun after begun_is id_is sites_are ta
     subst (λ c. TakesAll c bundles after) (begun-is texts parts id sites begun begun_is id_is sites_are) takes
 
 pub all-gathered : (texts : CollectTexts) (parts : ProgramParts) (bundles : List Bundle) (after : Collected) (count : ℕ) → SpellsProgram texts.program parts → AreSpelled texts.files bundles
-    → TakesAll (nothing_of texts.program parts.sites) bundles after → count ≡ length (reports_in bundles) → HasGathered texts (record { collection = after; reports = count })
-all-gathered texts parts bundles after count spells are takes counted =
+    → TakesAll (nothing_of texts.program parts.sites) bundles after → IsCollection after → count ≡ length (reports_in bundles)
+    → HasGathered texts (record { collection = after; reports = count })
+all-gathered texts parts bundles after count spells are takes fits counted =
     let whole = taken-whole (nothing_of texts.program parts.sites) after bundles refl takes in
     record {
       reports = reports_in bundles;
-      gathered = record { parts = parts; bundles = bundles; spells = spells; are_spelled = are; reports_are = refl; alike = whole.alike; holds = whole.held_is };
+      gathered = record { parts = parts; bundles = bundles; spells = spells; are_spelled = are; reports_are = refl; alike = whole.alike; holds = whole.held_is; fits = fits };
       count = counted;
     }
 

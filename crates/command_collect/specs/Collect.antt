@@ -17,6 +17,7 @@ use Rattle.collector.specs.declared.answers.AddFault.{AddFault}
 use Rattle.collector.specs.declared.answers.Merged.{Merged}
 use Rattle.collector.specs.declared.collection.Bundle.{Bundle}
 use Rattle.collector.specs.declared.collection.Held.{Held as Collected}
+use Rattle.collector.specs.Collecting.{IsCollection}
 use Rattle.collector.specs.Merging.{IsBundle, Merges}
 use Rattle.collector.specs.Order.{AreAlike, map_of}
 use Rattle.collector.specs.Sites.{branches_of}
@@ -76,7 +77,8 @@ AreBundles (bundle ∷ more) = IsBundle bundle × AreBundles more
 abbrev pub reports_in : List Bundle → List Report
 reports_in bundles = flat_map (λ b. b.reports) bundles
 
--- The collection holds each report in the files, each under its own run: neither their order nor their repetition nor their grouping counts.
+-- The collection holds each report in the files, each under its own run: neither their order nor their repetition nor their grouping counts. It keeps
+-- within the limits of collections.
 pub record IsGathered (texts : CollectTexts) (c : Collected) (reports : List Report) : Type 0 where
   pub parts : ProgramParts
   pub bundles : List Bundle
@@ -85,6 +87,7 @@ pub record IsGathered (texts : CollectTexts) (c : Collected) (reports : List Rep
   pub reports_are : reports ≡ reports_in bundles
   pub alike : AreAlike reports
   pub holds : c ≡ record (nothing_of texts.program parts.sites) { reports = map_of reports }
+  pub fits : IsCollection c
 
 -- The text of that collection is due. So many runs are held, and so many reports were held already.
 pub record IsCollected (held : Option Held) (c : CollectWords) (said : Done) (text : List ℕ) : Type 0 where

@@ -83,10 +83,13 @@ pub fn gather(alloc: Global, texts: &CollectTexts) -> Result<Gathered, Fault>
         return Err(Fault::Memory);
     };
     match add_all(&mut collection, bundles) {
-        Ok(()) => Ok(Gathered {
-            collection,
-            reports,
-        }),
+        Ok(()) => {
+            collection.keeps();
+            Ok(Gathered {
+                collection,
+                reports,
+            })
+        }
         Err(fault) => Err(fault),
     }
 }

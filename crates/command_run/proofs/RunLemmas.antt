@@ -14,7 +14,6 @@ use Rattle.probes.specs.Told.{AllGrewByPrefix}
 use Rattle.countdown_bank.specs.Bank.{BankState, number_after}
 use Rattle.machine.specs.Going.{HasRun, IsWanting}
 use Rattle.machine.specs.Reached.{went, seen_in}
-use Rattle.report_file.specs.Spelling.{report_text}
 use Rattle.study_runs.proofs.Adding.{length_counts}
 use Rattle.command_base.specs.Limits.{program_limit}
 use Rattle.command_base.specs.Outside.{Outside}
@@ -48,16 +47,18 @@ never-refused files p b spells is fits (inr (inr large)) = omega arith
 -- a run that ended, whose output was taken and whose report was written, from a store that still holds what was read
 pub ran-whole : {B : Type 0} (told : B → List Observation) (r : RunWords) (before after : Outside B) (files : RunFiles) (parts : ProgramParts) (bank rest : BankState) (slice : List ℕ) (ran : RunResult) (held : Option Held) →
     slice ≡ files.input → held ≡ before.held → AreLoaded before.held r files parts bank → HasRun parts slice r.turns ran bank rest told before.boxes after.boxes →
-    Takes before.out after.out ran.output → Reports r.report held after.held (report_text (report_of r files ran)) → Ran told r before after
+    Takes before.out after.out ran.output → Reports r.report held after.held (report_of r files ran) → Ran told r before after
 ran-whole told r before after files parts bank rest slice ran held same still l h took reported = record {
-  files = files;
-  parts = parts;
-  ending = h.ending;
-  run = record { bank = bank; loaded = l; ends = subst (λ i. MachineEnds parts i (number_after bank) r.turns h.ending) same h.ends };
+  is = record {
+    files = files;
+    parts = parts;
+    ending = h.ending;
+    run = record { bank = bank; loaded = l; ends = subst (λ i. MachineEnds parts i (number_after bank) r.turns h.ending) same h.ends };
+    reported = subst (λ (x : RunResult). Reports r.report before.held after.held (report_of r files x)) h.result_is
+        (subst (λ s. Reports r.report s after.held (report_of r files ran)) still reported);
+  };
   took = subst (λ (x : RunResult). Takes before.out after.out x.output) h.result_is took;
   grew = h.grew;
-  reported = subst (λ (x : RunResult). Reports r.report before.held after.held (report_text (report_of r files x))) h.result_is
-      (subst (λ s. Reports r.report s after.held (report_text (report_of r files ran))) still reported);
 }
 
 -- one of which not all was written

@@ -22,7 +22,7 @@ use Rattle.program_file.specs.WrongLine.{IsWrongAt}
 use Rattle.machine.specs.Reached.{went, seen_in}
 use Rattle.report_file.specs.declared.report.Report.{Report}
 use Rattle.report_file.specs.Label.{label_of}
-use Rattle.report_file.specs.Report.{entries_of}
+use Rattle.report_file.specs.Report.{IsReport, entries_of}
 use Rattle.report_file.specs.Spelling.{report_text}
 use Rattle.command_base.specs.declared.fault.Fault.{Fault}
 use Rattle.command_base.specs.Faults.{LeftBy}
@@ -74,10 +74,10 @@ report_of r files ran = record {
   entries = entries_of ran.counts;
 }
 
--- the text is written under the name, where one is given
-abbrev pub Reports : Option (List ℕ) → (before after : Option Held) → (text : List ℕ) → Type 0
-Reports None before after text = after ≡ before
-Reports (Some name) before after text = Replaces before after name text
+-- the report can be spelled, and its text is written under the name, where one is given
+abbrev pub Reports : Option (List ℕ) → (before after : Option Held) → Report → Type 0
+Reports None before after report = after ≡ before
+Reports (Some name) before after report = IsReport report × Replaces before after name (report_text report)
 
 -- the write met a fault: the name holds a prefix of the text or what it held
 abbrev pub ReportsPart : Option (List ℕ) → (before after : Option Held) → (text : List ℕ) → Type 0
@@ -90,15 +90,19 @@ PublishesPart r files ran out out_after held held_after =
     (TakesPrefix out out_after ran.output × (held_after ≡ held))
     ⊎ (Takes out out_after ran.output × ReportsPart r.report held held_after (report_text (report_of r files ran)))
 
--- out took the whole output of the run, each watcher was told exactly what it observed, and the report is written
-pub record Ran {B : Type 0} (told : B → List Observation) (r : RunWords) (before after : Outside B) : Type 0 where
+-- so ended the run of what the store's files spell, and its report is written
+pub record IsReported (r : RunWords) (before after : Option Held) : Type 0 where
   pub files : RunFiles
   pub parts : ProgramParts
   pub ending : Ending
-  pub run : RunOf before.held r files parts ending
-  pub took : Takes before.out after.out ending.output
-  pub grew : AllGrew told ending.seen before.boxes after.boxes
-  pub reported : Reports r.report before.held after.held (report_text (report_of r files (result_of parts.sites ending)))
+  pub run : RunOf before r files parts ending
+  pub reported : Reports r.report before after (report_of r files (result_of parts.sites ending))
+
+-- the report is written, out took the whole output of the run, and each watcher was told exactly what it observed
+pub record Ran {B : Type 0} (told : B → List Observation) (r : RunWords) (before after : Outside B) : Type 0 where
+  pub is : IsReported r before.held after.held
+  pub took : Takes before.out after.out is.ending.output
+  pub grew : AllGrew told is.ending.seen before.boxes after.boxes
 
 -- the run came to its end and each watcher was told exactly what it observed, but not all was written
 pub record StoppedWithin {B : Type 0} (told : B → List Observation) (r : RunWords) (before after : Outside B) : Type 0 where

@@ -2,7 +2,7 @@ ghost use Rattle.std.specs.Prelude.{◌≡◌, ◌≤◌, length, IfOk, OnOk, On
 ghost use Rattle.cbi_base.specs.Faults.{Rose};
 ghost use Rattle.cbi_base.specs.Sink.{Takes};
 ghost use Rattle.machine.specs.Going.{IsBounded};
-ghost use Rattle.report_file.specs.Report.{IsSummary};
+ghost use Rattle.report_file.specs.Report.{IsReport, IsSummary};
 ghost use Rattle.report_file.specs.Spelling.{report_text};
 ghost use Rattle.command_base.specs.Faults.{WriteFaultOf, Caused};
 ghost use Rattle.command_base.specs.Outside.{AllStayBut};
@@ -52,7 +52,8 @@ fn text_of(
     requires run { 1 ≤ words.now.run }
     requires bounded { IsBounded ran.now }
     requires few { length ran.now.counts ≤ 65536 }
-    ensures { IfOk result (λ text. text.items ≡ report_text (report_of words.now files.now ran.now)) }
+    ensures is { IfOk result (λ text. text.items ≡ report_text (report_of words.now files.now ran.now)) }
+    ensures spelled { OnOk result (IsReport (report_of words.now files.now ran.now)) }
 {
     let program = program_id(files.program.as_slice());
     let label = label_of(ran.outcome, agrees(&files.expect, ran.output.as_slice()));
@@ -74,7 +75,7 @@ pub fn publish<S: Store, O: Sink>(
     requires bounded { IsBounded ran.now }
     requires few { length ran.now.counts ≤ 65536 }
     ensures took { OnOk result (Takes (O.taken out.old) (O.taken out.new) ran.now.output) }
-    ensures reported { OnOk result (Reports words.now.report (S.holds store.old) (S.holds store.new) (report_text (report_of words.now files.now ran.now))) }
+    ensures reported { OnOk result (Reports words.now.report (S.holds store.old) (S.holds store.new) (report_of words.now files.now ran.now)) }
     ensures fault { IfErr result (λ e. Caused e (λ n. ⊥)
         (WriteFaultOf words.now.report (Rose (O.faults out.old) (O.faults out.new)) (Rose (S.write_faults store.old) (S.write_faults store.new))) (λ r. ⊥)) }
     ensures part { OnErr result (PublishesPart words.now files.now ran.now (O.taken out.old) (O.taken out.new) (S.holds store.old) (S.holds store.new)) }

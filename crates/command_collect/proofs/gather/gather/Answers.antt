@@ -29,7 +29,7 @@ returns-in-Ok-add_all-clause-gathered c =
     (subst (λ files. AreSpelled files c.in-Ok-read_all.bundles) c.as_slice-2.ensures c.in-Ok-read_all.ensures.spelled)
     (begun-takes c.args.texts.now c.in-Ok.program c.in-Ok-read_all.bundles c.program_id-id.result _ c.in-Ok-new.collection c.add_all.new.collection c.in-Ok-new.ensures
     (subst (λ bytes. c.program_id-id.result.bytes ≡ sha256 bytes) c.as_slice-4.ensures c.program_id-id.ensures) (ap (λ (t : TableParts). t.sites) c.table.ensures.value) c.in-Ok-add_all.ensures.taken)
-    (c.count-reports.ensures ∙ ap (λ bundles. length (reports_in bundles)) c.as_slice-3.ensures)
+    c.keeps.ensures (c.count-reports.ensures ∙ ap (λ bundles. length (reports_in bundles)) c.as_slice-3.ensures)
 
 pub returns-in-Ok-add_all-clause-refused : goal.returns-in-Ok-add_all-clause-refused
 returns-in-Ok-add_all-clause-refused c =
