@@ -3,4 +3,4 @@
 
 mod laws;
 
-pub use laws::{additions_are_ranked, one_text};
+pub use laws::{additions_are_ranked, additions_print_their_map, one_text};
