@@ -1,4 +1,15 @@
+pub mod AsMeant
 pub mod Chaining
+pub mod Farming
+pub mod Firsts
+pub mod HeadlineEdits
+pub mod HeadlineMeant
+pub mod HeadlineRuns
+pub mod HeadlineSession
+pub mod HeadlineTexts
+pub mod NoneRefused
+pub mod Numbered
 pub mod Ranking
+pub mod Stopping
 pub mod Studies
 pub mod Widened

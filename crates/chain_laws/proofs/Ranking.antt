@@ -59,12 +59,17 @@ as-meant made tree known by p outcome output seen sites_are outcome_is output_is
 
 module _ (one_ending : OneEnding) (one_program : OneProgram) (one_tree : OneTree) (one_known : OneKnown) (text file : List ℕ) (by : Plan) (p : ProgramParts) (compiled : IsCompiled text by p) (spells : SpellsProgram file p)
     (tree : SourceTree) (known : Walk) (accepted : IsAccepted text tree known) where
-  run-means : (made : Made) (report : Report) → IsReportOf file made report → labelled report ≡ meant_run tree known by made
-  run-means made report is =
+  -- the run of a report goes as the text means it
+  pub run-goes : (made : Made) (report : Report) (is : IsReportOf file made report) → GoesAsMeant tree known by made.files.input (number_after made.bank) made.words.turns is.parts is.ending
+  run-goes made report is =
       let same : p ≡ is.parts = one_program file p is.parts spells (subst (λ bytes. SpellsProgram bytes is.parts) is.program_is is.spells) in
       let runs = runs-as-meant one_ending made.files.input (number_after made.bank) made.words.turns one_tree one_known text by is.parts is.ending
       (subst (IsCompiled text by) same compiled) (bank-positive made.bank is.bank_is.numbers) is.ends in
-      let goes : GoesAsMeant tree known by made.files.input (number_after made.bank) made.words.turns is.parts is.ending = runs.only tree known accepted in
+      runs.only tree known accepted
+
+  pub run-means : (made : Made) (report : Report) → IsReportOf file made report → labelled report ≡ meant_run tree known by made
+  run-means made report is =
+      let goes = run-goes made report is in
       ap labelled is.report_is
       ∙ as-meant made tree known by is.parts is.ending.outcome is.ending.output is.ending.seen goes.sites goes.goes.outcome goes.goes.output goes.goes.seen_is
 
@@ -75,11 +80,16 @@ module _ (one_ending : OneEnding) (one_program : OneProgram) (one_tree : OneTree
   runs-mean (one ∷ made) (report ∷ reports) are =
       ap (λ run. run ∷ runs_of reports) (run-means one report are.0) ∙ ap (λ runs. meant_run tree known by one ∷ runs) (runs-mean made reports are.1)
 
-  pub ranks-meaning : (made : List Made) (reports : List Report) (policy : Policy) (q : ProgramParts) (ranking : List ℕ) → SpellsProgram file q → AreReportsOf file made reports
-      → IsRankingOf (table_of q) policy (runs_of reports) ranking → IsRankingOf (meant_table tree known by) policy (map (meant_run tree known by) made) ranking
-  ranks-meaning made reports policy q ranking also are ranked =
+  -- the table of each program that the file spells is that of the text
+  pub table-means : (q : ProgramParts) → SpellsProgram file q → table_of q ≡ meant_table tree known by
+  table-means q also =
       let same : p ≡ q = one_program file p q spells also in
       let whole = moved one_tree one_known text (λ t w. ((table_of q).functions ≡ functions_of t) × DoesPlan by t w q) compiled.tree tree compiled.known known compiled.accepted accepted
       (subst (λ x. ((table_of x).functions ≡ functions_of compiled.tree) × DoesPlan by compiled.tree compiled.known x) same (compiled.names, compiled.does)) in
-      subst (λ t. IsRankingOf t policy (map (meant_run tree known by) made) ranking) (has-table text by tree known q whole.0 whole.1)
+      has-table text by tree known q whole.0 whole.1
+
+  pub ranks-meaning : (made : List Made) (reports : List Report) (policy : Policy) (q : ProgramParts) (ranking : List ℕ) → SpellsProgram file q → AreReportsOf file made reports
+      → IsRankingOf (table_of q) policy (runs_of reports) ranking → IsRankingOf (meant_table tree known by) policy (map (meant_run tree known by) made) ranking
+  ranks-meaning made reports policy q ranking also are ranked =
+      subst (λ t. IsRankingOf t policy (map (meant_run tree known by) made) ranking) (table-means q also)
       (subst (λ runs. IsRankingOf (table_of q) policy runs ranking) (runs-mean made reports are) ranked)

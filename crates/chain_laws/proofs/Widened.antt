@@ -42,7 +42,7 @@ unfolding sha256
 are-bytes text = digest-bytes _ 8
 
 -- so it is an identity
-is-id : (text : List ℕ) → IsId (record { bytes = sha256 text })
+pub is-id : (text : List ℕ) → IsId (record { bytes = sha256 text })
 is-id text = record { long = length-sha256 text; are_bytes = are-bytes text }
 
 is-text : (text : List ℕ) (b : Bundle) → SpellsBundle text b → IsText b

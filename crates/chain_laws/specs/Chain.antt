@@ -1,6 +1,8 @@
 -- The commands one after another, over the texts that each hands to the next: a written program, runs of it, and what the compiled text means of them.
 use Rattle.std.specs.Prelude.{◌≡◌, ℕ, suc, List, [], ◌∷◌, None}
+use Rattle.sha2.specs.Sha256.{sha256}
 use Rattle.cbi_base.specs.declared.observation.Observation.{Observation}
+use Rattle.cbi_base.specs.declared.outcome.Work.{Work}
 use Rattle.c_syntax.specs.ItemTree.{SourceTree}
 use Rattle.c_types_expressions.specs.declared.walk.Walk.{Walk}
 use Rattle.c_meaning.specs.Runs.{Behaviour}
@@ -93,6 +95,17 @@ meant_run tree known plan made = record {
       (agrees made.files.expect (meant tree known plan made.files.input made.words.turns).output);
   entries = entries_of (counts_of (meant_sites tree known plan)
       (looked_at plan (number_after made.bank) (meant tree known plan made.files.input made.words.turns).seen));
+}
+
+-- the report of a run as the text means it, whatever its work is said to be
+abbrev pub meant_report : SourceTree → Walk → Plan → (file : List ℕ) → Work → Made → Report
+meant_report tree known plan file work made = record {
+  program = record { bytes = sha256 file };
+  run = made.words.run;
+  outcome = (meant tree known plan made.files.input made.words.turns).outcome;
+  label = (meant_run tree known plan made).label;
+  work = work;
+  entries = (meant_run tree known plan made).entries;
 }
 
 -- the run is the one that a study makes for this number: its bank and its line, within the study's turns, and no output is asked for

@@ -1,10 +1,22 @@
-//! Laws of the commands one after another: a written program runs as its text means, a ranking of its runs is that of their meanings, a study is the
-//! chain of the others, and a widened collection is one of the whole program.
+//! Laws of the commands one after another: the headline, from a C text to the ranking of its runs; a written program runs as its text means, a ranking of
+//! its runs is that of their meanings, a study is the chain of the others, and a widened collection is one of the whole program; a farm's ranking is the
+//! elimination of its runs, and nothing on the way is refused.
 #![tactic(auto)]
 
+mod farm;
+mod headline;
 mod laws;
+mod running;
+mod unrefused;
 
+pub use farm::a_farm_is_the_elimination;
+pub use headline::{
+    a_session_is_the_headline, cards_are_of_meant_runs, collections_hold_their_runs,
+    pairs_are_of_meant_runs, the_commands_are_the_headline,
+};
 pub use laws::{
     a_ranking_of_runs_is_the_elimination, a_study_is_its_chain,
     a_widened_collection_is_of_the_whole, written_programs_run_as_the_text_means,
 };
+pub use running::a_written_file_runs_as_the_text_means;
+pub use unrefused::nothing_on_the_way_is_refused;
