@@ -1,0 +1,5 @@
+mod Walking
+mod Reports
+mod Collections
+mod Edits
+mod Banks

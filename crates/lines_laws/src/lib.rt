@@ -1,0 +1,6 @@
+//! Laws: a text of lines is spelled exactly where it goes wrong at no line, for reports, collections, lists of edits and banks.
+#![tactic(auto)]
+
+mod laws;
+
+pub use laws::{banks_are_lines, collections_are_lines, edits_are_lines, reports_are_lines};
