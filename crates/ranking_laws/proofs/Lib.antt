@@ -1,0 +1,7 @@
+mod Leaders
+mod NearLists
+mod CardTexts
+mod Firsts
+mod CandidateLists
+mod Skips
+mod BestPairs
