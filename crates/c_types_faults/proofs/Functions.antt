@@ -57,7 +57,7 @@ use Rattle.c_types_faults.proofs.Variables.{Moves, joined, moves_then, object_mo
 
 -- what a name was declared as before
 
-abbrev KnownIs : FunctionType → Option Meaning → Option Entity → Option ℕ → Type 0
+abbrev pub KnownIs : FunctionType → Option Meaning → Option Entity → Option ℕ → Type 0
 KnownIs f m x None = x ≡ Some (Function f) → ⊥
 KnownIs f m x (Some j) = (x ≡ Some (Function f)) × (m ≡ Some (meaning.Function j))
 
@@ -84,7 +84,7 @@ typed_function_is f g j None o h k = absurd h
 typed_function_is f g j (Some y) o h k =
     subst (λ z. KnownIs f (Some (meaning.Function j)) (Some (Function z)) o) h (known_function (same_function y.ctype f) f y.ctype j o refl k)
 
-known_by : (f : FunctionType) (m : Option Meaning) (x : Option Entity) (w : Walk) (o : Option ℕ) → Denotes w.declared_types w.functions m x
+pub known_by : (f : FunctionType) (m : Option Meaning) (x : Option Entity) (w : Walk) (o : Option ℕ) → Denotes w.declared_types w.functions m x
     → known_as f m w ≡ o → KnownIs f m x o
 known_by f None None w o h k = not_known f None None o k (λ q. cc)
 known_by f None (Some x) w o h k = absurd h
@@ -120,7 +120,7 @@ formal_within : (o : Option (List ℕ)) (t : TypeTree) (c : Context) → IsWithi
 formal_within None t c = refl
 formal_within (Some name) t c = refl
 
-params_know : (ps : List Parameter) (c : Context) (w : Walk) → Knows c (shown w) → Knows (with_formals (map formal_of ps) c) (shown (with_params ps w))
+pub params_know : (ps : List Parameter) (c : Context) (w : Walk) → Knows c (shown w) → Knows (with_formals (map formal_of ps) c) (shown (with_params ps w))
 params_know [] c w k = k
 params_know (p ∷ ps) c w k =
     params_know ps (with_formal p.name p.ctype c) (with_param p.token p.name p.ctype w) (param_knows p.token p.name p.ctype c w k)
@@ -139,11 +139,11 @@ formals_within (f ∷ fs) c =
 
 -- the name of a function
 
-abbrev next_of : List ℕ → FunctionType → Option ℕ → Context → Context
+abbrev pub next_of : List ℕ → FunctionType → Option ℕ → Context → Context
 next_of name f (Some j) c = c
 next_of name f None c = declare name (Function f) c
 
-named_knows : (name : List ℕ) (f : FunctionType) (o : Option ℕ) (c : Context) (w : Walk) → Knows c (shown w)
+pub named_knows : (name : List ℕ) (f : FunctionType) (o : Option ℕ) (c : Context) (w : Walk) → Knows c (shown w)
     → Knows (next_of name f o c) (shown (with_function name f o w))
 named_knows name f (Some j) c w k = k
 named_knows name f None c w k =

@@ -75,7 +75,7 @@ variable_keeps : (global : Bool) (base : TypeTree) (x : StartTree) (c after : Co
 variable_keeps global base x c after (new, (t, (u, h))) =
     let k = counting_keeps global (cells_of c.structs u) c in (ap (λ (d : Context). d.outer) h.4 ∙ k.0, ap (λ (d : Context). d.defined) h.4 ∙ k.1)
 
-variables_keep : (global : Bool) (base : TypeTree) (xs : List StartTree) (c after : Context) → VariablesGive global base c xs after
+pub variables_keep : (global : Bool) (base : TypeTree) (xs : List StartTree) (c after : Context) → VariablesGive global base c xs after
     → (after.outer ≡ c.outer) × (after.defined ≡ c.defined)
 variables_keep global base [] c after h = (ap (λ (d : Context). d.outer) h, ap (λ (d : Context). d.defined) h)
 variables_keep global base (x ∷ xs) c after (next, h) =
@@ -114,7 +114,7 @@ pushed_places {names = names} ps k = record {
   own = pushed_own ps names k.own;
 }
 
-behind_files : {c : Context} (after : Context) (w v : Walk) → after.outer ≡ c.outer → after.defined ≡ c.defined → Files c (shown w) → Behind after w v
+pub behind_files : {c : Context} (after : Context) (w v : Walk) → after.outer ≡ c.outer → after.defined ≡ c.defined → Files c (shown w) → Behind after w v
     → Files after (shown v)
 behind_files {c = c} after w v outer defined k b = record {
   knows = b.knows;
@@ -132,7 +132,7 @@ behind_files {c = c} after w v outer defined k b = record {
 
 -- functions
 
-types_same : (ps : List Parameter) → types_of ps ≡ map type_of (map formal_of ps)
+pub types_same : (ps : List Parameter) → types_of ps ≡ map type_of (map formal_of ps)
 types_same [] = refl
 types_same (p ∷ ps) = ap (λ ts. p.ctype ∷ ts) (types_same ps)
 
@@ -141,7 +141,7 @@ made t ts = record { gives = t; params = ts }
 
 -- an item
 
-abbrev ItemTold : Context → ItemTree → Walk → Done → Walk → Type 0
+abbrev pub ItemTold : Context → ItemTree → Walk → Done → Walk → Type 0
 ItemTold c x w d v = ((after : Context) × (ItemGives c x after × Files after (shown v))) × Notes (item_events x) w v
 
 -- what declares no function and calls none
@@ -166,7 +166,7 @@ function_notes token b stars name ps (Some body) w v n = record {
   grows = n.grows;
 }
 
-item_tells : (x : ItemTree) (c : Context) (w : Walk) → Files c (shown w) → Tells (walk_item x w) (ItemTold c x w) (ItemBreaks c x)
+pub item_tells : (x : ItemTree) (c : Context) (w : Walk) → Files c (shown w) → Tells (walk_item x w) (ItemTold c x w) (ItemBreaks c x)
 item_tells (i.Struct token tag members) c w k = weaker (struct_tells token tag members c w k.knows) (λ j at h. h) (λ d v p.
     let s = struct_keeps tag members c p.0 p.1.0 in (
       (p.0, (p.1.0, structured_files p.0 w v s.0 s.1 k p.1.1)),

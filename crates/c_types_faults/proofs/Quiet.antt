@@ -114,7 +114,7 @@ completes_elements k global ss (Struct tag) None u h o q b = q
 -- variables
 
 module _ (global : Bool) (base : TypeTree) where
-  variable_one : (x : StartTree) (c a b : Context) → VariableGives global base c x a → VariableGives global base c x b → a ≡ b
+  pub variable_one : (x : StartTree) (c a b : Context) → VariableGives global base c x a → VariableGives global base c x b → a ≡ b
   variable_one x c a b (new, (t, (u, h))) (new2, (t2, (u2, g))) =
       let is : t2 ≡ t = one_type x.declarator base t2 t g.0 h.0 in
       let same : u ≡ u2 = completes_one (known (declare x.declarator.name (Object t) c)) global t x.initial u u2 h.1
@@ -172,7 +172,7 @@ no_print : (x : Option Entity) (xs : List Operand) (t : TypeTree) → x ≡ Some
 no_print x xs t e h = subst (λ z. Calls z xs t) e h
 
 module _ (k : Known) where
-  whole_one : (x : ExprTree) (a b : Operand) → IsWhole k x a → IsWhole k x b → a ≡ b
+  pub whole_one : (x : ExprTree) (a b : Operand) → IsWhole k x a → IsWhole k x b → a ≡ b
   whole_one (e.Call token name arguments) a b (inl h) (inl g) = one_operand k (e.Call token name arguments) a b h g
   whole_one (e.Call token name arguments) a b (inl (xs, h)) (inr g) = absurd (no_print (k.ordinary name) xs a.ctype g.0 h.1.0)
   whole_one (e.Call token name arguments) a b (inr h) (inl (xs, g)) = absurd (no_print (k.ordinary name) xs b.ctype h.0 g.1.0)

@@ -110,7 +110,7 @@ module _ (c : Context) (body : Bool) where
 
 -- functions
 
-names_one : (name : List ℕ) (f : FunctionType) (c a b : Context) → Names name f c a → Names name f c b → a ≡ b
+pub names_one : (name : List ℕ) (f : FunctionType) (c a b : Context) → Names name f c a → Names name f c b → a ≡ b
 names_one name f c a b (inl h) (inl g) = h.1 ∙ sym g.1
 names_one name f c a b (inl h) (inr g) = absurd (g.0 h.0)
 names_one name f c a b (inr h) (inl g) = absurd (h.0 g.0)
@@ -119,17 +119,17 @@ names_one name f c a b (inr h) (inr g) = h.1 ∙ sym g.1
 abbrev made : TypeTree → List Formal → FunctionType
 made t fs = record { gives = t; params = map type_of fs }
 
-formals_one : (b : Base) (stars : ℕ) (body : Bool) (ps : List Param) (c : Context) (f g : FunctionType) (fs gs : List Formal)
+pub formals_one : (b : Base) (stars : ℕ) (body : Bool) (ps : List Param) (c : Context) (f g : FunctionType) (fs gs : List Formal)
     → PrototypeGives b stars body ps c f fs → PrototypeGives b stars body ps c g gs → fs ≡ gs
 formals_one b stars body ps c f g fs gs (base, h) (base2, k) = params_one c body ps [] fs gs h.1 k.1
 
-prototype_one : (b : Base) (stars : ℕ) (body : Bool) (ps : List Param) (c : Context) (f g : FunctionType) (fs gs : List Formal)
+pub prototype_one : (b : Base) (stars : ℕ) (body : Bool) (ps : List Param) (c : Context) (f g : FunctionType) (fs gs : List Formal)
     → PrototypeGives b stars body ps c f fs → PrototypeGives b stars body ps c g gs → f ≡ g
 prototype_one b stars body ps c f g fs gs (base, h) (base2, k) =
     h.2 ∙ ap (λ z. made (with_stars stars z) fs) (one_base (known c) b base base2 h.0 k.0)
     ∙ ap (made (with_stars stars base2)) (params_one c body ps [] fs gs h.1 k.1) ∙ sym k.2
 
-function_one : (name : List ℕ) (f : FunctionType) (formals : List Formal) (body : Option EntryList) (c a b : Context)
+pub function_one : (name : List ℕ) (f : FunctionType) (formals : List Formal) (body : Option EntryList) (c a b : Context)
     → FunctionGives name f formals body c a → FunctionGives name f formals body c b → a ≡ b
 function_one name f formals None c a b h g = names_one name f c a b h.1 g.1
 function_one name f formals (Some body) c a b (x, y, (n, h)) (u, v, (m, g)) =
@@ -151,7 +151,7 @@ function_silent token name f formals (Some body) c a j at (x, y, (n, h)) (inr (q
 
 -- items
 
-item_one : (x : ItemTree) (c a b : Context) → ItemGives c x a → ItemGives c x b → a ≡ b
+pub item_one : (x : ItemTree) (c a b : Context) → ItemGives c x a → ItemGives c x b → a ≡ b
 item_one (i.Struct token tag members) c a b h g = struct_one tag members c a b h g
 item_one (i.Function token base stars name ps body) c a b (f, (fs, h)) (g, (gs, k)) =
     function_one name f fs body c a b h.1

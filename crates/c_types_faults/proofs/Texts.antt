@@ -39,7 +39,7 @@ use Rattle.c_types_faults.proofs.Items.{items_tell, defined_as_listed}
 use Rattle.c_types_faults.proofs.Knowing.{Matches}
 use Rattle.c_types_faults.proofs.Telling.{Tells, and_then, shown, told_fault, told_fine}
 
-begins : (n : ℕ) → Files nothing (shown (beginning n))
+pub begins : (n : ℕ) → Files nothing (shown (beginning n))
 begins n = record {
   knows = record { names = tt; tags = tt; structs = refl; count = refl; cells = refl };
   outer = refl;

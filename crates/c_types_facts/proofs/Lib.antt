@@ -1,0 +1,9 @@
+mod Logs
+mod Exprs
+mod Growing
+mod Variables
+mod Statements
+mod Filing
+mod Items
+mod Texts
+mod Forced

@@ -1,0 +1,79 @@
+-- What is noted of a text is what its declarations say: the types of its expressions and variables, and the signatures of its functions (C99 6.7, 6.9).
+use Rattle.std.specs.Prelude.{◌≡◌, ℕ, ◌+◌, true, List, [], ◌∷◌, ◌++◌, length, map, Option, Some, None, option_and_then, option_map, slice_get, is_some, ◌<◌}
+use Rattle.c_syntax.specs.declared.parts.Param.{Param}
+use Rattle.c_syntax.specs.declared.parts.ParamName.{ParamName}
+use Rattle.c_syntax.specs.StatementTree.{EntryList}
+use Rattle.c_syntax.specs.ItemTree as i
+use Rattle.c_syntax.specs.ItemTree.{ItemTree, SourceTree}
+use Rattle.c_rules.specs.declared.function.FunctionType.{FunctionType}
+use Rattle.c_rules.specs.declared.layout.StructType.{StructType}
+use Rattle.c_rules.specs.Sizes.{cells_of}
+use Rattle.c_rules.specs.TypeTree.{TypeTree}
+use Rattle.c_types_expressions.specs.declared.walk.Walk.{Walk}
+use Rattle.c_types_walk.specs.ItemWalk.{listed}
+use Rattle.c_meaning.specs.Facts.{Signature}
+use Rattle.c_meaning.specs.Known.{signature_of, value_type}
+use Rattle.sites.specs.Table.{defined_by, functions_of}
+use Rattle.c_types.specs.Answers.{type_at}
+use Rattle.c_types_notes.specs.Events.{construct_at, events_of}
+use Rattle.c_types_faults.specs.Context.{Context, inner, nothing}
+use Rattle.c_types_faults.specs.Functions.{Formal, FunctionGives, Names, PrototypeGives, with_formals}
+use Rattle.c_types_faults.specs.Items.{ItemGives}
+use Rattle.c_types_facts.specs.Statements.{DeclarationTyped, EntriesTyped, Typed}
+
+abbrev pub type_of : Typed → TypeTree
+type_of v = v.of
+
+abbrev pub token_of : Typed → ℕ
+token_of v = v.token
+
+-- a parameter with a name is a variable of its type
+abbrev pub named : Option ParamName → TypeTree → List Typed
+named None of = []
+named (Some n) of = record { token = n.token; of = of } ∷ []
+
+abbrev pub parameters : List Param → List Formal → List Typed
+parameters (p ∷ ps) (f ∷ fs) = named p.name f.of ++ parameters ps fs
+parameters ps fs = []
+
+-- of a function of this type, with these variables, the parameters first
+abbrev pub signature : List StructType → FunctionType → List Typed → Signature
+signature structs f own = record {
+  params = map (value_type structs) f.params;
+  result = value_type structs f.gives;
+  locals = map (cells_of structs) (map type_of own);
+}
+
+module _ (w : Walk) where
+  -- the parameters and the body of the definition with this number
+  abbrev pub BodyTyped : ℕ → List ℕ → List Param → FunctionType → List Formal → EntryList → Context → List Typed → Type 0
+  BodyTyped number name ps f formals body c own = (next : Context) × (Names name f c next × ((locals : List Typed)
+      × (EntriesTyped w (with_formals formals (inner next)) body locals × ((own ≡ parameters ps formals ++ locals)
+      × (signature_of w (slice_get w.definitions number) ≡ Some (signature w.structs f own))))))
+
+  abbrev pub ItemTyped : ℕ → Context → ItemTree → Context → List Typed → Type 0
+  ItemTyped number c (i.Function token b stars name ps (Some body)) after own = (f : FunctionType) × ((formals : List Formal)
+      × (PrototypeGives b stars true (listed ps) c f formals × (FunctionGives name f formals (Some body) c after
+      × BodyTyped number name (listed ps) f formals body c own)))
+  ItemTyped number c (i.Declaration d) after own = DeclarationTyped w true c d after own
+  ItemTyped number c x after own = ItemGives c x after × (own ≡ [])
+
+  -- of which the first definition has this number
+  abbrev pub ItemsTyped : ℕ → Context → List ItemTree → Context → List Typed → Type 0
+  ItemsTyped number c [] after own = (after ≡ c) × (own ≡ [])
+  ItemsTyped number c (x ∷ xs) after own = (next : Context) × ((a : List Typed) × ((b : List Typed) × (ItemTyped number c x next a
+      × (ItemsTyped (number + length (defined_by x)) next xs after b × (own ≡ a ++ b)))))
+
+-- Behind `nothing` the items declare these variables, the types noted are those of the declarations, and the structs are those that are defined.
+abbrev pub TextTyped : Walk → SourceTree → List Typed → Type 0
+TextTyped w t own = (c : Context) × (ItemsTyped w 0 nothing t.items c own × (w.structs ≡ c.structs))
+
+-- the type of the variable at the place, if there is one
+abbrev pub type_in : List Typed → Option ℕ → Option TypeTree
+type_in own place = option_and_then (λ p. option_map type_of (slice_get own p)) place
+
+-- Two notes agree: on the variables, the structs, the types of expressions, and the signatures of the functions that are defined.
+abbrev pub AreAlike : SourceTree → Walk → Walk → List Typed → List Typed → Type 0
+AreAlike t w v a b = (a ≡ b) × (w.structs ≡ v.structs)
+    × ((token : ℕ) → is_some (construct_at token (events_of t)) ≡ true → type_at w token ≡ type_at v token)
+    × ((number : ℕ) → number < length (functions_of t) → signature_of w (slice_get w.definitions number) ≡ signature_of v (slice_get v.definitions number))
