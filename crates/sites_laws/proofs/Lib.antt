@@ -1,3 +1,6 @@
 pub mod Partners
 pub mod Standing
 pub mod Told
+mod Constructs
+mod Leaving
+mod Ordered

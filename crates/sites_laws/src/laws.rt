@@ -1,6 +1,8 @@
-ghost use Rattle.std.specs.Prelude.{◌≡◌, ℕ, ℤ, true, List, ◌++◌, map};
+ghost use Rattle.std.specs.Prelude.{◌≡◌, ℕ, ℤ, ◌+◌, true, List, ◌++◌, length, map};
 ghost use Rattle.std.specs.List.{AllByRecursion};
-ghost use Rattle.c_syntax.specs.ItemTree.{SourceTree};
+ghost use Rattle.c_syntax.specs.ItemTree.{ItemTree, SourceTree};
+ghost use Rattle.c_syntax.specs.Place.{ItemAt};
+ghost use Rattle.c_syntax.specs.Spelling.{item_kinds};
 ghost use Rattle.c_syntax.specs.WellFormed.{IsShaped};
 ghost use Rattle.c_rules.specs.TypeTree.{TypeTree};
 ghost use Rattle.c_types.specs.Fault.{walk_tree};
@@ -10,6 +12,8 @@ ghost use Rattle.c_types_notes.specs.Events.{is_point};
 ghost use Rattle.c_types_notes.specs.Scopes.{scopes_of};
 ghost use Rattle.flow.specs.declared.site.Partner.TheVariants as partner;
 ghost use Rattle.sites.specs.SitesAt.{partners_of};
+ghost use Rattle.sites.specs.Standing.{item_spots};
+ghost use Rattle.sites_laws.specs.Constructs.{AreAll, AreMadeBy, SpotsRise, body_events, item_constructs, numbers_in, values_in};
 ghost use Rattle.sites_laws.specs.Partners.{partners_in};
 ghost use Rattle.sites_laws.specs.Told.{ItemTold};
 
@@ -25,4 +29,16 @@ pub fn partners_are_in_scope()
 /// value of a variable that holds a number one for each that it is compared with.
 pub fn sites_are_where_the_tree_says()
     ensures { (t : SourceTree) (known : Walk) → IsShaped t → walk_tree t ≡ Fine tt known → (number : ℕ) → AllByRecursion (ItemTold t known number) t.items }
+{}
+
+/// What a function's body holds for sites is what the constructs make that are evaluated in it, each of them once: a branch at
+/// each `if`, `while`, `do`, `?`, `&&` and `||` and at each `for` with a condition, a call at each call, a new value at each
+/// assignment, `++` and `--` of a variable's name and at the `=` of a variable that begins with a value, and each constant. Their
+/// tokens never fall and are the function's, and the constants come from left to right. No expression is left out: each own token
+/// that the events of the body list is that of one construct, or stands in the operand of a `sizeof`.
+pub fn spots_are_those_of_constructs()
+    ensures made { (x : ItemTree) → AreMadeBy (item_constructs x) (item_spots x) }
+    ensures constants { (x : ItemTree) → values_in (item_spots x) ≡ numbers_in (item_constructs x) }
+    ensures whole { (x : ItemTree) → AreAll (item_constructs x) (body_events x) }
+    ensures rise { (x : ItemTree) (at : ℕ) → ItemAt at x → SpotsRise at (at + length (item_kinds x)) (item_spots x) }
 {}
