@@ -38,7 +38,7 @@ never_null : (compound : Sign) (of : Option ValueType) (x : ExprTree) → is_nul
 never_null sign.PlusEqual of x = refl
 never_null compound of x = refl
 
-never_both : (b : Bool) → (b && false) ≡ false
+pub never_both : (b : Bool) → (b && false) ≡ false
 never_both true = refl
 never_both false = refl
 

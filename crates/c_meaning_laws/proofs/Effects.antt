@@ -56,7 +56,7 @@ cast_goes b (Some type.Void) m h w = absurd h
 cast_goes b (Some type.Struct) m h w = absurd h
 cast_goes b None m h w = absurd h
 
-arm_goes : (b : Bool) (have of : Option ValueType) (m : Sense) (w : World) → IsValue of → arm_effect b have of m w ≡ done (arm_value b have of m w)
+pub arm_goes : (b : Bool) (have of : Option ValueType) (m : Sense) (w : World) → IsValue of → arm_effect b have of m w ≡ done (arm_value b have of m w)
 arm_goes b have (Some (type.Number kind)) m w h = refl
 arm_goes b have (Some (type.Pointer size)) m w h = refl
 arm_goes b have (Some (type.Array size)) m w h = refl
@@ -91,7 +91,7 @@ module _ (s : Setting) (room : ℕ) where
   prefix_goes token prefix.Not of cells m h w = refl
   prefix_goes token prefix.SizeOf of cells m h w = size_goes cells w
 
-  conditional_goes : (token : ℕ) (c : Sense) (first second : World → Out Scalar) (act other : World → Done)
+  pub conditional_goes : (token : ℕ) (c : Sense) (first second : World → Out Scalar) (act other : World → Done)
       → ((w : World) → act w ≡ done (first w)) → ((w : World) → other w ≡ done (second w)) → LetsGo (conditional s token c first second act other)
   conditional_goes token c first second act other h k w =
       bind_behind (c.value w) _ _ (λ _. nothing) (λ v u.

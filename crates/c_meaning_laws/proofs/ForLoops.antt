@@ -1,13 +1,17 @@
 -- A `for` goes round as its `while` does.
-use Rattle.std.proofs.Common.{◌≡◌, ℕ, zero, suc, Bool, true, false, refl}
-use Rattle.c_syntax.specs.ExprTree.{ExprTree}
-use Rattle.c_syntax.specs.StatementTree.{StatementTree}
-use Rattle.c_meaning.specs.declared.value_type.ValueType.{ValueType}
+use Rattle.std.proofs.Common.{◌≡◌, ℕ, zero, suc, pos, Bool, true, false, Option, None, Some, refl, ap, sym}
+use Rattle.std.proofs.Math.Path.{fun_ext}
+use Rattle.cbi_base.specs.declared.scalar.Kind.TheVariants.{Int}
+use Rattle.cbi_base.specs.declared.scalar.Scalar.TheVariants.{Number}
+use Rattle.c_syntax.specs.StatementTree as tree
 use Rattle.c_meaning.specs.Facts.{Setting}
+use Rattle.c_meaning.specs.Initialisers.{declares}
 use Rattle.c_meaning.specs.Meaning.{condition, expr}
-use Rattle.c_meaning.specs.Statements.{after_body, after_entry, exec, for_round, rounds, while_round}
+use Rattle.c_meaning.specs.Statements.{after_body, after_entry, exec, for_round, for_started, optional_condition, optional_effect, rounds, while_round}
+use Rattle.c_meaning.specs.Visits.{listed, truth, visited}
 use Rattle.c_meaning.specs.World.{World, Out, Go, Stop, Done, Flow, Next, Broken, Continued, Returned, bind, choose, spend}
-use Rattle.c_meaning_laws.specs.Rounds.{ForIsWhile, with_step}
+use Rattle.c_meaning_laws.specs.Constants.{one_at}
+use Rattle.c_meaning_laws.specs.Rounds.{ForIsWhile, ForStartsBefore, ForWithoutStepIsWhile, MissingConditionIsTrue}
 
 -- the third part, and what comes again
 after_step : (again other : World → Out Flow) → ((u : World) → again u ≡ other u) → (out : Done) →
@@ -47,3 +51,41 @@ module _ (test : World → Out Bool) (body : World → Out Flow) (step : World �
 
 pub loops : ForIsWhile
 loops s n result token block c step body w none = same_rounds (condition s token c) (exec s n result body) (expr s step).effect none n w
+
+-- a missing condition, and a condition that is 1 and has no site
+missing_test : (s : Setting) (token one : ℕ) (w : World) → s.sites.branch_at token ≡ None
+    → optional_condition s token None w ≡ optional_condition s token (Some (one_at one)) w
+missing_test s token one w bare = ap (λ (at : Option ℕ). bind (visited s (listed at) (Number Int (pos 1)) w) truth) (sym bare)
+
+pub missing_condition_is_true : MissingConditionIsTrue
+missing_condition_is_true s n result token one start step body w bare =
+    ap (λ test. bind (for_started s start w) (λ _. rounds n (for_round test (exec s n result body) (optional_effect s step))))
+    (fun_ext (λ u. missing_test s token one u bare))
+
+pub for_without_step_is_while : ForWithoutStepIsWhile
+for_without_step_is_while s n result token c body w = refl
+
+last_entry : (out : Out Flow) → out ≡ bind out (after_entry (Go Next))
+last_entry (Go Next w) = refl
+last_entry (Go Broken w) = refl
+last_entry (Go Continued w) = refl
+last_entry (Go (Returned v) w) = refl
+last_entry (Stop outcome w) = refl
+
+-- what is started, and then the last entry
+started_last : (out : Done) (loop : World → Out Flow) → bind out (λ _. loop) ≡ bind out (λ _ u. bind (loop u) (after_entry (Go Next)))
+started_last (Go x w) loop = last_entry (loop w)
+started_last (Stop outcome w) loop = refl
+
+stated_last : (out : Done) (loop : World → Out Flow)
+    → bind out (λ _. loop) ≡ bind (bind out (λ _. Go Next)) (after_entry (λ u. bind (loop u) (after_entry (Go Next))))
+stated_last (Go x w) loop = last_entry (loop w)
+stated_last (Stop outcome w) loop = refl
+
+pub for_starts_before : ForStartsBefore
+for_starts_before s n result token block statement (tree.Declares d) c step body w =
+    started_last (declares s d w) (exec s n result (tree.For token (tree.Computes None) c step body))
+for_starts_before s n result token block statement (tree.Computes (Some x)) c step body w =
+    stated_last ((expr s x).effect w) (exec s n result (tree.For token (tree.Computes None) c step body))
+for_starts_before s n result token block statement (tree.Computes None) c step body w =
+    last_entry (exec s n result (tree.For token (tree.Computes None) c step body) w)

@@ -77,10 +77,10 @@ spot_postfixed true of m w = refl
 spot_postfixed false of m w = refl
 
 -- what an expression finds or gives, and then the operators behind it
-abbrev reached : Setting → ExprTree → PostfixList → World → Out Scalar
+abbrev pub reached : Setting → ExprTree → PostfixList → World → Out Scalar
 reached s x more w = bind (spot (is_place x) (expr s x) w) (behind s (is_place x) (type_of s.facts x) more)
 
-followed_sense : (s : Setting) (x : ExprTree) (more : PostfixList)
+pub followed_sense : (s : Setting) (x : ExprTree) (more : PostfixList)
     → expr s (followed x more) ≡ postfixed (ends_as_place (is_place x) more) (s.facts.type_at (postfix_token (token_of x) more)) (reached s x more)
 followed_sense s (e.Postfix primary operators) more =
     let x : ExprTree = e.Postfix primary operators in
@@ -105,12 +105,19 @@ module _ (s : Setting) (bracket : ℕ) (i : ExprTree) where
       bind (bind (m.value w) (λ p u. bind (bind (n.value u) (λ x y. answered (operate (operation op.Add left right) p x y.objects) y)) (λ v. Go v)))
       (λ v u. answered (pointed v) u)
 
-  index_found : (a : ExprTree) (w : World) → KeepsType s.facts a → HasPointer s.facts a i
-      → reached s a alone w ≡ summed (expr s a) (expr s i) (type_of s.facts a) (type_of s.facts i) w
-  index_found a w h k =
+  -- what is added to what, and then found
+  pub index_value : (a : ExprTree) (w : World) → KeepsType s.facts a
+      → reached s a alone w ≡ bind ((expr s a).value w) (λ p u. bind ((expr s i).value u) (λ x y.
+      bind (answered (operate (operation op.Add (type_of s.facts a) (type_of s.facts i)) p x y.objects) y) (λ v. Go v)))
+  index_value a w h =
       bind_behind (spot (is_place a) (expr s a) w) (settled (is_place a) (type_of s.facts a)) _ _ (λ v u. refl)
       ∙ ap (λ o. bind o (λ p u. bind ((expr s i).value u) (λ x y.
       bind (answered (operate (operation op.Add (type_of s.facts a) (type_of s.facts i)) p x y.objects) y) (λ v. Go v)))) (sym (value_settled s a w h))
+
+  index_found : (a : ExprTree) (w : World) → KeepsType s.facts a → HasPointer s.facts a i
+      → reached s a alone w ≡ summed (expr s a) (expr s i) (type_of s.facts a) (type_of s.facts i) w
+  index_found a w h k =
+      index_value a w h
       ∙ points (expr s i).value (operate (operation op.Add (type_of s.facts a) (type_of s.facts i))) (sum_place (type_of s.facts a) (type_of s.facts i) k)
       ((expr s a).value w)
 

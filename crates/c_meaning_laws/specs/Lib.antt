@@ -1,3 +1,4 @@
+pub mod Constants
 pub mod Parentheses
 pub mod Indexing
 pub mod Discarding
@@ -6,3 +7,15 @@ pub mod Compound
 pub mod Lists
 pub mod Turns
 pub mod Rounds
+pub mod Steps
+pub mod Negation
+pub mod Members
+pub mod Addresses
+pub mod Joints
+pub mod Exits
+pub mod Initialising
+pub mod Calls
+pub mod Frames
+pub mod Chains
+pub mod Choices
+pub mod Assigned

@@ -1,8 +1,9 @@
--- A loop is its first round and the loop again (C99 6.8.5.1, 6.8.5.2), a `for` is its `while` (C99 6.8.5.3), and a block is its entries (C99 6.8.2).
-use Rattle.std.specs.Prelude.{◌≡◌, ℕ, ◌≤◌, None, Some}
+-- A loop is its first round and the loop again (C99 6.8.5.1, 6.8.5.2), a `for` is its `while` (C99 6.8.5.3), without a condition it goes on for ever
+-- (C99 6.8.5.3p2), and a block is its entries (C99 6.8.2).
+use Rattle.std.specs.Prelude.{◌≡◌, ℕ, ◌≤◌, Option, None, Some}
 use Rattle.c_syntax.specs.ExprTree.{ExprTree}
 use Rattle.c_syntax.specs.StatementTree as tree
-use Rattle.c_syntax.specs.StatementTree.{StatementTree, EntryList}
+use Rattle.c_syntax.specs.StatementTree.{ForStartTree, StatementTree, EntryList}
 use Rattle.flow.specs.Now.{Locals}
 use Rattle.c_meaning.specs.declared.value_type.ValueType.{ValueType}
 use Rattle.c_meaning.specs.Facts.{Setting}
@@ -10,6 +11,7 @@ use Rattle.c_meaning.specs.Meaning.{condition}
 use Rattle.c_meaning.specs.Runs.{Source, call_at, setting_of}
 use Rattle.c_meaning.specs.Statements.{after_body, exec, exec_all}
 use Rattle.c_meaning.specs.World.{World, Out, Go, Flow, Next, Continued, bind, choose, spend}
+use Rattle.c_meaning_laws.specs.Constants.{one_at}
 
 -- the loop again, behind the turn that each round but the first one spends
 abbrev pub again : Setting → ℕ → ValueType → StatementTree → World → Out Flow
@@ -43,6 +45,34 @@ ForIsWhile =
     (s : Setting) (n : ℕ) (result : ValueType) (token block : ℕ) (c step : ExprTree) (body : StatementTree) (w : World) →
     ((u v : World) → exec s n result body u ≡ Go Continued v → ⊥) →
     exec s n result (tree.For token (tree.Computes None) (Some c) (Some step) body) w ≡ exec s n result (tree.While token c (with_step block body step)) w
+
+-- `for (..; ; ..) body` is `for (..; 1; ..) body`, where that condition has no site.
+abbrev pub MissingConditionIsTrue : Type 0
+MissingConditionIsTrue =
+    (s : Setting) (n : ℕ) (result : ValueType) (token one : ℕ) (start : ForStartTree) (step : Option ExprTree) (body : StatementTree) (w : World) →
+    s.sites.branch_at token ≡ None →
+    exec s n result (tree.For token start None step body) w ≡ exec s n result (tree.For token start (Some (one_at one)) step body) w
+
+-- `for (; c; ) body` is `while (c) body`, also where the body meets a `continue`.
+abbrev pub ForWithoutStepIsWhile : Type 0
+ForWithoutStepIsWhile =
+    (s : Setting) (n : ℕ) (result : ValueType) (token : ℕ) (c : ExprTree) (body : StatementTree) (w : World) →
+    exec s n result (tree.For token (tree.Computes None) (Some c) None body) w ≡ exec s n result (tree.While token c body) w
+
+-- a first part, and then other entries
+abbrev pub started_by : ℕ → ForStartTree → EntryList → EntryList
+started_by token (tree.Declares d) rest = tree.declared d rest
+started_by token (tree.Computes (Some x)) rest = tree.stated (tree.Expr token x) rest
+started_by token (tree.Computes None) rest = rest
+
+-- `for (start; c; step) body` is `{ start; for (; c; step) body }`, for a declaration as for an expression.
+abbrev pub ForStartsBefore : Type 0
+ForStartsBefore =
+    (s : Setting) (n : ℕ) (result : ValueType) (token block statement : ℕ) (start : ForStartTree) (c step : Option ExprTree)
+    (body : StatementTree) (w : World) →
+    exec s n result (tree.For token start c step body) w
+    ≡ exec s n result (tree.Block block (started_by statement start
+    (tree.stated (tree.For token (tree.Computes None) c step body) tree.no_entries))) w
 
 -- entries, and others behind them
 abbrev pub joined : EntryList → EntryList → EntryList
