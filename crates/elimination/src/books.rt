@@ -7,8 +7,7 @@ ghost use Rattle.tallies.specs.Runs.{AreEntriesOf};
 ghost use Rattle.elimination.specs.Slots.{AreBooks, HaveStepped, IsStepOf, change_of, discards, left_of, pending, taken_slot, takes};
 ghost use Rattle.tallies.specs.Tallies.{AllowsEntries, AllowsEntry, AreRecounts, ChangedBy, ChangedByAll};
 
-use crate::steps::Steps;
-use crate::tally_table::TallyTable;
+use crate::tally_table::{Steps, TallyTable};
 use cbi_base::{Memory, Policy};
 use collector::Collection;
 use report_file::{Entry, Label};

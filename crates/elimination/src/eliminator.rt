@@ -10,8 +10,7 @@ ghost use Rattle.elimination.specs.Slots.{AreHolders, IsHeldToo};
 ghost use Rattle.tallies.specs.Tallies.{AreRecounts};
 
 use crate::books::{Books, Slot};
-use crate::steps::Steps;
-use crate::tally_table::TallyTable;
+use crate::tally_table::{Steps, TallyTable};
 use cbi_base::{Memory, Policy, Seq};
 use collector::Collection;
 use flow::SiteTable;
@@ -19,7 +18,7 @@ use report_file::Entry;
 use std::alloc::Global;
 use std::marker::{Brand, Model};
 use std::sync::ledger::{Blank, Ledger};
-use tallies::{Listed, Numbers};
+use tallies::Listed;
 
 /// Lists leaders one after another, by the policy's step after each. It keeps the numbers of all predicates over the runs that are left, and of each
 /// site the runs that have an entry of it. Contracts see it as which sites are branches, the policy, and the runs that are left.
@@ -95,8 +94,8 @@ impl Eliminator {
         Eliminator::over(alloc, collection, tallies, policy)
     }
 
-    // One of these runs, whose numbers are at hand.
-    fn over(
+    /// One of these runs, whose numbers are at hand.
+    pub(crate) fn over(
         alloc: Global,
         collection: &Collection,
         tallies: TallyTable,
@@ -189,8 +188,8 @@ pub fn counted_elimination<L: Ledger>(
     leaders_of(alloc, eliminator, steps)
 }
 
-// The same, by a ledger of its own.
-fn leaders_by<L: Ledger>(
+/// The same, by a ledger of its own.
+pub(crate) fn leaders_by<L: Ledger>(
     alloc: Global,
     eliminator: Eliminator,
     blank: Blank,
@@ -216,20 +215,5 @@ pub fn elimination(
     ensures { IfOk result (IsElimination collection.now.branches policy (runs_of collection.now.reports)) }
 {
     let eliminator = Eliminator::new(alloc, collection, table, policy)?;
-    leaders_by::<Brand>(alloc, eliminator, Blank::new(1))
-}
-
-/// The same elimination, which begins with the numbers of the runs, kept by the caller, and recounts nothing.
-pub fn elimination_from(
-    alloc: Global,
-    collection: &Collection,
-    numbers: Numbers,
-    policy: Policy,
-) -> Result<Seq<Listed>, Memory>
-    requires { AreRecounts collection.now.branches (runs_of collection.now.reports) numbers }
-    ensures { IfOk result (IsElimination collection.now.branches policy (runs_of collection.now.reports)) }
-{
-    let tallies = TallyTable::sealed(numbers);
-    let eliminator = Eliminator::over(alloc, collection, tallies, policy)?;
     leaders_by::<Brand>(alloc, eliminator, Blank::new(1))
 }

@@ -4,10 +4,8 @@
 mod books;
 mod eliminator;
 mod laws;
-mod steps;
 mod tally_table;
 
-pub use eliminator::{Eliminator, counted_elimination, elimination, elimination_from};
+pub use eliminator::{Eliminator, counted_elimination, elimination};
 pub use laws::{entries_are_taken_once, one_elimination, predicates_are_those_of_the_table};
-pub use steps::Steps;
-pub use tally_table::TallyTable;
+pub use tally_table::{Steps, TallyTable, elimination_from};

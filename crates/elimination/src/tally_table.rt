@@ -3,22 +3,61 @@ ghost use Rattle.collector.specs.Sites.{branches_of};
 ghost use Rattle.report_file.specs.Report.{is_positive};
 ghost use Rattle.tallies.specs.declared.numbers.Change.TheVariants as change;
 ghost use Rattle.tallies.specs.Predicates.{is_of, predicates_in, shows};
+ghost use Rattle.elimination.specs.Elimination.{IsElimination};
 ghost use Rattle.tallies.specs.Recount.{runs_of};
 ghost use Rattle.tallies.specs.Tallies.{AllowsEntry, AreRecounts, ChangedBy};
 
-use crate::steps::Steps;
-use cbi_base::Memory;
+use crate::eliminator::{Eliminator, leaders_by};
+use cbi_base::{Memory, Policy, Seq};
 use collector::Collection;
 use flow::SiteTable;
 use fractions::Tally;
 use report_file::Entry;
 use std::alloc::Global;
-use std::marker::Model;
-use std::sync::ledger::Ledger;
-use tallies::{Change, Counted, Numbers};
+use std::marker::{Brand, Model};
+use std::sync::ledger::{Blank, Book, Ledger, Share};
+use tallies::{Change, Counted, Listed, Numbers};
 
-/// The four numbers of each predicate. Only [`TallyTable::new`], [`TallyTable::take_out`] and [`TallyTable::move_over`] make or change one, and it
-/// can't be copied. Contracts see it as which sites are branches, and the numbers in the order of the predicates.
+/// How many site entries were taken out of a table or moved within it. It takes no bytes, and only the two calls that do so change it.
+#[derive(Drop)]
+pub struct Steps<L: Ledger> {
+    book: Book<L>,
+    share: Share<L>,
+}
+
+impl<L: Ledger> Model for Steps<L> {
+    ghost use Rattle.std.specs.Prelude.{ℕ, ◌<◌};
+
+    ghost Value = { ℕ };
+
+    ghost view = { λ s. s.book.total };
+
+    ghost invariant = { λ s. 0 < s.share.parts };
+}
+
+impl<L: Ledger> Steps<L> {
+    /// No steps yet, by a blank for the ledger.
+    pub fn new(blank: Blank) -> Steps<L>
+        requires name { blank.name ≡ L.name }
+        requires parts { blank.parts ≡ L.parts }
+        requires some { 0 < blank.parts }
+        ensures { result ≡ 0 }
+    {
+        let (book, share) = blank.open();
+        Steps { book, share }
+    }
+
+    // One more step.
+    fn tick(&mut self)
+        ensures { self.new ≡ self.old + 1 }
+    {
+        self.book.add(&mut self.share, 1);
+    }
+}
+
+/// The four numbers of each predicate. [`TallyTable::new`] makes one, and [`elimination_from`] one that it keeps to itself; only
+/// [`TallyTable::take_out`] and [`TallyTable::move_over`] change one, and it can't be copied. Contracts see it as which sites are branches, and the
+/// numbers in the order of the predicates.
 #[derive(Drop)]
 pub struct TallyTable {
     numbers: Numbers,
@@ -44,13 +83,6 @@ impl TallyTable {
     {
         let numbers = Numbers::of(alloc, collection, table)?;
         Ok(TallyTable { numbers })
-    }
-
-    /// Numbers that were kept elsewhere, for an elimination that begins with them.
-    pub(crate) fn sealed(numbers: Numbers) -> TallyTable
-        ensures { result ≡ numbers }
-    {
-        TallyTable { numbers }
     }
 
     /// The numbers, to be looked at.
@@ -114,4 +146,20 @@ impl TallyTable {
     {
         self.numbers.site_of(predicate)
     }
+}
+
+/// The elimination of a collection's runs, as [`crate::elimination`] has it, which begins with the numbers of the runs, kept by the caller, and recounts
+/// nothing. The table that it makes of them is its own.
+pub fn elimination_from(
+    alloc: Global,
+    collection: &Collection,
+    numbers: Numbers,
+    policy: Policy,
+) -> Result<Seq<Listed>, Memory>
+    requires { AreRecounts collection.now.branches (runs_of collection.now.reports) numbers }
+    ensures { IfOk result (IsElimination collection.now.branches policy (runs_of collection.now.reports)) }
+{
+    let tallies = TallyTable { numbers };
+    let eliminator = Eliminator::over(alloc, collection, tallies, policy)?;
+    leaders_by::<Brand>(alloc, eliminator, Blank::new(1))
 }
