@@ -10,6 +10,7 @@ mod numbers;
 mod ranking_rows;
 mod reading;
 mod row;
+mod session_rows;
 mod thrown;
 
 use case_rows::look;

@@ -5,6 +5,7 @@ ghost use Rattle.report_file.specs.Report.{IsReport};
 
 use crate::card_rows::tell_cards;
 use crate::finding::program;
+use crate::session_rows::tell_session;
 use case_rows::{Page, expect, expect_rest, has_head};
 use cbi_base::{Policy, ProgramId};
 use collector::{Added, Collection, RunText, read_collection, read_run};
@@ -36,7 +37,12 @@ const POLICIES: [(Policy, &str, &str, &str); 3] = [
 ];
 
 /// The report of the run whose lines stand behind this place.
-fn run_behind(program: &ProgramId, bytes: &[u8], place: usize, told: &mut Page) -> Option<Report>
+pub fn run_behind(
+    program: &ProgramId,
+    bytes: &[u8],
+    place: usize,
+    told: &mut Page,
+) -> Option<Report>
     ensures { IfSome result IsReport }
 {
     if place >= bytes.len() {
@@ -121,7 +127,8 @@ fn tell_policy(
     quick.len()
 }
 
-fn push_numbers(tally: Tally, came: &mut Page) {
+/// Adds the four numbers of a predicate.
+pub fn push_numbers(tally: Tally, came: &mut Page) {
     for number in [tally.a, tally.b, tally.c, tally.d] {
         came.say(" ");
         came.number(number);
@@ -244,6 +251,7 @@ pub fn tell_eliminations(row: &str, table: &SiteTable, bytes: &[u8], told: &mut 
         told.say("\nno collection");
         return 0;
     };
+    tell_session(row, table, &program, bytes, told);
     match Collection::new(told.alloc(), program, table) {
         Ok(mut collection) => tell_runs(row, table, &mut collection, &program, bytes, told),
         Err(_) => {

@@ -47,7 +47,6 @@ pub(crate) fn push_answer(given: Given<'_>, ask: Ask, rest: &str, out: &mut Page
         Ask::Length => lexed::push_length(given.text, out),
         Ask::Line => lexed::push_line(given.text, number_of(rest), out),
         Ask::Tree => lexed::push_tree(given.text, out),
-        Ask::Copy => lexed::push_copy(given.text, out),
         _ => push_done(given, ask, rest, out),
     }
 }

@@ -12,8 +12,6 @@ pub(crate) enum Ask {
     Line,
     /// `tree`: each operator with its operands in parentheses.
     Tree,
-    /// `copy`: the tree's copy, in the same way.
-    Copy,
     /// `types`: `accepted`, or the kind of the first fault and its token.
     Types,
     /// `type I`: the type of the expression of this token.
@@ -55,12 +53,11 @@ enum Behind {
     SchemesAndBank,
 }
 
-const ASKS: [(&str, Ask, Behind); 18] = [
+const ASKS: [(&str, Ask, Behind); 17] = [
     ("tokens", Ask::Tokens, Behind::Nothing),
     ("length", Ask::Length, Behind::Nothing),
     ("line", Ask::Line, Behind::Number),
     ("tree", Ask::Tree, Behind::Nothing),
-    ("copy", Ask::Copy, Behind::Nothing),
     ("types", Ask::Types, Behind::Nothing),
     ("type", Ask::Type, Behind::Number),
     ("declared", Ask::Declared, Behind::Number),

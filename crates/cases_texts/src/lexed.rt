@@ -1,7 +1,6 @@
 //! Tokens, each with its line, and the tree of a text.
 use crate::read::{line_at, tokens_of, tree_of};
-use c_copies::TryClone;
-use c_syntax::{Token, TokenKind, Tree};
+use c_syntax::{Token, TokenKind};
 use case_rows::Page;
 use tree_shown::show_tree;
 
@@ -59,18 +58,5 @@ pub(crate) fn push_line(text: &[u8], token: usize, out: &mut Page) {
 pub(crate) fn push_tree(text: &[u8], out: &mut Page) {
     if let Some(tree) = tree_of(text, out) {
         show_tree(out, &tree);
-    }
-}
-
-fn show_copy(tree: &Tree, out: &mut Page) {
-    if let Some(copy) = out.done(tree.try_clone(out.alloc())) {
-        show_tree(out, &copy);
-    }
-}
-
-/// Adds a copy of the tree of a text.
-pub(crate) fn push_copy(text: &[u8], out: &mut Page) {
-    if let Some(tree) = tree_of(text, out) {
-        show_copy(&tree, out);
     }
 }
