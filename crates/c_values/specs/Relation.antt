@@ -1,3 +1,4 @@
+-- The order of two whole numbers, as operators name it.
 use Rattle.std.specs.declared.cmp.Ordering.{Ordering}
 use Rattle.std.specs.declared.cmp.Ordering.TheVariants as ordering
 use Rattle.c_values.specs.declared.relation.Relation.{Relation}

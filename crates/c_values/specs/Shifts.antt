@@ -1,3 +1,4 @@
+-- Which operations are shifts (C99 6.5.7).
 use Rattle.std.specs.Prelude.{Bool, true, false}
 use Rattle.cbi_base.specs.declared.operators.Binary.{Binary}
 use Rattle.cbi_base.specs.declared.operators.Binary.TheVariants.{Shl, Shr}

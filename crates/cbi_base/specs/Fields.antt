@@ -1,3 +1,4 @@
+-- The fields that are left of a line that is read field by field.
 use Rattle.std.specs.Prelude.{ℕ, List, [], Option, None, Some}
 use Rattle.std.specs.Borrow.{Bor}
 use Rattle.cbi_base.specs.Text.{fields_of}

@@ -1,3 +1,4 @@
+-- What a reading of lines answers: the facts of what it takes and refuses, of which want of memory is free.
 use Rattle.std.specs.Prelude.{◌≡◌, ℕ, Result, Ok, Err}
 use Rattle.cbi_base.specs.Lines.{line_after}
 use Rattle.cbi_base.specs.declared.lines.LineError.{LineError}

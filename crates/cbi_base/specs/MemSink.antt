@@ -1,3 +1,4 @@
+-- A sink in memory, which fails at the calls that it is told to.
 use Rattle.std.specs.Prelude.{ℕ, List}
 
 -- a sink in memory

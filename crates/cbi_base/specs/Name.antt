@@ -1,3 +1,4 @@
+-- Names: of functions, and of what C calls an identifier (C99 6.4.2.1, with a bound of our own).
 use Rattle.std.specs.Prelude.{ℕ, Bool, false, ◌||◌, ◌&&◌, ◌==◌, ◌≤◌, nat_le, List, [], ◌∷◌, length, IsTrue}
 use Rattle.std.specs.List.{list_all}
 

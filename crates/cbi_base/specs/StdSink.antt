@@ -1,3 +1,4 @@
+-- A sink over a writer of the library.
 use Rattle.std.specs.Prelude.{ℕ, refl}
 use Rattle.std.specs.Coded.{Coded, code_by, coded×, coded_ℕ}
 

@@ -1,3 +1,4 @@
+-- Texts of lines, lines of fields, and how they are spelled and taken apart.
 use Rattle.std.specs.Prelude.{◌≡◌, ◌≢◌, ℕ, Bool, ◌==◌, ◌<◌, ◌≤◌, List, [], ◌∷◌, ◌++◌, length, slice_index, not, ◌&&◌, IsTrue, IsFalse}
 use Rattle.std.specs.List.{slice_split, join_with_byte, flat_map, list_all, AllByRecursion, AllWithin}
 

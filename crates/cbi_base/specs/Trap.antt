@@ -1,3 +1,4 @@
+-- The numbers of the traps.
 use Rattle.std.specs.Prelude.{ℕ}
 use Rattle.cbi_base.specs.declared.trap.Trap.{Trap}
 use Rattle.cbi_base.specs.declared.trap.Trap.TheVariants.{Overflow, Divide, Shift, Undefined, WrongKind, Bounds, Dead, NullUse, ReadOnly, BadFree, Unrelated, StackOverflow, Assertion, Abort, Internal}

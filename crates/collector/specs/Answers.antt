@@ -1,3 +1,4 @@
+-- What reading a collection answers, of which want of memory is free.
 use Rattle.std.specs.Prelude.{◌≡◌, ℕ, Result, Ok, Err}
 use Rattle.collector.specs.declared.collection.Bundle.{Bundle}
 use Rattle.collector.specs.declared.reading.CollectionError.{CollectionError}

@@ -1,3 +1,4 @@
+-- The fixed logarithm: its steps, and what it comes to.
 use Rattle.std.specs.Prelude.{◌≡◌, ℕ, Bool, ◌+◌, ◌-◌, ◌*◌, ◌/◌, ◌^◌, ◌<◌, ◌≤◌, nat_le, if◌then◌else◌}
 use Rattle.std.proofs.Common.{zero, suc}
 

@@ -1,3 +1,4 @@
+-- The four numbers of a predicate, and what a ranking makes of them: the test and the importance (PLDI 2005 section 3).
 use Rattle.std.specs.Prelude.{ℕ, ◌+◌, ◌-◌, ◌*◌, ◌^◌, ◌<◌, ◌≤◌, ◌==◌, ◌||◌, if◌then◌else◌}
 use Rattle.fractions.specs.declared.fraction.Fraction.{Fraction}
 use Rattle.fractions.specs.declared.tally.Tally.{Tally}

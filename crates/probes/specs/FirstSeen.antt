@@ -1,3 +1,4 @@
+-- The line of the sites that were seen first.
 use Rattle.std.specs.Prelude.{ℕ, List, [], ◌∷◌, ◌==◌, not, filter, take, codes}
 use Rattle.cbi_base.specs.declared.observation.Observation.{Observation}
 use Rattle.probes.specs.Sites.{most_sites, sites_seen, sites_line}

@@ -1,3 +1,4 @@
+-- What a reading of a program's lines answers, of which want of memory is free.
 use Rattle.std.specs.Prelude.{◌≡◌, ℕ, Option, None, Some, Result, Ok, Err}
 use Rattle.cbi_base.specs.declared.lines.LineError.{LineError}
 use Rattle.cbi_base.specs.declared.lines.LineError.TheVariants as line

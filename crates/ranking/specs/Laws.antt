@@ -1,3 +1,4 @@
+-- What the rows of a ranking owe its table and its runs.
 use Rattle.std.specs.Prelude.{◌≤◌, List, length}
 use Rattle.cbi_base.specs.declared.policy.Policy.{Policy}
 use Rattle.collector.specs.Sites.{branches_of}

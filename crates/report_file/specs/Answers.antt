@@ -1,3 +1,4 @@
+-- What reading a report answers, of which want of memory is free.
 use Rattle.std.specs.Prelude.{◌≡◌, ℕ, Result, Ok, Err}
 use Rattle.report_file.specs.declared.error.ReportError.{ReportError}
 use Rattle.report_file.specs.declared.error.ReportError.TheVariants.{BadReport, Memory}

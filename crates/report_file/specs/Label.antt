@@ -1,3 +1,4 @@
+-- What a run counts as, by its outcome and its output.
 use Rattle.std.specs.Prelude.{Bool, true, false}
 use Rattle.cbi_base.specs.declared.outcome.Outcome.{Outcome}
 use Rattle.cbi_base.specs.declared.outcome.Outcome.TheVariants.{Ended, Trapped, CutTurns, CutOutput}

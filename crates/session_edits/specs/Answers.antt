@@ -1,3 +1,4 @@
+-- What reading edits answers, of which want of memory is free.
 use Rattle.std.specs.Prelude.{◌≡◌, ℕ, List, Result, Ok, Err}
 use Rattle.session_edits.specs.declared.edit.Edit.{Edit}
 use Rattle.session_edits.specs.declared.reading.EditsError.{EditsError}
