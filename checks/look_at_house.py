@@ -1,0 +1,172 @@
+#!/usr/bin/env python3
+"""Looks at the scripts of the house, in a small house that is made for each case: checks/house, tools/above, tools/map and tools/reading.
+
+    checks/look_at_house.py [CASE..]
+"""
+import os
+import shutil
+import subprocess
+import sys
+import tempfile
+import unittest
+
+ROOT = os.path.dirname(os.path.dirname(os.path.realpath(__file__)))
+
+LOW_SPEC = """\
+-- What is low.
+use Rattle.std.specs.Prelude.{ℕ, List}
+
+-- nothing is left
+abbrev pub IsKept : List ℕ → Type 0
+IsKept xs = Unit {0}
+
+-- a deep thing
+pub record IsDeep (xs : List ℕ) : Type 0 where
+  pub kept : IsKept xs
+  pub much : ℕ
+"""
+TOP_SPEC = """\
+-- What is at the top.
+use Rattle.std.specs.Prelude.{ℕ, List}
+use Rattle.low.specs.Low.{IsDeep}
+
+-- the whole is deep
+abbrev pub IsWhole : List ℕ → Type 0
+IsWhole xs = IsDeep xs
+"""
+TOP_SOURCE = """\
+//! The top of a house of two crates.
+ghost use Rattle.top.specs.Top.{IsWhole};
+
+/// The whole.
+pub fn whole(xs: &[u8])
+    ensures deep { IsWhole xs.now }
+{}
+"""
+
+
+class House(unittest.TestCase):
+    """A house of two crates, `low` and `top`, with copies of the scripts."""
+
+    def setUp(self) -> None:
+        self.room = tempfile.mkdtemp(prefix="house-")
+        for script in ("checks/house", "tools/above", "tools/map", "tools/reading"):
+            self.write(script, "")
+            shutil.copy(os.path.join(ROOT, script), os.path.join(self.room, script))
+        self.write("crates.txt", "# Base\nlow:\n\n# Tops\ntop: low\n")
+        self.write("crates/low/src/lib.rt", "//! What is low.\npub mod low;\n")
+        self.write("crates/low/specs/Low.antt", LOW_SPEC)
+        self.write("crates/low/specs/Lib.antt", "pub mod Low\n")
+        self.write("crates/top/src/lib.rt", TOP_SOURCE)
+        self.write("crates/top/specs/Top.antt", TOP_SPEC)
+        self.write("crates/top/specs/Lib.antt", "pub mod Top\n")
+        self.write("docs/ARCHITECTURE.md", "`low` and `top`\n")
+        for page in ("README.md", "CHANGELOG.md", "CONTRIBUTING.md", "docs/READING.md"):
+            self.write(page, "nothing\n")
+
+    def tearDown(self) -> None:
+        shutil.rmtree(self.room)
+
+    def write(self, name: str, text: str) -> None:
+        file = os.path.join(self.room, name)
+        os.makedirs(os.path.dirname(file), exist_ok=True)
+        with open(file, "w", encoding="utf-8") as it:
+            it.write(text)
+
+    def call(self, *words: str) -> "subprocess.CompletedProcess[str]":
+        return subprocess.run([sys.executable, os.path.join(self.room, words[0]), *words[1:]], stdout=subprocess.PIPE, stderr=subprocess.PIPE,
+                              universal_newlines=True, encoding="utf-8", check=False)
+
+    def told(self, line: str) -> None:
+        """The house has this new, and nothing else."""
+        ran = self.call("checks/house")
+        self.assertEqual((ran.stdout.splitlines()[:-1], ran.returncode), ([line], 1), ran.stderr)
+
+    def test_a_house_without_faults_passes(self) -> None:
+        ran = self.call("checks/house")
+        self.assertEqual((ran.stdout, ran.returncode), ("house: 0 new, 0 in all\n", 0), ran.stderr)
+
+    def test_a_long_line_of_a_definition_is_told(self) -> None:
+        self.write("crates/top/specs/Top.antt", TOP_SPEC + "-- " + "x" * 158 + "\n")
+        self.told("long-line crates/top/specs/Top.antt: 1")
+
+    def test_a_line_of_160_columns_is_none(self) -> None:
+        self.write("crates/top/specs/Top.antt", TOP_SPEC + "-- " + "x" * 157 + "\n")
+        self.assertEqual(self.call("checks/house").returncode, 0)
+
+    def test_a_function_of_41_lines_is_told(self) -> None:
+        body = "    let x = 1;\n" * 39
+        self.write("crates/top/src/more.rt", "fn long()\n    ensures { IsWhole }\n{\n" + body + "}\n")
+        self.told("long-function crates/top/src/more.rt:long: 1")
+
+    def test_a_function_of_40_lines_is_none(self) -> None:
+        body = "    let x = 1;\n" * 38
+        self.write("crates/top/src/more.rt", "fn long()\n{\n" + body + "}\n")
+        self.assertEqual(self.call("checks/house").returncode, 0)
+
+    def test_a_file_of_801_lines_is_told(self) -> None:
+        self.write("crates/top/src/more.rt", "// a\n" * 801)
+        self.told("large-file crates/top/src/more.rt: 1")
+
+    def test_a_name_with_two_meanings_is_told(self) -> None:
+        self.write("crates/top/specs/Top.antt", TOP_SPEC + "\nabbrev pub IsKept : Type 0\nIsKept = IsWhole []\n\nabbrev pub Uses : Type 0\nUses = IsKept\n"
+                   + "\nabbrev pub Again : Type 0\nAgain = Uses\n\nabbrev pub Both : Type 0\nBoth = Again × Both\n")
+        self.assertIn("two-meanings IsKept: 2", self.call("checks/house").stdout)
+
+    def test_what_nothing_names_is_told(self) -> None:
+        self.write("crates/top/specs/Top.antt", TOP_SPEC + "\nabbrev pub Lonely : Type 0\nLonely = IsWhole []\n")
+        self.told("unnamed crates/top/specs/Top.antt:Lonely: 1")
+
+    def test_an_edge_that_nothing_uses_is_told(self) -> None:
+        self.write("crates.txt", "low:\nother:\ntop: low other\n")
+        self.write("crates/other/src/lib.rt", "//! Another.\n")
+        self.write("docs/ARCHITECTURE.md", "`low`, `other` and `top`\n")
+        self.told("unused-edge top:other: 1")
+
+    def test_a_number_of_a_paper_is_told(self) -> None:
+        self.write("README.md", "As T{}.4 says.\n".format(3))
+        self.told("number README.md: 1")
+
+    def test_a_crate_that_is_off_the_map_is_told(self) -> None:
+        self.write("docs/ARCHITECTURE.md", "`low`\n")
+        self.told("off-the-map top: 1")
+
+    def test_what_is_known_passes_and_no_more_of_it(self) -> None:
+        self.write("crates/top/specs/Top.antt", TOP_SPEC + "-- " + "x" * 158 + "\n")
+        self.assertEqual(self.call("checks/house", "--write").returncode, 0)
+        self.assertEqual(self.call("checks/house").returncode, 0)
+        self.write("crates/top/specs/Top.antt", TOP_SPEC + ("-- " + "x" * 158 + "\n") * 2)
+        self.told("long-line crates/top/specs/Top.antt: 2, known are 1")
+
+    def test_above_lists_what_stands_on_a_crate(self) -> None:
+        # `most` stands on `low` by `top` alone
+        self.write("crates.txt", "low:\nmost: top\ntop: low\n")
+        ran = self.call("tools/above", "--list", "low")
+        self.assertEqual([row.split()[-1] for row in ran.stdout.splitlines()[1:]], ["top", "most"], ran.stderr)
+        self.assertEqual(self.call("tools/above", "--list", "none").returncode, 1)
+
+    def test_the_map_has_each_crate_by_its_room_and_each_file_by_its_head(self) -> None:
+        self.assertEqual(self.call("tools/map", "--write").returncode, 0)
+        with open(os.path.join(self.room, "docs", "MAP.md"), encoding="utf-8") as it:
+            rows = it.read().splitlines()
+        for row in ("## Base", "### `low`", "| `Low` | What is low. |", "## Tops", "The top of a house of two crates."):
+            self.assertIn(row, rows)
+        self.assertEqual(self.call("tools/map", "--check").returncode, 0)
+        self.write("crates/low/specs/Low.antt", "-- What is lower." + LOW_SPEC[len("-- What is low."):])
+        self.assertEqual(self.call("tools/map", "--check").returncode, 1)
+
+    def test_reading_follows_definitions_through_crates(self) -> None:
+        ran = self.call("tools/reading", "--files", "top::whole")
+        self.assertEqual(ran.stdout.splitlines(), [
+            "     5 low/specs/Low.antt: IsDeep, IsKept",
+            "     2 top/specs/Top.antt: IsWhole",
+            "     1 the clauses themselves",
+            "     8 lines in 2 files of 2 crates"], ran.stderr)
+
+    def test_reading_says_that_a_function_isnt_there(self) -> None:
+        ran = self.call("tools/reading", "top::nothing")
+        self.assertEqual((ran.returncode, ran.stderr), (1, "tools/reading: no function top::nothing\n"))
+
+
+if __name__ == "__main__":
+    unittest.main(argv=[sys.argv[0], *("House." + it if "." not in it else it for it in sys.argv[1:])])
