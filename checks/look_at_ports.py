@@ -1,0 +1,217 @@
+"""Looks at tools/cbi-port: what it takes does as gcc makes it, and what is written by hand; what it refuses is told by line.
+
+A program of ports_table says behind its text what it does: `refused LINE WORDS`, or what it reads, its words, what it
+writes and its status (or trap). Without these it writes nothing and ends with 0.
+"""
+import ast
+import os
+import re
+import shlex
+import subprocess
+import sys
+import unittest
+
+import looking
+from looking import CBI, Case, EXAMPLES, TOOLS, TOP
+
+sys.path.insert(0, TOOLS)
+sys.setrecursionlimit(20000)
+import cbi_port  # noqa: E402
+from cbi_port import check  # noqa: E402
+
+TABLE = os.path.join(TOP, "checks", "ports_table")
+TURNS = 100000000
+
+
+class Due:
+    """What the end of a program's text says of it."""
+
+    def __init__(self, text):
+        self.refused = [(int(line), words) for line, words in re.findall(r"(?m)^(?:/\* )?refused (\d+) (.*?)\s*(?:\*/)?$", text)]
+        self.given = (re.search(r"(?s)/\* reads\n(.*?)\*/", text) or ["", ""])[1].encode()
+        words = re.search(r"(?m)^/\* words (.*) \*/$", text)
+        self.words = shlex.split(words[1]) if words else []
+        written = re.search(r"(?s)/\* writes\n(.*?)(status|trap) (-?\d+) \*/", text)
+        self.output = written[1].encode() if written else b""
+        self.status = int(written[3]) if written and written[2] == "status" else 0
+        self.trap = int(written[3]) if written and written[2] == "trap" else None
+
+
+class Programs(Case):
+    """The table."""
+
+    def run_in(self, mode, ported, due, name):
+        """A run of the text, compiled in a mode: output, and status or trap."""
+        program = self.path("prog.cbi")
+        self.write("prog.c", ported.text)
+        with open(program, "wb") as out:
+            done = subprocess.run([CBI, "transform", "--mode", mode, self.path("prog.c")], stdout=out, stderr=subprocess.PIPE, check=False)
+        self.assertEqual(done.returncode, 0, f"{name} {mode}: {done.stderr.decode()}")
+        return check.run_ported(CBI, program, due.given, self.room, TURNS)
+
+    def hold(self, name, text, ported):
+        due = Due(text)
+        for mode in ("plain", "full", "sampled"):
+            got = self.run_in(mode, ported, due, name)
+            stopped = f"trap {due.trap}" if due.trap is not None else ""
+            self.assertEqual((got.output, got.stopped), (due.output, stopped), f"{name} {mode}")
+            if due.trap is None:
+                self.assertEqual(got.status, due.status, f"{name} {mode}")
+        if due.trap is None:
+            built = check.compiled([os.path.join(TABLE, name)], [], self.room, "built", ["-O0"])
+            native = check.run_native(built, due.words, due.given)
+            self.assertEqual((native.output, native.status), (due.output, due.status), f"{name} by gcc")
+
+    def test_programs(self):
+        for name in sorted(os.listdir(TABLE)):
+            if not name.endswith(".c"):
+                continue
+            with open(os.path.join(TABLE, name), encoding="latin-1") as file:
+                text = file.read()
+            due = Due(text)
+            with self.subTest(name):
+                if due.refused:
+                    with self.assertRaises(cbi_port.Refused) as caught:
+                        cbi_port.port([os.path.join(TABLE, name)], args=due.words)
+                    told = [(problem.line, f"{problem.construct}: {problem.advice}") for problem in caught.exception.problems]
+                    for line, words in due.refused:
+                        self.assertTrue(any(at == line and words in row for at, row in told), f"{name}: {line} {words} in {told}")
+                    self.assertLessEqual({at for at, _ in told}, {line for line, _ in due.refused}, f"{name}: {told}")
+                    continue
+                for memory in ("auto", "bytes"):
+                    if memory == "bytes" and due.trap is not None:
+                        continue
+                    ported = cbi_port.port([os.path.join(TABLE, name)], args=due.words, memory=memory)
+                    self.hold(name, text, ported)
+
+    def test_lines(self):
+        """Each line of a program is its own in the text: what it has there is a part of it, or was added on the first one."""
+        name = os.path.join(TABLE, "statements_of_all_kinds.c")
+        ported = cbi_port.port([name])
+        rows = ported.text.decode("latin-1").split("\n")
+        self.assertEqual(len(rows), len(ported.lines) + 1)
+        with open(name, encoding="latin-1") as file:
+            source = file.read().split("\n")
+        for number, row in enumerate(source[:16], 1):
+            self.assertEqual(ported.lines[number - 1], cbi_port.Line(name, number, False))
+            for word in set(re.findall(r"\bprintf\(\"[^\"]*\"", row)):
+                self.assertIn(word, rows[number - 1])
+        self.assertEqual(cbi_port.read_map(ported.map_text()), (ported.lines, ported.added))
+
+
+class Worked(Case):
+    """The worked port of examples/ported, by the tool and by hand."""
+
+    def sites(self, text, added=(), lines=None):
+        """How many sites a text has in lines that aren't added, and in functions that aren't."""
+        self.write("count.c", text)
+        out, _ = self.call("cbi", "transform", "--mode", "full", "count.c")
+        names, count = [], 0
+        for row in out.split("\n"):
+            words = row.split(" ")
+            if words[0] == "function":
+                names.append(words[1])
+            elif words[0] == "site":
+                line = int(words[3])
+                if names[int(words[2])] not in added and not (lines and lines[line - 1].added):
+                    count += 1
+        return count
+
+    def test_stock(self):
+        name = os.path.join(EXAMPLES, "ported", "stock_whole.c")
+        ported = cbi_port.port([name], args="first-line")
+        self.assertEqual(ported.liberties, ["what is written to stderr is left out (--stderr joins it)"])
+        with open(os.path.join(EXAMPLES, "ported", "stock_ported.c"), "rb") as file:
+            by_hand = file.read()
+        inputs = []
+        for few in range(4):
+            rows = [str(few)] if few else [""]
+            for step in range(6 * few + 3):
+                rows += [f"in {'abcdefgh'[step % 7] * (step % 5 + 1)} {step * 7 % 31}", f"out {'abcdefgh'[step % 3]} {step % 4}"]
+            rows += ["show", "sum"] + (["in x1 4"] if few == 2 else ["what"] if few == 3 else [])
+            inputs.append((str(few), ("\n".join(rows) + "\n").encode()))
+        checked = check.compare([name], [], ported, inputs, CBI, "first-line", TURNS)
+        self.assertEqual((checked.equal, checked.differences), (4, []))
+        hand = cbi_port.Ported(by_hand, [], [], [], {})
+        with_hand = check.transformed(CBI, hand, self.room)[0]
+        with_tool = check.transformed(CBI, ported, self.path())[0]
+        for _, data in inputs[1:]:
+            left, right = (check.run_ported(CBI, program, data, self.room, TURNS) for program in (with_hand, with_tool))
+            self.assertEqual(left.output, right.output)
+        mine, theirs = self.sites(ported.text, ported.added, ported.lines), self.sites(by_hand)
+        self.assertLessEqual(mine, 1.1 * theirs, f"{mine} sites by the tool, {theirs} by hand")
+
+    def test_floats_are_told(self):
+        """The program with floats is refused, each line of them."""
+        with self.assertRaises(cbi_port.Refused) as caught:
+            cbi_port.port([os.path.join(EXAMPLES, "ported", "stock.c")])
+        self.assertTrue(all("double" in problem.construct or "0.0" in problem.construct for problem in caught.exception.problems))
+
+
+class Files(Case):
+    """Several files."""
+
+    def test_linkage(self):
+        self.write("shared.h", "#ifndef SHARED\n#define SHARED\nstruct item { int n; struct item *next; };\nextern int total;\nint add(struct item);\n"
+                   "static inline int twice(int n) { return n > 0 ? 2 * n : 0; }\n#endif\n")
+        first = self.write("first.c", "#include <stdio.h>\n#include \"shared.h\"\nstatic int hidden = 3;\nstatic int helper(void) { return hidden; }\n"
+                           "int main(void)\n{\n    struct item a = { 4, 0 };\n    printf(\"%d %d %d\\n\", add(a), helper(), twice(5));\n    return total;\n}\n")
+        second = self.write("second.c", "#include \"shared.h\"\nint total = 1;\nstatic int hidden = 20;\nstatic int helper(void) { return hidden++; }\n"
+                            "int add(struct item i)\n{\n    if (i.n > twice(1))\n        total += i.n + helper();\n    return total;\n}\n")
+        ported = cbi_port.port([first, second], ["-I" + self.room])
+        checked = check.compare([first, second], ["-I" + self.room], ported, [("none", b"")], CBI, None, TURNS)
+        self.assertEqual(checked.equal, 1, checked.differences)
+        out, _ = self.transform(ported.text.decode("latin-1")), None
+        of_second = [index for index, line in enumerate(ported.lines, 1) if line.file == second and line.line == 7]
+        self.assertEqual(len(of_second), 1)
+        with open(self.path("prog.cbi")) as file:
+            rows = [row.split(" ") for row in file.read().split("\n") if row.startswith("site branch")]
+        self.assertTrue(any(int(row[3]) == of_second[0] and row[5] == "if" for row in rows))
+        self.assertTrue(any(line.file.endswith("shared.h") and line.line == 6 for line in ported.lines))
+
+    def test_not_there(self):
+        with self.assertRaises(cbi_port.Refused) as caught:
+            cbi_port.port([self.write("a.c", "#include \"none.h\"\nint main(void) { return 0; }\n")])
+        self.assertEqual((caught.exception.problems[0].line, caught.exception.problems[0].construct), (1, "`#include` of none.h"))
+        with self.assertRaises(OSError):
+            cbi_port.port([self.path("none.c")])
+        with self.assertRaises(cbi_port.Refused) as caught:
+            cbi_port.port([self.write("b.c", "int f(void) { return 0; }\n")])
+        self.assertEqual(caught.exception.problems[0].construct, "no `main`")
+
+
+class Command(Case):
+    """The script."""
+
+    def test_it_runs_on_an_old_python(self):
+        folder = os.path.join(TOOLS, "cbi_port")
+        for name in os.listdir(folder):
+            if name.endswith(".py"):
+                with open(os.path.join(folder, name), encoding="utf-8") as file:
+                    text = file.read()
+                ast.parse(text, name, feature_version=(3, 8))
+                self.assertLess(text.count("\n"), 500, name)
+
+    def test_calls(self):
+        self.write("a.c", "#include <stdio.h>\ntypedef int n;\nint main(void)\n{\n    n c = getchar();\n    printf(\"%03d\\n\", c);\n    return 0;\n}\n")
+        out, err = self.call("cbi-port", "a.c")
+        self.assertIn("ported: 1 typedef, 2 library functions", err)
+        self.call("cbi-port", "a.c", "-o", "b.c")
+        self.assertEqual(self.read("b.c").decode(), out)
+        lines, added = cbi_port.read_map(self.read("b.c.lines").decode())
+        self.assertEqual(lines[4], cbi_port.Line("a.c", 5, False))
+        self.assertIn("cbi_printf", added)
+        self.write("in/x", "A")
+        self.write("in/below/y", "")
+        out, _ = self.call("cbi-port", "--check", "--inputs", "in", "a.c")
+        self.assertEqual(out, "2 of 2 outputs as gcc's\n")
+        self.write("c.c", "int main(void)\n{\n    float f;\n    goto x;\n}\n")
+        out, err = self.call("cbi-port", "c.c", due=1)
+        self.assertEqual(out, "")
+        self.assertEqual([row.split(": ")[1] for row in err.strip().split("\n")], ["c.c:3", "c.c:4"])
+
+
+if __name__ == "__main__":
+    looking.heed_interrupts()
+    looking.CBI = CBI = os.path.abspath(sys.argv.pop(1))
+    unittest.main(verbosity=1)

@@ -1,0 +1,103 @@
+"""Brings C as people write it to the dialect of `cbi`. Not proved; docs/PORTING.md says what it takes.
+
+`port` makes one text of the dialect out of C files; its lines stay those of the first file. What can't be
+kept is refused, all of it at once (`Refused`).
+"""
+from typing import Dict, List, NamedTuple, Optional, Sequence, Tuple, Union
+
+
+class Line(NamedTuple):
+    """Whose a line of the text is. Where `added`, the tool wrote all of it, and `file` is empty."""
+    file: str
+    line: int
+    added: bool
+
+
+class Problem(NamedTuple):
+    """What is refused: where, which construct, and what to write in its place."""
+    file: str
+    line: int
+    construct: str
+    advice: str
+
+    def __str__(self) -> str:
+        return f"{self.file}:{self.line}: {self.construct}: {self.advice}"
+
+
+class Refused(Exception):
+    """Nothing was ported. `problems` in the order of the text."""
+
+    def __init__(self, problems: Sequence[Problem]) -> None:
+        super().__init__("\n".join(map(str, problems)))
+        self.problems = list(problems)
+
+
+class Missing(Exception):
+    """A tool that the port needs isn't there; the message names the package."""
+
+
+class Ported(NamedTuple):
+    """`lines` has one entry for each line of `text`; `added` are the names of functions that the tool added."""
+    text: bytes
+    lines: List[Line]
+    added: List[str]
+    liberties: List[str]
+    counts: Dict[str, int]
+
+    def map_text(self) -> str:
+        """The map as the file `OUT.c.lines` has it (docs/PORTING.md)."""
+        files = list(dict.fromkeys(line.file for line in self.lines if not line.added))
+        numbers = {name: number for number, name in enumerate(files, 1)}
+        rows = ["cbi-lines 1", f"files {len(files)}", *files, f"functions {len(self.added)}", *self.added]
+        rows += [f"lines {len(self.lines)}"]
+        rows += ["added" if line.added else f"{numbers[line.file]} {line.line}" for line in self.lines]
+        return "\n".join(rows + ["end"]) + "\n"
+
+    def summary(self) -> str:
+        """What was ported, in one line: `14 typedefs, 3 switches, 9 library functions`."""
+        words = [f"{count} {name if count != 1 else singular(name)}" for name, count in self.counts.items() if count]
+        return ", ".join(words) or "nothing but its lines"
+
+
+def singular(name: str) -> str:
+    for end, less in (("ches", 2), ("ies", 3), ("s", 1)):
+        if name.endswith(end):
+            return name[:-less] + ("y" if end == "ies" else "")
+    return name
+
+
+def read_map(text: str) -> "Tuple[List[Line], List[str]]":
+    """The lines and the added functions of a map file; ValueError where it is none."""
+    rows = text.split("\n")
+    if rows[0] != "cbi-lines 1" or rows[-2:] != ["end", ""]:
+        raise ValueError("no map of lines")
+    at = 1
+
+    def part(word: str) -> List[str]:
+        nonlocal at
+        name, count = rows[at].split(" ")
+        if name != word:
+            raise ValueError(f"no {word} in the map of lines")
+        at += 1 + int(count)
+        return rows[at - int(count):at]
+    files, added = part("files"), part("functions")
+    lines = []
+    for row in part("lines"):
+        if row == "added":
+            lines.append(Line("", 0, True))
+        else:
+            file, line = row.split(" ")
+            lines.append(Line(files[int(file) - 1], int(line), False))
+    return lines, added
+
+
+def port(files: Sequence[str], cpp: Sequence[str] = (), args: Optional[Union[str, Sequence[str]]] = None,
+         stderr: bool = False, memory: str = "auto") -> Ported:
+    """The files as one text of the dialect.
+
+    `cpp` are options of the preprocessor (`-I`, `-D`). `args` are the words behind the program's name: a list, or
+    "first-line" for those of the first line of the input. `stderr` joins what goes to stderr to the output.
+    Raises `Refused`, `Missing` for want of a tool, and OSError for a file that can't be read.
+    """
+    from cbi_port.files import port_files
+    return port_files(files, list(cpp), args, stderr, memory)

@@ -1,0 +1,99 @@
+"""Memory as bytes: the library's functions of it, and what it begins with."""
+from typing import Any, Dict, Tuple
+
+from cbi_port.byte_objects import BASE, STACK, WORDS, ByteObjects
+from cbi_port.types import CHAR, INT, UINT, VOID, Function, Pointer
+from cbi_port.values import ASSIGN, POSTFIX, Value
+
+
+class Bytes(ByteObjects):
+    """The model of memory in which objects are laid out in bytes."""
+
+    # The library, and the whole.
+
+    def calls(self) -> Dict[str, Any]:
+        names = {"malloc": ("malloc", UINT), "free": ("free", None), "calloc": ("calloc", UINT), "realloc": ("realloc", UINT), "memcpy": ("copy", None),
+                 "memmove": ("move", None), "memset": ("fill", None), "memcmp": ("compare", None), "mempcpy": ("copy_behind", None), "bcmp": ("compare", None),
+                 "alloca": ("alloca", None), "strlen": ("length", None), "strcpy": ("copy_text", None), "strcmp": ("compare_text", None)}
+        kinds = {"malloc": [UINT], "free": [0], "calloc": [UINT, UINT], "realloc": [0, UINT], "memcpy": [0, 0, UINT], "memmove": [0, 0, UINT],
+                 "memset": [0, INT, UINT], "memcmp": [0, 0, UINT], "mempcpy": [0, 0, UINT], "bcmp": [0, 0, UINT], "alloca": [UINT], "strlen": [0],
+                 "strcpy": [0, 0], "strcmp": [0, 0]}
+        results = {"free": VOID, "memcmp": INT, "bcmp": INT, "strlen": UINT, "strcmp": INT, "strcpy": Pointer(CHAR)}
+        table: Dict[str, Any] = {}
+        for name, (word, _) in names.items():
+            def call(node: Any, arguments: Any, used: bool, word: str = word, row: Any = kinds[name], result: Any = results.get(name, Pointer(VOID))) -> Value:
+                if word == "alloca" and not self.program.function.frame:
+                    self.frame_room(4)
+                if len(arguments) < len(row):
+                    raise self.program.refuse(node, "a call with too few arguments", "an argument for each parameter")
+                texts = [self.program.converted(self.program.value(it), Pointer(VOID) if type_ == 0 else type_, True, node).at(ASSIGN)
+                         for it, type_ in zip(arguments, row)]
+                return Value(result, f"cbi_{word}({', '.join(texts)})", POSTFIX, pure=False)
+            table[name] = call
+        table["qsort"] = self.call_qsort
+        table["bsearch"] = self.call_bsearch
+        table["bzero"] = lambda node, arguments, used: Value(VOID, "cbi_fill({}, 0, {})".format(*(
+            self.program.converted(self.program.value(it), type_, True, node).at(ASSIGN) for it, type_ in zip(arguments, (Pointer(VOID), UINT)))), POSTFIX, pure=False)
+        table["bcopy"] = lambda node, arguments, used: Value(VOID, "cbi_move_turned({}, {}, {})".format(*(
+            self.program.converted(self.program.value(it), type_, True, node).at(ASSIGN) for it, type_ in zip(arguments, (Pointer(VOID), Pointer(VOID), UINT)))), POSTFIX, pure=False)
+        return table
+
+    def order(self) -> None:
+        program = self.program
+        program.sort_call = program.dispatcher(Function(INT, (Pointer(VOID), Pointer(VOID)), False, True), [Pointer(VOID), Pointer(VOID)])
+
+    def texts(self, arguments: Any, row: Any, node: Any) -> str:
+        program = self.program
+        return ", ".join(program.converted(program.value(it), type_, True, node).at(ASSIGN) for it, type_ in zip(arguments, row))
+
+    def call_qsort(self, node: Any, arguments: Any, used: bool) -> Value:
+        self.order()
+        compare = Pointer(Function(INT, (Pointer(VOID), Pointer(VOID)), False, True))
+        return Value(VOID, f"cbi_sort({self.texts(arguments, (Pointer(VOID), UINT, UINT, compare), node)})", POSTFIX, pure=False)
+
+    def call_bsearch(self, node: Any, arguments: Any, used: bool) -> Value:
+        self.order()
+        compare = Pointer(Function(INT, (Pointer(VOID), Pointer(VOID)), False, True))
+        return Value(Pointer(VOID), f"cbi_search({self.texts(arguments, (Pointer(VOID), Pointer(VOID), UINT, UINT, compare), node)})", POSTFIX, pure=False)
+
+    def main_arguments(self, helpers: Any, count: int) -> Tuple[str, str]:
+        if count == 0:
+            return "", ""
+        words = self.program.args
+        if words == "first-line":
+            at = self.static_room(4 * 70, 4)
+            return ", ".join(["cbi_count", f"{at}u", f"{at + 4 * 66}u"][:count]), f"int cbi_count = cbi_first_line({at}u); "
+        row = ["prog"] + list(words or [])
+        at = self.static_room(4 * (len(row) + 2), 4)
+        for index, word in enumerate(row):
+            data = word.encode("utf-8") + b"\0"
+            place = self.static_room(len(data), 1)
+            self.write(place - BASE, data, None)
+            self.write(at - BASE + 4 * index, place.to_bytes(4, "little"), None)
+        return ", ".join([str(len(row)), f"{at}u", f"{at + 4 * (len(row) + 1)}u"][:count]), ""
+
+    def finish(self, helpers: Any) -> None:
+        pass
+
+    def finish_memory(self, helpers: Any) -> None:
+        """Declares the memory, with what it begins with."""
+        while len(self.image) % 16:
+            self.image.append(0)
+        end = BASE + len(self.image)
+        if end + STACK + 65536 > 4 * WORDS:
+            raise self.program.refuse(None, "more than three megabytes of objects", "smaller arrays")
+        data = self.image.rstrip(b"\0")
+        words = [int.from_bytes(data[at:at + 4].ljust(4, b"\0"), "little") for at in range(0, len(data), 4)]
+        rows = ["0"] * (BASE // 4) + [f"{word}u" if word > 0x7fffffff else str(word) for word in words]
+        helpers.heads.insert(0, f"unsigned cbi_m[{WORDS}];")
+        if words:
+            helpers.heads.insert(1, f"unsigned cbi_image[{len(words)}] = {{ {', '.join(rows[BASE // 4:])} }};")
+            self.start = f"cbi_begin(cbi_image, {len(words)}u); "
+        else:
+            self.start = ""
+        helpers.heads.append("unsigned cbi_stack_begin(void); unsigned cbi_heap_begin(void);")
+        helpers.tails.append(f"unsigned cbi_stack_begin(void) {{ return {end}u; }}")
+        helpers.tails.append(f"unsigned cbi_heap_begin(void) {{ return {end + STACK}u; }}")
+        if self.program.sort_call and self.program.sort_call != "cbi_order":
+            helpers.heads.append("int cbi_order(unsigned order, unsigned a, unsigned b);")
+            helpers.tails.append(f"int cbi_order(unsigned order, unsigned a, unsigned b) {{ return {self.program.sort_call}(order, a, b); }}")

@@ -1,0 +1,249 @@
+"""Calls (C99 6.5.2.2), also by pointers, and arguments of which no parameter tells the type (7.15)."""
+from typing import Any, List, Optional, Sequence, Tuple
+
+from cbi_port.declarations import FLOATS, kind
+from cbi_port.lines import mark
+from cbi_port.operators import Operators
+from cbi_port.scopes import Symbol
+from cbi_port.types import (INT, UCHAR, UINT, VOID, Array, CType, Float, Function, Int, List_, Pointer, Struct, Void,
+                            is_long, is_pointer, is_whole, promoted, same, size_of, spelled)
+from cbi_port.conversions import number
+from cbi_port.values import ASSIGN, POSTFIX, Value
+
+
+class Calls(Operators):
+    """Calls of functions of the text, by name and by pointer."""
+
+    def of_FuncCall(self, node: Any, used: bool) -> Value:
+        arguments = list(node.args.exprs) if node.args is not None else []
+        if kind(node.name) == "ID":
+            name = node.name.name
+            if name.startswith(("__cbi_statement", "__cbi_va_arg", "__cbi_same", "__cbi_align", "__cbi_range", "__cbi_label", "__cbi_goto")) or name == "offsetof":
+                return self.special(node, name, arguments, used)
+            symbol = self.scope.find(name)
+            if symbol is None or symbol.kind == "function" and not symbol.defined:
+                found = self.library_call(name, node, arguments, used, symbol)
+                if found is not None:
+                    return found
+                symbol = symbol or self.by_use(node, name)
+            if symbol.kind == "function":
+                self.use(symbol)
+                return self.called(symbol.text, symbol, symbol.type, arguments, node, used)
+        value = self.value(node.name)
+        type_ = value.type.to if is_pointer(value.type) else value.type
+        if not isinstance(type_, Function):
+            raise self.refuse(node, f"a call of a `{spelled(value.type)}`", "a function or a pointer to one")
+        if isinstance(value.origin, Symbol) and value.origin.kind == "function":
+            return self.called(value.origin.text, value.origin, type_, arguments, node, used)
+        return self.called_by_pointer(value, type_, arguments, node, used)
+
+    def by_use(self, node: Any, name: str) -> Symbol:
+        """A function that its call declares (C90 6.3.2.2)."""
+        symbol = self.externals.get(name)
+        if symbol is None:
+            symbol = Symbol(name, "function", Function(INT, (), False, False))
+            symbol.outer = True
+            self.externals[name] = symbol
+        symbol.at = self.place_of(node) if symbol.at < 0 else symbol.at
+        return symbol
+
+    def called(self, name: str, symbol: Optional[Symbol], type_: Function, arguments: Sequence[Any], node: Any, used: bool,
+               first: Sequence[str] = ()) -> Value:
+        """A call by name."""
+        if isinstance(type_.result, Float):
+            raise self.refuse(node, f"a function that gives a `{spelled(type_.result)}`", FLOATS)
+        real = symbol.type if symbol is not None else type_
+        type_ = real if symbol is not None and isinstance(real, Function) else type_
+        texts = list(first)
+        result = type_.result
+        if is_whole(result):
+            texts.append(self.room(result))
+        values = [self.value(argument) for argument in arguments]
+        if type_.known:
+            if len(values) < len(type_.parameters) or len(values) > len(type_.parameters) and not type_.more:
+                raise self.refuse(node, f"{len(values)} arguments where {len(type_.parameters)} are wanted", "an argument for each parameter")
+        elif symbol is not None and symbol.defined and not type_.more:
+            # C leaves it undefined what a parameter is that gets no argument.
+            missing = type_.parameters[len(values):]
+            if any(is_whole(it) for it in missing):
+                raise self.refuse(node, f"{len(values)} arguments where {len(type_.parameters)} are wanted", "an argument for each parameter")
+            values += [number(0)._replace(null=True) for _ in missing]
+            dropped = values[len(type_.parameters):]
+            if not all(it.pure for it in dropped):
+                raise self.refuse(node, f"{len(values)} arguments where {len(type_.parameters)} are wanted", "an argument for each parameter")
+            values = values[:len(type_.parameters)]
+        for value, parameter in zip(values, type_.parameters):
+            texts.append(self.passed(value, parameter, node).at(ASSIGN))
+        if type_.more:
+            texts.append(self.more(values[len(type_.parameters):], node))
+        elif len(values) > len(type_.parameters):
+            if symbol is not None and symbol.defined:
+                raise self.refuse(node, f"{len(values)} arguments where {len(type_.parameters)} are wanted", "an argument for each parameter")
+            texts.extend(self.passed(it, self.by_default(it), node).at(ASSIGN) for it in values[len(type_.parameters):])
+        return Value(result, f"{mark(self.place_of(node))}{name}({', '.join(texts)})", POSTFIX, pure=False)
+
+    def by_default(self, value: Value) -> CType:
+        """6.5.2.2p6."""
+        return promoted(value.type, value.bits) if isinstance(value.type, Int) else value.type
+
+    def passed(self, value: Value, type_: CType, node: Any) -> Value:
+        """An argument as a parameter of the type takes it."""
+        if isinstance(type_, Float):
+            raise self.refuse(node, f"a parameter of type `{spelled(type_)}`", FLOATS)
+        value = self.converted(value, type_, True, node)
+        if is_long(type_):
+            return value._replace(text=self.long_text(value), level=POSTFIX)
+        return value
+
+    def room(self, type_: CType) -> str:
+        """A place for what a call gives, as the call takes it."""
+        if is_long(type_):
+            return "&" + self.temporary("long")
+        return self.model.spare(type_)
+
+    def more(self, values: Sequence[Value], node: Any) -> str:
+        """The arguments behind the last parameter, stored one after another."""
+        return self.model.more_arguments([self.converted(it, self.by_default(it), False, node) for it in values], node)
+
+    # Calls by pointers: a function for each kind of call goes through all functions that it may be.
+
+    def called_by_pointer(self, value: Value, type_: Function, arguments: Sequence[Any], node: Any, used: bool) -> Value:
+        if isinstance(type_.result, Float):
+            raise self.refuse(node, f"a function that gives a `{spelled(type_.result)}`", FLOATS)
+        values = [self.value(argument) for argument in arguments]
+        if type_.known and (len(values) < len(type_.parameters) or len(values) > len(type_.parameters) and not type_.more):
+            raise self.refuse(node, f"{len(values)} arguments where {len(type_.parameters)} are wanted", "an argument for each parameter")
+        kinds = list(type_.parameters) if type_.known else [self.by_default(it) for it in values]
+        name = self.dispatcher(type_, kinds)
+        texts = [self.room(type_.result)] if is_whole(type_.result) else []
+        texts.append(value.at(ASSIGN))
+        for it, parameter in zip(values, kinds):
+            texts.append(self.passed(it, parameter, node).at(ASSIGN))
+        if type_.more:
+            texts.append(self.more(values[len(kinds):], node))
+        return Value(type_.result, f"{mark(self.place_of(node))}{name}({', '.join(texts)})", POSTFIX, pure=False)
+
+    def dispatcher(self, type_: Function, kinds: Sequence[CType]) -> str:
+        key = (self.head_of(type_.result), tuple(self.model.parameter(it, "") + ("*" if is_whole(it) else "") for it in kinds), type_.more)
+        if key not in self.dispatchers:
+            self.dispatchers[key] = (f"cbi_call_{len(self.dispatchers) + 1}", type_, list(kinds))
+            self.count("kinds of calls by pointers")
+        return self.dispatchers[key][0]
+
+    def head_of(self, result: CType) -> str:
+        """How the result of a function is spelled."""
+        if isinstance(result, Void):
+            return "void "
+        if is_whole(result):
+            return self.model.whole_word(result)
+        if result == UCHAR:
+            return "int "  # a char of the text has a sign
+        return self.model.declare(result, "")
+
+    def signature(self, name: str, type_: Function, kinds: Sequence[CType], names: Sequence[str], lead: Sequence[str] = ()) -> str:
+        """A function's head. What is handed on by its place is a pointer."""
+        texts = [f"{self.model.whole_word(type_.result)}cbi_result"] if is_whole(type_.result) else []
+        texts += list(lead)
+        for it, word in zip(kinds, names):
+            texts.append(f"{self.model.whole_word(it)}{word}" if is_whole(it) else self.model.parameter(it, word))
+        if type_.more:
+            texts.append(f"{self.model.more_word}cbi_more")
+        return f"{self.head_of(type_.result)}{name}({', '.join(texts) or 'void'})"
+
+    def dispatch_text(self, name: str, type_: Function, kinds: Sequence[CType]) -> Tuple[str, str]:
+        """The declaration of a dispatcher, and its definition."""
+        names = [f"cbi_{place}" for place in range(len(kinds))]
+        head = self.signature(name, type_, kinds, names, ["int cbi_function" if not self.model.in_bytes else "unsigned cbi_function"])
+        rows = []
+        for symbol, index in self.function_numbers.items():
+            other = symbol.type
+            if not isinstance(other, Function) or other.more != type_.more or len(other.parameters) != len(kinds):
+                continue
+            if self.head_of(other.result) != self.head_of(type_.result) and not isinstance(type_.result, Void):
+                continue
+            if any(is_whole(left) != is_whole(right) or is_whole(left) and not same(left, right) and not (is_long(left) and is_long(right))
+                   or not self.model.in_bytes and is_pointer(left) != is_pointer(right) or self.model.parameter(left, "") != self.model.parameter(right, "") and not (
+                       self.may_pass(right, left)) for left, right in zip(other.parameters, kinds)):
+                continue
+            if isinstance(type_.result, Void) and is_whole(other.result):
+                continue
+            call = f"{symbol.text}({', '.join((['cbi_result'] if is_whole(type_.result) else []) + names + (['cbi_more'] if type_.more else []))})"
+            symbol.used = True
+            suffix = "u" if self.model.in_bytes else ""
+            if isinstance(type_.result, Void):
+                rows.append(f"if (cbi_function == {index}{suffix}) {{ {call}; return; }}")
+            else:
+                rows.append(f"if (cbi_function == {index}{suffix}) return {call};")
+        rows.append("cbi_no_function(cbi_function);")
+        return head + ";", f"{head} {{ {' '.join(rows)} }}"
+
+    def may_pass(self, from_: CType, to: CType) -> bool:
+        if isinstance(from_, Int) and isinstance(to, Int):
+            return True
+        if self.model.in_bytes:
+            return not is_whole(from_) and not is_whole(to)
+        return is_pointer(from_) and is_pointer(to) and (isinstance(from_.to, Void) or isinstance(to.to, Void))
+
+    # What stands for GNU C, and va_arg.
+
+    def special(self, node: Any, name: str, arguments: Sequence[Any], used: bool) -> Value:
+        if name == "offsetof":
+            return self.offset(node, arguments)
+        if name == "__cbi_va_arg":
+            return self.next_argument(node, arguments, used)
+        if name == "__cbi_same_types":
+            left, right = (self.type_under_sizeof(argument.expr) for argument in arguments)
+            return number(int(same(left, right)))
+        if name == "__cbi_align":
+            from cbi_port.types import align_of
+            return number(align_of(self.type_under_sizeof(arguments[0].expr)), UINT)
+        if name.startswith("__cbi_statement"):
+            return self.statement_value(node, name, used)
+        if name == "__cbi_range":
+            raise self.refuse(node, "a range here", "each value by itself")
+        if name == "__cbi_label":
+            if not self.model.in_bytes:
+                raise self.refuse(node, "the address of a label", "a `switch`", True)
+            label = arguments[0].name
+            self.label_owner.wanted_labels.setdefault(label, self.place_of(node))
+            at = self.label_segment(label)
+            return Value(Pointer(VOID), f"{at}u", POSTFIX, at)
+        raise self.refuse(node, "a jump to a label that is reckoned, within an expression", "a `switch`", True)
+
+    def offset(self, node: Any, arguments: Sequence[Any]) -> Value:
+        type_ = self.resolve(arguments[0].type)
+        way: List[Any] = []
+        inner = arguments[1]
+        while kind(inner) in ("StructRef", "ArrayRef"):
+            way.insert(0, inner)
+            inner = inner.name
+        total = 0
+        for step in [inner, *way]:
+            if kind(step) == "ArrayRef":
+                if not isinstance(type_, Array):
+                    raise self.refuse(node, "`offsetof` of no element", "a member")
+                type_ = type_.of
+                total += size_of(type_) * self.constant(step.subscript)
+                continue
+            field = step.name if kind(step) == "ID" else step.field.name
+            members = type_.find(field) if isinstance(type_, Struct) else None
+            if members is None:
+                raise self.refuse(node, f"`offsetof` of `{field}`, which is no member", "a member")
+            for member in members:
+                total += member.at
+                type_ = member.type
+        return number(total, UINT)
+
+    def next_argument(self, node: Any, arguments: Sequence[Any], used: bool) -> Value:
+        """`va_arg` (7.15.1.1)."""
+        place = self.place(arguments[0])
+        if not isinstance(place.type, List_):
+            if is_pointer(place.type) and isinstance(place.type.to, List_):
+                place = self.model.target(self.model.load(place))
+            else:
+                raise self.refuse(node, "`va_arg` of no `va_list`", "a `va_list`")
+        type_ = self.type_under_sizeof(arguments[1].expr)
+        if isinstance(type_, Float):
+            raise self.refuse(node, f"an argument of type `{spelled(type_)}`", FLOATS)
+        self.count("lists of arguments")
+        return self.model.next_argument(place, type_, node)

@@ -1,0 +1,65 @@
+"""The words of `cbi-port`."""
+import argparse
+import shlex
+import sys
+from typing import List, Optional
+
+from cbi_port import Missing, Refused, port
+
+ABOUT = """Writes one text of the dialect of cbi that does what the C files do, on their lines; docs/PORTING.md says what it takes.
+This script is not proved. What can't be kept is refused: a line for each on err, with file, line, the construct, and what to write in its place."""
+
+
+def words(arguments: List[str]) -> argparse.Namespace:
+    parser = argparse.ArgumentParser(prog="cbi-port", description=ABOUT)
+    parser.add_argument("files", nargs="+", metavar="FILE.c")
+    parser.add_argument("-I", action="append", default=[], metavar="DIR", help="a folder of headers")
+    parser.add_argument("-D", action="append", default=[], metavar="NAME[=V]", help="a name that is defined")
+    parser.add_argument("-U", action="append", default=[], metavar="NAME", help="a name that isn't")
+    parser.add_argument("-o", metavar="OUT.c", help="where the text goes, and the map of its lines to OUT.c.lines; else to out, without a map")
+    parser.add_argument("--args", metavar="WORDS", help="the arguments of main: words, or first-line for those of the input's first line")
+    parser.add_argument("--stderr", action="store_true", help="what goes to stderr goes to out")
+    parser.add_argument("--memory", choices=["auto", "cells", "bytes"], default="auto", help="how memory is kept (docs/PORTING.md)")
+    parser.add_argument("--quiet", action="store_true", help="nothing on err but refusals")
+    parser.add_argument("--check", action="store_true", help="compare the text with the files as gcc builds them")
+    parser.add_argument("--inputs", metavar="FOLDER", help="the inputs of --check")
+    parser.add_argument("--tool", metavar="CBI", help="the executable cbi of --check")
+    parser.add_argument("--turns", type=int, default=100000000, help="the turns of each run of --check")
+    return parser.parse_args(arguments)
+
+
+def main(arguments: List[str]) -> int:
+    said = words(arguments)
+    options = [f"-I{it}" for it in said.I] + [f"-D{it}" for it in said.D] + [f"-U{it}" for it in said.U]
+    args: Optional[object] = said.args
+    if said.args is not None and said.args != "first-line":
+        args = shlex.split(said.args)
+    sys.setrecursionlimit(20000)
+    try:
+        ported = port(said.files, options, args, said.stderr, said.memory)  # type: ignore[arg-type]
+    except Refused as refused:
+        for problem in refused.problems:
+            print(f"cbi-port: {problem}", file=sys.stderr)
+        return 1
+    except Missing as missing:
+        print(f"cbi-port: {missing}", file=sys.stderr)
+        return 2
+    except OSError as error:
+        print(f"cbi-port: {error.filename}: {error.strerror}", file=sys.stderr)
+        return 2
+    if said.o:
+        with open(said.o, "wb") as out:
+            out.write(ported.text)
+        with open(said.o + ".lines", "w") as out_map:
+            out_map.write(ported.map_text())
+    elif not said.check:
+        sys.stdout.flush()
+        sys.stdout.buffer.write(ported.text)
+    if not said.quiet:
+        for liberty in ported.liberties:
+            print(f"cbi-port: {liberty}", file=sys.stderr)
+        print(f"ported: {ported.summary()}", file=sys.stderr)
+    if said.check:
+        from cbi_port.check import check
+        return check(said.files, options, ported, said.inputs, said.tool, args, said.turns)
+    return 0

@@ -1,0 +1,358 @@
+"""Expressions (C99 6.5): each gives a value, or a place."""
+from typing import Any, Optional, Tuple
+
+from cbi_port.conversions import number
+from cbi_port.declarations import FLOATS, kind
+from cbi_port.lines import mark
+from cbi_port.places import Places
+from cbi_port.scopes import Symbol
+from cbi_port.types import (BOOL, INT, UCHAR, UINT, VOID, Array, CType, Float, Function, Int, Pointer, Struct, Void,
+                            common, is_complete, is_long, is_pointer, is_whole, promoted, size_of, spelled)
+from cbi_port.values import ASSIGN, BITAND, COMMA, COND, POSTFIX, UNARY, Place, Value, prefixed
+
+LONG_NAMES = {"+": "add", "-": "sub", "*": "mul", "/": "div", "%": "rem", "&": "and", "|": "or", "^": "xor", "<<": "shl", ">>": "shr"}
+
+
+class Expressions(Places):
+    """The values of expressions, as texts of the dialect."""
+
+    def value(self, node: Any, used: bool = True) -> Value:
+        outer = self.last_place
+        at = self.place_of(node)
+        if at >= 0:
+            self.last_place = at
+        try:
+            return getattr(self, "of_" + kind(node), self.of_other)(node, used)
+        finally:
+            self.last_place = outer
+
+    def of_other(self, node: Any, used: bool) -> Value:
+        raise self.refuse(node, f"an expression of the form {kind(node)}", "an expression of C99")
+
+    def type_of(self, node: Any) -> CType:
+        """The type of an expression that isn't evaluated, without decay."""
+        quiet, self.function.quiet = self.function.quiet, True
+        try:
+            if kind(node) in ("ID", "ArrayRef", "StructRef", "CompoundLiteral") or kind(node) == "UnaryOp" and node.op == "*":
+                place = self.place(node, True)
+                if place is not None:
+                    return place.type
+            if kind(node) == "Constant" and node.type == "string":
+                return self.string_type(node)
+            return self.value(node).type
+        finally:
+            self.function.quiet = quiet
+
+    def pieces_between(self, node: Any, word: str) -> str:
+        """The mark of the operator that stands before a node."""
+        at = self.place_of(node)
+        for index in range(at - 1, max(at - 40, 0), -1):
+            if self.tokens[index].text == word:
+                return mark(index)
+        return ""
+
+    # 6.5.1
+
+    def of_ID(self, node: Any, used: bool) -> Value:
+        name = node.name
+        if name == "__cbi_same":
+            return self.function.same[-1]
+        symbol = self.scope.find(name)
+        if symbol is not None and symbol.kind == "constant":
+            return number(symbol.constant, symbol.type)
+        if symbol is not None and symbol.kind == "function" or symbol is None and self.library_function(name, node) is not None:
+            symbol = symbol or self.library_function(name, node)
+            self.use(symbol)
+            return self.model.function(symbol, node)
+        if name == "__func__" and symbol is None:
+            text = self.function.name
+            return self.model.string(f'"{text}"', len(text) + 1)
+        place = self.place(node, True)
+        assert place is not None
+        return self.model.load(place, node)
+
+    def use(self, symbol: Symbol) -> None:
+        if not self.function.quiet:
+            symbol.used = True
+
+    def of_CompoundLiteral(self, node: Any, used: bool) -> Value:
+        place = self.place(node)
+        return self.model.load(place, node)
+
+    # 6.5.3
+
+    def of_ArrayRef(self, node: Any, used: bool) -> Value:
+        return self.model.load(self.place(node), node)
+
+    def of_StructRef(self, node: Any, used: bool) -> Value:
+        return self.model.load(self.place(node), node)
+
+    def of_UnaryOp(self, node: Any, used: bool) -> Value:
+        sign = node.op
+        if sign in ("++", "--", "p++", "p--"):
+            return self.stepped(node, sign, used)
+        if sign == "sizeof":
+            return self.size(node)
+        if sign == "&":
+            return self.address_of(node)
+        if sign == "*":
+            place = self.place(node)
+            if isinstance(place.type, Function):
+                return Value(Pointer(place.type), place.text, place.level, pure=place.pure)
+            if isinstance(place.type, Void):
+                return Value(VOID, place.text, place.level)
+            return self.model.load(place, node)
+        value = self.value(node.expr)
+        if sign == "!":
+            truth = self.truth(value)
+            constant = None if truth.constant is None else int(not truth.constant)
+            return Value(INT, prefixed("!", truth.text, truth.level), UNARY, constant, value.pure)
+        if not isinstance(value.type, Int):
+            raise self.refuse(node, f"`{sign}` of a `{spelled(value.type)}`", FLOATS if isinstance(value.type, Float) else "a number")
+        value = self.promoted(value)
+        if sign == "+":
+            return value
+        return self.negated(value, sign)
+
+    def negated(self, value: Value, sign: str) -> Value:
+        type_ = value.type
+        if value.constant is not None:
+            return number(type_.wrap(-value.constant if sign == "-" else ~value.constant), type_)
+        if is_long(type_):
+            name = ("cbi_long_neg" if type_.signed else "cbi_long_minus") if sign == "-" else "cbi_long_not"
+            return Value(type_, f"{name}(&{self.temporary('long')}, {value.at(ASSIGN)})", POSTFIX, pure=value.pure)
+        return Value(type_, prefixed(sign, value.text, value.level), UNARY, pure=value.pure)
+
+    def address_of(self, node: Any) -> Value:
+        inner = node.expr
+        if kind(inner) == "ID":
+            symbol = self.scope.find(inner.name)
+            if symbol is not None and symbol.kind == "function" or symbol is None and self.library_function(inner.name, inner) is not None:
+                return self.value(inner)
+        if kind(inner) == "UnaryOp" and inner.op == "*":
+            value = self.value(inner.expr)
+            if is_pointer(value.type):
+                return value
+        if kind(inner) == "ArrayRef" and not self.model.in_bytes:
+            place = self.place(inner)
+            return self.model.address(place, node)
+        return self.model.address(self.place(inner), node)
+
+    def size(self, node: Any) -> Value:
+        inner = node.expr
+        if kind(inner) == "ID":
+            symbol = self.scope.find(inner.name)
+            if symbol is not None and symbol.lengths is not None:
+                return symbol.lengths
+        type_ = self.type_under_sizeof(inner)
+        if isinstance(type_, Array) and type_.count is not None and not isinstance(type_.count, int):
+            return self.length_of(type_, node)
+        if isinstance(type_, Struct) and not type_.complete or isinstance(type_, Array) and not is_complete(type_):
+            raise self.refuse(node, f"`sizeof` of a {spelled(type_)}", "a type that is complete")
+        if kind(inner) in ("StructRef",) :
+            way = self.place_quiet(inner)
+            if way is not None and way.member is not None:
+                raise self.refuse(node, "`sizeof` of a bit-field", "the size of its type")
+        value = number(size_of(type_), UINT)
+        return value._replace(origin=("sizeof", type_))
+
+    def place_quiet(self, node: Any) -> Optional[Place]:
+        quiet, self.function.quiet = self.function.quiet, True
+        try:
+            return self.place(node)
+        finally:
+            self.function.quiet = quiet
+
+    def stepped(self, node: Any, sign: str, used: bool) -> Value:
+        """`++` and `--` (6.5.2.4, 6.5.3.1)."""
+        place = self.place(node.expr)
+        return self.step(place, sign[-1], sign[0] == "p", used, node)
+
+    def step(self, place: Place, sign: str, behind: bool, used: bool, node: Any) -> Value:
+        type_ = place.type
+        natural = not place.memory and place.member is None and not place.stored and (
+            isinstance(type_, Int) and (type_.rank >= 3 and type_.size == 4 or type_.size == 1 and type_.rank == 1)
+            or is_pointer(type_) and not isinstance(type_.to, (Void, Function, Array)) and not self.model.in_bytes)
+        if isinstance(type_, (Float, Void, Struct, Array)):
+            raise self.refuse(node, f"`{sign}{sign}` of a `{spelled(type_)}`", "a number or a pointer")
+        if natural:
+            place = self.model.within(place, True)
+            if is_pointer(type_) and not is_complete(type_.to):
+                raise self.refuse(node, f"a moved `{spelled(type_)}`", "a pointer to a complete type", True)
+            text = f"{place.at(POSTFIX)}{sign}{sign}" if behind else prefixed(sign + sign, place.text, place.level)
+            level = POSTFIX if behind else UNARY
+            if type_ == UCHAR and used:
+                return Value(type_, f"{text if level > BITAND else text} & 255", BITAND, pure=False, raw=f"({text})")
+            return Value(type_, text, level, pure=False)
+        before, place = self.model.pin(place)
+        one = number(1)
+        old = self.model.load(place, node)
+        if behind and used:
+            return self.old_value(before, place, old, sign, node)
+        new = self.operated("+" if sign == "+" else "-", old, one, node)
+        return self.after(before, self.assigned(place, new, used, node))
+
+    def old_value(self, before: str, place: Place, old: Value, sign: str, node: Any) -> Value:
+        """The old value of a place that is stepped."""
+        spare, kept = self.keep(old)
+        new = self.operated(sign, kept, number(1), node)
+        stored = self.assigned(place, new, False, node)
+        return Value(kept.type, f"({before}{spare}, {stored.text}, {kept.text})", POSTFIX, pure=False, bits=old.bits)
+
+    def keep(self, value: Value) -> Tuple[str, Value]:
+        """Stores a value beside; the text that does it, and the value from there."""
+        if is_long(value.type):
+            name = self.temporary("long")
+            return f"cbi_long_copy(&{name}, {self.long_text(value)})", Value(value.type, f"&{name}", UNARY)
+        if is_pointer(value.type) and not self.model.in_bytes and not isinstance(value.type.to, Function):
+            name = self.temporary(self.model.spell(value.type))
+            return f"{name} = {value.at(ASSIGN)}", value._replace(text=name, level=POSTFIX, pure=True, raw=None)
+        word = "unsigned" if isinstance(value.type, Int) and not value.type.signed and value.type.rank >= 3 and value.bits is None or (
+            is_pointer(value.type) and self.model.in_bytes) else "int"
+        name = self.temporary(word) + ".value"
+        return f"{name} = {value.at(ASSIGN)}", value._replace(text=name, level=POSTFIX, pure=True, raw=None)
+
+    def after(self, before: str, value: Value) -> Value:
+        if not before:
+            return value
+        return value._replace(text=f"({before}{value.text})", level=POSTFIX, pure=False, raw=None)
+
+    # 6.5.4
+
+    def of_Cast(self, node: Any, used: bool) -> Value:
+        type_ = self.resolve(node.to_type.type)
+        inner = node.expr
+        if isinstance(type_, Void):
+            value = self.value(inner, False)
+            if isinstance(value.type, Void):
+                return value
+            if is_whole(value.type) or not used:
+                return Value(VOID, value.text, value.level, pure=value.pure)
+            return Value(VOID, prefixed("(void)", value.text, value.level), UNARY, pure=value.pure)
+        value = self.value(inner)
+        if isinstance(type_, Struct) and type_.union and value.type is not type_:
+            raise self.refuse(node, "a cast to a union", "a union whose member is assigned")
+        if isinstance(type_, (Array, Function)):
+            raise self.refuse(node, f"a cast to `{spelled(type_)}`", "a cast to a pointer")
+        result = self.converted(value, type_, False, node)
+        return result._replace(origin=None) if result.origin != "fresh" else result
+
+    # 6.5.16
+
+    def of_Assignment(self, node: Any, used: bool) -> Value:
+        place = self.place(node.lvalue)
+        if node.op == "=":
+            if isinstance(place.type, Struct):
+                value = self.value(node.rvalue)
+                if value.type is not place.type:
+                    raise self.refuse(node, f"a {spelled(value.type)} assigned to a {spelled(place.type)}", "a value of that type")
+                return self.model.copy(place, value, used, node)
+            return self.assigned(place, self.value(node.rvalue), used, node)
+        return self.compound(place, node.op[:-1], self.value(node.rvalue), used, node)
+
+    def assigned(self, place: Place, value: Value, used: bool, node: Any) -> Value:
+        """Stores a value to a place."""
+        type_ = place.type
+        if isinstance(type_, (Array, Function, Void)):
+            raise self.refuse(node, f"an assignment to a `{spelled(type_)}`", "an assignment to a variable, an element or a member")
+        value = self.converted(value, type_, True, node)
+        if is_long(type_):
+            return self.model.copy(place, value._replace(text=self.long_text(value)) if value.constant is None else value, used, node)
+        if place.member is not None and isinstance(type_, Int) and place.member.bits < 32:
+            value = self.cut(value, place.member.bits, type_)
+        return self.model.store(place, value, used)
+
+    def cut(self, value: Value, bits: int, type_: Int) -> Value:
+        """A value as a bit-field keeps it."""
+        if type_ == BOOL:
+            return value
+        if value.constant is not None:
+            whole = value.constant & ((1 << bits) - 1)
+            return number(whole - (1 << bits) if type_.signed and whole >> (bits - 1) else whole)
+        return self.masked(value, bits, type_.signed, INT)
+
+    def compound(self, place: Place, sign: str, value: Value, used: bool, node: Any) -> Value:
+        type_ = place.type
+        if is_pointer(type_):
+            natural = not place.memory and not self.model.in_bytes and not place.stored and not isinstance(type_.to, (Void, Array, Function))
+            if natural and is_complete(type_.to):
+                place = self.model.within(place, True)
+                return Value(type_, f"{place.text} {sign}= {self.index(value).at(ASSIGN)}", ASSIGN, pure=False)
+        elif not isinstance(type_, Int):
+            raise self.refuse(node, f"`{sign}=` of a `{spelled(type_)}`", FLOATS)
+        elif isinstance(value.type, Int) and not place.memory and place.member is None and not is_long(value.type) and (
+                type_.rank >= 3 and type_.size == 4 or type_.size == 1 and type_.rank == 1 and (type_ != UCHAR or sign in "+-*&|^")):
+            place = self.model.within(place, True)
+            text = f"{place.text} {sign}= {self.promoted(value).at(ASSIGN)}"
+            if type_ == UCHAR and used:
+                return Value(type_, f"({text}) & 255", BITAND, pure=False, raw=f"({text})")
+            return Value(type_, text, ASSIGN, pure=False)
+        before, place = self.model.pin(place)
+        if not value.pure and value.constant is None:
+            spare, value = self.keep(value)
+            before += spare + ", "
+        new = self.operated(sign, self.model.load(place, node), value, node)
+        return self.after(before, self.assigned(place, new, used, node))
+
+    # 6.5.15, 6.5.17
+
+    def of_ExprList(self, node: Any, used: bool) -> Value:
+        parts = [self.value(item, False) for item in node.exprs[:-1]]
+        last = self.value(node.exprs[-1], used)
+        text = ", ".join([part.at(ASSIGN) for part in parts if part.text] + [last.at(ASSIGN)])
+        if is_long(last.type) and last.constant is not None:
+            last = last._replace(text=self.long_text(last))
+            text = ", ".join([part.at(ASSIGN) for part in parts if part.text] + [last.at(ASSIGN)])
+        return Value(last.type, text, COMMA, None, all(part.pure for part in parts) and last.pure, last.bits)
+
+    def of_TernaryOp(self, node: Any, used: bool) -> Value:
+        same_as = kind(node.iftrue) == "ID" and node.iftrue.name == "__cbi_same"
+        condition = self.value(node.cond)
+        before = ""
+        if same_as:
+            before, condition = self.keep(condition)
+            before += ", "
+            self.function.same.append(condition)
+        left, right = self.value(node.iftrue, used), self.value(node.iffalse, used)
+        if same_as:
+            self.function.same.pop()
+        return self.after(before, self.chosen(condition, left, right, node))
+
+    def chosen(self, condition: Value, left: Value, right: Value, node: Any) -> Value:
+        truth = self.truth(condition)
+        type_ = self.arm_type(left, right, node)
+        if not isinstance(type_, Void):
+            left, right = (self.converted(self.promoted(it) if isinstance(it.type, Int) else it, type_, False, node) for it in (left, right))
+        constant = None
+        if truth.constant is not None:
+            constant = left.constant if truth.constant else right.constant
+        if isinstance(type_, Void):
+            left, right = (it if isinstance(it.type, Void) else Value(VOID, prefixed("(void)", it.text, it.level), UNARY) for it in (left, right))
+        if is_long(type_):
+            left, right = (it._replace(text=self.long_text(it), level=POSTFIX if it.constant is not None else it.level) for it in (left, right))
+        question, colon = self.pieces_between(node.iftrue, "?"), self.pieces_between(node.iffalse, ":")
+        text = f"{truth.at(COND + 1)} {question}? {left.at(COMMA)} {colon}: {right.at(COND)}"
+        if truth.constant is not None and constant is not None and condition.pure:
+            return number(constant, type_) if isinstance(type_, Int) and not is_long(type_) else Value(type_, text, COND, constant)
+        null = left.null and right.null
+        return Value(type_, text, COND, constant if truth.constant is not None else None, truth.pure and left.pure and right.pure, null=null)
+
+    def arm_type(self, left: Value, right: Value, node: Any) -> CType:
+        if isinstance(left.type, Int) and isinstance(right.type, Int):
+            return common(promoted(left.type, left.bits), promoted(right.type, right.bits))
+        if isinstance(left.type, Void) or isinstance(right.type, Void):
+            return VOID
+        if left.type is right.type or isinstance(left.type, Struct):
+            return left.type
+        if is_pointer(left.type) and is_pointer(right.type):
+            if left.null and isinstance(left.type.to, Void):
+                return right.type
+            if right.null and isinstance(right.type.to, Void):
+                return left.type
+            return left.type if not isinstance(right.type.to, Void) or isinstance(left.type.to, Void) else right.type
+        return left.type if is_pointer(left.type) else right.type
+
+    # 6.5.2.2 and the rest in calls.py.
+
+    def of_Typename(self, node: Any, used: bool) -> Value:
+        raise self.refuse(node, "a type where a value is wanted", "a value")

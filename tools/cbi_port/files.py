@@ -1,0 +1,79 @@
+"""From files to one text: what can't be kept in one way is tried in the other, and all refusals are told at once."""
+import re
+from typing import Any, List, Optional, Sequence
+
+from cbi_port import Ported, Problem, Refused
+from cbi_port.lines import Refusal, Token
+from cbi_port.program import Program
+from cbi_port.reader import PreprocessorFailed, Unit, pieces, read
+
+
+def port_files(files: Sequence[str], options: List[str], args: Any, stderr: bool, memory: str) -> Ported:
+    """See `cbi_port.port`."""
+    tokens: List[Token] = [Token("mark", "", files[0] if files else "", 1)]
+    problems: List[Refusal] = []
+    units: List[Unit] = []
+    for file in files:
+        try:
+            units.append(read(file, options, tokens, problems))
+        except PreprocessorFailed as failed:
+            raise Refused(told_by_preprocessor(failed)) from None
+    if problems:
+        raise Refused(ordered(problems, tokens, files))
+    size = len(tokens)
+    first: Optional[Program] = None
+    for way in (["cells", "bytes"] if memory == "auto" else [memory]):
+        del tokens[size:]
+        program = Program(units, tokens, way, args, stderr)
+        ported = run(program)
+        if not program.problems:
+            program.problems.extend(too_large(ported, tokens))
+        if not program.problems:
+            if first is not None:
+                why = min((it for it in first.problems if it.bytes_do), key=lambda it: it.at).problem(tokens)
+                note = f"memory is kept as bytes, for {why.construct} at {why.file}:{why.line}: bounds and ends of objects aren't looked at"
+                ported = ported._replace(liberties=[note] + ported.liberties)
+            return ported
+        hard = [it for it in program.problems if not it.bytes_do]
+        if hard or memory != "auto" or way == "bytes":
+            raise Refused(ordered(hard or program.problems, tokens, files))
+        first = program
+    raise AssertionError("no model of memory")
+
+
+def run(program: Program) -> Ported:
+    """A translation; what the tool itself stumbles over is a refusal too, where it stumbles."""
+    try:
+        return program.run()
+    except Refusal as refusal:
+        program.problems.append(refusal)
+    except RecursionError:
+        program.problems.append(Refusal(program.last_place, "what nests too deep", "parts of it"))
+    except (AttributeError, AssertionError, IndexError, KeyError, TypeError, ValueError) as error:
+        what = f"what cbi-port doesn't take ({type(error).__name__}: {error})"
+        program.problems.append(Refusal(program.last_place, what, "simpler C for it; it is a defect of the tool"))
+    return Ported(b"", [], [], [], {})
+
+
+def too_large(ported: Ported, tokens: Sequence[Token]) -> List[Refusal]:
+    """A text that `cbi` would refuse for its size."""
+    if len(ported.text) <= 1048576 and (len(ported.text) < 200000 or len(pieces(ported.text.decode("latin-1"), "")) <= 100000):
+        return []
+    return [Refusal(len(tokens) - 1, "a program whose text is too large (more than 100,000 tokens, or 1,048,576 bytes)", "parts of it")]
+
+
+def ordered(problems: Sequence[Refusal], tokens: Sequence[Token], files: Sequence[str]) -> List[Problem]:
+    found = [it.problem(tokens) for it in sorted(problems, key=lambda it: it.at)]
+    return list(dict.fromkeys(found))
+
+
+def told_by_preprocessor(failed: PreprocessorFailed) -> List[Problem]:
+    problems = []
+    for row in failed.told.splitlines():
+        found = re.match(r"(.*?):(\d+)(?::\d+)?:\s*(?:fatal )?error:\s*(.*)", row)
+        if found:
+            what = found[3]
+            missing = re.match(r"(.*?): No such file", what)
+            advice = "a header of the library that is there, or `-I` with its folder" if missing else "what the preprocessor takes"
+            problems.append(Problem(found[1], int(found[2]), f"`#include` of {missing[1]}" if missing else what, advice))
+    return problems or [Problem(failed.file, 1, "the preprocessor failed: " + failed.told.strip()[:200], "what it takes")]

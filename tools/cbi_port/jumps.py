@@ -1,0 +1,386 @@
+"""Jumps (C99 6.8.6.1): functions with `goto` become a loop over their segments, and one number says which is next.
+
+Only statements that hold a label, or jump out of a loop, are cut into segments; all others stay as they are.
+"""
+from typing import Any, List, Optional
+
+from cbi_port.declarations import kind
+from cbi_port.lines import Refusal
+from cbi_port.scopes import Scope, Symbol
+from cbi_port.statements import Statements
+from cbi_port.types import Array, Function, Void, is_complete, is_long
+from cbi_port.values import ASSIGN, COMMA, UNARY, Value
+
+LOOPS = ("While", "DoWhile", "For")
+
+
+def holds(node: Any, wanted: Any) -> bool:
+    """Whether a statement has, somewhere in it, one that is wanted."""
+    if node is None:
+        return False
+    return wanted(node) or any(holds(child, wanted) for _, child in node.children())
+
+
+def cases_within(switch: Any) -> bool:
+    """Whether a label of a `switch` stands within another statement."""
+    items = (switch.stmt.block_items or []) if kind(switch.stmt) == "Compound" else [switch.stmt]
+
+    def stray(node: Any, top: bool) -> bool:
+        if node is None or kind(node) == "Switch":
+            return False
+        if kind(node) in ("Case", "Default"):
+            return not top or any(stray(item, kind(item) in ("Case", "Default")) for item in node.stmts or [])
+        return any(stray(child, False) for _, child in node.children())
+    return any(stray(item, True) for item in items)
+
+
+def is_jump(node: Any) -> bool:
+    return kind(node) == "Goto" or kind(node) == "FuncCall" and kind(node.name) == "ID" and node.name.name == "__cbi_goto"
+
+
+def leaves_loop(node: Any) -> bool:
+    """Whether a `goto` stands within a loop or a `switch`."""
+    if node is None:
+        return False
+    if kind(node) in (*LOOPS, "Switch"):
+        return holds(node, is_jump)
+    return any(leaves_loop(child) for _, child in node.children())
+
+
+def is_cut(node: Any) -> bool:
+    """Whether a statement has to be cut into segments."""
+    return holds(node, lambda it: kind(it) == "Label") or leaves_loop(node) or holds(
+        node, lambda it: kind(it) == "Switch" and cases_within(it)) or has_stray_case(node)
+
+
+def has_stray_case(node: Any) -> bool:
+    if node is None or kind(node) == "Switch":
+        return False
+    return kind(node) in ("Case", "Default") or any(has_stray_case(child) for _, child in node.children())
+
+
+class Jumps(Statements):
+    """Functions that jump."""
+
+    def prepare(self, item: Any) -> None:
+        body = self.function
+        if not holds(item.body, lambda it: is_jump(it) or kind(it) == "Label") and not holds(
+                item.body, lambda it: kind(it) == "Switch" and cases_within(it)):
+            return
+        self.count("functions with jumps")
+        body.flat = body.lasting("int") + ".value"
+        self.jumping = body
+        body.segments = 0
+        body.case_segments = {}
+        body.targets = []
+        self.put(f"{body.flat} = 0; while (1) {{ if ({body.flat} == 0) {{")
+
+    def finish(self, item: Any) -> None:
+        if self.function.flat is not None:
+            self.put("} break; }")
+            self.hold_labels(item)
+
+    def hold_labels(self, item: Any) -> None:
+        for name, at in getattr(self.function, "wanted_labels", {}).items():
+            if name not in self.function.defined_labels:
+                self.problems.append(Refusal(at, f"`goto {name}` without its label", "the label"))
+
+    def new_segment(self) -> int:
+        self.function.segments += 1
+        return int(self.function.segments)
+
+    def segment(self, number: int, falls: bool = True, node: Any = None) -> None:
+        """Ends a segment, and begins another one."""
+        flat = self.function.flat
+        before = f"{flat} = {number}; " if falls else ""
+        self.put(f"{before}}} if ({flat} == {number}) {{", node)
+
+    def jump(self, number: int) -> str:
+        return f"{{ {self.function.flat} = {number}; continue; }}"
+
+    def label_segment(self, name: str) -> int:
+        owner = self.label_owner
+        if name not in owner.labels:
+            owner.segments += 1
+            owner.labels[name] = owner.segments
+        return int(owner.labels[name])
+
+    @property
+    def label_owner(self) -> Any:
+        """The function whose labels are named, also where a static variable of it begins with them."""
+        return self.function if self.function.flat is not None else self.jumping
+
+    # Statements at the level of the segments.
+
+    def statement(self, node: Any) -> None:
+        if self.function.flat is None or self.function.held or not (is_cut(node) or self.at_level and kind(node) in ("Decl", "DeclList", "Compound")):
+            level, self.at_level = self.at_level, False
+            super().statement(node)
+            self.at_level = level
+            return
+        self.function.fresh_statement()
+        try:
+            getattr(self, "cut_" + kind(node))(node)
+        except AttributeError as error:
+            if "cut_" not in str(error):
+                raise
+            self.problems.append(self.refuse(node, f"a jump in a {kind(node)}", "a loop with `break` and `continue`"))
+        except Refusal as refusal:
+            self.problems.append(refusal)
+
+    at_level = True
+    jumping: Any = None
+
+    def st_expression(self, node: Any) -> None:
+        if is_jump(node) and kind(node) == "FuncCall":
+            if self.function.flat is None or not self.model.in_bytes:
+                raise self.refuse(node, "a jump to a label that is reckoned", "a `switch`", True)
+            value = self.value(node.args.exprs[0])
+            self.put(f"{{ {self.function.flat} = (int){value.at(UNARY)}; continue; }}", node)
+            return
+        super().st_expression(node)
+
+    def cut_FuncCall(self, node: Any) -> None:
+        self.st_expression(node)
+
+    def level_statement(self, node: Any) -> None:
+        level, self.at_level = self.at_level, True
+        self.statement(node)
+        self.at_level = level
+
+    def cut_Compound(self, node: Any) -> None:
+        outer, self.scope = self.scope, Scope(self.scope)
+        for item in node.block_items or []:
+            self.level_statement(item)
+        self.scope = outer
+
+    def cut_DeclList(self, node: Any) -> None:
+        for decl in node.decls:
+            self.level_statement(decl)
+
+    def cut_Decl(self, node: Any) -> None:
+        if node.name is not None and not (node.storage and set(node.storage) & {"static", "extern", "typedef"}):
+            type_ = self.resolve(node.type)
+            if not isinstance(type_, Function) and (is_complete(type_) or isinstance(type_, Array) and type_.count is None and node.init is not None):
+                if isinstance(type_, Array) and type_.count is None:
+                    outer = self.scope
+                    type_, _ = self.leaves(type_, node.init)
+                if not self.has_float(type_):
+                    symbol = Symbol(node.name, "variable", type_, self.local_name(node.name))
+                    self.scope.names[node.name] = symbol
+                    out, self.function.out = self.function.out, []
+                    self.model.declare_bare(symbol)
+                    self.function.fixed.extend(self.function.out)
+                    self.function.out = out
+                    self.function.hoisted[id(node)] = symbol
+                    if node.init is None:
+                        return
+        super().statement(node)
+
+    def cut_Label(self, node: Any) -> None:
+        self.function.defined_labels.add(node.name)
+        self.segment(self.label_segment(node.name), True, node)
+        if node.stmt is not None:
+            self.level_statement(node.stmt)
+
+    def cut_Goto(self, node: Any) -> None:
+        self.st_Goto(node)
+
+    def st_Goto(self, node: Any) -> None:
+        self.function.wanted_labels.setdefault(node.name, self.place_of(node))
+        self.put(self.jump(self.label_segment(node.name)), node)
+
+    def st_Label(self, node: Any) -> None:
+        raise self.refuse(node, "a label within an expression", "a label in the function")
+
+    def cut_If(self, node: Any) -> None:
+        yes, no, end = self.new_segment(), self.new_segment(), self.new_segment()
+        condition = self.condition(node.cond)
+        flat = self.function.flat
+        other = no if node.iffalse is not None else end
+        self.put(f"if ({condition}) {flat} = {yes}; else {flat} = {other};", node)
+        self.segment(yes, False)
+        self.level_statement(node.iftrue)
+        if node.iffalse is not None:
+            self.put(self.jump(end))
+            self.segment(no, False)
+            self.level_statement(node.iffalse)
+        self.segment(end)
+
+    def cut_While(self, node: Any) -> None:
+        test, begin, end = self.new_segment(), self.new_segment(), self.new_segment()
+        flat = self.function.flat
+        self.segment(test)
+        self.put(f"if ({self.condition(node.cond)}) {flat} = {begin}; else {flat} = {end};", node)
+        self.segment(begin, False)
+        self.round(node.stmt, test, end)
+        self.put(self.jump(test))
+        self.segment(end, False)
+
+    def round(self, node: Any, again: Optional[int], end: int) -> None:
+        self.function.loops.append(("flat", again, end))
+        self.level_statement(node)
+        self.function.loops.pop()
+
+    def cut_DoWhile(self, node: Any) -> None:
+        begin, test, end = self.new_segment(), self.new_segment(), self.new_segment()
+        self.segment(begin)
+        self.round(node.stmt, test, end)
+        self.segment(test)
+        self.put(f"if ({self.condition(node.cond)}) {self.jump(begin)}", node)
+        self.segment(end)
+
+    def cut_For(self, node: Any) -> None:
+        test, begin, step, end = (self.new_segment() for _ in range(4))
+        outer, self.scope = self.scope, Scope(self.scope)
+        flat = self.function.flat
+        if node.init is not None:
+            self.level_statement(node.init)
+        self.segment(test)
+        if node.cond is not None:
+            self.put(f"if ({self.condition(node.cond)}) {flat} = {begin}; else {flat} = {end};", node)
+            self.segment(begin, False)
+        self.round(node.stmt, step, end)
+        self.segment(step)
+        if node.next is not None:
+            super().statement(node.next)
+        self.put(self.jump(test))
+        self.segment(end, False)
+        self.scope = outer
+
+    def cut_Switch(self, node: Any) -> None:
+        self.count("switches")
+        value = self.promoted(self.value(node.cond))
+        if is_long(value.type):
+            name = self.function.lasting("long")
+            self.put(f"cbi_long_copy(&{name}, {self.long_text(value)});", node)
+            held = Value(value.type, f"&{name}", UNARY)
+        else:
+            name = self.function.lasting("int" if value.type.signed or value.bits is not None else "unsigned") + ".value"
+            self.put(f"{name} = {value.at(ASSIGN)};", node)
+            held = Value(value.type, name)
+        cases: List[Any] = []
+
+        def find(inner: Any) -> None:
+            if inner is None or kind(inner) == "Switch":
+                return
+            if kind(inner) in ("Case", "Default"):
+                cases.append(inner)
+            for _, child in inner.children():
+                find(child)
+        find(node.stmt)
+        end = self.new_segment()
+        default = end
+        for case in cases:
+            number = self.function.case_segments[id(case)] = self.new_segment()
+            if kind(case) == "Default":
+                default = number
+        for case in cases:
+            if kind(case) == "Case":
+                self.function.fresh_statement()
+                self.put(f"if {self.label_test(held, case, [])} {self.jump(self.function.case_segments[id(case)])}")
+        self.put(self.jump(default))
+        self.function.loops.append(("flat", self.outer_again(), end))
+        self.level_statement(node.stmt)
+        self.function.loops.pop()
+        self.segment(end)
+
+    def outer_again(self) -> Optional[int]:
+        """Where `continue` goes from within a `switch`."""
+        for target in reversed(self.function.loops):
+            if isinstance(target, tuple) and target[0] == "flat" and target[1] is not None:
+                return target[1]
+        return None
+
+    def cut_Case(self, node: Any) -> None:
+        number = self.function.case_segments.get(id(node))
+        if number is None:
+            raise self.refuse(node, "a `case` outside its `switch`", "a `case` in a `switch`")
+        self.segment(number, True, node)
+        for item in node.stmts or []:
+            self.level_statement(item)
+
+    cut_Default = cut_Case
+
+    # Statements within expressions, of GNU C.
+
+    def statement_value(self, node: Any, name: str, used: bool) -> Value:
+        body = self.unit.bodies.get(name)
+        items = list(body.block_items or []) if body is not None else []
+        outer, self.scope = self.scope, Scope(self.scope)
+        self.function.held += 1
+        try:
+            if node is self.function.direct:
+                return self.behind_statements(items, used)
+            return self.within_commas(node, items, used)
+        finally:
+            self.function.held -= 1
+            self.scope = outer
+
+    def behind_statements(self, items: List[Any], used: bool) -> Value:
+        """Where nothing else is evaluated before: the statements stand before the one that has the value."""
+        self.function.direct = None
+        for item in items[:-1]:
+            self.own_statement(item)
+        if not items:
+            return Value(Void(), "0")
+        last = items[-1]
+        if kind(last) in ("If", "While", "For", "DoWhile", "Compound", "Return", "Switch", "Decl", "Goto", "Label", "Break", "Continue", "EmptyStatement"):
+            self.own_statement(last)
+            return Value(Void(), "0")
+        return self.value(last, used)
+
+    def own_statement(self, item: Any) -> None:
+        if kind(item) == "Decl" and item.name is not None and not item.storage:
+            self.renamed(item)
+        super().statement(item)
+
+    def renamed(self, node: Any) -> None:
+        """Declares a variable at the function's beginning under a name that no other has."""
+        type_ = self.resolve(node.type)
+        if isinstance(type_, Function):
+            return
+        if isinstance(type_, Array) and type_.count is None and node.init is not None:
+            type_, _ = self.leaves(type_, node.init)
+        if not is_complete(type_) or self.has_float(type_):
+            return
+        symbol = Symbol(node.name, "variable", type_, self.names.take(node.name))
+        self.pending_symbol = symbol
+        out, self.function.out = self.function.out, []
+        self.model.declare_bare(symbol)
+        self.function.fixed.extend(self.function.out)
+        self.function.out = out
+        self.function.hoisted[id(node)] = symbol
+
+    def within_commas(self, node: Any, items: List[Any], used: bool) -> Value:
+        texts: List[str] = []
+        value = Value(Void(), "0")
+        for item in items:
+            last = item is items[-1]
+            if kind(item) in ("If", "While", "For", "DoWhile", "Compound", "Return", "Switch", "Goto", "Label", "Break", "Continue"):
+                raise self.refuse(node, "a statement within an expression", "a function, or the statement before")
+            if kind(item) in ("EmptyStatement", "Typedef"):
+                if kind(item) == "Typedef":
+                    self.st_Typedef(item)
+                continue
+            if kind(item) in ("Decl", "DeclList"):
+                for decl in (item.decls if kind(item) == "DeclList" else [item]):
+                    self.renamed(decl)
+                    out, self.function.out = self.function.out, []
+                    super().statement(decl)
+                    rows, self.function.out = self.function.out, out
+                    text = " ".join(rows).strip()
+                    if "{" in text:
+                        raise self.refuse(node, "a statement within an expression", "a function, or the statement before")
+                    texts.extend(row.strip() for row in text.rstrip(";").split("; ") if row.strip())
+                continue
+            value = self.value(item, used if last else False)
+            if not last and not value.pure:
+                texts.append(value.at(ASSIGN))
+            if not last:
+                value = Value(Void(), "0")
+        if not texts:
+            return value
+        if value.constant is not None and is_long(value.type):
+            value = value._replace(text=self.long_text(value))
+        return Value(value.type, ", ".join(texts + [value.at(ASSIGN)]), COMMA, None, False, value.bits)

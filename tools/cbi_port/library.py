@@ -1,0 +1,469 @@
+"""The library (C99 7): what the dialect has, what goes by the types of its arguments, and what the prelude has."""
+import re
+from typing import Any, Dict, Optional, Sequence, Tuple
+
+from cbi_port.cells import innermost, like_char
+from cbi_port.conversions import number
+from cbi_port.declarations import FLOATS, kind
+from cbi_port.lines import mark
+from cbi_port.scopes import Symbol
+from cbi_port.statements import Statements
+from cbi_port.types import (CHAR, INT, LONG, UINT, VOID, Array, CType, Function, Int, Pointer, Struct, Void, is_long,
+                            is_pointer, same, size_of, spelled, to_function)
+from cbi_port.values import ASSIGN, POSTFIX, UNARY, Value, prefixed
+
+# What the dialect has itself.
+OWN: Dict[str, Function] = {
+    "abort": Function(VOID, (), False, True), "exit": Function(VOID, (INT,), False, True),
+    "putchar": Function(INT, (INT,), False, True), "getchar": Function(INT, (), False, True),
+    "puts": Function(INT, (Pointer(CHAR),), False, True),
+}
+# Functions that look at bytes ahead: with one of them all input goes by the prelude.
+AHEAD = {"ungetc", "scanf", "fscanf", "vscanf", "vfscanf"}
+NO = {"setjmp": "a value that says what went wrong", "longjmp": "a value that says what went wrong", "_setjmp": "a value that says what went wrong",
+      "sigsetjmp": "a value that says what went wrong", "siglongjmp": "a value that says what went wrong",
+      "signal": "a check before what goes wrong", "raise": "a check before what goes wrong",
+      "fopen": "the one input, and the one output", "fork": "one process", "system": "one process", "alloca": "`malloc`"}
+TYPED = {"malloc", "calloc", "realloc", "free", "memcpy", "memmove", "memset", "memcmp", "mempcpy", "bzero", "bcopy", "bcmp", "qsort", "bsearch", "alloca",
+         "strdup", "fread", "fwrite"}
+
+
+class Library(Statements):
+    """Calls of the library."""
+
+    def library_function(self, name: str, node: Any) -> Optional[Symbol]:
+        """A function of the prelude by its name."""
+        if name in OWN and name not in self.wrapped:
+            symbol = self.wrappers.get(name)
+            if symbol is None:
+                symbol = self.prelude_symbol("__" + name)
+                if symbol is None:
+                    return None
+                self.wrappers[name] = symbol
+            return symbol
+        found = self.prelude_symbol(name)
+        return found if found is not None and found.kind == "function" else None
+
+    def library_call(self, name: str, node: Any, arguments: Sequence[Any], used: bool, symbol: Optional[Symbol]) -> Optional[Value]:
+        """A call of the library; None where the name isn't one of it."""
+        if symbol is not None and symbol.defined:
+            return None
+        at = mark(self.place_of(node))
+        method = getattr(self, "lib_" + name, None)
+        if method is not None:
+            value = method(node, arguments, used)
+            return value if at in value.text or not value.text else value._replace(text=at + value.text) if value.level == POSTFIX else value
+        if name in self.model.own_calls:
+            value = self.model.own_calls[name](node, arguments, used)
+            if value is not None:
+                self.library_used(name)
+                return value
+        if name in OWN and (self.in_prelude or name not in self.wrapped):
+            self.library_used(name)
+            return self.own_call(name, node, arguments)
+        if name in self.wrapped and not self.in_prelude:
+            self.library_used(name)
+            name = "__" + name
+        found = self.prelude_symbol(name)
+        if found is not None and found.kind == "function":
+            self.library_used(name)
+            self.use(found)
+            return self.called(found.text, found, found.type, arguments, node, used)
+        if name in NO:
+            raise self.refuse(node, f"`{name}`", NO[name])
+        if name.startswith("__builtin") or name in ("fabs", "sqrt", "pow", "sin", "cos", "strtod", "atof", "floor", "ceil"):
+            raise self.refuse(node, f"`{name}`", FLOATS if not name.startswith("__") else "a function of your own")
+        return None
+
+    def library_used(self, name: str) -> None:
+        if not self.in_prelude:
+            self.library_names.add(name)
+            self.counts["library functions"] = len(self.library_names)
+
+    def own_call(self, name: str, node: Any, arguments: Sequence[Any]) -> Value:
+        type_ = OWN[name]
+        if len(arguments) != len(type_.parameters):
+            if len(arguments) < len(type_.parameters):
+                raise self.refuse(node, f"{len(arguments)} arguments of `{name}`", "an argument for each parameter")
+        at = mark(self.place_of(node))
+        values = [self.passed(self.value(it), parameter, node).at(ASSIGN) for it, parameter in zip(arguments, type_.parameters)]
+        if name == "exit" and self.exit_functions and not self.in_prelude:
+            found = self.prelude_symbol("__cbi_exit_now")
+            assert found is not None
+            self.use(found)
+            return Value(VOID, f"{at}{found.text}({', '.join(values)})", POSTFIX, pure=False)
+        if self.model.in_bytes and name == "puts":
+            return Value(INT, f"{at}cbi_puts({', '.join(values)})", POSTFIX, pure=False)
+        return Value(type_.result, f"{at}{name}({', '.join(values)})", POSTFIX, pure=False)
+
+    # What has the same value in each model.
+
+    def lib_abs(self, node: Any, arguments: Sequence[Any], used: bool) -> Value:
+        found = self.prelude_symbol("abs")
+        assert found is not None
+        self.use(found)
+        self.library_used("abs")
+        value = self.value(arguments[0])
+        if value.constant is not None and isinstance(value.type, Int):
+            return number(abs(INT.wrap(value.constant)))
+        return self.called(found.text, found, found.type, arguments, node, used)
+
+    def lib___cbi_join_stderr(self, node: Any, arguments: Sequence[Any], used: bool) -> Value:
+        return number(int(self.stderr))
+
+    def lib___builtin_assert(self, node: Any, arguments: Sequence[Any], used: bool) -> Value:
+        return self.lib_assert(node, arguments, used)
+
+    def lib_assert(self, node: Any, arguments: Sequence[Any], used: bool) -> Value:
+        self.library_used("assert")
+        value = self.truth(self.value(arguments[0]))
+        return Value(VOID, f"assert({value.text or str(value.constant)})", POSTFIX, pure=False)
+
+    def lib___builtin_expect(self, node: Any, arguments: Sequence[Any], used: bool) -> Value:
+        value = self.converted(self.value(arguments[0]), LONG)
+        return value
+
+    def lib___builtin_constant_p(self, node: Any, arguments: Sequence[Any], used: bool) -> Value:
+        quiet, self.function.quiet = self.function.quiet, True
+        try:
+            value = self.value(arguments[0])
+            text = kind(arguments[0]) == "Constant"
+        finally:
+            self.function.quiet = quiet
+        return number(int(value.constant is not None or text))
+
+    def lib___builtin_choose_expr(self, node: Any, arguments: Sequence[Any], used: bool) -> Value:
+        return self.value(arguments[1] if self.constant(arguments[0]) else arguments[2], used)
+
+    def lib_unreachable(self, node: Any, arguments: Sequence[Any], used: bool) -> Value:
+        return Value(VOID, "abort()", POSTFIX, pure=False)
+
+    lib_trap = lib_unreachable
+
+    def lib_prefetch(self, node: Any, arguments: Sequence[Any], used: bool) -> Value:
+        values = [it for it in (self.value(argument, False) for argument in arguments[:1]) if not it.pure]
+        return Value(VOID, values[0].text if values else "0", values[0].level if values else POSTFIX, pure=not values)
+
+    def lib_object_size(self, node: Any, arguments: Sequence[Any], used: bool) -> Value:
+        raise self.refuse(node, "`__builtin_object_size`", "the size itself")
+
+    def lib___builtin_va_start(self, node: Any, arguments: Sequence[Any], used: bool) -> Value:
+        place = self.place(arguments[0])
+        return Value(VOID, f"{place.text} = cbi_more", ASSIGN, pure=False) if not place.memory else self.model.store(
+            place, Value(place.type, "cbi_more"), False)
+
+    lib_va_start = lib___builtin_va_start
+    lib_stdarg_start = lib___builtin_va_start
+
+    def lib___builtin_va_end(self, node: Any, arguments: Sequence[Any], used: bool) -> Value:
+        return Value(VOID, "0", POSTFIX)
+
+    lib_va_end = lib___builtin_va_end
+
+    def lib___builtin_va_copy(self, node: Any, arguments: Sequence[Any], used: bool) -> Value:
+        place = self.place(arguments[0])
+        return self.model.store(place, self.value(arguments[1]), False)._replace(type=VOID)
+
+    lib_va_copy = lib___builtin_va_copy
+
+    # printf
+
+    def lib_printf(self, node: Any, arguments: Sequence[Any], used: bool) -> Value:
+        """`printf` as the dialect has it, where the statement is nothing else and the format is plain."""
+        self.library_used("printf")
+        plain = self.plain_printf(node, arguments) if node is self.function.whole and not self.model.in_bytes else None
+        if plain is not None:
+            return plain
+        found = self.prelude_symbol("printf")
+        assert found is not None
+        self.use(found)
+        return self.called(found.text, found, found.type, arguments, node, used)
+
+    def plain_printf(self, node: Any, arguments: Sequence[Any]) -> Optional[Value]:
+        if not arguments or kind(arguments[0]) != "Constant" or arguments[0].type != "string" or arguments[0].value[0] != '"':
+            return None
+        form = arguments[0].value
+        found = re.findall(r"%(?:(l|h|hh|z|t)?([diucs%])|.)", form.replace("\\\\", "\\\\"), re.S)
+        if any(not letter or length and letter not in "diu" for length, letter in found) or form.rstrip('"').endswith("%") and not form.rstrip('"').endswith("%%"):
+            return None
+        letters = [letter for _, letter in found if letter != "%"]
+        lengths = [length for length, letter in found if letter != "%"]
+        if len(letters) > len(arguments) - 1 or any(length in ("h", "hh") for length in lengths):
+            return None
+        texts = []
+        for letter, argument in zip(letters, arguments[1:]):
+            value = self.value(argument)
+            if letter == "s":
+                if not is_pointer(value.type) or not like_char(value.type.to) or value.null:
+                    return None
+                texts.append(value.at(ASSIGN))
+            elif not isinstance(value.type, Int) or is_long(value.type):
+                return None
+            else:
+                texts.append(self.promoted(value).at(ASSIGN))
+        if len(arguments) - 1 > len(letters):
+            return None
+        form = re.sub(r"%(?:l|z|t)?([diucs%])", lambda it: "%" + ("d" if it[1] == "i" else it[1]), form)
+        return Value(INT, f"{mark(self.place_of(node))}printf({', '.join([form] + texts)})", POSTFIX, pure=False)
+
+    lib_atexit_count = 0
+
+    def lib_setjmp(self, node: Any, arguments: Sequence[Any], used: bool) -> Value:
+        raise self.refuse(node, "`setjmp`", NO["setjmp"])
+
+    def lib_time(self, node: Any, arguments: Sequence[Any], used: bool) -> Value:
+        self.library_used("time")
+        if not self.in_prelude:
+            self.liberties["time and clock give 0"] = None
+        found = self.prelude_symbol("time")
+        assert found is not None
+        self.use(found)
+        return self.called(found.text, found, found.type, arguments, node, used)
+
+    def lib_clock(self, node: Any, arguments: Sequence[Any], used: bool) -> Value:
+        self.library_used("clock")
+        self.liberties["time and clock give 0"] = None
+        return number(0, LONG)
+
+
+class TypedCalls:
+    """Calls that go by the types of their arguments, where a cell keeps what was stored in it."""
+
+    def __init__(self, program: Any) -> None:
+        self.program = program
+
+    def table(self) -> Dict[str, Any]:
+        return {name[5:]: getattr(self, name) for name in dir(self) if name.startswith("call_")}
+
+    def pointer(self, node: Any) -> Tuple[Value, CType]:
+        """An argument that is a pointer, and to what it points, also where it was cast."""
+        program = self.program
+        inner = node
+        while kind(inner) == "Cast" and is_pointer(program.resolve(inner.to_type.type)):
+            type_ = program.type_of(inner.expr)
+            if not isinstance(type_, (Pointer, Array)) or isinstance(type_, Pointer) and isinstance(type_.to, Void):
+                break
+            inner = inner.expr
+        value = program.value(inner)
+        if not is_pointer(value.type):
+            raise program.refuse(node, f"a `{spelled(value.type)}` where a pointer is wanted", "a pointer")
+        return value, value.type.to
+
+    def known(self, node: Any, name: str, *pointers: CType) -> CType:
+        """The type that all pointers point to."""
+        first = pointers[0]
+        for type_ in pointers:
+            if isinstance(type_, (Void, Function)) or isinstance(type_, Struct) and not type_.complete:
+                raise self.program.refuse(node, f"`{name}` of a `void *`", "a pointer to the type that is there", True)
+            left, right = innermost(first)[0], innermost(type_)[0]
+            if not (same(left, right) or like_char(left) and like_char(right) or isinstance(left, Int) and isinstance(right, Int)
+                    and left.size == right.size == 4 and left.signed == right.signed):
+                raise self.program.refuse(node, f"`{name}` between `{spelled(first)}` and `{spelled(type_)}`", "an assignment of each value", True)
+        return first
+
+    def exact(self, type_: CType, size: Any, places: Sequence[Any], node: Any) -> Value:
+        """How many objects of a type so many bytes are, neither more nor less."""
+        program = self.program
+        whole = program.value(size)
+        for place in places:
+            if kind(place) == "UnaryOp" and place.op == "&" and kind(place.expr) == "StructRef" and whole.constant != size_of(program.type_of(place.expr)):
+                raise program.refuse(node, "bytes of a struct from one member on", "an assignment of each member", True)
+        if whole.constant is not None and whole.constant % max(size_of(type_), 1):
+            raise program.refuse(node, f"a part of a `{spelled(type_)}`", "an assignment of each value", True)
+        count = program.model.objects(type_, [size])
+        if " + " in count.text and count.text.endswith(f"/ {size_of(type_)}u"):
+            return Value(UINT, f"cbi_exact({program.converted(whole, UINT, True).at(ASSIGN)}, {size_of(type_)}u)", POSTFIX, pure=False)
+        return count
+
+    def call_scanf(self, node: Any, arguments: Sequence[Any], used: bool) -> Optional[Value]:
+        return self.scanned(node, "scanf", arguments, 0)
+
+    def call_fscanf(self, node: Any, arguments: Sequence[Any], used: bool) -> Optional[Value]:
+        return self.scanned(node, "fscanf", arguments, 1)
+
+    def call_sscanf(self, node: Any, arguments: Sequence[Any], used: bool) -> Optional[Value]:
+        return self.scanned(node, "sscanf", arguments, 1)
+
+    def scanned(self, node: Any, name: str, arguments: Sequence[Any], at: int) -> Optional[Value]:
+        """A form whose letters go by the types of the places."""
+        program = self.program
+        if len(arguments) <= at or kind(arguments[at]) != "Constant" or arguments[at].type != "string":
+            return None
+        places = [program.type_of(argument) for argument in arguments[at + 1:]]
+
+        def letter(found: "re.Match[str]") -> str:
+            drop, width, size, what = found[1], found[2], found[3], found[4]
+            if drop or what[0] in "c[s%" or not places:
+                if not drop and what[0] in "c[s" and places:
+                    places.pop(0)
+                return found[0]
+            to = places.pop(0)
+            to = to.to if is_pointer(to) else to.of if isinstance(to, Array) else None
+            bytes_ = {"": 4, "l": 4, "z": 4, "t": 4, "ll": 8, "j": 8, "h": 2, "hh": 1}.get(size)
+            if not isinstance(to, Int) or to.size != bytes_:
+                raise program.refuse(node, f"`{found[0]}` with a `{spelled(to) if to is not None else 'number'}`", "the letters of its type", True)
+            return f"%{width}{size}{'J' if (what in 'di') != to.signed else ''}{what}"
+        form = re.sub(r"%(\*?)(\d*)(hh|h|ll|l|j|z|t|)(\[\^?\]?[^\]]*\]|[a-zA-Z%])", letter, arguments[at].value)
+        from pycparser import c_ast
+        found = program.prelude_symbol(name)
+        assert found is not None
+        program.use(found)
+        row = [*arguments[:at], c_ast.Constant("string", form, arguments[at].coord), *arguments[at + 1:]]
+        return program.called(found.text, found, found.type, row, node, True)
+
+    def call_malloc(self, node: Any, arguments: Sequence[Any], used: bool) -> Value:
+        program = self.program
+        count = program.converted(program.value(arguments[0]), UINT, True, node)
+        return program.model.fresh(count, [arguments[0]], False)
+
+    def call_calloc(self, node: Any, arguments: Sequence[Any], used: bool) -> Value:
+        return self.program.model.fresh(number(0, UINT), list(arguments[:2]), True)
+
+    def call_realloc(self, node: Any, arguments: Sequence[Any], used: bool) -> Value:
+        program = self.program
+        value, to = self.pointer(arguments[0])
+        if value.null:
+            return self.call_malloc(node, arguments[1:], used)
+        if isinstance(to, Void):
+            raise program.refuse(node, "`realloc` of a `void *`", "a pointer to the type that is there", True)
+        inner, per = innermost(to)
+        count = program.model.objects(to, [arguments[1]])
+        program.resized.setdefault(program.model.maker_name(inner), inner)
+        objects = count.text if per == 1 else f"{count.at(13)} * {per}"
+        text = f"cbi_resize_{program.model.maker_name(inner)}({value.at(ASSIGN)}, {objects})"
+
+        def fresh(type_: Optional[CType]) -> str:
+            if type_ is None or not program.model.alike(to, type_):
+                raise program.refuse(node, "`realloc` to another type", "the type that is there", True)
+            return text
+        return Value(Pointer(VOID), text, POSTFIX, pure=False, fresh=fresh)
+
+    def call_free(self, node: Any, arguments: Sequence[Any], used: bool) -> Value:
+        value = self.program.value(arguments[0])
+        if isinstance(value.type, Int):
+            value = self.program.converted(value, Pointer(VOID), True, node)
+        return Value(VOID, f"{'cbi_free' if self.program.keeps_sizes else 'free'}({value.at(ASSIGN)})", POSTFIX, pure=False)
+
+    def moved(self, node: Any, arguments: Sequence[Any], name: str, used: bool, what: str) -> Value:
+        program = self.program
+        to, left = self.pointer(arguments[0])
+        from_, right = self.pointer(arguments[1])
+        inner = innermost(self.known(node, name, left, right))[0]
+        count = self.exact(inner, arguments[2], arguments[:2], node)
+        word = program.model.maker_name(inner)
+        program.movers.setdefault((what, word), inner)
+        if isinstance(inner, Struct):
+            inner.copied = True
+            program.model.copier(inner)
+        objects = count.at(ASSIGN)
+        cast = "(void **)(void *)" if word == "pointers" else ""
+        left_text, right_text = (prefixed(cast, it.text, it.level) if cast else it.at(ASSIGN) for it in (to, from_))
+        return Value(to.type, f"cbi_{what}_{word}({left_text}, {right_text}, {objects})", POSTFIX, pure=False)
+
+    def call_memcpy(self, node: Any, arguments: Sequence[Any], used: bool) -> Value:
+        return self.result(self.moved(node, arguments, "memcpy", used, "move"), arguments, used, node)
+
+    def call_memmove(self, node: Any, arguments: Sequence[Any], used: bool) -> Value:
+        return self.result(self.moved(node, arguments, "memmove", used, "move"), arguments, used, node)
+
+    def call_bcopy(self, node: Any, arguments: Sequence[Any], used: bool) -> Value:
+        return self.call_memmove(node, [arguments[1], arguments[0], arguments[2]], used)
+
+    def result(self, value: Value, arguments: Sequence[Any], used: bool, node: Any) -> Value:
+        """What a moving function gives: its first argument."""
+        if not used:
+            return value._replace(type=VOID)
+        if innermost(value.type.to)[0] == value.type.to and self.program.model.spell(value.type) != "void *" and "pointers" not in value.text.split("(")[0]:
+            return value
+        raise self.program.refuse(node, "the value of this call", "a statement of its own", True)
+
+    def call_memset(self, node: Any, arguments: Sequence[Any], used: bool) -> Value:
+        program = self.program
+        to, type_ = self.pointer(arguments[0])
+        self.known(node, "memset", type_)
+        inner = innermost(type_)[0]
+        value = program.value(arguments[1])
+        objects = self.exact(inner, arguments[2], arguments[:1], node).at(ASSIGN)
+        if like_char(inner):
+            text = f"cbi_fill_char({to.at(ASSIGN)}, {program.converted(value, INT, True).at(ASSIGN)}, {objects})"
+        elif value.constant == 0:
+            text = program.model.clear_cells(to.at(ASSIGN) if not isinstance(inner, Pointer) else to.at(UNARY), inner, objects)
+        else:
+            raise program.refuse(node, f"`memset` of a `{spelled(inner)}` to more than zero", "a loop that stores each value", True)
+        return self.result(Value(to.type, text, POSTFIX, pure=False), arguments, used, node)
+
+    def call_bzero(self, node: Any, arguments: Sequence[Any], used: bool) -> Value:
+        raise self.program.refuse(node, "`bzero`", "`memset`", True)
+
+    def call_memcmp(self, node: Any, arguments: Sequence[Any], used: bool) -> Value:
+        program = self.program
+        left, one = self.pointer(arguments[0])
+        right, other = self.pointer(arguments[1])
+        type_ = self.known(node, "memcmp", one, other)
+        inner, per = innermost(type_)
+        if not like_char(inner):
+            raise program.refuse(node, f"`memcmp` of a `{spelled(inner)}`", "a comparison of each value", True)
+        count = program.converted(program.value(arguments[2]), UINT, True, node)
+        return Value(INT, f"cbi_compare_char({left.at(ASSIGN)}, {right.at(ASSIGN)}, {count.at(ASSIGN)})", POSTFIX, pure=False)
+
+    call_bcmp = call_memcmp
+
+    def call_memchr(self, node: Any, arguments: Sequence[Any], used: bool) -> Optional[Value]:
+        _, type_ = self.pointer(arguments[0])
+        if not like_char(innermost(type_)[0]):
+            raise self.program.refuse(node, "`memchr` of what isn't characters", "a loop", True)
+        return None
+
+    def call_qsort(self, node: Any, arguments: Sequence[Any], used: bool) -> Value:
+        program = self.program
+        to, type_ = self.pointer(arguments[0])
+        self.known(node, "qsort", type_)
+        size = program.value(arguments[2]).constant
+        if size != size_of(type_):
+            raise program.refuse(node, "`qsort` with another size than that of an element", "the size of an element", True)
+        inner, per = innermost(type_)
+        if per != 1 or isinstance(inner, Pointer):
+            if per != 1:
+                raise program.refuse(node, "`qsort` of arrays", "an array of structs", True)
+        program.sorters.setdefault(program.model.maker_name(inner), inner)
+        if isinstance(inner, Struct):
+            program.model.copier(inner)
+        compare = program.value(arguments[3])
+        call = program.dispatcher(Function(INT, (Pointer(VOID), Pointer(VOID)), False, True), [Pointer(VOID), Pointer(VOID)])
+        program.sort_call = call
+        cast = "(void **)(void *)" if isinstance(inner, Pointer) and not to_function(inner) else ""
+        text = prefixed(cast, to.text, to.level) if cast else to.at(ASSIGN)
+        count = program.converted(program.value(arguments[1]), UINT, True, node)
+        return Value(VOID, f"cbi_sort_{program.model.maker_name(inner)}({text}, {count.at(ASSIGN)}, {compare.at(ASSIGN)})", POSTFIX, pure=False)
+
+    def call_bsearch(self, node: Any, arguments: Sequence[Any], used: bool) -> Value:
+        program = self.program
+        key = program.converted(program.value(arguments[0]), Pointer(VOID), True, node)
+        base, type_ = self.pointer(arguments[1])
+        self.known(node, "bsearch", type_)
+        inner, per = innermost(type_)
+        if per != 1 or program.value(arguments[3]).constant != size_of(type_):
+            raise program.refuse(node, "`bsearch` with another size than that of an element", "the size of an element", True)
+        program.searchers.setdefault(program.model.maker_name(inner), inner)
+        program.sort_call = program.dispatcher(Function(INT, (Pointer(VOID), Pointer(VOID)), False, True), [Pointer(VOID), Pointer(VOID)])
+        compare = program.value(arguments[4])
+        cast = "(void **)(void *)" if isinstance(inner, Pointer) and not to_function(inner) else ""
+        text = prefixed(cast, base.text, base.level) if cast else base.at(ASSIGN)
+        count = program.converted(program.value(arguments[2]), UINT, True, node)
+        return Value(Pointer(VOID), f"cbi_search_{program.model.maker_name(inner)}({key.at(ASSIGN)}, {text}, {count.at(ASSIGN)}, {compare.at(ASSIGN)})", POSTFIX, pure=False)
+
+    def call_fread(self, node: Any, arguments: Sequence[Any], used: bool) -> Optional[Value]:
+        _, type_ = self.pointer(arguments[0])
+        if not like_char(innermost(type_)[0]):
+            raise self.program.refuse(node, "`fread` of what isn't characters", "characters", True)
+        return None
+
+    def call_fwrite(self, node: Any, arguments: Sequence[Any], used: bool) -> Optional[Value]:
+        _, type_ = self.pointer(arguments[0])
+        if not like_char(innermost(type_)[0]):
+            raise self.program.refuse(node, "`fwrite` of what isn't characters", "characters", True)
+        return None
+
+    def call_alloca(self, node: Any, arguments: Sequence[Any], used: bool) -> Value:
+        self.program.liberties["memory of alloca is kept to the end of the run"] = None
+        return self.call_malloc(node, arguments, used)

@@ -1,0 +1,137 @@
+"""Operators of two operands (C99 6.5.5 to 6.5.14)."""
+from typing import Any, Optional
+
+from cbi_port.conversions import number
+from cbi_port.declarations import FLOATS
+from cbi_port.expressions import LONG_NAMES, Expressions
+from cbi_port.types import INT, Float, Int, Void, common, is_long, is_pointer, spelled
+from cbi_port.values import COND, LEVELS, POSTFIX, SHIFT, UNARY, Value
+
+
+def divided(left: int, right: int) -> int:
+    """Division that truncates towards zero."""
+    return abs(left) // abs(right) * (1 if (left < 0) == (right < 0) else -1)
+
+
+def reckoned(sign: str, left: int, right: int, type_: Int) -> Optional[int]:
+    """What an operator gives of two constants of a type; None where C leaves it undefined."""
+    if sign in ("/", "%"):
+        if right == 0:
+            return None
+        quotient = divided(left, right)
+        return type_.wrap(quotient if sign == "/" else left - quotient * right)
+    if sign in ("<<", ">>"):
+        if not 0 <= right < 8 * type_.size:
+            return None
+        return type_.wrap(left << right if sign == "<<" else left >> right)
+    found = {"+": left + right, "-": left - right, "*": left * right, "&": left & right, "|": left | right, "^": left ^ right}[sign]
+    if type_.signed and type_.wrap(found) != found:
+        return type_.wrap(found)
+    return type_.wrap(found)
+
+
+class Operators(Expressions):
+    """Binary operators."""
+
+    def of_BinaryOp(self, node: Any, used: bool) -> Value:
+        sign = node.op
+        if sign in ("&&", "||"):
+            return self.joined(node, sign)
+        left, right = self.value(node.left), self.value(node.right)
+        at = self.pieces_between(node.right, sign)
+        return self.operated(sign, left, right, node, at)
+
+    def joined(self, node: Any, sign: str) -> Value:
+        left, right = self.truth(self.value(node.left)), self.truth(self.value(node.right))
+        level = LEVELS[sign]
+        at = self.pieces_between(node.right, sign)
+        text = f"{left.at(level)} {at}{sign} {right.at(level + 1)}"
+        constant = None
+        if left.constant is not None and bool(left.constant) == (sign == "||"):
+            constant = int(bool(left.constant))
+        elif left.constant is not None and right.constant is not None:
+            constant = int(bool(right.constant))
+        if constant is not None and left.pure:
+            return number(constant)
+        return Value(INT, text, level, None, left.pure and right.pure)
+
+    def operated(self, sign: str, left: Value, right: Value, node: Any, at: str = "") -> Value:
+        """An operator's value; both operands are evaluated."""
+        if isinstance(left.type, (Float, Void)) or isinstance(right.type, (Float, Void)):
+            what = left.type if isinstance(left.type, (Float, Void)) else right.type
+            raise self.refuse(node, f"`{sign}` of a `{spelled(what)}`", FLOATS)
+        if is_pointer(left.type) or is_pointer(right.type):
+            return self.with_pointer(sign, left, right, node)
+        if not isinstance(left.type, Int) or not isinstance(right.type, Int):
+            raise self.refuse(node, f"`{sign}` of a `{spelled(left.type)}` and a `{spelled(right.type)}`", "numbers")
+        left, right = self.promoted(left), self.promoted(right)
+        if sign in ("<<", ">>"):
+            return self.shifted(sign, left, right, at)
+        type_ = common(left.type, right.type)
+        if sign in ("<", ">", "<=", ">=", "==", "!="):
+            return self.ordered(sign, left, right, type_, at)
+        if left.constant is not None and right.constant is not None:
+            found = reckoned(sign, type_.wrap(left.constant), type_.wrap(right.constant), type_)
+            if found is not None:
+                return number(found, type_)
+        if is_long(type_):
+            return self.long_operated(sign, left, right, type_)
+        level = LEVELS[sign]
+        return Value(type_, f"{left.at(level)} {at}{sign} {right.at(level + 1)}", level, None, left.pure and right.pure)
+
+    def long_operated(self, sign: str, left: Value, right: Value, type_: Int) -> Value:
+        left, right = self.converted(left, type_), self.converted(right, type_)
+        name = LONG_NAMES[sign]
+        if not type_.signed and sign in "+-*/%":
+            name = {"add": "plus", "sub": "less", "mul": "times", "div": "over", "rem": "rest"}[name]
+        text = f"cbi_long_{name}(&{self.temporary('long')}, {self.long_text(left)}, {self.long_text(right)})"
+        return Value(type_, text, POSTFIX, None, left.pure and right.pure)
+
+    def shifted(self, sign: str, left: Value, right: Value, at: str) -> Value:
+        type_ = left.type
+        if is_long(right.type):
+            right = self.converted(right, INT)
+        if left.constant is not None and right.constant is not None:
+            found = reckoned(sign, left.constant, right.constant, type_)
+            if found is not None:
+                return number(found, type_)
+        if is_long(type_):
+            name = {"<<": "shl", ">>": "sar" if type_.signed else "shr"}[sign]
+            text = f"cbi_long_{name}(&{self.temporary('long')}, {self.long_text(left)}, {self.converted(right, INT, True).at(COND)})"
+            return Value(type_, text, POSTFIX, None, left.pure and right.pure)
+        return Value(type_, f"{left.at(SHIFT)} {at}{sign} {right.at(SHIFT + 1)}", SHIFT, None, left.pure and right.pure)
+
+    def ordered(self, sign: str, left: Value, right: Value, type_: Int, at: str) -> Value:
+        pure = left.pure and right.pure
+        if left.constant is not None and right.constant is not None:
+            a, b = type_.wrap(left.constant), type_.wrap(right.constant)
+            return number(int({"<": a < b, ">": a > b, "<=": a <= b, ">=": a >= b, "==": a == b, "!=": a != b}[sign]))
+        level = LEVELS[sign]
+        if is_long(type_):
+            left, right = (self.long_text(self.converted(it, type_)) for it in (left, right))
+            if sign in ("==", "!="):
+                text = f"cbi_long_same({left}, {right})"
+                return Value(INT, text if sign == "==" else f"!{text}", POSTFIX if sign == "==" else UNARY, None, pure)
+            name = "cbi_long_before" if type_.signed else "cbi_long_below"
+            text = f"{name}({left}, {right})" if sign in ("<", ">=") else f"{name}_turned({left}, {right})"
+            return Value(INT, text if sign in "<>" else f"!{text}", POSTFIX if sign in "<>" else UNARY, None, pure)
+        return Value(INT, f"{left.at(level)} {at}{sign} {right.at(level + 1)}", level, None, pure)
+
+    def with_pointer(self, sign: str, left: Value, right: Value, node: Any) -> Value:
+        if sign in ("+", "-") and is_pointer(left.type) and isinstance(right.type, Int):
+            return self.model.add(left, self.index(right), sign, node)
+        if sign == "+" and is_pointer(right.type) and isinstance(left.type, Int):
+            return self.model.add(right, self.index(left), sign, node)
+        if sign == "-" and is_pointer(left.type) and is_pointer(right.type):
+            return self.model.difference(left, right, node)
+        if sign in ("<", ">", "<=", ">=", "==", "!="):
+            if isinstance(left.type, Int):
+                left = self.beside(left, right, node)
+            if isinstance(right.type, Int):
+                right = self.beside(right, left, node)
+            return self.model.compared(sign, left, right, node)
+        raise self.refuse(node, f"`{sign}` of a pointer", "numbers")
+
+    def beside(self, value: Value, pointer: Value, node: Any) -> Value:
+        """A number that is compared with a pointer."""
+        return self.converted(value, pointer.type, False, node)

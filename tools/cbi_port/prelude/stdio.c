@@ -1,0 +1,210 @@
+#include <stdio.h>
+#undef EOF
+struct __cbi_FILE __cbi_in = { 0 };
+struct __cbi_FILE __cbi_out = { 1 };
+struct __cbi_FILE __cbi_err = { 2 };
+struct __cbi_sink { char *at; unsigned room; int count; int kind; };
+int fgetc(struct __cbi_FILE *f) { int c; if (f->number != 0) return -1; if (f->ahead) { f->ahead = 0; return f->back; } c = getchar(); if (c == -1) f->ended = 1; return c; }
+int getc(struct __cbi_FILE *f) { return fgetc(f); }
+int __getchar(void) { return fgetc(&__cbi_in); }
+int getchar_unlocked(void) { return fgetc(&__cbi_in); }
+int ungetc(int c, struct __cbi_FILE *f) { if (c == -1 || f->ahead) return -1; f->ahead = 1; f->back = c & 255; f->ended = 0; return c & 255; }
+int feof(struct __cbi_FILE *f) { return f->ended; }
+int ferror(struct __cbi_FILE *f) { return 0; }
+void clearerr(struct __cbi_FILE *f) { f->ended = 0; }
+int fileno(struct __cbi_FILE *f) { return f->number; }
+int fclose(struct __cbi_FILE *f) { return 0; }
+int fflush(struct __cbi_FILE *f) { return 0; }
+void setbuf(struct __cbi_FILE *f, char *buffer) { }
+int setvbuf(struct __cbi_FILE *f, char *buffer, int mode, unsigned size) { return 0; }
+char *fgets(char *s, int size, struct __cbi_FILE *f) { int n = 0; int c = 0; if (size <= 0) return 0; while (n < size - 1 && c != '\n') { c = fgetc(f); if (c == -1) { if (n == 0) return 0; break; } s[n] = c; n++; } s[n] = 0; return s; }
+char *gets(char *s) { int n = 0; int c; while ((c = fgetc(&__cbi_in)) != '\n') { if (c == -1) { if (n == 0) return 0; break; } s[n] = c; n++; } s[n] = 0; return s; }
+int fputc(int c, struct __cbi_FILE *f) { if (f->number == 1 || f->number == 2 && __cbi_join_stderr()) putchar(c); return c & 255; }
+int putc(int c, struct __cbi_FILE *f) { return fputc(c, f); }
+int __putchar(int c) { return putchar(c); }
+int __puts(const char *s) { while (*s) { putchar(*s); s++; } putchar(10); return 1; }
+int fputs(const char *s, struct __cbi_FILE *f) { while (*s) { fputc(*s, f); s++; } return 1; }
+unsigned fwrite(const void *from, unsigned size, unsigned count, struct __cbi_FILE *f) { const char *s = from; unsigned n; for (n = 0; n < size * count; n++) fputc(s[n], f); return count; }
+unsigned fread(void *to, unsigned size, unsigned count, struct __cbi_FILE *f) { char *s = to; unsigned n = 0; int c; if (size == 0) return 0; while (n < size * count) { c = fgetc(f); if (c == -1) break; s[n] = c; n++; } return n / size; }
+void perror(const char *s) { if (s && *s) { fputs(s, &__cbi_err); fputs(": ", &__cbi_err); } fputs("error\n", &__cbi_err); }
+void __cbi_put(struct __cbi_sink *to, int c) { if (to->kind == 1) { if (to->room > 1u) { *to->at = c; to->at++; to->room--; } } else if (to->kind == 0) putchar(c); to->count++; }
+void __cbi_pad(struct __cbi_sink *to, int c, int count) { while (count > 0) { __cbi_put(to, c); count--; } }
+void __cbi_text(struct __cbi_sink *to, const char *s, int width, int most, int left) { int n = 0; int k; if (!s) { s = "(null)"; if (most >= 0 && most < 6) s = ""; } while ((most < 0 || n < most) && s[n]) n++; if (!left) __cbi_pad(to, ' ', width - n); for (k = 0; k < n; k++) __cbi_put(to, s[k]); if (left) __cbi_pad(to, ' ', width - n); }
+void __cbi_number(struct __cbi_sink *to, const char *digits, int count, const char *sign, int flags, int width, int most) {
+    int zeros = 0; int length = 0; int k;
+    while (sign[length]) length++;
+    if (most >= 0) { if (most == 0 && count == 1 && digits[0] == '0') count = 0; zeros = most - count; }
+    else if ((flags & 3) == 2) zeros = width - length - count;
+    if (zeros < 0) zeros = 0;
+    if (!(flags & 1)) __cbi_pad(to, ' ', width - length - zeros - count);
+    for (k = 0; k < length; k++) __cbi_put(to, sign[k]);
+    __cbi_pad(to, '0', zeros);
+    for (k = count - 1; k >= 0; k--) __cbi_put(to, digits[k]);
+    if (flags & 1) __cbi_pad(to, ' ', width - length - zeros - count);
+}
+int __cbi_digits(char *to, unsigned n, unsigned base, int great) { int count = 0; unsigned d; do { d = n % base; to[count] = d < 10u ? '0' + d : (great ? 'A' : 'a') + (d - 10u); count++; n = n / base; } while (n); return count; }
+int __cbi_long_digits(char *to, unsigned long long n, unsigned base, int great) { int count = 0; unsigned d; do { d = (unsigned)(n % base); to[count] = d < 10u ? '0' + d : (great ? 'A' : 'a') + (d - 10u); count++; n = n / base; } while (n); return count; }
+void __cbi_wide(struct __cbi_sink *to, unsigned long long n, int letter, const char *sign, int flags, int width, int most) {
+    char digits[24]; int count = __cbi_long_digits(digits, n, letter == 'o' ? 8 : letter == 'x' || letter == 'X' ? 16 : 10, letter == 'X');
+    if (flags & 4) { if (letter == 'o' && digits[count - 1] != '0') { digits[count] = '0'; count++; } else if (n && letter == 'x') sign = "0x"; else if (n && letter == 'X') sign = "0X"; }
+    __cbi_number(to, digits, count, sign, flags, width, most);
+}
+void __cbi_narrow(struct __cbi_sink *to, unsigned n, int letter, const char *sign, int flags, int width, int most) {
+    char digits[24]; int count = __cbi_digits(digits, n, letter == 'o' ? 8 : letter == 'x' || letter == 'X' ? 16 : 10, letter == 'X');
+    if (flags & 4) { if (letter == 'o' && digits[count - 1] != '0') { digits[count] = '0'; count++; } else if (n && letter == 'x') sign = "0x"; else if (n && letter == 'X') sign = "0X"; }
+    __cbi_number(to, digits, count, sign, flags, width, most);
+}
+int __cbi_format(struct __cbi_sink *to, const char *form, va_list more) {
+    int flags; int width; int most; int size; int n; unsigned u; long long l; const char *sign; void *p;
+    while (*form) {
+        if (*form != '%') { __cbi_put(to, *form); form++; continue; }
+        form++;
+        flags = 0; width = 0; most = -1; size = 0; sign = "";
+        while (1) {
+            if (*form == '-') flags |= 1; else if (*form == '0') flags |= 2; else if (*form == '#') flags |= 4;
+            else if (*form == '+') flags |= 8; else if (*form == ' ') flags |= 16; else break;
+            form++;
+        }
+        if (*form == '*') { width = va_arg(more, int); form++; if (width < 0) { flags |= 1; width = -width; } }
+        else while (*form >= '0' && *form <= '9') { width = width * 10 + (*form - '0'); form++; }
+        if (*form == '.') {
+            form++; most = 0;
+            if (*form == '*') { most = va_arg(more, int); form++; if (most < 0) most = -1; }
+            else while (*form >= '0' && *form <= '9') { most = most * 10 + (*form - '0'); form++; }
+        }
+        while (*form == 'l' || *form == 'h' || *form == 'z' || *form == 't' || *form == 'j' || *form == 'q') {
+            if (*form == 'l') size++; else if (*form == 'h') size--; else if (*form == 'j' || *form == 'q') size = 2;
+            form++;
+        }
+        if (*form == 'd' || *form == 'i') {
+            if (flags & 8) sign = "+"; else if (flags & 16) sign = " ";
+            flags = flags & ~4;
+            if (size >= 2) { l = va_arg(more, long long); if (l < 0) __cbi_wide(to, -(unsigned long long)l, 'd', "-", flags, width, most); else __cbi_wide(to, l, 'd', sign, flags, width, most); }
+            else {
+                n = va_arg(more, int);
+                if (size == -1) n = (short)n; else if (size == -2) n = (signed char)n;
+                if (n < 0) __cbi_narrow(to, -(unsigned)n, 'd', "-", flags, width, most); else __cbi_narrow(to, n, 'd', sign, flags, width, most);
+            }
+        } else if (*form == 'u' || *form == 'x' || *form == 'X' || *form == 'o') {
+            if (*form == 'u') flags = flags & ~4;
+            if (size >= 2) __cbi_wide(to, va_arg(more, unsigned long long), *form, "", flags, width, most);
+            else { u = va_arg(more, unsigned); if (size == -1) u = u & 65535u; else if (size == -2) u = u & 255u; __cbi_narrow(to, u, *form, "", flags, width, most); }
+        } else if (*form == 'c') {
+            n = va_arg(more, int);
+            if (!(flags & 1)) __cbi_pad(to, ' ', width - 1);
+            __cbi_put(to, n & 255);
+            if (flags & 1) __cbi_pad(to, ' ', width - 1);
+        } else if (*form == 's') {
+            __cbi_text(to, va_arg(more, const char *), width, most, flags & 1);
+        } else if (*form == 'p') {
+            p = va_arg(more, void *);
+            if (p) __cbi_text(to, "0x1000", width, -1, flags & 1); else __cbi_text(to, "(nil)", width, -1, flags & 1);
+        } else if (*form == 'n') {
+            *va_arg(more, int *) = to->count;
+        } else if (*form == '%') {
+            __cbi_put(to, '%');
+        } else abort();
+        form++;
+    }
+    return to->count;
+}
+int vprintf(const char *form, va_list more) { struct __cbi_sink to; to.at = 0; to.room = 0; to.count = 0; to.kind = 0; return __cbi_format(&to, form, more); }
+int printf(const char *form, ...) { va_list more; va_start(more, form); return vprintf(form, more); }
+int vfprintf(struct __cbi_FILE *f, const char *form, va_list more) { struct __cbi_sink to; to.at = 0; to.room = 0; to.count = 0; to.kind = f->number == 1 || f->number == 2 && __cbi_join_stderr() ? 0 : 2; return __cbi_format(&to, form, more); }
+int fprintf(struct __cbi_FILE *f, const char *form, ...) { va_list more; va_start(more, form); return vfprintf(f, form, more); }
+int vsnprintf(char *at, unsigned room, const char *form, va_list more) { struct __cbi_sink to; int n; to.at = at; to.room = room; to.count = 0; to.kind = 1; n = __cbi_format(&to, form, more); if (room > 0u) *to.at = 0; return n; }
+int snprintf(char *at, unsigned room, const char *form, ...) { va_list more; va_start(more, form); return vsnprintf(at, room, form, more); }
+int vsprintf(char *at, const char *form, va_list more) { return vsnprintf(at, 2147483647u, form, more); }
+int sprintf(char *at, const char *form, ...) { va_list more; va_start(more, form); return vsnprintf(at, 2147483647u, form, more); }
+int dprintf(int number, const char *form, ...) { va_list more; va_start(more, form); return vfprintf(number == 1 ? &__cbi_out : &__cbi_err, form, more); }
+struct __cbi_source { const char *at; int count; };
+int __cbi_take(struct __cbi_source *from) { int c; if (!from->at) c = fgetc(&__cbi_in); else { c = *from->at & 255; if (c == 0) c = -1; else from->at++; } if (c != -1) from->count++; return c; }
+void __cbi_give(struct __cbi_source *from, int c) { if (c == -1) return; from->count--; if (!from->at) ungetc(c, &__cbi_in); else from->at--; }
+int __cbi_blank(int c) { return c == ' ' || c >= 9 && c <= 13; }
+int __cbi_in_set(const char *set, int length, int c) { int not = 0; int n = 0; if (length > 0 && set[0] == '^') { not = 1; n = 1; } while (n < length) { if (n + 2 < length && set[n + 1] == '-') { if (c >= (set[n] & 255) && c <= (set[n + 2] & 255)) return !not; n += 3; } else { if (c == (set[n] & 255)) return !not; n++; } } return not; }
+void __cbi_keep(unsigned n, unsigned high, int sign, int size, va_list *more) {
+    if (size >= 2) { if (sign) *va_arg(*more, long long *) = (long long)((unsigned long long)high << 32 | n); else *va_arg(*more, unsigned long long *) = (unsigned long long)high << 32 | n; }
+    else if (size == -1) { if (sign) *va_arg(*more, short *) = (short)n; else *va_arg(*more, unsigned short *) = (unsigned short)n; }
+    else if (size == -2) { if (sign) *va_arg(*more, signed char *) = (signed char)n; else *va_arg(*more, unsigned char *) = (unsigned char)n; }
+    else if (sign) *va_arg(*more, int *) = (int)n; else *va_arg(*more, unsigned *) = n;
+}
+int __cbi_scan(struct __cbi_source *from, const char *form, va_list more) {
+    int done = 0; int c; int width; int size; int drop; int letter; int base; int minus; int begun; int d; int length; int other; const char *set; char *s; unsigned n; unsigned high; unsigned part;
+    while (*form) {
+        if (__cbi_blank(*form)) { while (__cbi_blank(c = __cbi_take(from))) ; __cbi_give(from, c); form++; continue; }
+        if (*form != '%') { c = __cbi_take(from); if (c != (*form & 255)) { __cbi_give(from, c); if (c == -1 && done == 0) return -1; return done; } form++; continue; }
+        form++; width = 0; size = 0; drop = 0; other = 0;
+        if (*form == '*') { drop = 1; form++; }
+        while (*form >= '0' && *form <= '9') { width = width * 10 + (*form - '0'); form++; }
+        while (*form == 'l' || *form == 'h' || *form == 'z' || *form == 'j' || *form == 't' || *form == 'J') { if (*form == 'l') size++; else if (*form == 'h') size--; else if (*form == 'j') size = 2; else if (*form == 'J') other = 1; form++; }
+        letter = *form;
+        form++;
+        if (letter == 'n') { if (!drop) *va_arg(more, int *) = from->count; continue; }
+        if (letter != 'c' && letter != '[') { while (__cbi_blank(c = __cbi_take(from))) ; __cbi_give(from, c); }
+        if (letter == '%') { c = __cbi_take(from); if (c != '%') { __cbi_give(from, c); return done; } continue; }
+        if (letter == 'c') {
+            s = 0;
+            if (!drop) s = va_arg(more, char *);
+            if (width == 0) width = 1;
+            for (d = 0; d < width; d++) { c = __cbi_take(from); if (c == -1) { if (done == 0) return -1; return done; } if (!drop) s[d] = c; }
+            if (!drop) done++;
+            continue;
+        }
+        if (letter == 's' || letter == '[') {
+            set = form; length = 0;
+            if (letter == '[') { if (*form == '^') { form++; length++; } if (*form == ']') { form++; length++; } while (*form && *form != ']') { form++; length++; } if (*form) form++; }
+            s = 0;
+            d = 0;
+            c = __cbi_take(from);
+            if (c == -1) { if (done == 0) return -1; return done; }
+            if (!drop) s = va_arg(more, char *);
+            while (c != -1 && (letter == 's' ? !__cbi_blank(c) : __cbi_in_set(set, length, c))) { if (!drop) s[d] = c; d++; if (d == width) { c = -1; break; } c = __cbi_take(from); }
+            __cbi_give(from, c);
+            if (d == 0) return done;
+            if (!drop) { s[d] = 0; done++; }
+            continue;
+        }
+        base = letter == 'x' || letter == 'X' || letter == 'p' ? 16 : letter == 'o' ? 8 : letter == 'i' ? 0 : 10;
+        minus = 0; begun = 0; n = 0; high = 0;
+        c = __cbi_take(from);
+        if (c == -1) { if (done == 0) return -1; return done; }
+        if (width == 0) width = 2147483647;
+        if (c == '-' || c == '+') { minus = c == '-'; width--; c = width > 0 ? __cbi_take(from) : -1; }
+        if (c == '0' && (base == 0 || base == 16)) {
+            begun = 1; width--; c = width > 0 ? __cbi_take(from) : -1;
+            if (c == 'x' || c == 'X') { base = 16; width--; begun = 0; c = width > 0 ? __cbi_take(from) : -1; } else if (base == 0) base = 8;
+        } else if (base == 0) base = 10;
+        while (c != -1) {
+            if (c >= '0' && c <= '9') d = c - '0'; else if (c >= 'a' && c <= 'f') d = c - 'a' + 10; else if (c >= 'A' && c <= 'F') d = c - 'A' + 10; else d = 99;
+            if (d >= base) break;
+            begun = 1;
+            if (size >= 2) { part = (n & 65535u) * base + d; d = n >> 16; n = part & 65535u; part = (unsigned)d * base + (part >> 16); n = n | part << 16; high = high * base + (part >> 16); }
+            else n = n * base + d;
+            width--;
+            c = width > 0 ? __cbi_take(from) : -1;
+        }
+        __cbi_give(from, c);
+        if (!begun) return done;
+        if (minus) { n = -n; if (size >= 2) high = ~high + (n == 0u); }
+        if (!drop) { __cbi_keep(n, high, (letter == 'd' || letter == 'i') != other, size, &more); done++; }
+    }
+    return done;
+}
+int vscanf(const char *form, va_list more) { struct __cbi_source from; from.at = 0; from.count = 0; return __cbi_scan(&from, form, more); }
+int scanf(const char *form, ...) { va_list more; va_start(more, form); return vscanf(form, more); }
+int fscanf(struct __cbi_FILE *f, const char *form, ...) { va_list more; va_start(more, form); return vscanf(form, more); }
+int vsscanf(const char *s, const char *form, va_list more) { struct __cbi_source from; from.at = s; from.count = 0; return __cbi_scan(&from, form, more); }
+int sscanf(const char *s, const char *form, ...) { va_list more; va_start(more, form); return vsscanf(s, form, more); }
+int getdelim(char **line, unsigned *size, int end, struct __cbi_FILE *f) {
+    int n = 0; int c; char *more; int k;
+    if (!*line || *size == 0u) { *line = malloc(120); *size = 120; }
+    while ((c = fgetc(f)) != -1) {
+        if ((unsigned)n + 2u > *size) { more = malloc(2u * *size); for (k = 0; k < n; k++) more[k] = (*line)[k]; free(*line); *line = more; *size = 2u * *size; }
+        (*line)[n] = c; n++;
+        if (c == end) break;
+    }
+    if (n == 0) return -1;
+    (*line)[n] = 0;
+    return n;
+}
+int getline(char **line, unsigned *size, struct __cbi_FILE *f) { return getdelim(line, size, '\n', f); }

@@ -1,0 +1,434 @@
+"""Whole programs (C99 6.9): linkage, definitions, and the text that all of it becomes."""
+import re
+from typing import Any, Dict, List, Optional, Sequence, Set, Tuple
+
+from cbi_port import Ported
+from cbi_port.body import Body
+from cbi_port.bytes import Bytes
+from cbi_port.declarations import FLOATS, kind
+from cbi_port.helpers import Helpers
+from cbi_port.jumps import Jumps
+from cbi_port.library import AHEAD, Library, TypedCalls
+from cbi_port.lines import Refusal, Sheet, Token, bare, mark
+from cbi_port.objects import Objects
+from cbi_port.reader import HEADERS, Unit, prelude_index, read_prelude
+from cbi_port.scopes import TAKEN, Names, Scope, Symbol, names_under_address
+from cbi_port.types import INT, VOID, Array, CType, Float, Function, Int, Struct, Void, is_complete, spelled
+
+class Program(Jumps, Library):
+    """A translation of files into one text, with one model of memory."""
+
+    def __init__(self, units: Sequence[Unit], tokens: List[Token], memory: str, args: Any, stderr: bool) -> None:
+        self.tokens, self.units = tokens, units
+        self.sheet = Sheet(tokens, units[0].file if units else "")
+        self.problems: List[Refusal] = []
+        self.liberties, self.counts = {}, {}
+        self.names, self.tags = Names(), Names()
+        self.names.used |= {token.text for token in tokens if token.kind == "name"}
+        self.words = {token.text for token in tokens if token.kind == "name" and not token.file.startswith(HEADERS)}
+        self.tags.used = set(TAKEN)
+        self.structs, self.externals, self.by_node, self.headers = [], {}, {}, {}
+        self.statics: Dict[str, Dict[str, Symbol]] = {}
+        self.in_prelude = False
+        self.args, self.stderr = args, stderr
+        self.function_numbers: Dict[Symbol, int] = {}
+        self.dispatchers: Dict[Any, Tuple[str, Function, List[CType]]] = {}
+        self.copied: Dict[Struct, None] = {}
+        self.cleared: Dict[Struct, None] = {}
+        self.makers: Dict[str, CType] = {}
+        self.makers_if: Dict[str, CType] = {}
+        self.resized: Dict[str, CType] = {}
+        self.movers: Dict[Tuple[str, str], CType] = {}
+        self.sorters: Dict[str, CType] = {}
+        self.searchers: Dict[str, CType] = {}
+        self.sort_call = ""
+        self.union_helpers: Set[Any] = set()
+        self.later: List[Any] = []
+        self.from_generic: List[int] = []
+        self.to_generic: List[int] = []
+        self.fresh_types: Set[str] = set()
+        self.globals_text: List[str] = []
+        self.library_names: Set[str] = set()
+        self.wrappers: Dict[str, Symbol] = {}
+        self.exit_functions = bool(self.words & {"atexit"})
+        self.wrapped: Set[str] = {"getchar"} if self.words & AHEAD else set()
+        self.keeps_sizes = "realloc" in self.words
+        self.prelude_names = prelude_index()
+        self.prelude_units: Dict[str, Unit] = {}
+        self.prelude_symbols: Dict[str, Symbol] = {}
+        self.prelude_scope = Scope()
+        self.model: Any = Bytes(self) if memory == "bytes" else Objects(self)
+        self.model.own_calls = TypedCalls(self).table() if memory != "bytes" else self.model.calls()
+        self.first = Body("cbi_init", VOID)
+        self.function = self.first
+        self.scope = Scope()
+        self.scopes: Dict[str, Scope] = {}
+        self.definitions: List[Tuple[Symbol, Any, Unit]] = []
+        self.added: List[str] = []
+        self.mentioned: Dict[str, int] = {}
+        self.wide_strings: Dict[int, Symbol] = {}
+
+    # The names of whole files.
+
+    def unit_symbol(self, name: str) -> Optional[Symbol]:
+        symbol = self.statics.get(self.unit.file, {}).get(name)
+        return symbol
+
+    def survey(self, unit: Unit) -> None:
+        """Declares what stands outside functions."""
+        self.unit = unit
+        self.scope = self.scopes[unit.file] = Scope()
+        self.statics.setdefault(unit.file, {})
+        for item in unit.tree.ext:
+            try:
+                self.outer(item, unit)
+            except Refusal as refusal:
+                self.problems.append(refusal)
+
+    def outer(self, item: Any, unit: Unit) -> None:
+        self.last_place = max(self.place_of(item), 0)
+        if kind(item) == "Typedef":
+            type_ = self.resolve(item.type, item.name)
+            self.scope.names[item.name] = Symbol(item.name, "type", type_)
+            if not item.name.startswith("__") and self.is_users(item):
+                self.count("typedefs")
+        elif kind(item) == "Decl":
+            if item.name is None:
+                self.resolve(item.type)
+                return
+            type_ = self.resolve(item.type)
+            if isinstance(type_, Function):
+                self.outer_symbol(item, type_, "function", "static" in (item.storage or []), unit)
+            else:
+                symbol = self.outer_symbol(item, type_, "variable", "static" in (item.storage or []), unit)
+                if "extern" not in (item.storage or []) or item.init is not None:
+                    symbol.defined = True
+                if item.init is not None:
+                    symbol.init, symbol.node, symbol.unit = item.init, item, unit.file
+                    if isinstance(symbol.type, Array) and symbol.type.count is None and not self.has_float(symbol.type):
+                        symbol.type, _ = self.leaves(symbol.type, item.init)
+        elif kind(item) == "FuncDef":
+            type_ = self.definition_type(item)
+            symbol = self.outer_symbol(item.decl, type_, "function", "static" in (item.decl.storage or []), unit)
+            if symbol.defined:
+                if "inline" in (item.decl.funcspec or []):
+                    return
+                if "inline" not in (symbol.node.decl.funcspec or []):
+                    raise self.refuse(item.decl, f"`{item.decl.name}`, which is defined twice", "one definition")
+                self.definitions = [it for it in self.definitions if it[0] is not symbol]
+            symbol.defined, symbol.node, symbol.unit = True, item, unit.file
+            symbol.type = type_ if type_.known or not symbol.type.known else Function(type_.result, symbol.type.parameters, type_.more or symbol.type.more, True)
+            self.definitions.append((symbol, item, unit))
+
+    def is_users(self, item: Any) -> bool:
+        at = self.place_of(item)
+        return 0 <= at < len(self.tokens) and any(self.tokens[at].file == unit.file for unit in self.units)
+
+    def definition_type(self, item: Any) -> Function:
+        """The type of a defined function, also where its parameters' types stand behind `)`."""
+        type_ = self.resolve(item.decl.type)
+        if item.param_decls or item.decl.type.args is not None and any(kind(it) == "ID" for it in item.decl.type.args.params):
+            known = {decl.name: self.adjusted(self.resolve(decl.type)) for decl in item.param_decls or []}
+            names = [it.name for it in item.decl.type.args.params] if item.decl.type.args is not None else []
+            self.count("functions with types behind their parameters")
+            return Function(type_.result, tuple(known.get(name, INT) for name in names), False, False)
+        if item.decl.type.args is None:
+            return Function(type_.result, (), False, False)
+        return type_
+
+    def outer_symbol(self, node: Any, type_: CType, what: str, static: bool, unit: Unit) -> Symbol:
+        name = node.name
+        table = self.statics[unit.file] if static or name in self.statics[unit.file] else self.externals
+        symbol = table.get(name)
+        if symbol is None and name in self.scope.names and self.scope.names[name].kind == what:
+            symbol = self.scope.names[name]
+        if symbol is not None and symbol.kind != what:
+            raise self.refuse(node, f"`{name}`, declared as two things", "two names")
+        if symbol is None:
+            symbol = Symbol(name, what, type_)
+            symbol.outer = True
+            symbol.static = static
+            symbol.at = self.place_of(node)
+            symbol.unit = unit.file
+            symbol.text = self.outer_name(name, what, table)
+            table[name] = symbol
+        elif isinstance(symbol.type, Array) and symbol.type.count is None or isinstance(type_, Function) and type_.known and not symbol.type.known and not symbol.defined:
+            symbol.type = type_
+        self.scope.names[name] = symbol
+        return symbol
+
+    def outer_name(self, name: str, what: str, table: Dict[str, Symbol]) -> str:
+        if self.in_prelude:
+            plain = name.strip("_")
+            return plain if plain.startswith("cbi_") else ("cbi_own_" if name.startswith("__") else "cbi_") + plain
+        if name == "main" and what == "function":
+            return "main"
+        if name in TAKEN or name.startswith("cbi_") or "$" in name or len(name) > 62 or name in self.given:
+            return self.names.take(name)
+        self.given.add(name)
+        return name
+
+    given: Set[str] = set()
+
+    def external(self, node: Any, type_: CType) -> Symbol:
+        """What an `extern` within a function names."""
+        symbol = self.scopes[self.unit.file].names.get(node.name) or self.externals.get(node.name)
+        if symbol is None:
+            symbol = Symbol(node.name, "variable", type_)
+            symbol.outer = True
+            symbol.at = self.place_of(node)
+            symbol.text = self.outer_name(node.name, "variable", self.externals)
+            self.externals[node.name] = symbol
+        elif isinstance(symbol.type, Array) and symbol.type.count is None:
+            symbol.type = type_
+        return symbol
+
+    # The prelude.
+
+    def prelude_symbol(self, name: str) -> Optional[Symbol]:
+        if name in self.prelude_symbols:
+            return self.prelude_symbols[name]
+        file = self.prelude_names.get(name)
+        if file is None or file in self.prelude_units:
+            return None
+        unit, scope, function, inside = getattr(self, "unit", None), self.scope, self.function, self.in_prelude
+        self.prelude_units[file] = unit_ = read_prelude(file, self.tokens)
+        self.in_prelude = True
+        before = len(self.definitions)
+        externals, self.externals = self.externals, self.prelude_symbols
+        try:
+            self.survey(unit_)
+        finally:
+            self.externals = externals
+            self.unit, self.scope, self.function, self.in_prelude = unit, scope, function, inside
+        for symbol in self.prelude_symbols.values():
+            symbol.unit = "prelude"
+        for found, item, _ in self.definitions[before:]:
+            self.waiting.append((found, item, unit_))
+        del self.definitions[before:]
+        return self.prelude_symbols.get(name)
+
+    waiting: List[Tuple[Symbol, Any, Unit]] = []
+
+    # Globals.
+
+    def begin_static(self, symbol: Symbol, init: Any, node: Any) -> None:
+        """Declares what lives as long as the program, with what it begins with."""
+        symbol.declared = True
+        if isinstance(symbol.type, Array) and symbol.type.count is None and init is not None:
+            symbol.type, _ = self.leaves(symbol.type, init)
+        if isinstance(symbol.type, Array) and symbol.type.count is None:
+            symbol.type = Array(symbol.type.of, 1)
+        if self.has_float(symbol.type):
+            raise self.refuse(node, f"`{spelled(symbol.type)}`", FLOATS)
+        if not is_complete(symbol.type):
+            raise self.refuse(node, f"`{symbol.name}` of the type {spelled(symbol.type)}", "a type that is complete")
+        outer, self.function = self.function, self.first
+        try:
+            text = self.model.declare_static(symbol, init, node)
+        finally:
+            self.function = outer
+        if text:
+            self.place_global(text, symbol)
+
+    def place_global(self, text: str, symbol: Symbol) -> None:
+        token = self.tokens[symbol.at] if 0 <= symbol.at < len(self.tokens) else None
+        if self.in_prelude or token is None or token.file != self.sheet.first:
+            self.globals_text.append(text)
+        else:
+            self.sheet.put(token.file, mark(symbol.at) + text)
+
+    # Functions.
+
+    def function_number(self, symbol: Symbol) -> int:
+        self.use(symbol)
+        if symbol not in self.function_numbers:
+            self.function_numbers[symbol] = len(self.function_numbers) + 1
+            self.count("functions with an address")
+        return self.function_numbers[symbol]
+
+    def define(self, symbol: Symbol, item: Any, unit: Unit) -> None:
+        """Writes a function's definition."""
+        self.unit = unit
+        type_ = symbol.type
+        self.function = body = Body(symbol.name, type_.result)
+        self.scope = Scope(self.scopes[unit.file])
+        body.addressed = names_under_address(item)
+        self.last_place = max(self.place_of(item.decl), 0)
+        if isinstance(type_.result, Float):
+            raise self.refuse(item.decl, f"`{symbol.name}`, which gives a `{spelled(type_.result)}`", FLOATS)
+        names, entry = self.parameters(item, type_)
+        self.prepare(item)
+        main = symbol.name == "main" and symbol.unit != "prelude"
+        if main and symbol.text == "main":
+            self.needs_init_at = len(body.out)
+        self.model.begin_function(symbol, body)
+        self.at_level = True
+        for inner in item.body.block_items or []:
+            self.level_statement(inner)
+        self.finish(item)
+        last = item.body.block_items[-1] if item.body.block_items else None
+        tail = self.model.leave("", None) if kind(last) != "Return" and (body.ends or self.model.in_bytes) else ""
+        if main and symbol.text != "main" and not isinstance(type_.result, Void) and kind(last) != "Return":
+            tail += " return 0;"
+        head = self.signature(symbol.text, self.defined_as(type_), type_.parameters, names) if not (main and symbol.text == "main") else "int main(void)"
+        begin = self.model.entry(body)
+        first = "\x05" if main and symbol.text == "main" else ""
+        text = f"{mark(self.place_of(item.decl))}{head} {mark(self.place_of(item.body))}{{ {first}{body.declarations()}{begin}{''.join(entry)}"
+        text += "".join(row + " " for row in body.first_rows) + " ".join(body.out) + f" {tail}" * bool(tail) + " }"
+        text = re.sub("\x06(\\d+)\x07", lambda it: body.leaves[int(it[1])][1 if body.frame else 0], text)
+        token = self.tokens[max(self.place_of(item.decl), 0)]
+        symbol.emitted = True
+        if symbol.unit == "prelude":
+            self.sheet.tail.append(bare(text))
+        else:
+            self.sheet.put(token.file, text)
+
+    def defined_as(self, type_: Function) -> Function:
+        return type_
+
+    def parameters(self, item: Any, type_: Function) -> Tuple[List[str], List[str]]:
+        names: List[str] = []
+        entry: List[str] = []
+        args = item.decl.type.args
+        nodes = [it for it in args.params if kind(it) != "EllipsisParam"] if args is not None else []
+        if len(nodes) == 1 and not type_.parameters:
+            nodes = []
+        for index, (node, inner) in enumerate(zip(nodes, type_.parameters)):
+            name = getattr(node, "name", None) or f"cbi_unnamed_{index}"
+            if isinstance(inner, Float):
+                raise self.refuse(node, f"a parameter of type `{spelled(inner)}`", FLOATS)
+            if isinstance(inner, Struct) and not inner.complete:
+                raise self.refuse(node, f"a parameter of type {spelled(inner)}", "a type that is complete")
+            symbol = Symbol(name, "variable", inner, self.local_name(name) if not name.startswith("cbi_unnamed") else name)
+            self.scope.names[name] = symbol
+            text, rows = self.model.take_parameter(symbol)
+            names.append(text)
+            entry.extend(rows)
+        return names, entry
+
+    def run(self) -> Ported:
+        """The whole translation; `self.problems` has what can't be kept."""
+        self.given, self.waiting = set(), []
+        for unit in self.units:
+            if unit.tree is not None:
+                self.survey(unit)
+        self.begin_main()
+        for unit in self.units:
+            if unit.tree is not None:
+                self.unit = unit
+                self.translate(unit)
+        self.late()
+        return self.assembled()
+
+    def begin_main(self) -> None:
+        symbol = self.externals.get("main")
+        if symbol is None or not symbol.defined:
+            self.problems.append(Refusal(len(self.tokens) - 1, "no `main`", "a definition of `int main(void)`"))
+            return
+        again = sum(1 for token in self.tokens if token.text == "main" and token.kind == "name" and any(token.file == unit.file for unit in self.units)) > 1
+        if symbol.type.parameters or again or self.exit_functions or not isinstance(symbol.type.result, Int) or symbol.type.result.size != 4 or not symbol.type.result.signed:
+            symbol.text = "cbi_user_main"
+
+    def translate(self, unit: Unit) -> None:
+        """Writes a file's globals and functions in their order."""
+        defined = {id(item): symbol for symbol, item, _ in self.definitions}
+        for item in unit.tree.ext:
+            self.scope = self.scopes[unit.file]
+            self.function = self.first
+            self.last_place = max(self.place_of(item), 0)
+            try:
+                if kind(item) == "FuncDef" and id(item) in defined:
+                    self.define_or_wait(defined[id(item)], item, unit)
+                elif kind(item) == "Decl" and item.name is not None and kind(item.type) != "FuncDecl":
+                    symbol = self.scope.names.get(item.name)
+                    if symbol is not None and symbol.kind == "variable" and not symbol.declared and symbol.defined and self.is_here(symbol, item):
+                        self.scope = self.scopes.get(symbol.unit, self.scope)
+                        self.begin_static(symbol, symbol.init, symbol.node or item)
+            except Refusal as refusal:
+                self.problems.append(refusal)
+        self.function = self.first
+
+    def define_or_wait(self, symbol: Symbol, item: Any, unit: Unit) -> None:
+        """A static function of a header waits until it is called; one that nobody calls may be left out."""
+        if symbol.static and not self.is_users(item):
+            self.waiting.append((symbol, item, unit))
+            return
+        if symbol.static and self.mentions_of(symbol.name) < 2:
+            before = len(self.problems)
+            try:
+                self.define(symbol, item, unit)
+            except Refusal as refusal:
+                self.problems.append(refusal)
+            if len(self.problems) > before:
+                del self.problems[before:]
+                if symbol.emitted:
+                    self.sheet.take_back(self.tokens[self.place_of(item.decl)].file)
+                symbol.emitted = False
+                self.liberties[f"the function {symbol.name}, which nothing calls, is left out"] = None
+            return
+        self.define(symbol, item, unit)
+
+    def mentions_of(self, name: str) -> int:
+        if not self.mentioned:
+            for token in self.tokens:
+                if token.kind == "name":
+                    self.mentioned[token.text] = self.mentioned.get(token.text, 0) + 1
+        return self.mentioned.get(name, 0)
+
+    def is_here(self, symbol: Symbol, item: Any) -> bool:
+        """Whether a global's declaration is the one at which it is written."""
+        symbol.at = self.place_of(item)
+        return True
+
+    def late(self) -> None:
+        """What is written once all else is known: functions of the prelude that are called, and then what these call."""
+        done: Set[int] = set()
+        more = True
+        self.in_prelude = True
+        if self.exit_functions:
+            for name in ("__cbi_exit_now", "__cbi_run_exits"):
+                found = self.prelude_symbol(name)
+                if found is not None:
+                    found.used = True
+        while more:
+            more = False
+            self.plan_helpers()
+            for symbol, item, unit in list(self.waiting):
+                if symbol.used and id(item) not in done:
+                    done.add(id(item))
+                    more = True
+                    self.in_prelude = symbol.unit == "prelude"
+                    try:
+                        self.define(symbol, item, unit)
+                    except Refusal as refusal:
+                        if self.in_prelude:
+                            refusal.construct += f" (in the prelude, {symbol.name})"
+                        self.problems.append(refusal)
+                    if self.in_prelude:
+                        self.added.append(symbol.text)
+                    self.in_prelude = True
+            for symbol in list(self.prelude_symbols.values()):
+                if symbol.kind == "variable" and symbol.used and not symbol.declared:
+                    more = True
+                    self.function = self.first
+                    self.scope = Scope()
+                    self.begin_static(symbol, symbol.init, symbol.node)
+            for _, (_, type_, kinds) in list(self.dispatchers.items()):
+                before = sum(symbol.used for symbol, _, _ in self.waiting)
+                self.dispatch_text("", type_, kinds)
+                more = more or before != sum(symbol.used for symbol, _, _ in self.waiting)
+        for symbol in list(self.externals.values()):
+            if symbol.kind == "variable" and symbol.used and not symbol.defined:
+                self.problems.append(Refusal(symbol.at, f"`{symbol.name}`, which is declared and never defined", "its definition"))
+            if symbol.kind == "function" and symbol.used and not symbol.defined:
+                self.problems.append(Refusal(symbol.at, f"`{symbol.name}`, which isn't defined", "a function of the text, or one of the library that is there"))
+        if not self.model.in_bytes and self.from_generic and self.to_generic:
+            self.problems.append(Refusal(max(self.to_generic[0], 0), "a reckoned `char *` that becomes a `void *`", "a pointer to what is there", True))
+        self.in_prelude = False
+
+    def plan_helpers(self) -> None:
+        pass
+
+    def assembled(self) -> Ported:
+        return Helpers(self).ported()

@@ -1,0 +1,205 @@
+"""Reads C: the preprocessor that is there, the pieces of its text (C99 6.4), and the tree that pycparser makes.
+
+Each token gets a line of its own before pycparser sees it, so that a place in the tree is the number of a token.
+What GNU C writes beside C99 is left out, or brought to a call of a name that begins with `__cbi_`.
+"""
+import os
+import re
+import shutil
+import subprocess
+import tempfile
+from typing import Any, Dict, List, NamedTuple, Optional, Sequence, Tuple
+
+from cbi_port import Missing
+from cbi_port.gnu import rewrite
+from cbi_port.lines import Refusal, Token
+
+HEADERS = os.path.join(os.path.dirname(os.path.dirname(os.path.abspath(__file__))), "headers")
+PIECE = re.compile(r"""
+    (?P<space>[ \t\r\f\v]+)
+  | (?P<line>\n)
+  | (?P<string>(?:L|u8|u|U)?"(?:[^"\\\n]|\\.)*")
+  | (?P<char>(?:L|u|U)?'(?:[^'\\\n]|\\.)*')
+  | (?P<number>\.?[0-9](?:[eEpP][+-]|[0-9A-Za-z_.])*)
+  | (?P<name>[A-Za-z_$][A-Za-z0-9_$]*)
+  | (?P<mark>\.\.\.|<<=|>>=|->|\+\+|--|<<|>>|<=|>=|==|!=|&&|\|\||\*=|/=|%=|\+=|-=|&=|\^=|\|=|[][(){}.&*+~!/%<>^|?:;=,\-\#])
+""", re.X)
+MARKER = re.compile(r'#\s*(?:line\s+)?(\d+)\s+"((?:[^"\\]|\\.)*)"')
+# What says which machine it is: such texts hold pieces of its assembler.
+MACHINE = ["__i386__", "__i386", "i386", "__i686__", "__i686", "__pentium4__", "__SSE__", "__SSE2__", "__x86_64__", "__OPTIMIZE__"]
+
+
+class Unit(NamedTuple):
+    """A file as it was read: its tree, and the trees of what stood within an expression."""
+    file: str
+    tree: Any
+    bodies: Dict[str, Any]
+
+
+def preprocessor() -> List[str]:
+    for name in ("gcc", "clang", "cpp", "cc"):
+        path = shutil.which(name)
+        if path:
+            return [path, "-E"] if name != "cpp" else [path]
+    raise Missing("no preprocessor: gcc, clang or cpp is needed (Debian's package cpp)")
+
+
+def preprocessed(file: str, options: Sequence[str]) -> str:
+    """The text of the file behind the preprocessor, with its line marks."""
+    with open(file, "rb"):
+        pass
+    words = preprocessor() + ["-m32", "-std=gnu99", "-nostdinc", "-x", "c", "-w"]
+    words += [f"-U{name}" for name in MACHINE] + ["-D__CBI__=1", *options, "-I", HEADERS, file]
+    done = subprocess.run(words, stdout=subprocess.PIPE, stderr=subprocess.PIPE)
+    if done.returncode:
+        raise PreprocessorFailed(done.stderr.decode("utf-8", "replace"), file)
+    return done.stdout.decode("latin-1")
+
+
+class PreprocessorFailed(Exception):
+    """What the preprocessor told, and of which file."""
+
+    def __init__(self, told: str, file: str) -> None:
+        super().__init__(told)
+        self.told, self.file = told, file
+
+
+def pieces(text: str, file: str) -> List[Token]:
+    """The tokens of a preprocessed text."""
+    tokens: List[Token] = []
+    at, line, fresh = 0, 1, True
+    while at < len(text):
+        if fresh and text[at] == "#":
+            stop = text.find("\n", at)
+            stop = len(text) if stop < 0 else stop
+            row = text[at:stop]
+            found = MARKER.match(row)
+            if found:
+                line, file = int(found[1]) - 1, found[2].encode("latin-1").decode("unicode_escape") if "\\" in found[2] else found[2]
+            elif re.match(r"#\s*pragma\s+(pack|scalar_storage_order|redefine_extname|weak)", row):
+                tokens.append(Token("pragma", row, file, line))
+            at = stop
+            continue
+        found = PIECE.match(text, at)
+        if not found:
+            tokens.append(Token("byte", text[at], file, line))
+            at += 1
+            continue
+        at = found.end()
+        kind = str(found.lastgroup)
+        if kind == "line":
+            line, fresh = line + 1, True
+        elif kind != "space":
+            tokens.append(Token(kind, found.group(), file, line))
+            fresh = False
+    return tokens
+
+
+def parser() -> Any:
+    try:
+        from pycparser import c_parser
+    except ImportError:
+        raise Missing("no pycparser: Debian's package python3-pycparser has it, or `pip install pycparser`") from None
+    return c_parser.CParser()
+
+
+def parse(tokens: Sequence[Token], first: int) -> Tuple[Any, Optional[Tuple[int, str]]]:
+    """The tree of tokens that are numbered from `first` on; or where it goes wrong."""
+    from pycparser import c_parser
+    text = f"# {first} \"t\"\n" + "\n".join(token.text for token in tokens) + "\n"
+    try:
+        return parser().parse(text, "t"), None
+    except (c_parser.ParseError, AssertionError, AttributeError) as error:
+        found = re.match(r"t:(\d+)(?::\d+)?:\s*(.*)", str(error), re.S)
+        return None, (int(found[1]) - first if found else len(tokens) - 1, found[2] if found else str(error))
+
+
+def outer(tokens: Sequence[Token], at: int) -> Tuple[int, int]:
+    """From where to where the outermost item goes that has the token."""
+    begin, depth, index = 0, 0, 0
+    while index < len(tokens):
+        text = tokens[index].text
+        if text in ("{", "(", "["):
+            depth += 1
+        elif text in ("}", ")", "]"):
+            depth = max(depth - 1, 0)
+        ends = depth == 0 and (text == ";" or text == "}" and (
+            index + 1 >= len(tokens) or tokens[index + 1].text not in (";", ",", "=", "*", "[", ")") and not (
+                tokens[index + 1].kind == "name" and opens_struct(tokens, begin))))
+        if ends:
+            if at <= index:
+                return begin, index + 1
+            begin = index + 1
+        index += 1
+    return begin, len(tokens)
+
+
+def opens_struct(tokens: Sequence[Token], begin: int) -> bool:
+    for token in tokens[begin:begin + 60]:
+        if token.text in ("struct", "union", "enum"):
+            return True
+        if token.text in ("(", "{", ";"):
+            return False
+    return False
+
+
+def read(file: str, options: Sequence[str], table: List[Token], problems: List[Refusal]) -> Unit:
+    """A file's tree. Its tokens are added to the table; what it can't be read for is added to the problems."""
+    tokens = pieces(preprocessed(file, options), file)
+    tokens, bodies = rewrite(tokens, len(table), problems)
+    first = len(table)
+    trees: Dict[str, Any] = {}
+    tree = None
+    table.extend(tokens)
+    for _ in range(20):
+        tree, wrong = parse(tokens, first)
+        if wrong is None:
+            break
+        at = min(max(wrong[0], 0), len(tokens) - 1) if tokens else 0
+        begin, end = outer(tokens, at)
+        problems.append(unread(tokens, begin, at, first))
+        blank = Token("mark", "", file, 0)
+        tokens = list(tokens[:begin]) + [blank] * (end - begin) + list(tokens[end:])
+    if tree is not None:
+        trees = {item.decl.name: item.body for item in tree.ext
+                 if type(item).__name__ == "FuncDef" and item.decl.name in bodies}
+        tree.ext = [item for item in tree.ext if not (type(item).__name__ == "FuncDef" and item.decl.name in bodies)]
+    return Unit(file, tree, trees)
+
+
+def unread(tokens: Sequence[Token], begin: int, at: int, first: int) -> Refusal:
+    """The refusal of what pycparser can't read, by what it looks like."""
+    depth = 0
+    for index in range(begin, min(at + 1, len(tokens))):
+        text = tokens[index].text
+        depth += (text == "{") - (text == "}")
+    if depth > 0 and tokens[at].text == "{" or depth > 1 and tokens[at - 1].text == ")":
+        return Refusal(first + at, "a function within a function", "a function of its own, with what it uses as parameters")
+    if tokens[at].text == "_Generic":
+        return Refusal(first + at, "`_Generic`", "the function that is meant")
+    near = " ".join(token.text for token in tokens[max(begin, at - 3):at + 2])
+    return Refusal(first + at, f"no C99 at `{near}`", "the text as C99 has it")
+
+
+PRELUDE = os.path.join(os.path.dirname(os.path.abspath(__file__)), "prelude")
+
+
+def prelude_index() -> Dict[str, str]:
+    """In which file of the prelude a name is defined."""
+    found: Dict[str, str] = {}
+    for name in sorted(os.listdir(PRELUDE)):
+        if name.endswith(".c") and not name.startswith("raw_"):
+            with open(os.path.join(PRELUDE, name)) as file:
+                for row in file:
+                    match = re.match(r"(?!static|typedef|struct \w+ \{)[A-Za-z_][\w ]*[ *]+(\w+)(\(.*\)$|\(.*\) \{|;| =)", row)
+                    if match:
+                        found.setdefault(match[1], os.path.join(PRELUDE, name))
+    return found
+
+
+def read_prelude(file: str, tokens: List[Token]) -> Unit:
+    problems: List[Refusal] = []
+    unit = read(file, ["-D__CBI_PRELUDE__"], tokens, problems)
+    if unit.tree is None or problems:
+        raise AssertionError(f"the prelude isn't read: {file}: {[(it.construct, it.problem(tokens)) for it in problems]}")
+    return unit

@@ -1,0 +1,89 @@
+"""Names and what they mean (C99 6.2.1 to 6.2.4)."""
+from typing import Any, Dict, List, Optional, Set
+
+from cbi_port.types import CType
+
+# Words of the dialect, and what its library declares: no name of a text's own.
+TAKEN = {"char", "do", "else", "for", "if", "int", "return", "sizeof", "struct", "unsigned", "void", "while", "break", "continue",
+         "NULL", "EOF", "getchar", "putchar", "puts", "malloc", "free", "exit", "abort", "printf", "assert", "auto", "case", "const",
+         "default", "double", "enum", "extern", "float", "goto", "inline", "long", "register", "restrict", "short", "signed", "static",
+         "switch", "typedef", "union", "volatile", "_Bool", "_Complex", "_Imaginary"}
+
+
+class Symbol:
+    """A name's meaning. `kind` is variable, function, type or constant; `text` is the name in the text."""
+
+    def __init__(self, name: str, kind: str, type_: CType, text: str = "", constant: int = 0) -> None:
+        self.name, self.kind, self.type, self.text, self.constant = name, kind, type_, text or name, constant
+        self.outer = False         # stands outside functions, or lives as long
+        self.static = False
+        self.memory = ""           # its first byte's number, where memory is kept as bytes
+        self.defined = False
+        self.node: Any = None
+        self.init: Any = None
+        self.unit = ""
+        self.pointer = ""          # a local name that points to what it is
+        self.declared = False      # its declaration stands in the text
+        self.used = False
+        self.emitted = False
+        self.lengths: Any = None   # of an array whose length is found out as the program runs
+        self.at = -1
+
+
+class Scope:
+    def __init__(self, parent: Optional["Scope"] = None) -> None:
+        self.parent = parent
+        self.names: Dict[str, Symbol] = {}
+        self.tags: Dict[str, Any] = {}
+
+    def find(self, name: str) -> Optional[Symbol]:
+        scope: Optional[Scope] = self
+        while scope is not None:
+            if name in scope.names:
+                return scope.names[name]
+            scope = scope.parent
+        return None
+
+    def find_tag(self, tag: str) -> Any:
+        scope: Optional[Scope] = self
+        while scope is not None:
+            if tag in scope.tags:
+                return scope.tags[tag]
+            scope = scope.parent
+        return None
+
+
+class Names:
+    """Gives out names that no other thing of the text has."""
+
+    def __init__(self) -> None:
+        self.used: Set[str] = set(TAKEN)
+
+    def take(self, wanted: str) -> str:
+        wanted = wanted.replace("$", "_")[:48]
+        name, count = wanted, 1
+        while name in self.used:
+            count += 1
+            name = f"{wanted}_{count}"
+        self.used.add(name)
+        return name
+
+    def may_be_local(self, name: str) -> bool:
+        return name not in TAKEN and not name.startswith("cbi_") and "$" not in name and len(name) < 63
+
+
+def names_under_address(body: Any) -> Set[str]:
+    """The names whose address is taken somewhere in a body."""
+    found: Set[str] = set()
+    stack: List[Any] = [body]
+    while stack:
+        node = stack.pop()
+        if type(node).__name__ == "UnaryOp" and node.op == "&":
+            inner = node.expr
+            while type(inner).__name__ in ("StructRef", "ArrayRef"):
+                inner = inner.name
+            if type(inner).__name__ == "ID":
+                found.add(inner.name)
+        if node is not None:
+            stack.extend(child for _, child in node.children())
+    return found

@@ -1,0 +1,275 @@
+"""The types of C (C99 6.2.5, 6.2.7, 6.7.2): 32 bits for int, long and pointers, laid out as on i386."""
+from typing import Any, List, NamedTuple, Optional, Sequence, Set, Tuple, Union
+
+
+class Void(NamedTuple):
+    name: str = "void"
+
+
+class Int(NamedTuple):
+    """`size` in bytes; `rank` as C99 6.3.1.1 orders them."""
+    name: str
+    size: int
+    signed: bool
+    rank: int
+
+    @property
+    def least(self) -> int:
+        return -(1 << (8 * self.size - 1)) if self.signed else 0
+
+    @property
+    def most(self) -> int:
+        return 1 if self.rank == 0 else (1 << (8 * self.size - self.signed)) - 1
+
+    def wrap(self, value: int) -> int:
+        """The value brought into the type (6.3.1.2, 6.3.1.3)."""
+        if self.rank == 0:
+            return int(value != 0)
+        value &= (1 << (8 * self.size)) - 1
+        return value - (1 << (8 * self.size)) if value > self.most else value
+
+
+class Float(NamedTuple):
+    name: str
+    size: int
+
+
+class Pointer(NamedTuple):
+    to: Any
+
+
+class Array(NamedTuple):
+    """`count` is None where it isn't known, and a tree where the program finds it out."""
+    of: Any
+    count: Any
+
+
+class Function(NamedTuple):
+    """`known` where the parameters' types are told."""
+    result: Any
+    parameters: Tuple[Any, ...]
+    more: bool
+    known: bool
+
+
+class Member(NamedTuple):
+    """`at` in bytes; `bits` is the width of a bit-field and `shift` where it begins in its unit of the type's size."""
+    name: str
+    type: Any
+    at: int
+    bits: Optional[int] = None
+    shift: int = 0
+
+
+class Struct:
+    """A struct or union; its identity is what makes it one type."""
+
+    def __init__(self, tag: str, union: bool) -> None:
+        self.tag, self.union = tag, union
+        self.members: List[Member] = []
+        self.complete = False
+        self.size = 0
+        self.align = 1
+        self.flexible = False
+        self.packed = False
+        self.at = -1
+        self.forward: Set[str] = set()  # members that point to a struct that is completed later
+        self.copied = False
+
+    def find(self, name: str) -> Optional[Tuple[Member, ...]]:
+        """The members on the way to a name, through those without a name."""
+        for member in self.members:
+            if member.name == name:
+                return (member,)
+        for member in self.members:
+            if member.name.startswith("cbi_nameless") and isinstance(member.type, Struct):
+                way = member.type.find(name)
+                if way:
+                    return (member, *way)
+        return None
+
+    def __repr__(self) -> str:
+        return ("union " if self.union else "struct ") + self.tag
+
+
+class List_(NamedTuple):
+    """A `va_list`."""
+    name: str = "va_list"
+
+
+VOID = Void()
+BOOL = Int("_Bool", 1, False, 0)
+CHAR = Int("char", 1, True, 1)
+SCHAR = Int("signed char", 1, True, 1)
+UCHAR = Int("unsigned char", 1, False, 1)
+SHORT = Int("short", 2, True, 2)
+USHORT = Int("unsigned short", 2, False, 2)
+INT = Int("int", 4, True, 3)
+UINT = Int("unsigned", 4, False, 3)
+LONG = Int("long", 4, True, 4)
+ULONG = Int("unsigned long", 4, False, 4)
+LLONG = Int("long long", 8, True, 5)
+ULLONG = Int("unsigned long long", 8, False, 5)
+VALIST = List_()
+CType = Union[Void, Int, Float, Pointer, Array, Function, Struct, List_]
+
+
+def base_type(names: Sequence[str]) -> Optional[CType]:
+    """The type of some words; None where they name none."""
+    words = list(names)
+    if words == ["void"]:
+        return VOID
+    if "float" in words or "double" in words:
+        return Float(" ".join(words), 4 if "float" in words else 12 if "long" in words else 8)
+    if "_Bool" in words:
+        return BOOL
+    signed = "unsigned" not in words
+    if any(word not in ("char", "short", "int", "long", "signed", "unsigned") for word in words):
+        return None
+    if "char" in words:
+        return UCHAR if not signed else SCHAR if "signed" in words else CHAR
+    if "short" in words:
+        return SHORT if signed else USHORT
+    if words.count("long") == 2:
+        return LLONG if signed else ULLONG
+    if "long" in words:
+        return LONG if signed else ULONG
+    return INT if signed else UINT
+
+
+def size_of(type_: CType) -> int:
+    if isinstance(type_, (Int, Float)):
+        return type_.size
+    if isinstance(type_, Array):
+        return int(type_.count or 0) * size_of(type_.of)
+    if isinstance(type_, Struct):
+        return type_.size
+    return 1 if isinstance(type_, (Void, Function)) else 4
+
+
+def align_of(type_: CType) -> int:
+    if isinstance(type_, (Int, Float)):
+        return min(type_.size, 4)
+    if isinstance(type_, Array):
+        return align_of(type_.of)
+    return type_.align if isinstance(type_, Struct) else 4
+
+
+def is_complete(type_: CType) -> bool:
+    if isinstance(type_, Array):
+        return isinstance(type_.count, int) and is_complete(type_.of)
+    if isinstance(type_, Struct):
+        return type_.complete
+    return not isinstance(type_, (Void, Function))
+
+
+def lay_out(struct: Struct, members: Sequence[Tuple[str, CType, Optional[int]]]) -> None:
+    """Gives each member its place, as the System V rules for i386 do."""
+    at = 0  # in bits
+    for name, type_, bits in members:
+        align = 1 if struct.packed else align_of(type_)
+        if bits is not None:
+            unit = 8 * size_of(type_)
+            if struct.union:
+                at = 0
+            if bits == 0:
+                at = -(-at // unit) * unit
+                continue
+            if not struct.packed and at // unit != (at + bits - 1) // unit:
+                at = -(-at // unit) * unit
+            start = at // 8 * 8 if struct.packed else at // unit * unit
+            if name:
+                struct.align = max(struct.align, align)
+                struct.members.append(Member(name, type_, start // 8, bits, at - start))
+            at += bits
+            struct.size = max(struct.size, (at + 7) // 8)
+            continue
+        struct.align = max(struct.align, align)
+        if struct.union:
+            at = 0
+        at = -(-at // (8 * align)) * 8 * align
+        struct.members.append(Member(name, type_, at // 8))
+        at += 8 * size_of(type_)
+        struct.size = max(struct.size, at // 8)
+        struct.flexible = isinstance(type_, Array) and not type_.count
+    struct.size = -(-struct.size // struct.align) * struct.align
+    struct.complete = True
+
+
+def promoted(type_: CType, bits: Optional[int] = None) -> CType:
+    """6.3.1.1p2; a bit-field of fewer bits than int has is an int."""
+    if isinstance(type_, Int):
+        if bits is not None and type_.rank <= 4 and bits < 32:
+            return INT
+        if type_.rank < 3:
+            return INT
+    return type_
+
+
+def common(left: Int, right: Int) -> Int:
+    """6.3.1.8, of promoted types."""
+    if left == right:
+        return left
+    if left.rank < right.rank:
+        left, right = right, left
+    if left.signed == right.signed or not left.signed:
+        return left
+    if right.rank < left.rank and right.size < left.size:
+        return left
+    if right.rank == left.rank or right.size == left.size:
+        return {3: UINT, 4: ULONG, 5: ULLONG}[left.rank]
+    return left
+
+
+def is_number(type_: CType) -> bool:
+    return isinstance(type_, Int)
+
+
+def is_long(type_: CType) -> bool:
+    """Of 64 bits."""
+    return isinstance(type_, Int) and type_.size == 8
+
+
+def is_whole(type_: CType) -> bool:
+    """A value that is handed on by its place: a struct, a union or a number of 64 bits."""
+    return isinstance(type_, Struct) or is_long(type_)
+
+
+def is_pointer(type_: CType) -> bool:
+    return isinstance(type_, Pointer)
+
+
+def to_function(type_: CType) -> bool:
+    return isinstance(type_, Pointer) and isinstance(type_.to, Function)
+
+
+def same(left: CType, right: CType) -> bool:
+    """Whether two types are compatible (6.2.7)."""
+    if isinstance(left, Array) and isinstance(right, Array):
+        return same(left.of, right.of) and (left.count is None or right.count is None or left.count == right.count)
+    if isinstance(left, Pointer) and isinstance(right, Pointer):
+        return same(left.to, right.to)
+    if isinstance(left, Function) and isinstance(right, Function):
+        if not same(left.result, right.result):
+            return False
+        if not left.known or not right.known:
+            return True
+        return len(left.parameters) == len(right.parameters) and left.more == right.more and all(
+            map(same, left.parameters, right.parameters))
+    if isinstance(left, Struct) or isinstance(right, Struct):
+        return left is right
+    return type(left) is type(right) and left == right
+
+
+def spelled(type_: CType) -> str:
+    """The type as a message names it."""
+    if isinstance(type_, Pointer):
+        if isinstance(type_.to, Function):
+            return f"{spelled(type_.to.result)} (*)()"
+        text = spelled(type_.to)
+        return text + ("*" if text.endswith("*") else " *")
+    if isinstance(type_, Array):
+        return f"{spelled(type_.of)}[{type_.count if isinstance(type_.count, int) else ''}]"
+    if isinstance(type_, Function):
+        return f"{spelled(type_.result)}()"
+    return repr(type_) if isinstance(type_, Struct) else type_.name

@@ -1,0 +1,2 @@
+/* The library of cbi-port: <stdnoreturn.h>. */
+#define noreturn

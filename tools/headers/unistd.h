@@ -1,0 +1,3 @@
+/* The library of cbi-port: what there is of <unistd.h>. */
+#include <sys/types.h>
+void _exit(int);
