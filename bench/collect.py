@@ -13,71 +13,50 @@ import os
 import random
 import sys
 import tempfile
+from typing import Dict, Iterable, Iterator, List, Tuple
 
-from timing import timed
+from made import collection, ending_of, run_line, write, write_program
+from timing import compared
 
 SITES = 1000
 MOST_REPORTS = 100000
 MOST_MARKS = 16777216
 
 
-def program():
-    """The text of a program with branches alone."""
-    sites = [f"site branch 0 1 {number} if" for number in range(SITES)]
-    rows = ["cbi-program 1", "texts 0", "globals 0", "functions 1", "function main value 0 0 2", "main 0", f"sites {SITES}"]
-    return "\n".join(rows + sites + ["locals", "push i 0 1", "return", "end", ""])
-
-
-def sites_of(chance, entries):
+def sites_of(chance: random.Random, entries: int) -> str:
     """The site lines of a run."""
     numbers = sorted(chance.sample(range(SITES), entries))
     return "".join(f"site {number} {chance.randrange(1, 1000)} {chance.randrange(1000)} 0\n" for number in numbers)
 
 
-def outcome_of(run):
-    return ("trapped 6", "fail") if run % 10 == 0 else ("ended 0", "pass")
-
-
-def run_lines(run, sites):
-    outcome, label = outcome_of(run)
-    return f"run {run} {outcome} label {label} work {run} 0 0\n{sites}"
-
-
-def report(identity, run, sites):
-    outcome, label = outcome_of(run)
+def report(identity: str, run: int, sites: str) -> str:
+    outcome, label = ending_of(run)
     return f"cbi-report 2\nprogram {identity}\nrun {run}\noutcome {outcome}\nlabel {label}\nwork {run} 0 0\n{sites}end\n"
 
 
-def collection(identity, runs):
-    return f"cbi-collection 2\nprogram {identity}\n" + "".join(run_lines(run, sites) for run, sites in runs) + "end\n"
-
-
-def write(path, text):
-    with open(path, "w", encoding="ascii") as out:
-        out.write(text)
-    return path
-
-
-def make(folder, reports, entries):
+def make(folder: str, reports: int, entries: int) -> Tuple[str, List[Tuple[str, List[str]]]]:
     """Writes the files; answers the program's path, and each way to give the reports."""
-    text = program()
-    identity = hashlib.sha256(text.encode("ascii")).hexdigest()
+    path = os.path.join(folder, "program")
+    identity = write_program(path, SITES)
     chance = random.Random(1)
     runs = [(run, sites_of(chance, entries)) for run in range(1, reports + 1)]
-    one = [write(os.path.join(folder, "all"), collection(identity, runs))]
-    parts = [write(os.path.join(folder, f"part{k}"), collection(identity, runs[k::100])) for k in range(100)]
+
+    def collected(name: str, some: List[Tuple[int, str]]) -> str:
+        return write(os.path.join(folder, name), collection(identity, (run_line(run, run) + sites for run, sites in some)))
+
+    one = [collected("all", runs)]
+    parts = [collected(f"part{k}", runs[k::100]) for k in range(100)]
     alone = min(10000, reports)
-    mixed = [write(os.path.join(folder, f"r{run}"), report(identity, run, sites)) for run, sites in runs[:alone]]
-    mixed.append(write(os.path.join(folder, "rest"), collection(identity, runs[alone:])))
-    ways = [("one collection", one), ("100 collections", parts), (f"{alone} reports and a collection", mixed)]
-    return write(os.path.join(folder, "program"), text), ways
+    mixed = [write(os.path.join(folder, f"r{run}"), [report(identity, run, sites)]) for run, sites in runs[:alone]]
+    mixed.append(collected("rest", runs[alone:]))
+    return path, [("one collection", one), ("100 collections", parts), (f"{alone} reports and a collection", mixed)]
 
 
-def fields_of_run(words):
+def fields_of_run(words: List[str]) -> Tuple[int, str]:
     return int(words[1]), " ".join(words[2:])
 
 
-def read(path, identity):
+def read(path: str, identity: str) -> Iterator[Tuple[int, str, List[str]]]:
     """The runs of a file: each with what it says, and its site lines."""
     with open(path, encoding="ascii") as text:
         first = text.readline().split()
@@ -89,12 +68,13 @@ def read(path, identity):
             rest = outcome + " " + text.readline().strip() + " " + text.readline().strip()
             yield run, rest, checked(line for line in text if line != "end\n")
             return
-        run, rest, sites = None, None, []
+        run, rest = 0, ""  # no run has the number 0
+        sites: List[str] = []
         for line in text:
             if line.startswith("site "):
                 sites.append(line)
                 continue
-            if run is not None:
+            if run:
                 yield run, rest, checked(sites)
             if line == "end\n":
                 return
@@ -102,7 +82,7 @@ def read(path, identity):
             sites = []
 
 
-def checked(lines):
+def checked(lines: Iterable[str]) -> List[str]:
     """The site lines, whose numbers are read, rise and are the program's."""
     last, kept = -1, []
     for line in lines:
@@ -114,10 +94,11 @@ def checked(lines):
     return kept
 
 
-def collect_by_dict(path, files):
+def collect_by_dict(path: str, files: List[str]) -> None:
     with open(path, "rb") as text:
         identity = hashlib.sha256(text.read()).hexdigest()
-    held, marks, given = {}, 0, 0
+    held: Dict[int, Tuple[str, List[str]]] = {}
+    marks = given = 0
     for name in files:
         for run, rest, sites in read(name, identity):
             given += 1
@@ -139,11 +120,11 @@ def collect_by_dict(path, files):
     print(f"added {len(held)} repeated {given - len(held)}", file=sys.stderr)
 
 
-def main():
+def main() -> None:
     if sys.argv[1:2] == ["--dict"]:
         collect_by_dict(sys.argv[2], sys.argv[3:])
         return
-    if not 2 <= len(sys.argv) <= 4:
+    if not 2 <= len(sys.argv) <= 4 or sys.argv[1].startswith("-"):
         sys.exit(__doc__)
     tool = os.path.abspath(sys.argv[1])
     reports = int(sys.argv[2]) if len(sys.argv) > 2 else MOST_REPORTS
@@ -153,14 +134,9 @@ def main():
         for what, files in ways:
             size = sum(os.path.getsize(name) for name in files) / 1e6
             print(f"{what}: {reports} reports of {entries} sites, {size:.0f} MB")
-            digests = []
-            for who, command in (("cbi", [tool, "collect", "--program", path] + files),
-                                 ("dict", [sys.executable, os.path.abspath(__file__), "--dict", path] + files)):
-                status, seconds, passed, memory, digest, said = timed(command, os.path.join(folder, "out"))
-                print(f"  {who:5} status {status} {seconds:7.2f} s of processor, {passed:7.2f} s, {memory} MB   {said.splitlines()[-1] if said else ''}")
-                if status == 0:
-                    digests.append(digest)
-            print("  the same bytes" if len(digests) == 2 and digests[0] == digests[1] else "  not compared" if len(digests) < 2 else "  OTHER BYTES")
+            script = [sys.executable, os.path.abspath(__file__), "--dict", path, *files]
+            commands = [("cbi", [tool, "collect", "--program", path, *files]), ("dict", script)]
+            compared(commands, os.path.join(folder, "out"), lambda said: said.splitlines()[-1] if said else "")
 
 
 if __name__ == "__main__":

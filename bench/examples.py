@@ -12,6 +12,7 @@ import shutil
 import subprocess
 import sys
 import tempfile
+from typing import Tuple
 
 from timing import timed
 
@@ -20,33 +21,35 @@ BYTES = 2000000
 HERE = os.path.join(os.path.dirname(os.path.abspath(__file__)), "..", "examples")
 
 
-def words(chance):
+def words(chance: random.Random) -> str:
     """Words of at most twelve letters."""
     return "".join("abcdefghijklmnop"[chance.randrange(16)] * chance.randint(1, 12) + " " for _ in range(BYTES // 7))[:BYTES - 1] + "\n"
 
 
-def lookups(chance):
+def lookups(chance: random.Random) -> str:
     """Letters that all have a value, and then their values."""
     return "a=1 b=2 c=3 d=4 " + "".join("abcd"[chance.randrange(4)] + ("=5 ", "? ")[chance.randrange(2)] for _ in range(BYTES // 3)) + "\n"
 
 
-def digits(chance):
+def digits(chance: random.Random) -> str:
     return "".join(f"{chance.randrange(1000):03} " for _ in range(BYTES // 4)) + "\n"
 
 
-def measured(tool, folder, name, mode, rate):
-    """The processor seconds and megabytes of a run."""
+def measured(tool: str, folder: str, name: str, mode: str, rate: int) -> Tuple[float, int, str]:
+    """The processor seconds and megabytes of a run, and the hash of its output."""
     program, bank, source = os.path.join(folder, "program"), os.path.join(folder, "bank"), os.path.join(HERE, name, name + ".c")
     with open(program, "wb") as out:
         subprocess.run([tool, "transform", "--mode", mode, source], stdout=out, check=True)
     with open(bank, "wb") as out:
         subprocess.run([tool, "bank", "--rate", str(rate), "--count", "4096", "--seed", "1"], stdout=out, check=True)
-    words = [tool, "run", "--turns", TURNS, "--bank", bank, "--input", os.path.join(folder, "input"), program]
-    status, seconds, _, memory, digest, said = timed(words, os.path.join(folder, "out"))
+    command = [tool, "run", "--turns", TURNS, "--bank", bank, "--input", os.path.join(folder, "input"), program]
+    status, seconds, _, memory, digest, said = timed(command, os.path.join(folder, "out"))
     return seconds, memory, digest if status == 0 else f"status {status} {said}"
 
 
-def main():
+def main() -> None:
+    if len(sys.argv) != 2 or sys.argv[1].startswith("-"):
+        sys.exit(__doc__)
     tool, gcc = sys.argv[1], shutil.which("gcc")
     for name, make in (("longest", words), ("lookup", lookups), ("greatest", digits)):
         with tempfile.TemporaryDirectory() as folder:
@@ -65,4 +68,5 @@ def main():
                 print(f"{name:9} gcc -O0      {seconds:7.2f} s {memory:6} MB  {'' if digest == same else 'OTHER OUTPUT'}", flush=True)
 
 
-main()
+if __name__ == "__main__":
+    main()

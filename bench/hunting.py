@@ -12,6 +12,7 @@ import subprocess
 import sys
 import tempfile
 import time
+from typing import Dict, List, Tuple
 
 TOP = os.path.join(os.path.dirname(os.path.abspath(__file__)), "..")
 LOOKUP = os.path.join(TOP, "examples", "lookup")
@@ -33,7 +34,7 @@ find reports -type f | xargs "$CBI" collect --program program >runs
 """
 
 
-def measured(words, folder, environment):
+def measured(words: List[str], folder: str, environment: Dict[str, str]) -> Tuple[float, float]:
     """The seconds of a call by the clock, and of the processor: its own with all that it waited for."""
     before, start = resource.getrusage(resource.RUSAGE_CHILDREN), time.monotonic()
     subprocess.run(words, cwd=folder, env=environment, stdout=subprocess.DEVNULL, stderr=subprocess.DEVNULL, check=True)
@@ -41,7 +42,7 @@ def measured(words, folder, environment):
     return passed, after.ru_utime + after.ru_stime - before.ru_utime - before.ru_stime
 
 
-def alone(cbi, folder, environment, runs):
+def alone(folder: str, environment: Dict[str, str], runs: int) -> float:
     """The processor seconds of as many calls of `bank` and `run`, found by a hundredth of them."""
     some = max(1, runs // 100)
     script = f'for i in $(seq {some}); do "$CBI" bank --rate 5 --count 256 --seed 1 --stream $i >bank; "$CBI" run --bank bank --input input program >output 2>sites; done'
@@ -49,7 +50,9 @@ def alone(cbi, folder, environment, runs):
     return (measured(["bash", "-c", script], folder, environment)[1] - empty) * runs / some
 
 
-def main():
+def main() -> None:
+    if not 2 <= len(sys.argv) <= 4 or sys.argv[1].startswith("-"):
+        sys.exit(__doc__)
     cbi = os.path.abspath(sys.argv[1])
     runs = int(sys.argv[2]) if len(sys.argv) > 2 else 1000
     jobs = int(sys.argv[3]) if len(sys.argv) > 3 else 2
@@ -66,8 +69,9 @@ def main():
             with open(os.path.join(folder, path), "rb") as file:
                 collected.add(file.read())
             print(f"{name:18} {runs} runs {passed:7.1f} s, {runs / passed:6.1f} runs a second, {processor:6.1f} s of processor", flush=True)
-        print(f"calls of cbi alone {runs} runs {alone(cbi, folder, environment, runs):18.1f} s of processor, by a hundredth of them")
+        print(f"calls of cbi alone {runs} runs {alone(folder, environment, runs):18.1f} s of processor, by a hundredth of them")
         print("the same bytes" if len(collected) == 1 else "OTHER BYTES")
 
 
-main()
+if __name__ == "__main__":
+    main()

@@ -8,12 +8,13 @@ memory that it held, and for Lua the same, where lua5.4 is on the path.
 """
 import os
 import shutil
-import subprocess
 import sys
 import tempfile
 import time
+from typing import List, Tuple
 
 from programs import END, below, counted, get, program, put
+from timing import timed
 
 TURNS = "100000000"
 
@@ -47,15 +48,15 @@ LUA = {
 PROGRAMS = {"loop": LOOP, "calls": FIB, "array": ARRAY, "strided": STRIDED, "putchar": PUTCHAR}
 
 
-def measured(words):
-    """Status, processor seconds, and most memory in MB of a process."""
-    with open(os.devnull, "wb") as sink:
-        started = subprocess.Popen(words, stdout=sink)
-        _, status, usage = os.wait4(started.pid, 0)
-    return os.waitstatus_to_exitcode(status), usage.ru_utime + usage.ru_stime, usage.ru_maxrss / 1024
+def measured(words: List[str]) -> Tuple[int, float, int]:
+    """The status, the processor seconds and the most memory in MB of a process, of the best of three."""
+    best = min(timed(words, os.devnull) for _ in range(3))
+    return best.status, best.seconds, best.memory
 
 
-def main():
+def main() -> None:
+    if len(sys.argv) != 2 or sys.argv[1].startswith("-"):
+        sys.exit(__doc__)
     tool = sys.argv[1]
     lua = shutil.which("lua5.4")
     print(f"{os.cpu_count()} processors, {time.strftime('%Y-%m-%d')}")
@@ -64,12 +65,13 @@ def main():
             path = os.path.join(folder, name)
             with open(path, "w") as file:
                 file.write(text)
-            status, seconds, memory = min(measured([tool, "run", "--turns", TURNS, path]) for _ in range(3))
-            line = f"{name:8} cbi {seconds:6.2f} s {memory:7.1f} MB status {status}"
+            status, seconds, memory = measured([tool, "run", "--turns", TURNS, path])
+            line = f"{name:8} cbi {seconds:6.2f} s {memory:5} MB status {status}"
             if lua:
-                _, by_lua, lua_memory = min(measured([lua, "-e", LUA[name]]) for _ in range(3))
-                line += f"   lua {by_lua:6.2f} s {lua_memory:7.1f} MB   ratio {seconds / by_lua:5.2f}"
+                _, by_lua, lua_memory = measured([lua, "-e", LUA[name]])
+                line += f"   lua {by_lua:6.2f} s {lua_memory:5} MB   ratio {seconds / by_lua:5.2f}"
             print(line, flush=True)
 
 
-main()
+if __name__ == "__main__":
+    main()

@@ -9,20 +9,23 @@ twice as many candidates as sites. In the first collection the runs fail by chan
 sites are seen ever more seldom, so that most pairs are skipped. Printed are the processor seconds and the most memory of each process, how many pairs were
 counted, and whether both wrote the same bytes.
 """
-import hashlib
+import importlib
 import os
-import random
 import sys
 import tempfile
 from fractions import Fraction
+from random import Random
+from typing import Any, Dict, List, Optional, Set, Tuple
 
-from rank import importance, log_of, passes, program
-from timing import timed
+from made import Numbers, Seen, importance, log_of, passes, read_entries, sites_of, text_of, write_collection, write_program
+from timing import compared
 
 MOST = 1000
+# The pair that says most so far: its importance, its predicates and its numbers.
+Best = Optional[Tuple[Fraction, int, int, Numbers]]
 
 
-def chosen_sites(chance, sites, entries, skewed):
+def chosen_sites(chance: Random, sites: int, entries: int, skewed: bool) -> Set[int]:
     """The sites that a run sees; where they are skewed, mostly those with small numbers."""
     if not skewed:
         return set(chance.sample(range(sites), entries))
@@ -32,36 +35,19 @@ def chosen_sites(chance, sites, entries, skewed):
     return seen
 
 
-def write_collection(path, identity, runs, sites, entries, skewed):
-    chance = random.Random(1)
-    with open(path, "w", encoding="ascii") as out:
-        out.write(f"cbi-collection 2\nprogram {identity}\n")
-        for run in range(1, runs + 1):
-            fails = run % 10 == 0
-            seen = chosen_sites(chance, sites, entries, skewed)
-            sides = {site: chance.random() < 0.5 for site in seen}
-            if skewed:
-                sides[0], sides[1] = chance.choice([(True, True)] if fails else [(True, False), (False, True), (False, False)])
-            outcome, label = ("trapped 6", "fail") if fails else ("ended 0", "pass")
-            out.write(f"run {run} {outcome} label {label} work 0 0 0\n")
-            out.write("".join(f"site {site} {1 if sides[site] else 0} {0 if sides[site] else 1} 0\n" for site in sorted(sides)))
-        out.write("end\n")
+def seen_sides(chance: Random, failing: bool, sites: int, entries: int, skewed: bool) -> Seen:
+    """What a run sees; where the sites are skewed it fails just where the first two are both true."""
+    sides = {site: chance.random() < 0.5 for site in chosen_sites(chance, sites, entries, skewed)}
+    if skewed:
+        sides[0], sides[1] = chance.choice([(True, True)] if failing else [(True, False), (False, True), (False, False)])
+    return sides
 
 
-def rows_of(path, count):
+def rows_of(numpy: Any, path: str, count: int) -> Tuple[List[Any], int]:
     """Of each predicate whether it is true in each failing and each successful run, and whether it is known, as bits."""
-    import numpy
-
-    labels, entries = [], []
-    with open(path, encoding="ascii") as text:
-        for line in text:
-            words = line.split()
-            if words[0] == "run":
-                labels.append("fail" in words)
-            elif words[0] == "site":
-                entries.append((len(labels) - 1, int(words[1]), words[2] != "0", words[3] != "0"))
-    run_of, site_of, true_of, false_of = (numpy.array(column) for column in zip(*entries))
-    fails = numpy.array(labels)
+    held = read_entries(path)
+    run_of, site_of, true_of, false_of = (numpy.array(column) for column in (held.run_of, held.site_of, held.true_of, held.false_of))
+    fails = numpy.array(held.fails)
     place = numpy.where(fails, numpy.cumsum(fails), numpy.cumsum(~fails)) - 1
     rows = []
     for kind in (fails, ~fails):
@@ -75,49 +61,61 @@ def rows_of(path, count):
     for at in (0, 3):
         truth = numpy.empty((2 * count, rows[at].shape[1]), dtype=numpy.uint16)
         truth[0::2], truth[1::2] = rows[at], rows[at + 1]
-        known = numpy.repeat(rows[at + 2], 2, axis=0)
-        groups.append((truth, known))
+        groups.append((truth, numpy.repeat(rows[at + 2], 2, axis=0)))
     return groups, int(fails.sum())
 
 
-def share(numbers, failing):
-    top, bottom = importance(*numbers, failing)
+def share(numbers: Numbers, failing: int) -> Fraction:
+    top, bottom = importance(numbers, failing)
     return Fraction(top, bottom)
 
 
-def bound(left, right, failing):
-    own, whole = log_of(min(left, right)), log_of(failing)
+def bound(least: int, failing: int) -> Fraction:
+    """The greatest importance of a pair of which one predicate is true in so many failing runs, and the other in no fewer."""
+    own, whole = log_of(least), log_of(failing)
     return Fraction(0) if own == 0 or whole == 0 else Fraction(2 * own, own + whole)
 
 
-def pairs_by_numpy(program_path, path):
-    import numpy
-
-    ones = numpy.array([bin(number).count("1") for number in range(1 << 16)], dtype=numpy.uint8)
-
-    def count(rows):
-        return ones[rows].sum(axis=1, dtype=numpy.int64)
-
-    with open(program_path, encoding="ascii") as text:
-        sites = int(next(line for line in text if line.startswith("sites ")).split()[1])
-    groups, failing = rows_of(path, sites)
-    own = list(zip(*(count(rows).tolist() for rows in (groups[0][0], groups[1][0], groups[0][1], groups[1][1]))))
+def listed_of(own: List[Numbers], failing: int) -> List[int]:
+    """The predicates whose pairs are looked at: those that pass by their importance, and then the others by the failing runs in which they were true."""
     rated = []
     for predicate, numbers in enumerate(own):
         if numbers[0] >= 1:
-            is_listed = passes(*numbers)
-            rated.append((not is_listed, -share(numbers, failing) if is_listed else -numbers[0], predicate))
-    listed = [predicate for _, _, predicate in sorted(rated)][:MOST]
+            is_listed = passes(numbers)
+            rated.append((not is_listed, -share(numbers, failing) if is_listed else Fraction(-numbers[0]), predicate))
+    return [predicate for _, _, predicate in sorted(rated)][:MOST]
+
+
+def print_best(best: Best) -> None:
+    if best is None:
+        print("best none")
+        return
+    value, left, right, numbers = best
+    print("best", left, right, *numbers, int(1000000 * value))
+    for word, predicate in (("left", left), ("right", right)):
+        print(word, "main", predicate // 2 + 1, text_of(predicate))
+
+
+def pairs_by_numpy(program_path: str, path: str) -> None:
+    numpy: Any = importlib.import_module("numpy")
+    ones = numpy.array([bin(number).count("1") for number in range(1 << 16)], dtype=numpy.uint8)
+
+    def count(rows: Any) -> Any:
+        return ones[rows].sum(axis=1, dtype=numpy.int64)
+
+    groups, failing = rows_of(numpy, path, sites_of(program_path))
+    own: List[Numbers] = list(zip(*(count(rows).tolist() for rows in (groups[0][0], groups[1][0], groups[0][1], groups[1][1]))))
+    listed = listed_of(own, failing)
     picked = [(truth[listed], known[listed], known[listed] & ~truth[listed]) for truth, known in groups]
-    bounds = {}
+    bounds: Dict[int, Fraction] = {}
     total = counted = skipped = 0
-    best = None
+    best: Best = None
     for left in range(len(listed)):
         limits = []
         for right in range(left + 1, len(listed)):
             key = min(own[listed[left]][0], own[listed[right]][0])
             if key not in bounds:
-                bounds[key] = bound(key, key, failing)
+                bounds[key] = bound(key, failing)
             limits.append(bounds[key])
         total += len(limits)
         kept = [left + 1 + k for k, limit in enumerate(limits) if best is None or limit >= best[0]]
@@ -132,47 +130,38 @@ def pairs_by_numpy(program_path, path):
                 continue
             counted += 1
             numbers = numbers_of[left + 1 + k]
-            if passes(*numbers):
+            if passes(numbers):
                 value = share(numbers, failing)
                 if best is None or value > best[0]:
                     best = (value, listed[left], listed[left + 1 + k], numbers)
     print(f"pairs {total} counted {counted} skipped {skipped}")
-    if best is None:
-        print("best none")
-        return
-    value, left, right, numbers = best
-    print("best", left, right, *numbers, int(1000000 * value))
-    for word, predicate in (("left", left), ("right", right)):
-        print(word, "main", predicate // 2 + 1, "if is", ("true", "false")[predicate % 2])
+    print_best(best)
 
 
-def main():
+def main() -> None:
     if sys.argv[1:2] == ["--numpy"]:
         pairs_by_numpy(sys.argv[2], sys.argv[3])
         return
-    if not 2 <= len(sys.argv) <= 5:
+    if not 2 <= len(sys.argv) <= 5 or sys.argv[1].startswith("-"):
         sys.exit(__doc__)
     tool = os.path.abspath(sys.argv[1])
     runs, sites, entries = (int(sys.argv[2 + k]) if len(sys.argv) > 2 + k else most for k, most in enumerate((100000, 500, 100)))
     with tempfile.TemporaryDirectory() as folder:
-        path, collection, out = (os.path.join(folder, name) for name in ("program", "runs", "out"))
-        text = program(sites)
-        with open(path, "w", encoding="ascii") as file:
-            file.write(text)
+        path, held, out = (os.path.join(folder, name) for name in ("program", "runs", "out"))
+        identity = write_program(path, sites)
+
+        def tell(said: str) -> str:
+            with open(out, encoding="ascii") as lines:
+                return lines.readline().strip()
+
         for skewed in (False, True):
-            write_collection(collection, hashlib.sha256(text.encode("ascii")).hexdigest(), runs, sites, entries, skewed)
-            print(f"{runs} runs with {entries} of {sites} sites, {os.path.getsize(collection) / 1e6:.0f} MB")
-            digests = []
-            for who, command in (("cbi", [tool, "pairs", path, collection]), ("numpy", [sys.executable, os.path.abspath(__file__), "--numpy", path, collection])):
-                status, seconds, passed, memory, digest, said = timed(command, out)
-                with open(out, encoding="ascii") as lines:
-                    first = lines.readline().strip()
-                print(f"  {who:5} status {status} {seconds:7.2f} s of processor, {passed:7.2f} s, {memory} MB, {first}")
-                if status == 0:
-                    digests.append(digest)
-                else:
-                    print(said[-300:])
-            print("  the same bytes" if len(digests) == 2 and digests[0] == digests[1] else "  not compared" if len(digests) < 2 else "  OTHER BYTES")
+
+            def see(chance: Random, failing: bool, skewed: bool = skewed) -> Seen:
+                return seen_sides(chance, failing, sites, entries, skewed)
+
+            write_collection(held, identity, runs, see)
+            print(f"{runs} runs with {entries} of {sites} sites, {os.path.getsize(held) / 1e6:.0f} MB")
+            compared([("cbi", [tool, "pairs", path, held]), ("numpy", [sys.executable, os.path.abspath(__file__), "--numpy", path, held])], out, tell)
 
 
 if __name__ == "__main__":

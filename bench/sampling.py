@@ -13,6 +13,7 @@ import random
 import subprocess
 import sys
 import tempfile
+from typing import Dict, Iterator, List, Optional
 
 from timing import timed
 
@@ -21,19 +22,19 @@ ROUNDS = 10000000
 MEANS = (1, 10, 100, 1000)
 
 
-def loop(rounds, sites):
+def loop(rounds: int, sites: int) -> str:
     """The text of a loop, and within it a condition where there are two sites."""
     body = "if (turn & 1) odd = odd + 1;" if sites == 2 else "odd = odd + 1;"
     return f"int main(void) {{ int turn = 0; int odd = 0; for (; turn < {rounds}; turn = turn + 1) {body} return 0; }}\n"
 
 
-def compiled(tool, text, mode):
+def compiled(tool: str, text: str, mode: str) -> str:
     """The file of the text's program in this mode, with the sites of its conditions."""
     words = [tool, "transform", "--mode", mode, "--schemes", "branches", "-"]
     return subprocess.run(words, input=text.encode(), stdout=subprocess.PIPE, check=True).stdout.decode()
 
 
-def draws(mean):
+def draws(mean: int) -> Iterator[int]:
     """Numbers of a bank of this mean: the tosses of a coin up to the first that falls so."""
     chance = random.Random(mean)
     while True:
@@ -43,12 +44,15 @@ def draws(mean):
         yield count
 
 
-def walked(text, bank):
+def walked(text: str, bank: Iterator[int]) -> Dict[str, int]:
     """How often a run of this one function comes to each kind of node."""
     rows = text.split("\n")
     first = rows.index("locals 1 1") + 1
     nodes = [row.split() for row in rows[first:-2]]
-    cells, operands, copy, shared, place, seen = {}, [], None, next(bank), 0, {}
+    cells: Dict[int, Optional[int]] = {}
+    operands: List[int] = []
+    seen: Dict[str, int] = {}
+    copy, shared, place = 0, next(bank), 0
     while True:
         row = nodes[place]
         kind, words = row[0], row[1:]
@@ -59,7 +63,9 @@ def walked(text, bank):
         elif kind == "local":
             operands.append(int(words[0]))
         elif kind == "load":
-            operands.append(cells[operands.pop()])
+            held = cells[operands.pop()]
+            assert held is not None, "a cell without a value"
+            operands.append(held)
         elif kind == "store":
             value, cell = operands.pop(), operands.pop()
             cells[cell] = value
@@ -78,7 +84,7 @@ def walked(text, bank):
         elif kind == "import":
             copy = shared
         elif kind == "export":
-            shared, copy = copy, None
+            shared = copy
         elif kind == "skip":
             copy -= int(words[0])
         elif kind == "test":
@@ -92,7 +98,7 @@ def walked(text, bank):
             return seen
 
 
-def print_nodes(tool, rounds=100000):
+def print_nodes(tool: str, rounds: int = 100000) -> None:
     """Nodes a turn, and how many of them belong to sampling."""
     for sites in (1, 2):
         text = loop(rounds, sites)
@@ -104,7 +110,7 @@ def print_nodes(tool, rounds=100000):
             print(f"sites {sites} {mode:8} mean {mean:4} nodes {sum(seen.values()) / rounds:6.2f} a turn: {parts} observed {observed / rounds:.4f}")
 
 
-def print_times(tool):
+def print_times(tool: str) -> None:
     with tempfile.TemporaryDirectory() as folder:
         path = {name: os.path.join(folder, name) for name in ("program", "bank", "report", "out")}
         for sites in (1, 2):
@@ -121,7 +127,14 @@ def print_times(tool):
                 os.remove(path["report"])
 
 
-if sys.argv[1] == "--nodes":
-    print_nodes(sys.argv[2])
-else:
-    print_times(sys.argv[1])
+def main() -> None:
+    if len(sys.argv) == 3 and sys.argv[1] == "--nodes":
+        print_nodes(sys.argv[2])
+    elif len(sys.argv) == 2 and not sys.argv[1].startswith("-"):
+        print_times(sys.argv[1])
+    else:
+        sys.exit(__doc__)
+
+
+if __name__ == "__main__":
+    main()

@@ -12,84 +12,66 @@ import os
 import random
 import sys
 import tempfile
+from typing import Dict, Iterator, List, Tuple
 
-from rank import HEADER, importance, passes, program
-from timing import timed
+from made import HEADER, Numbers, fails, leader, row_of, run_line, seen_with_cause, site_lines, write, write_program
+from timing import compared
 
 CAUSES = 5
 
+# A site line: the site, and how often its condition was true and false.
+Entry = Tuple[int, int, int]
+# A run: its label and its site lines.
+Run = Tuple[str, List[Entry]]
 
-def write_edits(path, adds, relabels, ranks, sites, entries):
+
+def edits(adds: int, relabels: int, ranks: int, sites: int, entries: int) -> Iterator[str]:
+    """The parts of the edits' file."""
     chance = random.Random(1)
     later = ["relabel"] * relabels + ["rank"] * ranks
-    with open(path, "w", encoding="ascii") as out:
-        out.write("cbi-edits 1\n")
-        places = sorted(chance.randrange(1, adds + 1) for _ in later)
-        chance.shuffle(later)
-        for run in range(1, adds + 1):
-            fails = run % 10 == 0
-            seen = set(chance.sample(range(sites), entries - 1))
-            cause = chance.randrange(CAUSES) if fails else None
-            if fails:
-                seen.add(cause)
-            outcome, label = ("trapped 6", "fail") if fails else ("ended 0", "pass")
-            out.write(f"add run {run} {outcome} label {label} work 0 0 0\n")
-            for site in sorted(seen):
-                true = site == cause or (site >= CAUSES and chance.random() < 0.5)
-                out.write(f"site {site} {1 if true else 0} {0 if true else 1} 0\n")
-            while places and places[0] == run:
-                places.pop(0)
-                kind = later.pop()
-                out.write("rank\n" if kind == "rank" else f"relabel {chance.randrange(1, run + 1)} {chance.choice(('fail', 'pass', 'none'))}\n")
-        out.write("end\n")
+    places = sorted(chance.randrange(1, adds + 1) for _ in later)
+    chance.shuffle(later)
+    yield "cbi-edits 1\n"
+    for run in range(1, adds + 1):
+        yield "add " + run_line(run) + site_lines(seen_with_cause(chance, fails(run), sites, entries, CAUSES))
+        while places and places[0] == run:
+            places.pop(0)
+            kind = later.pop()
+            yield "rank\n" if kind == "rank" else f"relabel {chance.randrange(1, run + 1)} {chance.choice(('fail', 'pass', 'none'))}\n"
+    yield "end\n"
 
 
-def recount(runs, sites):
+def recount(runs: List[Run], sites: int) -> List[Numbers]:
     """The numbers of each predicate over labelled runs."""
     numbers = [[0, 0, 0, 0] for _ in range(2 * sites)]
-    for label, sites_seen in runs:
+    for label, seen in runs:
         if label == "none":
             continue
         side = 0 if label == "fail" else 1
-        for site, true, false in sites_seen:
+        for site, true, false in seen:
             for kind, count in ((0, true), (1, false)):
                 row = numbers[2 * site + kind]
                 row[2 + side] += 1
                 row[side] += count > 0
-    return numbers
+    return [(a, b, c, d) for a, b, c, d in numbers]
 
 
-def leader(runs, sites):
-    failing = sum(label == "fail" for label, _ in runs)
-    best = None
-    for predicate, row in enumerate(recount(runs, sites)):
-        if not passes(*row):
-            continue
-        top, bottom = importance(*row, failing)
-        if best is None or top * best[1] > best[0] * bottom:
-            best = (top, bottom, predicate, row)
-    return best
-
-
-def write_ranking(runs, sites):
+def write_ranking(runs: List[Run], sites: int) -> None:
     print(HEADER)
     rank = 0
     while True:
-        best = leader(runs, sites)
+        best = leader(enumerate(recount(runs, sites)), sum(label == "fail" for label, _ in runs))
         if best is None:
             return
         rank += 1
-        top, bottom, predicate, (a, b, c, d) = best
-        site, kind = divmod(predicate, 2)
-        shares = [1000000 * x // y for x, y in ((a, a + b), (c, c + d), (a * d - b * c, (a + b) * (c + d)), (top, bottom))]
-        words = [rank, predicate, "branches", "main", site + 1, "if is " + ("true", "false")[kind], a, b, c, d] + shares
-        print(",".join(str(word) for word in words))
+        print(row_of(rank, best))
+        site, kind = divmod(best.predicate, 2)
         runs = [run for run in runs if not any(entry[0] == site and entry[1 + kind] > 0 for entry in run[1])]
 
 
-def rank_by_dict(path, sites):
-    held = {}
-    entries = None
+def rank_by_dict(path: str, sites: int) -> None:
+    held: Dict[int, Run] = {}
+    entries: List[Entry] = []
     with open(path, encoding="ascii") as text:
         for line in text:
             words = line.split()
@@ -106,27 +88,27 @@ def rank_by_dict(path, sites):
                 write_ranking(list(held.values()), sites)
 
 
-def main():
+def main() -> None:
     if sys.argv[1:2] == ["--dict"]:
         rank_by_dict(sys.argv[2], int(sys.argv[3]))
         return
-    if not 2 <= len(sys.argv) <= 7:
+    if not 2 <= len(sys.argv) <= 7 or sys.argv[1].startswith("-"):
         sys.exit(__doc__)
     tool = os.path.abspath(sys.argv[1])
     given = [int(word) for word in sys.argv[2:]]
     adds, relabels, ranks, sites, entries = given + [100000, 10000, 100, 1000, 10][len(given):]
     with tempfile.TemporaryDirectory() as folder:
-        path, edits, out = (os.path.join(folder, name) for name in ("program", "edits", "out.csv"))
-        with open(path, "w", encoding="ascii") as file:
-            file.write(program(sites))
-        write_edits(edits, adds, relabels, ranks, sites, entries)
-        print(f"{adds} additions of {entries} of {sites} sites, {relabels} relabellings, {ranks} rankings, {os.path.getsize(edits) / 1e6:.0f} MB")
-        digests = []
-        for who, command in (("cbi", [tool, "session", "--program", path, edits]), ("dict", [sys.executable, os.path.abspath(__file__), "--dict", edits, str(sites)])):
-            status, seconds, passed, memory, digest, said = timed(command, out)
-            print(f"  {who}: status {status}, {seconds:.1f} s of a processor, {passed:.1f} s, {memory} MB{', ' + said if said else ''}")
-            digests.append(digest)
-        print("  the same bytes" if len(set(digests)) == 1 else "  other bytes")
+        path, held, out = (os.path.join(folder, name) for name in ("program", "edits", "out.csv"))
+        write_program(path, sites)
+        write(held, edits(adds, relabels, ranks, sites, entries))
+        print(f"{adds} additions of {entries} of {sites} sites, {relabels} relabellings, {ranks} rankings, {os.path.getsize(held) / 1e6:.0f} MB")
+
+        def tell(said: str) -> str:
+            with open(out, encoding="ascii") as rows:
+                return f"{sum(row == HEADER + chr(10) for row in rows)} rankings"
+
+        script = [sys.executable, os.path.abspath(__file__), "--dict", held, str(sites)]
+        compared([("cbi", [tool, "session", "--program", path, held]), ("dict", script)], out, tell)
 
 
 if __name__ == "__main__":

@@ -16,7 +16,9 @@ from timing import timed
 HERE = os.path.join(os.path.dirname(os.path.abspath(__file__)), "..", "examples")
 
 
-def main():
+def main() -> None:
+    if len(sys.argv) != 2 or sys.argv[1].startswith("-"):
+        sys.exit(__doc__)
     tool = sys.argv[1]
     for name in ("longest", "lookup", "greatest"):
         for rate in (1, 10, 100, 1000):
@@ -29,4 +31,5 @@ def main():
                 print(f"{name:9} 1/{rate:<5} {runs:6} runs {seconds:7.2f} s {memory:6} MB  {last[0] if status == 0 else f'status {status} {said}'}", flush=True)
 
 
-main()
+if __name__ == "__main__":
+    main()

@@ -1,0 +1,48 @@
+"""Looks at what no proof can see of the process: its words, statuses and streams.
+
+usage: look_at_process.py CBI [NAME..]      the tests in whose names one of these stands, or all
+"""
+import os
+import sys
+import unittest
+
+sys.dont_write_bytecode = True
+import look_at_process_collections  # noqa: E402
+import look_at_process_files  # noqa: E402
+import look_at_process_samples  # noqa: E402
+import look_at_process_streams  # noqa: E402
+import look_at_process_studies  # noqa: E402
+import look_at_process_texts  # noqa: E402
+from look_at_process_base import HAS_FULL, Looks  # noqa: E402
+
+MODULES = (
+    look_at_process_files,
+    look_at_process_collections,
+    look_at_process_texts,
+    look_at_process_samples,
+    look_at_process_studies,
+    look_at_process_streams,
+)
+
+
+def main() -> int:
+    if len(sys.argv) < 2 or sys.argv[1].startswith("-"):
+        print(__doc__, end="")
+        return 2
+    Looks.cbi = os.path.abspath(sys.argv[1])
+    loader = unittest.TestLoader()
+    if sys.argv[2:]:
+        loader.testNamePatterns = [f"*{name}*" for name in sys.argv[2:]]
+    tests = unittest.TestSuite(loader.loadTestsFromModule(module) for module in MODULES)
+    if not HAS_FULL:
+        print("checks/process: no /dev/full here, so a full out was not tried")
+    result = unittest.TextTestRunner(stream=sys.stdout, verbosity=0).run(tests)
+    faults = len(result.failures) + len(result.errors)
+    beside = faults - (Looks.made - Looks.passed)
+    told = f", and {beside} tests ended before a look" if beside else ""
+    print(f"checks/process: {Looks.made} looks in {result.testsRun} tests: {Looks.passed} passed, {Looks.made - Looks.passed} failed{told}")
+    return 1 if faults or not Looks.passed else 0
+
+
+if __name__ == "__main__":
+    sys.exit(main())
