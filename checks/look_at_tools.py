@@ -3,9 +3,9 @@
 usage: look_at_tools.py CBI
 """
 import ast
-import html.parser
 import json
 import os
+import pathlib
 import pty
 import random
 import re
@@ -17,14 +17,20 @@ import unittest
 
 sys.dont_write_bytecode = True
 import looking  # noqa: E402
-from looking import EXAMPLES, TOOLS, TOP, UPPER, Case, Hunting, call, environment, heed_interrupts, module_of  # noqa: E402
-from look_at_farms import Farm  # noqa: E402,F401: its cases are among those that are looked at
+from looking import EXAMPLES, TOOLS, TOP, UPPER, Case, Hunting, call, environment, heed_interrupts, sources  # noqa: E402
+from look_at_answers import Answer, Facts, Folders, Hangs, Mutants, Numbers, Oracles, Sections, Signals, Smaller, Ways  # noqa: E402,F401: their cases are among those that are looked at
+from look_at_farms import Farm  # noqa: E402,F401
+from look_at_pages import Page, Pages, Sarif, Style, sound  # noqa: E402,F401
+from look_at_texts import Lines, Ported  # noqa: E402,F401
 
 sys.path.insert(0, TOOLS)
 import cbi_dialect  # noqa: E402
 import cbi_files  # noqa: E402
-import cbi_page  # noqa: E402
 import cbi_rows  # noqa: E402
+import cbi_source  # noqa: E402
+from cbi_hunt import collecting  # noqa: E402
+from cbi_hunt.kept import missing_batches  # noqa: E402
+from cbi_runs import Batch  # noqa: E402
 
 SCRIPTS = ("cbi-hunt", "cbi-show", "cbi-explain")
 HEADER = "rank,predicate,scheme,function,line,text,f,s,fobs,sobs,failure,context,increase,importance\n"
@@ -32,10 +38,23 @@ HEADER = "rank,predicate,scheme,function,line,text,f,s,fobs,sobs,failure,context
 
 class Scripts(Case):
     def test_they_run_on_an_old_python(self):
-        for name in os.listdir(TOOLS):
-            if name.startswith("cbi"):
-                with open(os.path.join(TOOLS, name), encoding="utf-8") as file:
-                    ast.parse(file.read(), name, feature_version=(3, 8))
+        for name in sources():
+            with open(name, encoding="utf-8") as file:
+                ast.parse(file.read(), name, feature_version=(3, 8))
+
+    def test_their_types_fit(self):
+        if not shutil.which("mypy"):
+            self.skipTest("there is no mypy here")
+        modules = [os.path.relpath(name, TOOLS) for name in sources() if name.endswith(".py") and "cbi_port" not in name]
+        done = subprocess.run(["mypy", "--config-file", "mypy.ini", "--cache-dir", self.path("cache"), *modules], cwd=TOOLS, stdout=subprocess.PIPE, stderr=subprocess.STDOUT, check=False)
+        self.assertEqual(done.returncode, 0, done.stdout.decode())
+
+    def test_no_module_is_long(self):
+        for name in sources():
+            if "cbi_port" in name:
+                continue
+            with open(name, encoding="utf-8") as file:
+                self.assertLess(sum(1 for line in file), 500, name)
 
     def test_their_first_page_says_that_they_are_not_proved(self):
         for script in SCRIPTS:
@@ -47,7 +66,13 @@ class Scripts(Case):
     def test_words_that_are_wrong_have_status_2(self):
         for words in (["cbi-hunt"], ["cbi-show"], ["cbi-show", "a", "b"], ["cbi-hunt", "--rate", "0", "--inputs", "a", "b"], ["cbi-show", "--what"]):
             _, err = self.call(*words, due=2)
-            self.assertIn("usage: ", err)
+            self.assertRegex(err, f"^{words[0]}: [^\n]+ \\({words[0]} --help says how it is used\\)\n$")
+
+    def test_they_say_their_version(self):
+        with open(os.path.join(TOP, "CHANGELOG.md"), encoding="utf-8") as file:
+            self.assertIn(f"\n## {cbi_files.VERSION}", file.read())
+        for script in SCRIPTS:
+            self.assertEqual(self.call(script, "--version")[0], f"{script} {cbi_files.VERSION}\n")
 
     def test_a_closed_pipe_ends_them_quietly(self):
         done = subprocess.run(["bash", "-c", "cbi-explain --table | head -n 1"], stdout=subprocess.PIPE, stderr=subprocess.PIPE, env=environment(), check=False)
@@ -140,6 +165,38 @@ class Explain(Case):
             self.assertEqual(err, f"cbi: refusal {refusal}\n")
             self.assertIn(said, self.call("cbi-explain", given=err.encode())[0])
 
+    def test_a_command_is_run_and_what_it_comes_to_explained(self):
+        self.write("x.c", "int main(void) { int *p = NULL; putchar(getchar()); return *p; }\n")
+        out, _ = self.call("bash", "-c", "printf q | cbi-explain -- cbi transform --mode plain x.c >prog.cbi; printf q >input; cbi-explain -- cbi run --input input prog.cbi", due=0)
+        self.assertRegex(out, r"^qRun 1 of the program [0-9a-f]{12}\.\.\nIt trapped: 8 NullUse, a null pointer is used\. ")
+        out, _ = self.call("cbi-explain", "--", "cbi", "run", "--input", "input", "--report", "kept report", "prog.cbi")
+        self.assertIn("It trapped: 8 NullUse", out)
+        self.assertIn(b"outcome trapped 8", self.read("kept report"))
+        out, err = self.call("cbi-explain", "--", "cbi", "run", "x.c")
+        self.assertIn("A C text is none: compile it first", out)
+        self.write("x.c", "int main(void)\n{\n    bigint n;\n    return 0;\n}\n")
+        out, _ = self.call("cbi-explain", "--", "cbi", "transform", "--mode", "plain", "x.c")
+        self.assertIn("    3 |     bigint n;\n", out)
+        self.assertIn("no type has that name, and typedef isn't taken.", out)
+        self.assertIn("no-such-command doesn't start: No such file", self.call("cbi-explain", "--", "no-such-command", due=2)[1])
+        self.assertIn("a command is asked for behind --", self.call("cbi-explain", "--", due=2)[1])
+
+    def test_functions_and_headers_that_are_not_there_are_told(self):
+        for text, name in (('int main(void){int n;n=strtol("5",0,10);return n;}', "`atoi`, `strtol`, `abs`, `qsort`, `rand`, `time`"), ("#include <ctype.h>\nint main(void){return 0;}", "`#include <ctype.h>`"),
+                           ("bigint f(int n) { return n; }\nint main(void){return 0;}", "a type that has no name here")):
+            self.assertIn(f"Left out of the dialect: {name}.\n", self.explained(text)[1])
+
+    def test_all_places_of_a_text_are_named_by_kind(self):
+        out, _ = self.call("cbi-explain", "--all", os.path.join(EXAMPLES, "ported", "stock.c"))
+        for entry, lines in (("`switch`", "lines 117, 118, 119, 126, 129, 132"), ("`typedef`", "lines 17, 21, 26"), ("`scanf`", "lines 116, 120"), ("`#include <ctype.h>`", "line 4")):
+            self.assertIn(f"\n{entry}: {lines}\n", out)
+        for example in ("editor", "greatest", "longest", "lookup", "till", "orders"):
+            _, err = self.call("cbi-explain", "--all", os.path.join(EXAMPLES, example, example + ".c"), due=1)
+            self.assertIn("nothing is seen that the dialect leaves out", err)
+        self.write("own.c", "/* switch\n typedef */\nint isdigit(int c)\n{\n    return c >= '0'; /* long */\n}\nint main(void) { return isdigit('3') + \"goto\"[0]; }\n")
+        self.call("cbi-explain", "--all", "own.c", due=1)
+        self.assertIn("--all asks for a C text", self.call("cbi-explain", "--all", due=2)[1])
+
     def test_where_nothing_was_refused_it_says_so(self):
         _, err = self.call("cbi-explain", given=b"added 3 repeated 0\n", due=1)
         self.assertIn("nothing to explain", err)
@@ -152,11 +209,18 @@ class Explain(Case):
 BRANCH = "int main(void){int a=getchar();if(a);return 0;}\n"
 BRANCH_ROW = "1,0,branches,main,1,if is true,9,1,10,10,900000,500000,400000,563706\n"
 BRANCH_TEXT = """\
+if (a) was true at prog.c:1 in main. 9 of the 10 runs that saw it failed; of the 10 others that looked there 1
+in 10 did. All 10 failing runs ended by a call of abort (trap 14).
+
+>     1 | int main(void){int a=getchar();if(a);return 0;}
+
 ranked: 20 runs, of which 10 failed and 10 succeeded
 
-  1. line 1, main: if is true
+  1. line 1, main: if (a) is true
+     fails 50 % of the time when reached, 90 % when this is true
      [################=========----...] importance 0.564
      true in 9 failing runs and 1 successful run; looked at in 10 failing and 10 successful
+     its failing runs ended by a call of abort (trap 14, 9 runs)
      first failing run: 1
      1 | int main(void){int a=getchar();if(a);return 0;}
 
@@ -164,34 +228,6 @@ Each row is about the runs that no row above it explains. A bar is the longer th
 often runs fail that come to the place, = what the predicate adds to that for sure (95 %), - what it may add, and
 . how often runs succeed in which it was true.
 """
-
-
-class Page(html.parser.HTMLParser):
-    """Parses a page: what is open must be closed in turn, and ids, links, titles and the names of attributes are kept."""
-    EMPTY = {"meta", "br", "img", "hr", "link", "input"}
-
-    def __init__(self, text):
-        super().__init__()
-        self.open, self.ids, self.links, self.titles, self.tags, self.attributes, self.text = [], [], [], [], set(), set(), ""
-        self.feed(text)
-        self.close()
-
-    def handle_starttag(self, tag, attrs):
-        names = dict(attrs)
-        self.tags.add(tag)
-        self.ids += [names["id"]] if "id" in names else []
-        self.links += [names[name] for name in ("href", "src") if name in names]
-        self.titles += [names["title"]] if "title" in names else []
-        self.attributes |= set(names)
-        if tag not in self.EMPTY:
-            self.open.append(tag)
-
-    def handle_endtag(self, tag):
-        if not self.open or self.open.pop() != tag:
-            raise AssertionError(f"</{tag}> closes what isn't open")
-
-    def handle_data(self, data):
-        self.text += data
 
 
 class Show(Case):
@@ -214,13 +250,7 @@ class Show(Case):
     def page(self, *words):
         """The page, parsed: it stands alone, and each of its links leads somewhere in it."""
         text = self.show(*words, "--format", "html")
-        page = Page(text)
-        self.assertEqual(page.open, [])
-        self.assertEqual(len(page.ids), len(set(page.ids)))
-        for link in page.links:
-            self.assertTrue(link.startswith("#") and link[1:] in page.ids, link)
-        self.assertFalse(page.tags & {"script", "link", "img", "iframe"})
-        self.assertNotIn("url(", text)
+        page = sound(self, text)
         return page, text
 
     def test_the_worked_ranking_as_text(self):
@@ -228,7 +258,10 @@ class Show(Case):
         self.write("cards", self.call("cbi", "cards", "prog.cbi", "runs")[0])
         self.assertEqual(self.read("cards"), b"card 1 0 main 1 if is true\ntruth 9 1 first 1\nend\n")
         self.assertEqual(self.show("ranking", "--source", "prog.c", "--program", "prog.cbi", "--reports", "runs", "--cards", "cards"), BRANCH_TEXT)
-        self.assertEqual(self.show("ranking", "--source", "prog.c", "--cards", "cards"), BRANCH_TEXT.split("\n\n", 1)[1])
+        head, rest = BRANCH_TEXT.split("\n\nranked: 20 runs, of which 10 failed and 10 succeeded\n\n")
+        head, rest = (text.replace("if (a)", "if") for text in (head.replace(" All 10 failing runs ended by a call of abort (trap 14).", ""), rest))
+        rest = rest.replace("     its failing runs ended by a call of abort (trap 14, 9 runs)\n", "").replace("getchar();if;", "getchar();if(a);")
+        self.assertEqual(self.show("ranking", "--source", "prog.c", "--cards", "cards").replace("1 in\n10 did", "1\nin 10 did"), head + "\n\n" + rest)
         self.assertEqual(self.show("-", "--source", "prog.c", "--program", "prog.cbi", "--reports", "runs", given=self.read("ranking").replace(b"\n", b"\r\n")), BRANCH_TEXT)
 
     def test_its_thermometer(self):
@@ -241,23 +274,9 @@ class Show(Case):
     def test_its_page(self):
         page, text = self.page("ranking", "--source", "prog.c", "--program", "prog.cbi", "--reports", "runs")
         self.assertIn("True in 9 failing runs and 1 successful run; looked at in 10 failing and 10 successful.", page.text)
-        self.assertIn("context 50 %, increase at least 27 % and up to 13 % more, successful runs 10 %", page.text)
+        self.assertIn("Importance 0.564: context 50 %, increase at least 27 % and up to 13 % more, successful runs 10 %.", page.folded)
         self.assertIn("p0", page.ids)
-        self.assertIn("#L1", page.links)
-
-    def test_its_page_needs_no_pointer(self):
-        """A browser's Tab comes to links in the order of the page, with the ring that its style has, where nothing changes that."""
-        page, text = self.page("ranking", "--source", "prog.c", "--program", "prog.cbi", "--reports", "runs")
-        self.assertEqual(page.links, ["#rows", "#rows", "#source", "#reading", "#L1", "#p0"])
-        self.assertTrue(page.attributes <= {"lang", "charset", "name", "content", "class", "href", "id", "style", "title", "aria-label", "aria-hidden"}, page.attributes)
-        self.assertFalse(page.tags & {"button", "input", "select", "textarea", "details", "dialog", "audio", "video", "object", "embed"})
-        for title in page.titles:
-            self.assertIn(title, page.text)
-        self.assertIn("a:focus-visible { outline: 3px solid", text)
-        self.assertEqual(text.count("outline:"), 1)
-        self.assertIn(".skip:focus { left: 1rem; top: 1rem;", text)
-        self.assertIsNone(re.search(r"overflow(-[xy])?:", text), "a part of the page scrolls by itself, and no key may come to it")
-        self.assertIn("overflow-wrap: anywhere", cbi_page.STYLE)
+        self.assertEqual(page.links, ["#main", "#rows", "#endings", "#source", "#reading", "#L1", "#p0"])
 
     def test_sarif_has_what_the_standard_requires(self):
         log = json.loads(self.show("ranking", "--source", "prog.c", "--format", "sarif"))
@@ -268,11 +287,12 @@ class Show(Case):
             self.assertTrue(result["message"]["text"])
             self.assertEqual(driver["rules"][result["ruleIndex"]]["id"], result["ruleId"])
             place = result["locations"][0]["physicalLocation"]
-            self.assertEqual((place["artifactLocation"]["uri"], place["region"]["startLine"]), ("prog.c", 1))
+            self.assertEqual((place["artifactLocation"], place["region"]), ({"uri": pathlib.Path(self.path("prog.c")).as_uri()}, {"startLine": 1, "snippet": {"text": BRANCH.rstrip()}}))
             self.assertEqual(result["rank"], 56.3706)
         self.write("a folder/50%.c", BRANCH)
         log = json.loads(self.show("ranking", "--source", "a folder/50%.c", "--format", "sarif"))
-        self.assertEqual(log["runs"][0]["results"][0]["locations"][0]["physicalLocation"]["artifactLocation"]["uri"], "a%20folder/50%25.c")
+        self.assertEqual(log["runs"][0]["results"][0]["locations"][0]["physicalLocation"]["artifactLocation"]["uri"],
+                         pathlib.Path(self.path("a folder", "50%.c")).as_uri())
 
     def test_lines_for_editors(self):
         self.assertEqual(self.show("ranking", "--source", "prog.c", "--format", "quickfix"),
@@ -281,15 +301,15 @@ class Show(Case):
     def test_a_study_is_taken_with_its_last_line(self):
         out, _ = self.call("cbi", "study", "--runs", "200", "--seed", "7", "--rate", "10", "--turns", "100000", os.path.join(EXAMPLES, "lookup", "lookup.c"))
         summary = re.search(r"study runs 200 failed (\d+) ended (\d+) cut 0", out)
+        assert summary, out
         text = self.show("-", "--source", os.path.join(EXAMPLES, "lookup", "lookup.c"), given=out.encode())
-        self.assertEqual(text.split("\n")[0], f"ranked: 200 runs, of which {summary[1]} failed and {summary[2]} succeeded")
+        self.assertIn(f"\n\nranked: 200 runs, of which {summary[1]} failed and {summary[2]} succeeded\n\n", text)
 
     def test_constants_that_print_are_shown_as_characters(self):
         rows = [("c == 63", "c == 63 '?'"), ("c < 39", "c < 39 '\\''"), ("c > 92", "c > 92 '\\\\'"), ("c >= 10", "c >= 10"), ("c < d", "c < d"), ("c != 127", "c != 127")]
-        for number, (text, due) in enumerate(rows):
-            row = cbi_files.Row(1, number, "pairs", "f", 1, text, 1, 1, 1, 1, 0, 0, 0, 1)
-            self.assertEqual(cbi_rows.with_character(row), due)
-        self.assertEqual(cbi_rows.with_character(cbi_files.Row(1, 0, "returns", "f", 1, "getchar > 0", 1, 1, 1, 1, 0, 0, 0, 1)), "getchar > 0")
+        for text, due in rows:
+            self.assertEqual(cbi_source.with_character("pairs", text), due)
+        self.assertEqual(cbi_source.with_character("returns", "getchar > 50"), "getchar > 50")
 
     def test_cards_bring_rows_together(self):
         self.transform("int main(void){int a=getchar();\nif(a);\nif(a);\nif(a);\nreturn 0;}\n", "full", "branches")
@@ -300,12 +320,12 @@ class Show(Case):
                    "truth 4 0 first 3\nnear 0 563706 if is true\ncard 3 2 main 3 if is true\ntruth 5 0 first 17\ncard 4 4 main 4 if is true\ntruth 2 0 first 20\nend\n")
         text = self.show("ranking", "--source", "prog.c", "--program", "prog.cbi", "--cards", "cards")
         heads = [line for line in text.split("\n") if re.match(r"[ |]*\d+\. line", line)]
-        self.assertEqual(heads, ["  1. line 2, main: if is true", "     |   3. line 3, main: if is true", "  2. line 4, main: if is false", "  4. line 4, main: if is true"])
-        self.assertIn("     falls with it: if is false, line 2 (by 0.000)\n", text)
+        self.assertEqual(heads, ["  1. line 2, main: if (a) is true", "     |   3. line 3, main: if (a) is true", "  2. line 4, main: if (a) is false", "  4. line 4, main: if (a) is true"])
+        self.assertIn("     falls with it: line 2, main: if (a) is false (by 0.000)\n", text)
         self.assertIn("Rows of importance 0:\n", text)
         self.assertIn("     |      among all runs: 5 failing runs and no successful runs\n", text)
         page, html_text = self.page("ranking", "--source", "prog.c", "--program", "prog.cbi", "--cards", "cards")
-        self.assertIn('<a href="#p2"><code>if is true</code></a>, <a href="#L3">line 3</a>, by 0.200', html_text)
+        self.assertIn('<a href=#p2>if (a) is true</a>, <a href=#L3>line 3</a>, by 0.200', html_text)
         self.assertIn("These rows are mostly about the same runs", page.text)
         self.write("cards", "card 1 0 main 2 if is true\ntruth 9 first\n")
         _, err = self.call("cbi-show", "ranking", "--cards", "cards", due=2)
@@ -365,9 +385,10 @@ class Hunt(Hunting):
         self.assertEqual(self.read("kept hunt/runs"), self.runs_by_hand(30))
         for file, command in (("ranking", "rank"), ("cards", "cards")):
             self.assertEqual(self.read(f"kept hunt/{file}").decode(), self.call("cbi", command, "plan.cbi", "kept hunt/runs")[0])
-        self.assertTrue(out.startswith("30 runs on 12 inputs: 8 failed, 22 succeeded\nfailing inputs: 02 abc, 04 zza, 08 caa, in kept hunt/failing\n"), out)
+        self.assertIn("\n\n30 runs on 12 inputs: 8 failed, 22 succeeded\nfailing inputs: 02 abc, 04 zza, 08 caa, in kept hunt/failing\n\n", out)
         self.assertEqual(sorted(os.listdir(self.path("kept hunt/failing"))), ["02 abc", "04 zza", "08 caa"])
-        self.assertEqual(sorted(os.listdir(self.path("kept hunt"))), ["batches", "cards", "failing", "hunt.json", "hunt.lock", "page.html", "program", "ranking", "runs"])
+        self.assertEqual(sorted(os.listdir(self.path("kept hunt"))), ["batches", "cards", "failing", "hunt.json", "hunt.lock", "page.html", "pairs", "plain", "program", "ranking",
+                                                                          "runs", "source.c", "told.json"])
 
     def test_runs_of_parts_are_those_that_the_commands_make(self):
         self.hunt("--inputs", "in puts", "--expect", "due", "--runs", "27", "--parts", "3", "--keep", "kept")
@@ -399,7 +420,7 @@ class Hunt(Hunting):
     def test_the_bug_is_in_the_first_row_and_the_page_is_sound(self):
         out = self.hunt("--inputs", "both", "--runs", "200", "--rate", "2", "--html", "a page.html")
         first = next(line for line in out.split("\n") if line.startswith("  1. "))
-        self.assertIn(first, ("  1. line 9, main: && is false", "  1. line 6, main: c == 97 'a'", "  1. line 6, main: c <= 97 'a'"))
+        self.assertIn(first, ("  1. line 9, main: c > 'a' (left of &&) is false", "  1. line 6, main: c == 97 'a' after c = getchar()"))
         page = Page(self.read("a page.html").decode())
         self.assertEqual([link for link in page.links if link[1:] not in page.ids], [])
 
@@ -412,7 +433,8 @@ class Hunt(Hunting):
         out, err = begun.communicate()
         self.assertEqual((begun.returncode, err), (130, b""))
         self.assertIn(b"interrupted, so this is what there is", out)
-        made = re.match(rb"(\d+) runs", out)
+        made = re.search(rb"^(\d+) runs on", out, re.MULTILINE)
+        assert made, out
         self.assertLess(int(made[1]), 300)
         self.hunt("--inputs", "both", "--runs", "200", "--keep", "parts")
         self.hunt("--inputs", "both", "--runs", "300", "--keep", "parts")
@@ -472,7 +494,7 @@ class Hunt(Hunting):
         self.assertIn("--expect or --oracle", out)
         out = self.hunt("--inputs", "in puts", "--turns", "0", due=1)
         self.assertIn("12 neither (12 cut)", out)
-        self.assertIn("12 runs were cut: allow more turns (--turns).", out)
+        self.assertIn("12 runs were cut: allow more turns (--turns), or count them as failed (--hangs fail).", out)
 
     def test_where_all_runs_failed_it_says_what_to_do(self):
         for name in os.listdir(self.path("due")):
@@ -485,7 +507,7 @@ class Hunt(Hunting):
         self.write("in puts/13 !", "a!")
         out = self.hunt("--inputs", "in puts", "--rate", "1", "--runs", "65")
         self.assertIn("failing inputs: 13 !\n", out)
-        self.assertIn("  1. line 6, main: c == 33 '!'\n", out)
+        self.assertIn("  1. line 6, main: c == 33 '!' after c = getchar()\n", out)
 
     def test_an_oracle_that_cannot_tell_and_one_that_is_none(self):
         self.write("unsure.py", "import sys\nsys.exit(125)\n")
@@ -498,19 +520,19 @@ class Hunt(Hunting):
         os.makedirs(self.path("none"))
         self.write("short", "A\n")
         os.remove(self.path("both/03.expected"))
-        self.write("bad.c", "int main(void)\n{\n    long n;\n}\n")
         for words, said in ((["upper.c", "--inputs", "missing"], "missing: there is no such file or folder"), (["no.c", "--inputs", "both"], "no.c: there is no such file or folder"),
                             (["upper.c", "--inputs", "none"], "none has no files"), (["upper.c", "--inputs", "both"], "nothing says what the input 03 should give: there is no both/03.expected"),
                             (["upper.c", "--inputs", "in puts", "--expect", "none"], "nothing says what the input 00 bcd should give: there is no none/00 bcd, and 11 more inputs have none"),
                             (["upper.c", "--inputs", "lines", "--expect", "short"], "lines has 12 lines and short 1 line"), (["upper.c", "--inputs", "lines", "--expect", "due"], "--expect due is a folder"),
                             (["upper.c", "--inputs", "in puts", "--keep", "lines"], "--keep lines: File exists"), (["upper.c", "--inputs", "in puts", "--keep", "due"], "--keep due has other files"), (["upper.c", "--inputs", "in puts", "--cbi", "no-cbi"], "no-cbi isn't on the path"),
-                            (["upper.c", "--inputs", "in puts", "--schemes", "all"], "upper.c isn't compiled: cbi: bad value of --schemes"),
-                            (["bad.c", "--inputs", "in puts"], "bad.c isn't compiled: cbi: refusal 12 Syntax line 3")):
+                            (["upper.c", "--inputs", "in puts", "--cbi", "./no-cbi"], "--cbi ./no-cbi: there is no such file"), (["upper.c", "--inputs", "in puts", "--cbi", "./judge.py"], "--cbi ./judge.py: it isn't executable"),
+                            (["upper.c", "--inputs", "in puts", "--html", "no/page.html"], "--html no/page.html: there is no such folder"), (["upper.c", "--inputs", "in puts", "--html", "due"], "--html due: it is a folder")):
             out, err = self.call("cbi-hunt", *words, due=2)
             self.assertEqual(out, "")
             self.assertTrue(err.startswith("cbi-hunt: " + said), err)
-        self.assertIn("    3 |     long n;\n", err)
-        self.assertIn("In its place: `int` or `unsigned`", err)
+            self.assertEqual(err.count("\n"), 1, err)
+        _, err = self.call("cbi-hunt", "upper.c", "--inputs", "in puts", "--schemes", "all", due=2)
+        self.assertTrue(err.startswith("upper.c: bad value of --schemes\n"), err)
         _, err = self.call("cbi-hunt", "upper.c", "--inputs", "both", "--expect", "due", "--oracle", "true", due=2)
         self.assertIn("not allowed with", err)
 
@@ -518,31 +540,28 @@ class Hunt(Hunting):
 class Sample(Case):
     """More runs than a collection holds: with a smaller limit, in this process."""
 
-    def setUp(self):
-        super().setUp()
-        self.hunt = module_of("cbi-hunt")
-
     def test_it_is_a_sample_only_where_it_must_be(self):
-        self.assertIsNone(self.hunt.sample_of([(run, 5) for run in range(1, 100001)], 1))
-        sample = self.hunt.sample_of([(run, 5) for run in range(1, 100002)], 1)
+        self.assertIsNone(collecting.sample_of([(run, 5) for run in range(1, 100001)], 1))
+        sample = collecting.sample_of([(run, 5) for run in range(1, 100002)], 1)
         self.assertEqual(len(sample), 100000)
-        self.assertIsNone(self.hunt.sample_of([(1, 16777215), (2, 1)], 1))
-        self.assertEqual(len(self.hunt.sample_of([(1, 16777215), (2, 2)], 1)), 1)
+        self.assertIsNone(collecting.sample_of([(1, 16777215), (2, 1)], 1))
+        self.assertEqual(len(collecting.sample_of([(1, 16777215), (2, 2)], 1)), 1)
 
     def test_it_is_uniform_and_stays_the_same(self):
-        self.hunt.MOST_RUNS = 1000
+        self.addCleanup(setattr, collecting, "MOST_RUNS", collecting.MOST_RUNS)
+        collecting.MOST_RUNS = 1000
         marks = [(run, 0) for run in range(1, 10001)]
-        sample = self.hunt.sample_of(marks, 7)
-        self.assertEqual(sample, self.hunt.sample_of(marks[::-1], 7))
-        self.assertNotEqual(sample, self.hunt.sample_of(marks, 8))
+        sample = collecting.sample_of(marks, 7)
+        self.assertEqual(sample, collecting.sample_of(marks[::-1], 7))
+        self.assertNotEqual(sample, collecting.sample_of(marks, 8))
         tenths = [sum(1 for run in sample if (run - 1) // 1000 == part) for part in range(10)]
         self.assertEqual(sum(tenths), 1000)
         self.assertTrue(all(60 <= count <= 140 for count in tenths), tenths)  # 100 expected, and more than four deviations off
-        fewer = self.hunt.sample_of(marks[:5000], 7)
+        fewer = collecting.sample_of(marks[:5000], 7)
         self.assertTrue({run for run in sample if run <= 5000} <= fewer)
 
     def test_batches_are_what_is_missing(self):
-        batch, missing = self.hunt.Batch, self.hunt.missing_batches
+        batch, missing = Batch, missing_batches
         self.assertEqual(missing([], 5, 2), [batch(1, 2), batch(3, 4), batch(5, 5)])
         self.assertEqual(missing([batch(1, 2), batch(4, 4)], 7, 2), [batch(3, 3), batch(5, 6), batch(7, 7)])
         self.assertEqual(missing([batch(1, 9)], 5, 2), [])
@@ -551,7 +570,7 @@ class Sample(Case):
     def test_a_collection_of_the_sample(self):
         text = "cbi-collection 2\nprogram " + "0" * 64 + "\n" + "".join(f"run {run} ended 0 label pass work 0 0 0\nsite 0 1 0 0\n" for run in (2, 5, 9)) + "end\n"
         self.write("runs", text)
-        self.assertEqual(self.hunt.sampled_copy(self.path("runs"), self.path("some"), {2, 9, 11}), 2)
+        self.assertEqual(collecting.sampled_copy(self.path("runs"), self.path("some"), {2, 9, 11}), 2)
         self.assertEqual(self.read("some").decode(), text.replace("run 5 ended 0 label pass work 0 0 0\nsite 0 1 0 0\n", ""))
 
 
@@ -587,7 +606,7 @@ class Port(Case):
 
 class Manual(Case):
     def options_of(self, text):
-        return set(re.findall(r"--[a-z]+", text))
+        return set(re.findall(r"--[a-z]+(?:-[a-z]+)*", text))
 
     def test_the_page_is_sound(self):
         if not shutil.which("mandoc"):
@@ -609,10 +628,13 @@ class Manual(Case):
     def test_completions_offer_each_option(self):
         completions = os.path.join(TOOLS, "completions")
         for script in SCRIPTS:
-            options = self.options_of(self.call(script, "--help")[0]) - {"--sshloginfile", "--mode"} | {"--help"}
+            options = set(re.findall(r"^  (?:-h, )?(--[a-z-]+)", self.call(script, "--help")[0], re.MULTILINE)) | {"--help"}
             for name in ("cbi.bash", "_cbi"):
                 with open(os.path.join(completions, name), encoding="utf-8") as file:
                     self.assertEqual(options - self.options_of(file.read()), set(), f"{script} in {name}")
+            with open(os.path.join(completions, "cbi.fish"), encoding="utf-8") as file:
+                offered = {"--" + name for named, name in re.findall(r"^ *complete -c (\S+) .*?-l ([a-z-]+)", file.read(), re.MULTILINE) if named in (script, "$script")}
+            self.assertEqual(options - offered, set(), f"{script} in cbi.fish")
 
     def completed(self, *words):
         """What bash offers behind these words."""
@@ -630,6 +652,13 @@ class Manual(Case):
         self.assertEqual(self.completed("cbi-show", "--format", "s"), {"sarif"})
         if shutil.which("zsh"):
             self.call("zsh", "-n", os.path.join(TOOLS, "completions", "_cbi"))
+
+    def test_fish_offers_what_fits(self):
+        if not shutil.which("fish"):
+            self.skipTest("there is no fish here")
+        for line, due in (("cbi ru", {"run"}), ("cbi transform --mode ", {"plain", "full", "sampled"}), ("cbi-hunt --hangs ", {"neither", "fail"}), ("cbi-show --format s", {"sarif"})):
+            out, _ = self.call("fish", "--no-config", "-c", f"source {TOOLS}/completions/cbi.fish; complete -C '{line}'")
+            self.assertEqual({found.split("\t")[0] for found in out.split("\n") if found}, due, line)
 
 
 class Result(unittest.TextTestResult):

@@ -3,20 +3,23 @@
 Each entry has a sample that is refused and one that isn't, so that `checks/tools` can hold the table to the
 executable; docs/PORTING.md has the table as `cbi-explain --table` writes it.
 """
-from typing import NamedTuple, Tuple
+import re
+from typing import List, Match, NamedTuple, Optional, Tuple
 
 
 class Entry(NamedTuple):
     """`causes` are the refusals that it may stand behind, `pattern` what the refused line then has.
 
-    A sample is what stands before `main` and what stands in it.
+    A sample is what stands before `main` and what stands in it. `anywhere` is what lines have that are seen without a
+    refusal, where that is another pattern; an empty one is looked for nowhere.
     """
     name: str
     causes: Tuple[str, ...]
     pattern: str
     advice: str
-    refused: Tuple[str, str]
-    written: Tuple[str, str]
+    refused: Tuple[str, Optional[str]]
+    written: Tuple[str, Optional[str]]
+    anywhere: Optional[str] = None
 
 
 SYNTAX, TOKEN, BYTE = "Syntax", "BadToken", "BadByte"
@@ -63,7 +66,8 @@ ENTRIES = [
     Entry("`goto` and labels", (SYNTAX,), r"\bgoto\b|^\s*[A-Za-z_]\w*\s*:(?!:)",
           "a loop with `break` and `continue`, a flag that its condition asks, or a function that returns",
           ("", "goto end; end: ;"),
-          ("", "int end = 0; while (!end) end = 1;")),
+          ("", "int end = 0; while (!end) end = 1;"),
+          r"\bgoto\b|^\s*(?!default\b|case\b)[A-Za-z_]\w*\s*:(?!:)\s*$"),
     Entry("pointers to functions", (SYNTAX,), r"\(\s*\*\s*\w*\s*\)\s*\(",
           "a number that says which function is meant, and an `if` for each where it is called",
           ("int (*chosen)(int);", ""),
@@ -75,27 +79,33 @@ ENTRIES = [
     Entry("a function without a type, or with its parameters' types behind `)`", (SYNTAX,), r"^\s*[A-Za-z_]\w*\s*\([^;{]*\)?",
           "a type before the name, and one before each parameter: `int f(int a)`",
           ("f(a) int a; { return a; }", ""),
-          ("int f(int a) { return a; }", "")),
+          ("int f(int a) { return a; }", ""),
+          r""),
     Entry("a variable behind `}` of its struct, or a struct without a name", (SYNTAX,), r"\bstruct\b|^\s*\}\s*\*?\w+",
           "`struct NAME { .. };` first, and then `struct NAME variable;`",
           ("struct point { int x; } origin;", ""),
-          ("struct point { int x; };\nstruct point origin;", "")),
+          ("struct point { int x; };\nstruct point origin;", ""),
+          r"^\s*\}\s*\*?(?!else\b|while\b)[A-Za-z_]\w*\s*[;,\[=]|\bstruct\s*\{"),
     Entry("structs that are assigned, passed, returned or initialised", kinds(3, 5, 6, 7), r"",
           "each member by itself, or a pointer to the struct",
           ("struct point { int x; };\nint f(struct point p) { return p.x; }", ""),
-          ("struct point { int x; };\nint f(struct point *p) { return p->x; }", "")),
+          ("struct point { int x; };\nint f(struct point *p) { return p->x; }", ""),
+          r""),
     Entry("braces within braces", (SYNTAX,), r"\{[^}]*\{|=\s*\{|^\s*\{.*\}\s*,?\s*$",
           "one flat array with the place counted out (`a[2 * i + j]`), or assignments in a loop",
           ("int a[2][2] = {{1, 2}, {3, 4}};", ""),
-          ("int a[4] = {1, 2, 3, 4};", "")),
+          ("int a[4] = {1, 2, 3, 4};", ""),
+          r"=\s*\{[^}]*\{|^\s*\{[^;{}]*\}\s*,\s*$"),
     Entry("`int a[N + 1]` and lengths known at run time", (SYNTAX,), r"\[[^\]']*[^\]\s\w'][^\]']*\]|\[\s*[A-Za-z_]\w*\s*\]",
           "one constant or one name of a `#define`; where the length comes at run time, `malloc` of so many cells",
           ("#define N 3\nint a[N + 1];", ""),
-          ("#define N1 4\nint a[N1];", "")),
+          ("#define N1 4\nint a[N1];", ""),
+          r"^\s*(int|char|unsigned|struct\s+\w+)\b[^=;(]*\[[^\]]*[-+*/][^\]]*\]"),
     Entry("globals that begin with more than constants", kinds(7), r"=",
           "an assignment at the beginning of `main`",
           ("int a = 2 * 3;", ""),
-          ("int a;", "a = 2 * 3;")),
+          ("int a;", "a = 2 * 3;"),
+          r""),
     Entry("`scanf`", kinds(1), r"\bf?scanf\b",
           "a function of your own that reads by `getchar`: skip blanks, then take digits while they come (docs/PORTING.md has one)",
           ("", "int n; scanf(\"%d\", &n);"),
@@ -113,7 +123,7 @@ ENTRIES = [
           "a function of your own that stores the digits",
           ("char s[9];", "sprintf(s, \"%d\", 1);"),
           ("char s[9];", "s[0] = '1'; s[1] = 0;")),
-    Entry("`strlen`, `strcmp`, `strcpy`, `memset` and their kin", kinds(1), r"\b(str|mem)[a-z]+\b",
+    Entry("`strlen`, `strcmp`, `strcpy`, `memset` and their kin", kinds(1), r"\b(str(?!uct\b|to[dflu])|mem)[a-z]+\b",
           "a function of your own, under a name of your own: a loop to the closing zero",
           ("", "int n = strlen(\"ab\");"),
           ("int length(char *s) { int n = 0; while (s[n]) n++; return n; }", "int n = length(\"ab\");")),
@@ -121,7 +131,7 @@ ENTRIES = [
           "a comparison of characters",
           ("", "int d = isdigit('3');"),
           ("", "int d = '3' >= '0' && '3' <= '9';")),
-    Entry("`atoi`, `strtol`, `abs`, `qsort`, `rand`, `time`", kinds(1), r"\b(ato[il]|abs|qsort|bsearch|s?rand|time|clock|getenv)\b",
+    Entry("`atoi`, `strtol`, `abs`, `qsort`, `rand`, `time`", kinds(1), r"\b(ato[il]|strto[dflu]+l*|abs|qsort|bsearch|s?rand|time|clock|getenv)\b",
           "a function of your own; what comes by chance or from outside is read from the input",
           ("", "int n = abs(-1);"),
           ("int absolute(int n) { return n < 0 ? -n : n; }", "int n = absolute(-1);")),
@@ -136,11 +146,13 @@ ENTRIES = [
     Entry("`%5d`, `%x`, `%ld`, `%f` and other conversions", kinds(5), r"%(?![ducs%])",
           "`%d`, `%u`, `%c`, `%s` and `%%` alone; blanks and zeros before a number are written by a loop of your own",
           ("", "printf(\"%5d\", 1);"),
-          ("", "printf(\"    %d\", 1);")),
+          ("", "printf(\"    %d\", 1);"),
+          r"\"(?:[^\"%]|%[ducs%])*%(?![ducs%])"),
     Entry("a `printf` whose value is used, or whose format is no string", kinds(5), r"\bprintf\b",
           "a statement of its own with its format as a string: `printf(\"%s\", text);`",
           ("", "char *text = \"ab\"; printf(text);"),
-          ("", "char *text = \"ab\"; printf(\"%s\", text);")),
+          ("", "char *text = \"ab\"; printf(\"%s\", text);"),
+          r"[=(,+]\s*printf\b|\bprintf\s*\(\s*[A-Za-z_]"),
     Entry("`#define` of a negative number or in parentheses", (TOKEN,), r"^\s*#\s*define\s+\w+\s+[-(]",
           "the name of the positive number, with the `-` where it is used; or a global",
           ("#define LOWEST -5", "int n = LOWEST;"),
@@ -148,15 +160,21 @@ ENTRIES = [
     Entry("`#define` with parameters, of an expression or of nothing", (TOKEN,), r"^\s*#\s*define\b",
           "a function in place of parameters; for an expression its value",
           ("#define TWICE(n) ((n) + (n))", ""),
-          ("int twice(int n) { return n + n; }", "")),
+          ("int twice(int n) { return n + n; }", ""),
+          r"^\s*#\s*define\s+\w+(\(|\s*$|\s+(?![-(\d\'+]))"),
     Entry("`#if`, `#ifdef`, `#undef`, `#pragma`", (TOKEN,), r"^\s*#\s*(if|ifdef|ifndef|elif|else|endif|undef|pragma|error|line)\b",
           "nothing: keep the branch that is meant, and leave the directives out",
           ("#ifdef DEBUG\n#endif", ""),
           ("", "")),
+    Entry("`#include <ctype.h>`", (TOKEN,), r"^\s*#\s*include\s*<ctype\.h>",
+          "nothing: leave the line out, and write comparisons of characters where its functions are called, or functions of your own under their names",
+          ("#include <ctype.h>", ""),
+          ("int isdigit(int c) { return c >= '0' && c <= '9'; }", "int d = isdigit('3');")),
     Entry("`#include` of other headers, or of your own", (TOKEN,), r"^\s*#\s*include\b",
           "the text itself, put in its place; of the library there are `<stdio.h>`, `<stdlib.h>` and `<assert.h>`",
           ("#include <string.h>", ""),
-          ("#include <stdlib.h>", "")),
+          ("#include <stdlib.h>", ""),
+          r"^\s*#\s*include\s*(?!\s*<(stdio|stdlib|assert|ctype)\.h>)"),
     Entry("`main` with `argc` and `argv`", kinds(9), r"\bmain\s*\(\s*(int|char|[a-z]+\s*,)",
           "`int main(void)`: what stood in the arguments is read from the input first",
           ("int main(int argc, char **argv) { return argc; }", None),
@@ -180,12 +198,51 @@ ENTRIES = [
     Entry("casts from a pointer to another kind of pointer or to a number", kinds(3), r"\(\s*(struct\s+)?\w+\s*\**\s*\)",
           "`void *` between the two, or the right kind from the beginning; a cell gives back only what was stored in it",
           ("", "char *s = NULL; int *p = (int *)s;"),
-          ("", "char *s = NULL; void *any = s; int *p = any;")),
+          ("", "char *s = NULL; void *any = s; int *p = any;"),
+          r"\(\s*(struct\s+\w+|int|char|unsigned)\s*\*+\s*\)"),
+    Entry("a type that has no name here", (SYNTAX,), r"^\s*(?!(?:int|char|unsigned|void|struct|if|while|for|do|else|return|break|continue|sizeof)\b)[A-Za-z_]\w*[\s*]+[A-Za-z_]\w*\s*[(;=,\[]",
+          "`int`, `char`, `unsigned`, `void`, a pointer or `struct NAME`: no type has that name, and typedef isn't taken",
+          ("bigint f(int n) { return n; }", ""),
+          ("int f(int n) { return n; }", ""), ""),
     Entry("functions that are declared and never defined", kinds(10), r"",
           "their definition: one file is the whole program",
           ("int f(int n);", "f(1);"),
-          ("int f(int n) { return n; }", "f(1);")),
+          ("int f(int n) { return n; }", "f(1);"),
+          r""),
 ]
+
+
+FORMATS = kinds(5)
+STRING = re.compile(r"\"(?:\\.|[^\"\\\n])*\"|/\*.*?\*/|//[^\n]*|'(?:\\.|[^'\\\n])+'", re.DOTALL)
+
+
+# A function that the text defines: it may have the name of one of the library that isn't there.
+DEFINED = re.compile(r"^[A-Za-z_][\w\s*]*?\b([A-Za-z_]\w*)\s*\([^;{}()]*\)\s*\{", re.MULTILINE)
+
+
+def without(text: str, strings: bool) -> List[str]:
+    """The lines of a text without its comments, and where it is said without what stands in its strings."""
+    def kept(piece: Match[str]) -> str:
+        if piece[0].startswith("/"):
+            return " " + "\n" * piece[0].count("\n")
+        if piece[0].startswith("'") and re.fullmatch(r"'(\\.[0-9a-fA-F]*|.)'", piece[0]):
+            return "0"
+        return '""' if piece[0].startswith('"') and not strings else piece[0]
+    return STRING.sub(kept, text).split("\n")
+
+
+def places(text: str) -> List[Tuple[Entry, List[int]]]:
+    """Each entry that a text has something of, with the numbers of its lines."""
+    bare, whole = without(text, False), without(text, True)
+    own = set(DEFINED.findall("\n".join(bare)))
+    found = []
+    for entry in ENTRIES:
+        pattern = entry.pattern if entry.anywhere is None else entry.anywhere
+        lines = whole if entry.causes == FORMATS else text.split("\n") if entry.causes == (BYTE,) else bare
+        numbers = [number for number, line in enumerate(lines, 1) if pattern and any(found[0] not in own for found in re.finditer(pattern, line))]
+        if numbers:
+            found.append((entry, numbers))
+    return found
 
 
 def table() -> str:
@@ -194,7 +251,7 @@ def table() -> str:
     return "\n".join(rows + [f"| {entry.name} | {entry.advice} |" for entry in ENTRIES]) + "\n"
 
 
-def sample(parts: Tuple[str, str]) -> str:
+def sample(parts: Tuple[str, Optional[str]]) -> str:
     """A whole text of a sample; one whose second part is None is whole already."""
     top, body = parts
     return top + "\n" if body is None else f"{top}\nint main(void)\n{{\n{body}\nreturn 0;\n}}\n" if top else f"int main(void)\n{{\n{body}\nreturn 0;\n}}\n"

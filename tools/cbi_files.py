@@ -3,18 +3,22 @@
 Not proved: no promise of `cbi` speaks of these scripts. They read the files that `cbi` writes by their
 forms (docs/FORMATS.md), and call `cbi` for everything that is promised.
 """
+import argparse
 import csv
 import hashlib
+import os
 import re
-import signal
 import sys
-from typing import Dict, Iterator, List, NamedTuple, Optional, Tuple
+from typing import Any, Callable, Dict, IO, Iterator, List, NamedTuple, NoReturn, Optional, Tuple
 
+VERSION = "0.5.0"
 NOT_PROVED = "This script is not proved; the executable cbi, which it stands beside, is."
 
 # Statuses of the scripts, as `grep` has them: found, nothing found, trouble.
 FOUND, NOTHING, TROUBLE = 0, 1, 2
 INTERRUPTED = 130
+# What a shell says of a process that a closed pipe ended.
+CLOSED = 141
 
 RANKING_COLUMNS = ("rank,predicate,scheme,function,line,text,f,s,fobs,sobs,"
                    "failure,context,increase,importance").split(",")
@@ -39,6 +43,16 @@ TRAPS = {
     99: ("Internal", "the program file isn't one that cbi compiled"),
 }
 
+# How a run ended, as `ended by ..` goes on.
+ENDINGS = {
+    "trapped 1": "a signed result out of range", "trapped 2": "a division by zero", "trapped 3": "a shift that isn't defined",
+    "trapped 4": "a value that nothing was stored to", "trapped 5": "a cell that is read as another type",
+    "trapped 6": "an index or a pointer past the ends of its object", "trapped 7": "an object that is used after free, or after its function returned",
+    "trapped 8": "a null pointer that is used", "trapped 9": "a write to a string constant", "trapped 10": "a free of what malloc didn't give",
+    "trapped 11": "pointers into two objects, compared or subtracted", "trapped 12": "too many calls within one another", "trapped 13": "an assert that is false",
+    "trapped 14": "a call of abort", "trapped 99": "a damaged program file", "ended": "other output", "cut turns": "no end within its turns", "cut output": "too much output",
+}
+
 # The six relations of a returned value or a pair, with the counters (less, equal, greater) that each sums up.
 RELATIONS = (("<", (0,)), ("<=", (0, 1)), (">", (2,)), (">=", (1, 2)), ("==", (1,)), ("!=", (0, 2)))
 BRANCH_TRUTHS = (("true", (0,)), ("false", (1,)))
@@ -48,10 +62,23 @@ class Fault(Exception):
     """Something that the user gave is wrong: it is told as one line, and the status is 2."""
 
 
-def call_main(name, main) -> None:
+class Refused(Fault):
+    """A text that isn't taken: its line begins with its name and the number of the line, as a compiler's does."""
+
+
+class Words(argparse.ArgumentParser):
+    """The words of a script: a mistake in them is told in one line, and `--version` and `--help` are there."""
+
+    def __init__(self, **more: Any):
+        super().__init__(**more)
+        self.add_argument("--version", action="version", version=f"{self.prog} {VERSION}", help="says which version this is")
+
+    def error(self, message: str) -> NoReturn:
+        self.exit(TROUBLE, f"{self.prog}: {message} ({self.prog} --help says how it is used)\n")
+
+
+def call_main(name: str, main: Callable[[], int]) -> None:
     """Ends the process with the status of `main`; faults become a line, and a closed pipe ends quietly."""
-    if hasattr(signal, "SIGPIPE"):
-        signal.signal(signal.SIGPIPE, signal.SIG_DFL)
     for stream in (sys.stdout, sys.stderr):
         if hasattr(stream, "reconfigure"):
             stream.reconfigure(errors="backslashreplace")
@@ -59,8 +86,11 @@ def call_main(name, main) -> None:
         status = main()
         sys.stdout.flush()
     except Fault as fault:
-        print(f"{name}: {fault}", file=sys.stderr)
+        print(fault if isinstance(fault, Refused) else f"{name}: {fault}", file=sys.stderr)
         status = TROUBLE
+    except BrokenPipeError:
+        os.dup2(os.open(os.devnull, os.O_WRONLY), sys.stdout.fileno())
+        status = CLOSED
     except KeyboardInterrupt:
         print(f"{name}: interrupted", file=sys.stderr)
         status = INTERRUPTED
@@ -98,6 +128,27 @@ def count_of(number: int, what: str, many: Optional[str] = None) -> str:
     """`1 run`, `2 runs`, `no runs`."""
     word = what if number == 1 else many or what + "s"
     return f"{number if number else 'no'} {word}"
+
+
+def printable_character(value: int) -> str:
+    """A printable byte as C writes it: `'?'`."""
+    character = chr(value)
+    return "'" + ("\\" + character if character in "'\\" else character) + "'"
+
+
+def visible(data: bytes, most: int = 200) -> str:
+    """Bytes as C writes them in a string, clipped: what isn't printable ASCII is seen as an escape."""
+    shown = "".join(ESCAPES.get(byte) or (chr(byte) if 32 <= byte <= 126 else f"\\{byte:03o}") for byte in data[:most])
+    return shown + ("" if len(data) <= most else "..")
+
+
+ESCAPES = {10: "\\n", 9: "\\t", 13: "\\r", 92: "\\\\"}
+CONTROL = re.compile(r"[\x00-\x08\x0a-\x1f\x7f-\x9f]")
+
+
+def harmless(text: str) -> str:
+    """A line of a text for a terminal: tabs as blanks, other control bytes as escapes."""
+    return CONTROL.sub(lambda found: f"\\{ord(found[0]):03o}", text.expandtabs(8))
 
 
 def share(millionths: int) -> str:
@@ -258,15 +309,16 @@ class Report(NamedTuple):
 
 
 def parse_report(name: str, text: str) -> Report:
-    fields, sites = {}, {}
+    fields: Dict[str, str] = {}
+    sites: Dict[int, Tuple[int, int, int]] = {}
     try:
         for line in text.split("\n")[1:]:
             word, _, rest = line.rstrip("\r").partition(" ")
             if word == "end":
                 break
             if word == "site":
-                number, *counters = map(int, rest.split(" "))
-                sites[number] = tuple(counters)
+                number, less, equal, greater = map(int, rest.split(" "))
+                sites[number] = (less, equal, greater)
             else:
                 fields[word] = rest
         run = Run(int(fields["run"]), fields["outcome"], fields.get("label", label_by(fields["outcome"])), sites)
@@ -287,7 +339,40 @@ def read_collection(name: str) -> Iterator[Run]:
         raise Fault(f"{name}: {error.strerror}")
 
 
-def runs_of(name: str, file) -> Iterator[Run]:
+class Head(NamedTuple):
+    """What a collection says of a run but for its sites: of these, how many it has."""
+    number: int
+    outcome: str
+    label: str
+    sites: int
+
+
+def read_heads(name: str) -> Iterator[Head]:
+    """The runs of a collection without their sites, which takes a third of the time."""
+    run: Optional[Run] = None
+    sites = 0
+    with open(name, encoding="latin-1", newline="\n") as file:
+        file.readline()
+        for number, line in enumerate(file, 2):
+            if line.startswith("site "):
+                sites += 1
+                continue
+            if run is not None:
+                yield Head(run.number, run.outcome, run.label, sites)
+            run, sites = run_of(name, number, line), 0
+
+
+def run_of(name: str, number: int, line: str) -> Optional[Run]:
+    """The run that a line begins; none at the line of the program and at the end."""
+    found = RUN_LINE.fullmatch(line.rstrip("\n"))
+    if found:
+        return Run(int(found[1]), found[2], found[3] or label_by(found[2]), {})
+    if line != "end\n" and number > 2:
+        raise Fault(f"{name}: a damaged collection: line {number} has not the form of a run")
+    return None
+
+
+def runs_of(name: str, file: IO[str]) -> Iterator[Run]:
     if not file.readline().startswith("cbi-collection "):
         raise Fault(f"{name}: no collection: it doesn't begin with cbi-collection (cbi collect makes one of reports)")
     run = None
@@ -298,14 +383,54 @@ def runs_of(name: str, file) -> Iterator[Run]:
             continue
         if run is not None:
             yield run
-        found = RUN_LINE.fullmatch(line.rstrip("\n"))
-        if found:
-            run = Run(int(found[1]), found[2], found[3] or label_by(found[2]), {})
-        elif line == "end\n":
+        run = run_of(name, number, line)
+        if line == "end\n":
             return
-        elif number > 2:
-            raise Fault(f"{name}: a damaged collection: line {number} has not the form of a run")
     raise Fault(f"{name}: a damaged collection: it has no end")
+
+
+# Pairs
+
+class Side(NamedTuple):
+    """One predicate of a pair."""
+    predicate: int
+    function: str
+    line: int
+    text: str
+
+
+class Pair(NamedTuple):
+    """The best of so many pairs: both are true in so many failing and successful runs, and of so many it is known whether they are."""
+    tried: int
+    left: Side
+    right: Side
+    failing: int
+    successful: int
+    known_failing: int
+    known_successful: int
+    importance: int
+
+
+def read_pairs(name: str) -> Optional[Pair]:
+    """The best pair as `cbi pairs` writes it, or none where there is none."""
+    lines = decoded(read_bytes(name)).split("\n")
+    try:
+        if lines[1] == "best none":
+            return None
+        word, *numbers = lines[1].split(" ")
+        left, right, failing, successful, known, others, importance = map(int, numbers)
+        if word != "best":
+            raise ValueError
+        return Pair(int(lines[0].split(" ")[1]), side_of(left, "left", lines[2]), side_of(right, "right", lines[3]), failing, successful, known, others, importance)
+    except (ValueError, IndexError):
+        raise Fault(f"{name}: no pairs: it hasn't the form of what cbi pairs writes")
+
+
+def side_of(predicate: int, word: str, line: str) -> Side:
+    said, function, number, text = line.split(" ", 3)
+    if said != word:
+        raise ValueError
+    return Side(predicate, function, int(number), text)
 
 
 # Cards
@@ -321,7 +446,8 @@ class Card(NamedTuple):
 
 def read_cards(name: str) -> Dict[int, Card]:
     """The cards by predicate: `card K P FUNCTION LINE TEXT`, `truth A B first R`, `near Q FALL TEXT`, and `end`."""
-    cards, card = {}, None
+    cards: Dict[int, Card] = {}
+    card = -1
     lines = [line.rstrip("\r") for line in decoded(read_bytes(name)).split("\n")]
     for number, line in enumerate(lines, 1):
         if line == "end":

@@ -1,189 +1,296 @@
 """The page of cbi-show: one HTML file that stands alone, without a script. Not proved.
 
-Bands of a thermometer differ in how light they are and in their pattern, so that they are told apart without
-colours, and each has its share in words. All is reached by links, so that a keyboard is enough: no part of the
-page scrolls by itself, and long words are broken, so that the page scrolls up and down alone.
+The answer stands first, then the rows, then the source, whose lines are the darker the more their best row says.
+Bands of a bar differ in how light they are and in their pattern, so that they are told apart without colours, and
+each has its share in words. All is reached by links and folds, so that a keyboard is enough: no part of the page
+scrolls by itself, and long words are broken, so that the page scrolls up and down alone.
 """
-import html
-from typing import Iterable, Iterator, List
+from typing import Dict, Iterable, Iterator, List, Optional, Set
 
-from cbi_files import count_of, share
+import cbi_told
+from cbi_files import ENDINGS, share
+from cbi_highlight import escaped, highlighted
 from cbi_rows import Bands, Shown, View
+from cbi_source import Fact
+from cbi_style import STYLE
+from cbi_text import UNIMPORTANT, UNRELATED
+from cbi_where import Spot, Where
 
-UNRELATED = "Pairs of variables that no statement names together"
-UNIMPORTANT = "Rows of importance 0"
-SCHEMES = (("branches", "Whether a condition was true or false"),
-           ("returns", "What a call returned, beside 0"),
-           ("pairs", "A new value of a variable beside another variable or a constant"))
-
-STYLE = """
-:root { --ink: #1a1a1a; --paper: #ffffff; --quiet: #595959; --line: #c8c8c8; --mark: #fff3bf; --link: #0b57d0; }
-* { box-sizing: border-box; }
-body { margin: 0 auto; max-width: 74rem; padding: 1.5rem; color: var(--ink); background: var(--paper);
-       font: 16px/1.5 system-ui, "Liberation Sans", sans-serif; }
-h1 { font-size: 1.6rem; margin: 0 0 .25rem; } h2 { font-size: 1.2rem; margin: 2rem 0 .5rem; }
-code, pre { font: 14px/1.5 ui-monospace, "Liberation Mono", monospace; overflow-wrap: anywhere; }
-a { color: var(--link); } a:focus-visible { outline: 3px solid var(--link); outline-offset: 2px; }
-.skip { position: absolute; left: -100rem; } .skip:focus { left: 1rem; top: 1rem; background: var(--paper); padding: .5rem; }
-nav a { margin-right: 1rem; } .quiet { color: var(--quiet); }
-.row { border-top: 1px solid var(--line); padding: .6rem 0; display: grid; gap: .2rem 1rem; grid-template-columns: 2.5rem 18rem minmax(0, 1fr); }
-.row:target, tr:target td { background: var(--mark); }
-.rank { font-size: 1.3rem; text-align: right; color: var(--quiet); }
-.together { border-left: 4px solid var(--line); padding-left: .5rem; margin: .5rem 0; }
-.thermometer { display: flex; height: 1.25rem; min-width: 1rem; border: 1px solid var(--ink); background: #fff; margin-top: .35rem;
-               print-color-adjust: exact; -webkit-print-color-adjust: exact; }
-.thermometer span { display: block; height: 100%; } .thermometer span + span { border-left: 1px solid #fff; }
-.context { background: #000; }
-.sure { background: repeating-linear-gradient(45deg, #b2182b 0 5px, #d1495b 5px 7px); }
-.unsure { background: repeating-linear-gradient(-45deg, #fbb4c4 0 6px, #fde0e6 6px 9px); }
-.successful { background: #fff; }
-.key { display: inline-block; width: 2rem; height: 1rem; border: 1px solid var(--ink); vertical-align: middle; margin-right: .5rem; }
-.said code { font-size: 16px; font-weight: 700; }
-.row ul { margin: 0; padding-left: 1.2rem; }
-.keys { display: flex; flex-wrap: wrap; gap: .2rem 1.5rem; margin: .5rem 0; padding: 0; list-style: none; font-size: 14px; }
-.text { display: block; margin-top: .2rem; padding: .15rem .5rem; background: #f3f3f3; white-space: pre-wrap; }
-table { border-collapse: collapse; width: 100%; } td { padding: 0 .6rem; vertical-align: top; }
-td.number { text-align: right; color: var(--quiet); width: 4rem; } td pre { margin: 0; white-space: pre-wrap; }
-tr.marked td { background: var(--mark); } tr.marked td.number { border-left: 6px solid #b2182b; font-weight: 700; color: var(--ink); }
-@media (max-width: 50rem) { .row { grid-template-columns: 2rem minmax(0, 1fr); } .row > div:last-child { grid-column: 2; } }
-@media print { .skip, nav { display: none; } body { max-width: none; } }
-"""
-
-
-def escaped(text: object) -> str:
-    return html.escape(str(text), quote=True)
+# As much is shown as a page of so many bytes has room for: all of the source, or the lines that stand near a row; and so many of what falls with a row.
+MOST_BYTES = 60000
+ROOM = ((None, 5), (12, 5), (5, 5), (2, 3), (1, 1), (0, 0))
+BANDS = (("context", "how often runs fail that come to the place"),
+         ("sure", "what the fact adds to that for sure (95 %)"),
+         ("unsure", "what it may add beyond that"),
+         ("successful", "how often runs succeed in which it was true"))
+WORDS = (("predicate", "a fact at a place of the program that is true or not; a row of this page is one"),
+         ("failure", "the share of failing runs among those in which a predicate was true"),
+         ("context", "the share of failing runs among those that came to a predicate's place and looked"),
+         ("increase", "failure less context: how much more likely a failure is where the predicate was true than where its place was merely reached"),
+         ("importance", "how much a predicate says, and of how many failing runs, in one number from 0 to 1"),
+         ("elimination", "the leader is listed, the runs that it explains are set aside, and the rest are counted again, until no predicate passes"),
+         ("rate", "the mean distance of sampled visits: at rate 5 one visit in five is looked at"))
 
 
 def code(text: object) -> str:
     return f"<code>{escaped(text)}</code>"
 
 
-# Thermometers
+def fact(said: Fact) -> str:
+    return code(said.code) + (f" {escaped(said.says)}" if said.says else "")
 
-BANDS = (("context", "how often runs fail that come to the place"),
-         ("sure", "what the predicate adds to that for sure (95 %)"),
-         ("unsure", "what it may add beyond that"),
-         ("successful", "how often runs succeed in which it was true"))
 
+def capital(text: str) -> str:
+    return text[:1].upper() + text[1:]
+
+
+# The card
+
+def card(view: View) -> Iterator[str]:
+    """What broke, where, how often, and one failing run."""
+    first, said = view.first(), cbi_told.sentences(view)
+    yield '<header class="card" id="answer">'
+    if first:
+        yield f"<h1>{code(first.fact.code)} {escaped(first.fact.past()[len(first.fact.code):].strip())} at {escaped(first.spot.file)}:{first.spot.line} in {code(first.row.function)}</h1>"
+        yield f"<p>{escaped(' '.join(said[1:]))}</p>"
+    else:
+        yield f"<h1>{code(view.where.main)}: no fact stands out</h1>"
+        yield from (f"<p>{escaped(line)}</p>" for line in said)
+    hanging = cbi_told.hanging_line(view)
+    if hanging:
+        yield f"<p>{escaped(hanging)}</p>"
+    lines = cbi_told.excerpt(view)
+    if lines and first:
+        coloured = highlighted(view.where.files[first.spot.file])
+        yield f'<div class="lines" style="counter-reset:line {lines[0][0] - 1}">'
+        yield from (source_line("", coloured[number - 1], first.row.importance if marked else None, "") for number, _, marked in lines)
+        yield "</div>"
+    if view.hunted and view.hunted.example:
+        yield "<dl>"
+        for what, value in cbi_told.example_of(view.hunted.example):
+            yield f"<dt>{escaped(capital(what))}</dt><dd>{code(value)}</dd>"
+        yield "</dl>"
+    yield "</header>"
+
+
+def endings(view: View) -> Iterator[str]:
+    """A histogram of how runs ended."""
+    if not view.seen:
+        return
+    most = max(view.seen.endings.values(), default=0)
+    yield '<section id="endings"><h2>How runs ended</h2>'
+    for note in view.hunted.notes if view.hunted else []:
+        yield f"<p>{escaped(note)}</p>"
+    yield '<table class="ends"><tbody>'
+    for (label, outcome), count in sorted(view.seen.endings.items(), key=lambda item: (item[0][0] != "fail", -item[1])):
+        how = {"pass": "as it should", "fail": ENDINGS[outcome], "none": f"{ENDINGS[outcome]}, left out" if outcome != "ended" else "left out"}[label]
+        trap = cbi_told.trap_of(outcome)
+        yield (f'<tr{"" if label == "fail" else " class=well"}><td>{escaped(("" if label != "fail" else "failed: ") + how + trap)}</td><td>{count}</td>'
+               f'<td aria-hidden="true"><span class="tall" style="width:{100 * count / most:.1f}%"></span></td></tr>')
+    yield "</tbody></table></section>"
+
+
+# Bars
 
 def spoken(bands: Bands) -> str:
-    """The thermometer in words, which stand below it: what only a pointer brings up, no keyboard does."""
+    """The bar in words: what only a pointer brings up, no keyboard does."""
     shares = [share(round(part * 1000000)) for part in bands[:4]]
     return f"context {shares[0]}, increase at least {shares[1]} and up to {shares[2]} more, successful runs {shares[3]}"
 
 
-def thermometer(bands: Bands) -> str:
-    parts = "".join(f'<span class="{name}" style="width:{100 * part:.2f}%"></span>' for (name, _), part in zip(BANDS, bands) if part > 0)
-    return (f'<div class="thermometer" aria-hidden="true" style="width:{100 * bands.length:.2f}%">{parts}</div>'
-            f'<div class="quiet">{escaped(spoken(bands))}</div>')
+def bar(bands: Bands) -> str:
+    parts = "".join(f"<span class={name} style=width:{100 * part:.1f}%></span>" for (name, _), part in zip(BANDS, bands) if part > 0)
+    return f"<div class=bar aria-hidden=true style=width:{100 * bands.length:.1f}%>{parts}</div>"
 
 
 # Rows
 
-def line_link(line: int, lines: int) -> str:
+def anchor(spot: Spot, where: Where) -> str:
+    """The name of a line: `L41`, and in the second file `F2L41`."""
+    number = list(where.files).index(spot.file) + 1
+    return f"{f'F{number}' if number > 1 else ''}L{spot.line}"
+
+
+def line_link(spot: Spot, where: Where, here: Set[Spot]) -> str:
     """A link to a line of the source, where the page has it."""
-    return f'<a href="#L{line}">line {line}</a>' if line <= lines else f"line {line}"
+    named = escaped(where.named(spot))
+    return f"<a href=#{anchor(spot, where)}>{named}</a>" if spot in here else named
 
 
-def near_items(shown: Shown, rows: Iterable[int], lines: int) -> Iterator[str]:
+def near_items(shown: Shown, view: View, rows: Iterable[int], here: Set[Spot]) -> Iterator[str]:
     """What falls with a row: a link to its own row, or else to its line."""
-    for near in shown.near:
-        said = f"{code(near.text)}"
+    for near in cbi_told.falling(shown):
+        said = escaped(near.fact.text())
         if near.predicate in rows:
-            said = f'<a href="#p{near.predicate}">{said}</a>'
-        place = f", {line_link(near.line, lines)}" if near.line else ""
+            said = f"<a href=#p{near.predicate}>{said}</a>"
+        function = "" if near.function == shown.row.function else f" of {code(near.function)}"
+        place = f", {line_link(near.spot, view.where, here)}{function}" if near.spot else ""
         yield f"<li>{said}{place}, by {near.fall / 1000000:.3f}</li>"
 
 
-def row_lines(shown: Shown, rows: Iterable[int], lines: int) -> Iterator[str]:
+def row_lines(shown: Shown, view: View, rows: Iterable[int], here: Set[Spot]) -> Iterator[str]:
     row = shown.row
-    yield f'<article class="row" id="p{row.predicate}" aria-label="Row {row.rank}">'
-    yield f'<div class="rank">{row.rank}</div>'
-    yield f"<div>{thermometer(shown.bands)}<div class=\"quiet\">importance {row.importance / 1000000:.3f}</div></div>"
-    yield f'<div><div class="said">{code(shown.text)} at {line_link(row.line, lines)} of {code(row.function)}</div>'
-    yield (f"<div>True in {count_of(row.f, 'failing run')} and {count_of(row.s, 'successful run')}; "
-           f"looked at in {row.fobs} failing and {row.sobs} successful.</div>")
-    if shown.truth and shown.truth != (row.f, row.s):
-        yield f"<div class=\"quiet\">Among all runs: {count_of(shown.truth[0], 'failing run')} and {count_of(shown.truth[1], 'successful run')}.</div>"
-    if shown.first:
-        yield f"<div class=\"quiet\">The first failing run in which it was true is run {shown.first}.</div>"
-    if shown.source is not None:
-        yield f'<code class="text">{escaped(shown.source.strip())}</code>'
-    if shown.near:
-        yield "<div>These fall with it:</div><ul>" + "".join(near_items(shown, rows, lines)) + "</ul>"
-    yield "</div></article>"
+    yield f'<article class="row" id="p{row.predicate}" aria-label="Row {row.rank}"><div>{row.rank}</div>'
+    yield f"<div><h3>{fact(shown.fact)}</h3><div>{line_link(shown.spot, view.where, here)} of {code(row.function)}; {cbi_told.likely(shown)}</div>"
+    said = [cbi_told.counts(shown), cbi_told.ended_of_row(shown), cbi_told.inputs_of_row(shown, view)]
+    yield f'<div class="quiet">{escaped(" ".join(capital(text) + "." for text in said if text))}</div>'
+    yield f"<details><summary>Numbers of row {row.rank}</summary>"
+    yield f"<div>Importance {row.importance / 1000000:.3f}: {spoken(shown.bands)}.</div>"
+    among, first = cbi_told.among_all(shown), f"The first failing run in which it was true is run {shown.first}." if shown.first else ""
+    yield "".join(f"<div>{text}</div>" for text in (capital(among) + "." if among else "", first) if text)
+    if cbi_told.falling(shown):
+        yield "<div>These fall with it:</div><ul>" + "".join(near_items(shown, view, rows, here)) + "</ul>"
+    yield f"</details></div><div>{bar(shown.bands)}</div></article>"
 
 
-def section(name: str, title: str, rows: List[List[Shown]], every: Iterable[int], lines: int) -> Iterator[str]:
-    yield f'<section id="{name}"><h2>{escaped(title)}</h2>'
-    yield from keys() if name == "rows" and rows else ()
+def groups_of(rows: List[List[Shown]], view: View, every: Iterable[int], here: Set[Spot]) -> Iterator[str]:
     for group in rows:
         if len(group) > 1:
             yield '<div class="together"><div class="quiet">These rows are mostly about the same runs:</div>'
         for shown in group:
-            yield from row_lines(shown, every, lines)
+            yield from row_lines(shown, view, every, here)
         if len(group) > 1:
             yield "</div>"
-    if not rows:
-        yield "<p>No predicate passes the test: the runs don't say where the bug is. More runs may, or a smaller rate.</p>"
+
+
+def sections(view: View, here: Set[Spot]) -> Iterator[str]:
+    every = {shown.row.predicate for shown in view.every()}
+    if view.together:
+        yield '<section id="rows"><h2>Facts that go with failures</h2>'
+        yield '<p class="quiet">Each is about the runs that no fact above it explains.</p>'
+        yield from groups_of(view.together, view, every, here)
+        yield "</section>"
+    for name, title, rows in (("unrelated", UNRELATED, view.unrelated), ("unimportant", UNIMPORTANT, view.unimportant)):
+        if rows:
+            yield f'<section id="{name}"><h2>{title}</h2>'
+            yield from groups_of([[shown] for shown in rows], view, every, here)
+            yield "</section>"
+    if view.weak:
+        yield f'<section id="weak"><h2>Weak rows</h2><details><summary>{escaped(capital(cbi_told.weak_line(view)))}.</summary>'
+        yield from groups_of([[shown] for shown in view.weak], view, every, here)
+        yield "</details></section>"
+    if view.added:
+        yield f'<section id="added"><h2>Rows of the port</h2><details><summary>{cbi_told.added_line(view)}</summary>'
+        yield from groups_of([[shown] for shown in view.added], view, every, here)
+        yield "</details></section>"
+    if view.pair:
+        yield f'<section id="pair"><h2>{cbi_told.PAIR}</h2><ul>' + "".join(f"<li>{escaped(line)}</li>" for line in cbi_told.pair_lines(view.pair, view)) + "</ul></section>"
+    places = cbi_told.places_of(view)
+    if places and view.totals:
+        yield f'<section id="places"><h2>{cbi_told.PLACES}</h2><p class="quiet">{cbi_told.PLACES_SAID}</p><ul>'
+        yield from (f"<li>{line_link(place.spot, view.where, here)}{escaped(cbi_told.place_line(place, view.totals, view.where)[len(view.where.named(place.spot)):])}</li>"
+                    for place in places)
+        yield "</ul></section>"
+
+
+# The source
+
+def source_line(name: str, coloured: str, importance: Optional[int], end: str) -> str:
+    """A line of the source, the darker the more its best row says. Its number is counted by the style."""
+    shade = "" if importance is None else f' class="marked" style="background:rgb(var(--hot) / {0.08 + 0.27 * importance / 1000000:.2f})"'
+    named = f' id="{name}"' if name else ""
+    return f"<p{named}{shade}><code>{coloured}</code>{f'<span>{end}</span>' if end else ''}</p>"
+
+
+def lines_here(view: View, near: Optional[int]) -> Set[Spot]:
+    """The lines of the sources that the page has: all, or those near a row."""
+    last = {name: len(lines) - (1 if lines and lines[-1] == "" else 0) for name, lines in view.where.files.items()}
+    if near is None:
+        return {Spot(name, number) for name, count in last.items() for number in range(1, count + 1)}
+    spots = [shown.spot for shown in view.every() if not shown.spot.added] + [place.spot for place in cbi_told.places_of(view)]
+    return {Spot(spot.file, number) for spot in spots if spot.file in last for number in range(max(1, spot.line - near), min(last[spot.file], spot.line + near) + 1)}
+
+
+def source_of(name: str, view: View, here: Set[Spot]) -> Iterator[str]:
+    """A source; a marked line has its predicates at its end, as links back to their rows."""
+    rows: Dict[int, List[Shown]] = {}
+    for shown in view.every():
+        if shown.spot.file == name and not shown.spot.added:
+            rows.setdefault(shown.spot.line, []).append(shown)
+    coloured, before = highlighted(view.where.files[name]), 0
+    yield '<div class="lines">'
+    for spot in sorted(spot for spot in here if spot.file == name):
+        if spot.line > before + 1:
+            yield f'<div class="gap" style="counter-set:line {spot.line - 1}">lines {before + 1} to {spot.line - 1} are left out here</div>'
+        before = spot.line
+        marks = sorted(rows.get(before, []), key=lambda shown: shown.row.rank)
+        end = "<br>".join(f'<a href="#p{shown.row.predicate}">{shown.row.rank}. {escaped(shown.text)}</a>' for shown in marks)
+        yield source_line(anchor(spot, view.where), coloured[before - 1], max(shown.row.importance for shown in marks) if marks else None, end)
+    yield "</div>"
+
+
+def sources(view: View, here: Set[Spot]) -> Iterator[str]:
+    files = [name for name in view.where.files if any(spot.file == name for spot in here)]
+    yield '<section id="source"><h2>The source</h2>'
+    for name in files:
+        if len(view.where.files) > 1:
+            yield f"<h3>{code(name)}</h3>"
+        yield from source_of(name, view, here)
     yield "</section>"
 
 
-def source_lines(view: View, lines: List[str]) -> Iterator[str]:
-    """The source as a table; a marked line has links back to its rows."""
-    rows = {}
-    for shown in view.every():
-        rows.setdefault(shown.row.line, []).append(shown)
-    yield '<section id="source"><h2>The source</h2><table><tbody>'
-    shown_lines = lines[:-1] if lines and lines[-1] == "" else lines
-    for number, line in enumerate(shown_lines, 1):
-        marks = " ".join(f'<a href="#p{shown.row.predicate}" title="{escaped(shown.text)}">row {shown.row.rank}</a>' for shown in rows.get(number, []))
-        marked = ' class="marked"' if marks else ""
-        yield f'<tr id="L{number}"{marked}><td class="number">{number}</td><td><pre>{escaped(line)}</pre></td><td>{marks}</td></tr>'
-    yield "</tbody></table></section>"
+# What made it, and how it is read
 
-
-def keys() -> Iterator[str]:
-    """What the bands of a bar are."""
-    yield '<ul class="keys">'
-    for name, meaning in BANDS:
-        yield f'<li><span class="key {name}"></span>{escaped(meaning)}</li>'
-    yield "</ul>"
+def made_by(view: View) -> Iterator[str]:
+    hunted = view.hunted
+    if not hunted:
+        return
+    yield '<section id="made"><h2>What made this page</h2><dl>'
+    for what, value in (("Command", hunted.command), ("Version", hunted.version), ("Date", hunted.date), ("Runs", hunted.runs), ("Seed", hunted.seed), ("Rate", hunted.rate),
+                        ("Turns", hunted.turns), ("Policy", hunted.policy), ("SHA-256 of the text", hunted.source_hash), ("SHA-256 of the program", hunted.program)):
+        yield f"<dt>{what}</dt><dd>{code(value)}</dd>"
+    yield "</dl></section>"
 
 
 def reading() -> Iterator[str]:
-    yield '<section id="reading"><h2>How to read this page</h2>'
-    yield "<p>A row names a predicate: a fact that was seen at a line in some runs. It is listed because runs fail more often where it was"
-    yield "true than where its line was merely reached, beyond chance. Each row is about the runs that no row above it explains, so the first"
-    yield "row often is the bug, and a later one may be another bug. A predicate shows where a bug can be seen; why it is one, the line says.</p>"
-    yield "<p>The bar of a row is the longer the more runs it is about (by the logarithm of the runs in which the predicate was true). Its bands:</p>"
-    yield from keys()
-    yield "<p class=\"quiet\">The ranking is that of <code>cbi rank</code>, which is proved to be the elimination of the collected runs; this page is not proved.</p></section>"
+    yield '<section id="reading"><h2>How to read this page</h2><details><summary>Rows, bars and words</summary>'
+    yield "<p>A row names a fact that was seen at a line in some runs. It is listed because runs fail more often where it was true than where its line was merely"
+    yield "reached, beyond chance. Each row is about the runs that no row above it explains, so the first row often is the bug, and a later one may be another bug."
+    yield "A fact shows where a bug can be seen; why it is one, the line says.</p>"
+    yield "<p>The bar of a row is the longer the more runs it is about (by the logarithm of the runs in which the fact was true). Its bands:</p>"
+    yield '<ul class="keys">' + "".join(f'<li><span class="key {name}"></span>{escaped(meaning)}</li>' for name, meaning in BANDS) + "</ul>"
+    yield "<dl>" + "".join(f"<dt>{word}</dt><dd>{escaped(meaning)}</dd>" for word, meaning in WORDS) + "</dl></details>"
+    yield '<p class="quiet">The ranking is that of <code>cbi rank</code>, which is proved to be the elimination of the collected runs; this page is not proved.</p></section>'
 
 
-def page_of(view: View, chosen) -> Iterator[str]:
-    """The lines of the page."""
-    lines = chosen.lines or []
-    shown_lines = len(lines) - (1 if lines and lines[-1] == "" else 0)
-    name = chosen.source or chosen.names[0]
-    every = {shown.row.predicate for shown in view.every()}
+def links(view: View) -> str:
+    parts = [("rows", "Facts", view.together), ("unrelated", "Unrelated pairs", view.unrelated), ("unimportant", "Importance 0", view.unimportant), ("weak", "Weak rows", view.weak), ("added", "Rows of the port", view.added),
+             ("pair", "Two facts", view.pair), ("places", "Where failing runs go", cbi_told.places_of(view) if view.totals else []), ("endings", "How runs ended", view.seen),
+             ("source", "Source", view.where.files), ("made", "What made it", view.hunted), ("reading", "How to read", True)]
+    return "<nav>" + "".join(f'<a href="#{target}">{said}</a>' for target, said, there in parts if there) + "</nav>"
+
+
+def page_of(view: View) -> Iterator[str]:
+    """The lines of the page, with as much of the source as there is room for."""
+    for near, falls in ROOM:
+        lines = list(page_with(fewer_near(view, falls), lines_here(view, near)))
+        if sum(len(line.encode("utf-8", "replace")) + 1 for line in lines) <= MOST_BYTES:
+            break
+    yield from lines
+
+
+def fewer_near(view: View, most: int) -> View:
+    """The same with at most so many of what falls with each row."""
+    def cut(rows: List[Shown]) -> List[Shown]:
+        return [shown._replace(near=shown.near[:most]) for shown in rows]
+    return view._replace(together=[cut(group) for group in view.together], unrelated=cut(view.unrelated), unimportant=cut(view.unimportant), weak=cut(view.weak),
+                         added=cut(view.added))
+
+
+def page_with(view: View, here: Set[Spot]) -> Iterator[str]:
+    first = view.first()
+    title = f"{first.fact.past()} at {first.spot.file}:{first.spot.line}" if first else f"{view.where.main}: no fact stands out"
     yield '<!DOCTYPE html>\n<html lang="en">\n<head>\n<meta charset="utf-8">'
     yield '<meta name="viewport" content="width=device-width, initial-scale=1">'
-    yield f"<title>Where {escaped(name)} goes wrong</title>\n<style>{STYLE}</style>\n</head>\n<body>"
-    yield '<a class="skip" href="#rows">To the predicates</a>'
-    yield f"<header><h1>Where {code(name)} goes wrong</h1>"
-    if view.totals:
-        neither = f", {view.totals.neither} neither" if view.totals.neither else ""
-        yield f"<p>{count_of(view.totals.runs, 'run')}: {view.totals.failing} failed, {view.totals.successful} succeeded{neither}.</p>"
-    parts = [("rows", "Predicates")] + [("unrelated", "Unrelated pairs")] * bool(view.unrelated)
-    parts += [("unimportant", "Importance 0")] * bool(view.unimportant) + [("source", "Source")] * bool(lines) + [("reading", "How to read")]
-    yield "<nav>" + "".join(f'<a href="#{target}">{said}</a>' for target, said in parts) + "</nav></header>\n<main>"
-    yield from section("rows", "Predicates", view.together, every, shown_lines)
-    if view.unrelated:
-        yield from section("unrelated", UNRELATED, [[shown] for shown in view.unrelated], every, shown_lines)
-    if view.unimportant:
-        yield from section("unimportant", UNIMPORTANT, [[shown] for shown in view.unimportant], every, shown_lines)
-    if lines:
-        yield from source_lines(view, lines)
+    yield f"<title>{escaped(title)}</title>\n<style>{STYLE}</style>\n</head>\n<body>"
+    yield '<a class="skip" href="#main">To the rows</a>'
+    yield from card(view)
+    yield links(view)
+    yield '<main id="main">'
+    yield from sections(view, here)
+    yield from endings(view)
+    if view.where.files:
+        yield from sources(view, here)
+    yield from made_by(view)
     yield from reading()
     yield "</main>\n</body>\n</html>"

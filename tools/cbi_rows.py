@@ -2,16 +2,20 @@
 
 A row is joined with its line of the source, with the runs in which its predicate was true, and with its
 card; then rows stand in sections: those that point at a failure, pairs of variables that the program never
-brings together, and rows of importance 0. None is hidden.
+brings together, rows of importance 0, and those that chance alone would make. None is hidden.
 """
 import math
 import re
-from typing import Dict, Iterable, List, NamedTuple, Optional, Set, Tuple
+from typing import Dict, Iterable, List, NamedTuple, Optional, Set
 
-from cbi_files import Card, Fault, Program, Ranking, Row, read_collection
+from cbi_files import Card, Fault, Pair, Program, Ranking, Row, Site
+from cbi_hunted import Hunted
+from cbi_seen import QUANTILE, Seen, Totals, Truth, by_chance, expected_by_chance, seen_in
+from cbi_source import Fact, Source, plain_fact
+from cbi_where import Spot, Where
 
-# The quantile of a 95 % interval, as docs/RANKING.md has it.
-QUANTILE = 1.96
+# A pair is shown where its importance is so much above that of the first row, in millionths.
+PAIR_ABOVE = 100000
 
 
 class Bands(NamedTuple):
@@ -26,40 +30,63 @@ class Bands(NamedTuple):
 class Near(NamedTuple):
     predicate: int
     fall: int
-    text: str
-    line: Optional[int]
+    fact: Fact
+    function: Optional[str]
+    spot: Optional[Spot]
 
 
 class Shown(NamedTuple):
+    """A row as it is shown. `by_chance` is how many predicates chance alone would make look as strong, where that is known."""
     row: Row
-    text: str
+    fact: Fact
+    spot: Spot
     source: Optional[str]
     bands: Bands
-    truth: Optional[Tuple[int, int]]
+    truth: Optional[Truth]
     first: Optional[int]
     near: List[Near]
+    by_chance: Optional[float]
+
+    @property
+    def text(self) -> str:
+        return self.fact.text()
+
+    def weak(self) -> bool:
+        """Whether chance alone would make a predicate look as strong."""
+        return self.by_chance is not None and self.by_chance >= 1
 
 
-class Totals(NamedTuple):
-    runs: int
-    failing: int
-    successful: int
-    neither: int
+class PairShown(NamedTuple):
+    """Two predicates that say more together than the first row does."""
+    pair: Pair
+    left: Fact
+    right: Fact
 
 
 class View(NamedTuple):
     """All that is shown: `together` has the rows of the first section, each list those whose runs are mostly the same."""
+    where: Where
     totals: Optional[Totals]
     together: List[List[Shown]]
     unrelated: List[Shown]
     unimportant: List[Shown]
+    weak: List[Shown]
+    added: List[Shown]
     carded: bool
+    seen: Optional[Seen]
+    pair: Optional[PairShown]
+    hunted: Optional[Hunted]
 
     def leading(self) -> List[Shown]:
         return [shown for group in self.together for shown in group]
 
     def every(self) -> List[Shown]:
-        return self.leading() + self.unrelated + self.unimportant
+        return self.leading() + self.unrelated + self.unimportant + self.weak + self.added
+
+    def first(self) -> Optional[Shown]:
+        """The row that the answer is about: the first one of the ranking that stands in the first section, or else the first at all."""
+        rows = self.leading() or self.every()
+        return min(rows, key=lambda shown: shown.row.rank) if rows else None
 
 
 # Thermometers
@@ -146,47 +173,7 @@ def unrelated(row: Row, parts: Optional[Dict[str, List[str]]]) -> bool:
     return not any(left in names and right in names for names in statements(parts[row.function]))
 
 
-def with_character(row: Row) -> str:
-    """The text of a row, with the character behind a printable constant: `c == 63 '?'`."""
-    words = row.text.split(" ")
-    if row.scheme == "pairs" and len(words) == 3 and words[2].isdigit() and 32 <= int(words[2]) <= 126:
-        character = chr(int(words[2]))
-        escaped = "\\" + character if character in "'\\" else character
-        return f"{row.text} '{escaped}'"
-    return row.text
-
-
-# Runs
-
-class Truths(NamedTuple):
-    """In how many runs of a collection each wanted predicate was true, and the first failing run of these: what a card says, where there is none."""
-    totals: Totals
-    counts: Dict[int, Tuple[int, int]]
-    first: Dict[int, int]
-
-
-def truths_of(collection: str, program: Program, wanted: Iterable[int]) -> Truths:
-    numbered = program.numbered()
-    looked: Dict[int, List[Tuple[int, Tuple[int, ...]]]] = {}
-    for predicate in wanted:
-        site, _, counters = numbered[predicate]
-        looked.setdefault(site.number, []).append((predicate, counters))
-    labels = {"fail": 0, "pass": 0, "none": 0}
-    counts = {predicate: [0, 0] for predicate in wanted}
-    first: Dict[int, int] = {}
-    for run in read_collection(collection):
-        labels[run.label] += 1
-        if run.label == "none":
-            continue
-        for number in looked.keys() & run.sites.keys():
-            for predicate, counters in looked[number]:
-                if any(run.sites[number][counter] for counter in counters):
-                    counts[predicate][run.label == "pass"] += 1
-                    if run.label == "fail":
-                        first.setdefault(predicate, run.number)
-    totals = Totals(sum(labels.values()), labels["fail"], labels["pass"], labels["none"])
-    return Truths(totals, {predicate: (true[0], true[1]) for predicate, true in counts.items()}, first)
-
+# Rows
 
 def check_program(ranking: Ranking, program: Program) -> None:
     """A ranking of another program has other predicates, which would point at wrong lines."""
@@ -200,15 +187,45 @@ def check_program(ranking: Ranking, program: Program) -> None:
 
 # Sections
 
-def near_of(card: Optional[Card], program: Optional[Program], rows: Dict[int, Row]) -> List[Near]:
-    """What falls with a row, with lines where the program or the ranking tells them."""
-    if card is None:
-        return []
-    numbered = program.numbered() if program else {}
+class Wording:
+    """Predicates in words: by the text, where the program and its text are there, and where that was ported by the files it comes from."""
+
+    def __init__(self, source: Optional[List[str]], program: Optional[Program], where: Where):
+        self.source = Source(source) if source else None
+        self.where = where
+        self.files = {name: Source(lines) for name, lines in where.files.items()} if where.lines else {}
+        self.numbered = program.numbered() if program else {}
+
+    def site(self, predicate: int) -> Optional[Site]:
+        return self.numbered[predicate][0] if predicate in self.numbered else None
+
+    def fact(self, predicate: int, scheme: str, text: str) -> Fact:
+        site = self.site(predicate)
+        return self.of_site(site, text) if site else plain_fact(scheme, text)
+
+    def of_site(self, site: Site, text: str) -> Fact:
+        place = self.source.place_of(site) if self.source else None
+        if self.source is None or place is None:
+            return plain_fact(site.scheme, text)
+        spot = self.where.spot(site.line, site.function)
+        if spot.file in self.files and not spot.added and self.where.lines:
+            lines = [number for number, (file, line, added) in enumerate(self.where.lines, 1) if (file, line, added) == (spot.file, spot.line, False)]
+            theirs = self.files[spot.file].same_word(spot.line, self.source, lines, place)
+            if theirs is not None:
+                return self.files[spot.file].fact_at(theirs, site, text, self.source)
+            case = self.files[spot.file].case_on(spot.line) if site.names[0] == "if" else None
+            if case:
+                return Fact(case, f"is {text.split(' ')[-1]}")
+        return self.source.fact_at(place, site, text, self.source)
+
+
+def near_of(card: Optional[Card], wording: Wording, rows: Dict[int, Row]) -> List[Near]:
+    """What falls with a row, with function and line where the program or the ranking tells them."""
     found = []
-    for predicate, fall, text in card.near:
-        line = numbered[predicate][0].line if predicate in numbered else rows[predicate].line if predicate in rows else None
-        found.append(Near(predicate, fall, text, line))
+    for predicate, fall, text in card.near if card else []:
+        place = wording.site(predicate) or rows.get(predicate)
+        fact = wording.fact(predicate, place.scheme if place else "", text)
+        found.append(Near(predicate, fall, fact, place.function if place else None, wording.where.spot(place.line, place.function) if place else None))
     return found
 
 
@@ -229,31 +246,62 @@ def grouped(shown: List[Shown]) -> List[List[Shown]]:
     return groups
 
 
-def totals_of(ranking: Ranking, truths: Optional[Truths]) -> Optional[Totals]:
-    if truths:
-        return truths.totals
+def totals_of(ranking: Ranking, seen: Optional[Seen]) -> Optional[Totals]:
+    if seen:
+        return seen.totals
     if ranking.study:
         return Totals(ranking.study.runs, ranking.study.failed, ranking.study.ended, ranking.study.cut)
     return None
 
 
-def view_of(ranking: Ranking, source: Optional[List[str]], program: Optional[Program], cards: Dict[int, Card],
-            collection: Optional[str]) -> View:
+def pair_of(pair: Optional[Pair], ranking: Ranking, wording: Wording) -> Optional[PairShown]:
+    """The best pair, where it says clearly more than the first row, and more than chance alone would make one of so many pairs say."""
+    if pair is None or not ranking.rows or pair.importance < ranking.rows[0].importance + PAIR_ABOVE:
+        return None
+    if pair.tried * by_chance(pair.failing, pair.successful, pair.known_failing, pair.known_successful) >= 1:
+        return None
+    facts = []
+    for side in (pair.left, pair.right):
+        site = wording.site(side.predicate)
+        facts.append(wording.fact(side.predicate, site.scheme if site else "", side.text))
+    return PairShown(pair, facts[0], facts[1])
+
+
+class Given(NamedTuple):
+    """The files that a ranking is shown with, as far as they are there."""
+    where: Where
+    source: Optional[List[str]] = None
+    program: Optional[Program] = None
+    cards: Dict[int, Card] = {}
+    collection: Optional[str] = None
+    pair: Optional[Pair] = None
+    hunted: Optional[Hunted] = None
+
+
+def view_of(ranking: Ranking, given: Given) -> View:
     """Joins the files; what isn't given is left out."""
-    if program:
-        check_program(ranking, program)
+    if given.program:
+        check_program(ranking, given.program)
     rows = {row.predicate: row for row in ranking.rows}
-    truths = truths_of(collection, program, [predicate for predicate in rows if predicate not in cards]) if collection and program else None
+    seen = seen_in(given.collection, given.program, list(rows), given.where) if given.collection and given.program else None
     most = max((row.f + row.s for row in ranking.rows), default=0)
-    parts = bodies(source) if source else None
-    shown = []
-    for row in ranking.rows:
-        card = cards.get(row.predicate)
-        truth = (card.failing, card.successful) if card else truths.counts[row.predicate] if truths else None
-        first = card.first if card else truths.first.get(row.predicate) if truths else None
-        line = source[row.line - 1] if source and row.line <= len(source) else None
-        shown.append(Shown(row, with_character(row), line, bands(row, most), truth, first, near_of(card, program, rows)))
+    wording, parts = Wording(given.source, given.program, given.where), bodies(given.source) if given.source else None
+    shown = [shown_of(row, most, given, wording, seen, rows) for row in ranking.rows]
+    added, shown = [one for one in shown if one.spot.added], [one for one in shown if not one.spot.added]
     apart = [one for one in shown if one.row.importance and unrelated(one.row, parts)]
-    zero = [one for one in shown if not one.row.importance]
-    leading = [one for one in shown if one not in apart and one not in zero]
-    return View(totals_of(ranking, truths), grouped(leading), apart, zero, bool(cards))
+    zero = [one for one in shown if not one.row.importance and not one.weak()]
+    weak = [one for one in shown if one.weak() and one not in apart]
+    leading = [one for one in shown if one not in apart and one not in zero and one not in weak]
+    if not leading and weak:
+        leading, weak = weak[:1], weak[1:]
+    return View(given.where, totals_of(ranking, seen), grouped(leading), apart, zero, weak, added, bool(given.cards), seen,
+                pair_of(given.pair, ranking, wording), given.hunted)
+
+
+def shown_of(row: Row, most: int, given: Given, wording: Wording, seen: Optional[Seen], rows: Dict[int, Row]) -> Shown:
+    card = given.cards.get(row.predicate)
+    truth = seen.truths[row.predicate] if seen else Truth(card.failing, card.successful, {}, []) if card else None
+    first = card.first if card else truth.runs[0] if truth and truth.runs else None
+    spot = given.where.spot(row.line, row.function)
+    chance = expected_by_chance(row, seen.observed) if seen else None
+    return Shown(row, wording.fact(row.predicate, row.scheme, row.text), spot, given.where.text(spot), bands(row, most), truth, first, near_of(card, wording, rows), chance)

@@ -7,10 +7,11 @@ import json
 import os
 import platform
 import shutil
+import signal
 import subprocess
 import tempfile
 import zipfile
-from typing import Callable, List, NamedTuple, Optional, Sequence, Tuple
+from typing import IO, Callable, Dict, List, NamedTuple, Optional, Sequence, Tuple, Union
 
 from cbi_files import FOUND, Fault
 
@@ -18,6 +19,8 @@ from cbi_files import FOUND, Fault
 BANK_NUMBERS = 256
 # What an oracle answers: 0 is right, 125 is `I can't tell`, as for `git bisect run`, and up to 124 is wrong.
 ORACLE_UNKNOWN = 125
+# How an oracle that a shell reads is called: its text stands behind these words, and then the shell's name for itself.
+SHELL = ["sh", "-c"]
 
 
 class Plan(NamedTuple):
@@ -32,6 +35,8 @@ class Plan(NamedTuple):
     inputs: List[str]
     expected: Optional[List[str]]
     parts: Sequence[str] = ()
+    patience: int = 10
+    hangs: bool = False
 
     def input_of(self, run: int) -> int:
         """The place of a run's input: the inputs in turn, again and again."""
@@ -54,7 +59,7 @@ class Batch(NamedTuple):
         return f"{self.first}-{self.last}"
 
 
-def call(words: List[str], out) -> None:
+def call(words: List[str], out: Union[IO[bytes], int]) -> None:
     """Calls `cbi`; what it refuses is a fault, in its own words."""
     done = subprocess.run(words, stdin=subprocess.DEVNULL, stdout=out, stderr=subprocess.PIPE, close_fds=False, check=False)
     if done.returncode:
@@ -69,6 +74,46 @@ def call_to(path: str, words: List[str]) -> None:
     os.replace(path + ".part", path)
 
 
+# Oracles
+
+class Answer(NamedTuple):
+    """What an oracle said of a run: a label, and what it wrote to err."""
+    label: str
+    err: str
+
+
+def oracle_name(plan: Plan) -> str:
+    """What an oracle is called where something is told of it."""
+    words = plan.oracle or []
+    return words[2] if words[:2] == SHELL else words[0]
+
+
+def judged(plan: Plan, name: str, output: str) -> str:
+    return asked(plan, name, output).label
+
+
+def asked(plan: Plan, name: str, output: str) -> Answer:
+    """Has the oracle judge what a run on an input wrote. One that takes too long is ended, with all that it began."""
+    words = [*(plan.oracle or []), name, output]
+    try:
+        begun = subprocess.Popen(words, stdin=subprocess.DEVNULL, stdout=subprocess.DEVNULL, stderr=subprocess.PIPE, start_new_session=True)
+    except OSError as error:
+        raise Fault(f"the oracle {oracle_name(plan)} doesn't start: {error.strerror}")
+    try:
+        _, err = begun.communicate(timeout=plan.patience)
+    except subprocess.TimeoutExpired:
+        raise Fault(f"the oracle {oracle_name(plan)} took more than {plan.patience} s on {name}: --oracle-timeout allows it more")
+    finally:
+        if begun.poll() is None:
+            os.killpg(begun.pid, signal.SIGKILL)
+            begun.wait()
+    status, said = begun.returncode, err.decode(errors="replace")
+    if not 0 <= status <= ORACLE_UNKNOWN:
+        last = f"; it wrote {said.strip().splitlines()[-1]}" if said.strip() else ""
+        raise Fault(f"the oracle {oracle_name(plan)} ended with status {status} on {name}: 0 says right, 1 to 124 wrong, and 125 neither{last}")
+    return Answer("pass" if status == 0 else "none" if status == ORACLE_UNKNOWN else "fail", said)
+
+
 class Runner:
     """Makes runs in a scratch folder of its own. `stopped` is asked between runs."""
 
@@ -77,7 +122,7 @@ class Runner:
         self.folder = folder
         self.stopped = stopped
         self.bank, self.output = os.path.join(folder, "bank"), os.path.join(folder, "output")
-        self.judged = {}
+        self.judged: Dict[int, str] = {}
 
     def make(self, run: int) -> str:
         """Makes a run; answers the name of its report."""
@@ -92,31 +137,27 @@ class Runner:
                 call(words, out)
         except Fault as fault:
             raise Fault(f"run {run}, on the input {plan.names[place]}: {fault}")
-        if plan.oracle:
+        if plan.oracle or plan.hangs:
             self.label(report, place)
         return report
 
     def label(self, report: str, place: int) -> None:
-        """Puts the oracle's answer into the report of a run that ended. A sampled run writes what every run on its
-        input writes, so an input is judged once."""
+        """Puts the oracle's answer into the report of a run that ended, and `fail` into that of one that was cut, where such a run counts as failed.
+
+        A sampled run writes what every run on its input writes, so an input is judged once.
+        """
         with open(report, encoding="ascii") as file:
             text = file.read()
-        if "\noutcome ended " not in text:
+        if self.plan.hangs and "\noutcome cut turns\n" in text:
+            relabelled = text.replace("\nlabel none\n", "\nlabel fail\n")
+        elif self.plan.oracle and "\noutcome ended " in text:
+            if place not in self.judged:
+                self.judged[place] = judged(self.plan, self.plan.inputs[place], self.output)
+            relabelled = text.replace("\nlabel pass\n", f"\nlabel {self.judged[place]}\n")
+        else:
             return
-        if place not in self.judged:
-            self.judged[place] = self.judge(self.plan.inputs[place])
         with open(report, "w", encoding="ascii", newline="\n") as file:
-            file.write(text.replace("\nlabel pass\n", f"\nlabel {self.judged[place]}\n"))
-
-    def judge(self, name: str) -> str:
-        words = self.plan.oracle + [name, self.output]
-        try:
-            status = subprocess.run(words, stdin=subprocess.DEVNULL, stdout=subprocess.DEVNULL, stderr=subprocess.DEVNULL, check=False).returncode
-        except OSError as error:
-            raise Fault(f"the oracle {words[0]} doesn't start: {error.strerror}")
-        if not 0 <= status <= ORACLE_UNKNOWN:
-            raise Fault(f"the oracle {words[0]} ended with status {status} on {name}: 0 says right, 1 to 124 wrong, and 125 neither")
-        return "pass" if status == 0 else "none" if status == ORACLE_UNKNOWN else "fail"
+            file.write(relabelled)
 
     def make_batch(self, batch: Batch, target: Callable[[Batch], str]) -> Optional[Batch]:
         """Makes the runs of a batch until it is stopped, and collects their reports in the file that `target` names."""
@@ -164,7 +205,8 @@ def pack(plan: Plan, batch: Batch, path: str) -> None:
     """Writes all that a batch needs into one file that `python3` runs: these modules, the plan, the program, and inputs."""
     places = sorted({plan.input_of(run) for run in range(batch.first, batch.last + 1)})
     about = {"cbi": plan.cbi, "rate": plan.rate, "seed": plan.seed, "turns": plan.turns, "oracle": plan.oracle,
-             "count": len(plan.inputs), "expected": bool(plan.expected), "parts": len(plan.parts), "first": batch.first, "last": batch.last}
+             "count": len(plan.inputs), "expected": bool(plan.expected), "parts": len(plan.parts), "patience": plan.patience, "hangs": plan.hangs,
+             "first": batch.first, "last": batch.last}
     with zipfile.ZipFile(path, "w", zipfile.ZIP_DEFLATED) as packed:
         packed.writestr("__main__.py", BEGIN)
         packed.writestr("plan.json", json.dumps(about))
@@ -189,7 +231,8 @@ def unpack(path: str, folder: str) -> Tuple[Plan, Batch]:
     cbi = shutil.which(about["cbi"])
     if cbi is None:
         raise Fault(f"{about['cbi']} isn't on the path, which is {os.environ.get('PATH', '')}")
-    plan = Plan(cbi, os.path.join(folder, "program"), about["rate"], about["seed"], about["turns"], about["oracle"], inputs, inputs, expected, parts)
+    plan = Plan(cbi, os.path.join(folder, "program"), about["rate"], about["seed"], about["turns"], about["oracle"], inputs, inputs, expected, parts,
+                about["patience"], about["hangs"])
     return plan, Batch(about["first"], about["last"])
 
 

@@ -16,10 +16,11 @@ _cbi_value() {
     --mode) value='plain full sampled' ;;
     --schemes) value='branches returns pairs branches,returns branches,pairs returns,pairs branches,returns,pairs' ;;
     --policy) value='all failing relabel' ;;
+    --hangs) value='neither fail' ;;
     --format) value='text html sarif quickfix' ;;
     --rate) value='1 2 5 10 20 50 100 1000' ;;
-    --part | --parts | --turns | --run | --runs | --count | --seed | --stream | --jobs | --oracle) value=' ' ;;
-    --bank | --input | --expect | --report | --program | --whole | --inputs | --keep | --html | --farm | --cbi | --source | --cards | --reports | --output | --sites) ;;
+    --part | --parts | --turns | --run | --runs | --count | --seed | --stream | --jobs | --oracle | --oracle-shell | --oracle-timeout | --mutate | --args) value=' ' ;;
+    --bank | --input | --expect | --report | --program | --whole | --inputs | --keep | --hunt | --html | --farm | --cbi | --source | --lines | --cards | --pairs | --reports | --output | --sites) ;;
     *) return 1 ;;
     esac
 }
@@ -55,15 +56,15 @@ _cbi() {
 }
 
 _cbi_hunt() {
-    _cbi_options '--inputs --expect --oracle --rate --runs --seed --turns --schemes --jobs --policy --keep --html --farm --parts --cbi --help'
+    _cbi_options '--inputs --args --no-check --expect --oracle --oracle-shell --oracle-timeout --hangs --minimize --mutate --rate --runs --seed --turns --schemes --jobs --policy --keep --all --html --farm --parts --cbi --version --help'
 }
 
 _cbi_show() {
-    _cbi_options '--source --program --cards --reports --format --output --sites --help'
+    _cbi_options '--hunt --source --lines --program --cards --pairs --reports --format --all --output --sites --version --help'
 }
 
 _cbi_explain() {
-    _cbi_options '--program --table --help'
+    _cbi_options '--program --table --all --version --help'
 }
 
 complete -o filenames -F _cbi cbi

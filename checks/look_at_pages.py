@@ -1,0 +1,254 @@
+"""Looks at the page of a hunt and at its SARIF, as look_at_tools does at the rest."""
+import html.parser
+import json
+import os
+import re
+import shutil
+import subprocess
+import sys
+
+import looking
+from looking import Case, Hunting, environment
+
+sys.path.insert(0, looking.TOOLS)
+import cbi_files  # noqa: E402
+import cbi_highlight  # noqa: E402
+import cbi_page  # noqa: E402
+import cbi_rows  # noqa: E402
+import cbi_sarif  # noqa: E402
+import cbi_style  # noqa: E402
+import cbi_where  # noqa: E402
+
+SCHEMA = os.path.join(looking.TOP, "checks", "sarif-2.1.0.json")
+# What checks a document by a schema; the schema's own faults are told too.
+VALIDATE = """\
+import json, sys
+import jsonschema
+schema, log = (json.load(open(name)) for name in sys.argv[1:])
+jsonschema.Draft7Validator.check_schema(schema)
+errors = list(jsonschema.Draft7Validator(schema).iter_errors(log))
+print(errors[0].message if errors else "valid")
+"""
+
+
+class Page(html.parser.HTMLParser):
+    """Parses a page: what is open must be closed in turn, and ids, links and the names of attributes are kept, with the text below each heading."""
+    EMPTY = {"meta", "br", "img", "hr", "link", "input"}
+
+    def __init__(self, text):
+        super().__init__()
+        self.open, self.ids, self.links, self.tags, self.attributes, self.text, self.headings, self.folded = [], [], [], set(), set(), "", [], ""
+        self.feed(text)
+        self.close()
+
+    def handle_starttag(self, tag, attrs):
+        names = dict(attrs)
+        self.tags.add(tag)
+        self.ids += [names["id"]] if "id" in names else []
+        self.links += [names[name] for name in ("href", "src") if name in names]
+        self.attributes |= set(names)
+        if re.fullmatch("h[1-6]", tag):
+            self.headings.append([int(tag[1]), ""])
+        if tag not in self.EMPTY:
+            self.open.append(tag)
+
+    def handle_endtag(self, tag):
+        if not self.open or self.open.pop() != tag:
+            raise AssertionError(f"</{tag}> closes what isn't open")
+
+    def handle_data(self, data):
+        if "style" in self.open:
+            return
+        if "details" in self.open and "summary" not in self.open:
+            self.folded += data
+        else:
+            self.text += data
+        if self.headings and any(re.fullmatch("h[1-6]", tag) for tag in self.open):
+            self.headings[-1][1] += data
+
+
+def sound(case, text):
+    """A page that stands alone, whose links lead somewhere in it, and that a keyboard is enough for."""
+    page = Page(text)
+    case.assertEqual(page.open, [])
+    case.assertEqual(len(page.ids), len(set(page.ids)))
+    for link in page.links:
+        case.assertTrue(link.startswith("#") and link[1:] in page.ids, link)
+    case.assertFalse(page.tags & {"script", "link", "img", "iframe", "button", "input", "select", "textarea", "dialog", "audio", "video", "object", "embed"})
+    case.assertTrue(page.attributes <= {"lang", "charset", "name", "content", "class", "href", "id", "style", "aria-label", "aria-hidden"}, page.attributes)
+    case.assertNotIn("url(", text)
+    levels = [level for level, _ in page.headings]
+    case.assertEqual(levels[0], 1)
+    case.assertEqual(levels.count(1), 1)
+    case.assertTrue(all(after <= before + 1 for before, after in zip(levels, levels[1:])), levels)
+    return page
+
+
+def luminance(colour):
+    """How light a colour is, by WCAG 2.1."""
+    parts = [part / 255 for part in colour]
+    linear = [part / 12.92 if part <= 0.03928 else ((part + 0.055) / 1.055) ** 2.4 for part in parts]
+    return 0.2126 * linear[0] + 0.7152 * linear[1] + 0.0722 * linear[2]
+
+
+def contrast(one, other):
+    light, dark = sorted((luminance(one), luminance(other)), reverse=True)
+    return (light + 0.05) / (dark + 0.05)
+
+
+def colours(block):
+    """The colours of a style's variables."""
+    found = {}
+    for name, value in re.findall(r"--([a-z]+): ([^;]+);", block):
+        digits = value[1:] if len(value) == 7 else "".join(2 * digit for digit in value[1:])
+        found[name] = tuple(map(int, value.split())) if " " in value else tuple(int(digits[at:at + 2], 16) for at in (0, 2, 4))
+    return found
+
+
+def mixed(above, below, part):
+    return tuple(part * one + (1 - part) * other for one, other in zip(above, below))
+
+
+class Style(Case):
+    def test_all_text_is_seen_in_light_and_dark(self):
+        """Each text has a contrast of 4.5 at least with what it stands on (WCAG 2.1, 1.4.3), also on the darkest shade of a line."""
+        light, dark = re.findall(r":root \{([^}]*)\}", cbi_style.STYLE)
+        for block in (light, dark):
+            found = colours(block)
+            for ground in ("paper", "card"):
+                for text in ("ink", "quiet", "link", "word", "string", "note"):
+                    self.assertGreaterEqual(contrast(found[text], found[ground]), 4.5, (text, ground))
+                self.assertGreaterEqual(contrast(found["ink"], mixed(found["hot"], found[ground], 0.35)), 4.5, ground)
+                self.assertGreaterEqual(contrast(found["ink"], found["mark"]), 4.5)
+        self.assertIn("color-scheme: light dark", cbi_style.STYLE)
+        self.assertIn(".marked, .marked::before, .marked i { color: var(--ink) !important; }", cbi_style.STYLE)
+
+    def test_what_it_is_like_elsewhere(self):
+        self.assertIsNone(re.search(r"overflow(-[xy])?:", cbi_style.STYLE), "a part of the page scrolls by itself, and no key may come to it")
+        self.assertIn("overflow-wrap: anywhere", cbi_style.STYLE)
+        self.assertIn("a:focus-visible, summary:focus-visible { outline: 3px solid", cbi_style.STYLE)
+        self.assertEqual(cbi_style.STYLE.count("outline:"), 1)
+        self.assertIn(".skip:focus { left: 1rem; top: 1rem;", cbi_style.STYLE)
+        paper = cbi_style.STYLE.split("@media print")[1]
+        self.assertIn("break-inside: avoid", paper)
+
+    def test_a_text_is_coloured_line_by_line(self):
+        lines = ["#include <a.h> /* one", "two */ int x = 'a' < 1; // if", 'char *s = "int /*";', "ifs = 1;"]
+        self.assertEqual(cbi_highlight.highlighted(lines), ["<b>#include &lt;a.h&gt; </b><i>/* one</i>", "<i>two */</i> <b>int</b> x = <u>&#x27;a&#x27;</u> &lt; 1; <i>// if</i>",
+                                                           "<b>char</b> *s = <u>&quot;int /*&quot;</u>;", "ifs = 1;"])
+
+
+class Pages(Hunting):
+    def page(self, *words, due=0):
+        self.hunt(*words, "--html", "page.html", due=due)
+        text = self.read("page.html").decode()
+        return sound(self, text), text
+
+    def test_the_answer_is_first_and_jargon_is_folded(self):
+        page, text = self.page("--inputs", "in puts", "--expect", "due", "--rate", "1")
+        self.assertEqual(page.headings[0], [1, "c == 97 'a' after c = getchar() at upper.c:6 in main"])
+        self.assertEqual([said for level, said in page.headings if level == 2][:2], ["Facts that go with failures", "How runs ended"])
+        self.assertIn([3, "c == 97 'a' after c = getchar()"], page.headings)
+        for said in ("All 3 runs that saw it failed; of the 9 others that looked there none did. All 3 failing runs ended by other output.", "Line 1 of its output", "aBC", "fails 25 % of the time when reached, 100 % when this is true"):
+            self.assertIn(said, page.text)
+        for word in ("predicate", "Increase", "increase", "context", "elimination", "Importance"):
+            self.assertNotIn(word, page.text.replace("proved to be the elimination of", ""))
+            self.assertIn(word.lower(), page.folded.lower())
+        self.assertLess(text.index('id="answer"'), text.index('id="rows"'))
+        self.assertLess(text.index('id="rows"'), text.index('id="source"'))
+
+    def test_how_runs_ended_is_drawn(self):
+        self.write("in puts/13 !", "!")
+        page, text = self.page("--inputs", "in puts", "--rate", "1", "--runs", "26")
+        self.assertIn('<tr><td>failed: a call of abort (trap 14)</td><td>2</td><td aria-hidden="true"><span class="tall" style="width:8.3%"></span>', text)
+        self.assertIn('<tr class=well><td>as it should</td><td>24</td><td aria-hidden="true"><span class="tall" style="width:100.0%"></span>', text)
+
+    def test_what_made_it_is_said(self):
+        done = subprocess.run(["cbi-hunt", "upper.c", "--inputs", "both", "--rate", "1", "--seed", "7", "--keep", "a b", "--runs", "24"], cwd=self.room,
+                              env=dict(environment(), SOURCE_DATE_EPOCH="86400"), stdout=subprocess.PIPE, check=False)
+        self.assertEqual(done.returncode, 0)
+        page = sound(self, self.read("a b/page.html").decode())
+        program = cbi_files.read_program(self.path("a b", "program")).identity
+        source = subprocess.run(["sha256sum", "upper.c"], cwd=self.room, stdout=subprocess.PIPE, check=True).stdout.decode().split()[0]
+        for said in ("cbi-hunt upper.c --inputs both --rate 1 --seed 7 --keep 'a b' --runs 24", "1970-01-02", cbi_files.VERSION, program, source):
+            self.assertIn(said, page.text)
+
+    def test_lines_are_the_darker_the_more_they_say(self):
+        _, text = self.page("--inputs", "in puts", "--expect", "due", "--rate", "1")
+        marked = re.search(r'<p id="L6" class="marked" style="background:rgb\(var\(--hot\) / (0\.\d\d)\)">(.*?)</p>', text)
+        self.assertEqual(marked[1], f"{0.08 + 0.27 * 0.857:.2f}")
+        self.assertIn("1. c == 97 &#x27;a&#x27; after c = getchar()</a></span>", marked[2])
+        self.assertIn('<p id="L5"><code>    <b>int</b> c;</code></p>', text)
+
+    def test_no_row_still_makes_a_page(self):
+        page, _ = self.page("--inputs", "in puts", due=1)
+        self.assertEqual(page.headings[0], [1, "upper.c: no fact stands out"])
+        self.assertIn("No run failed, so there is nothing that a failure could be told apart from.", page.text)
+        self.assertIn("12 runs on 12 inputs: 0 failed, 12 succeeded", page.text)
+
+    def test_thirty_rows_have_room_in_sixty_thousand_bytes(self):
+        """Thirty rows with five neighbours each, of a source of 300 lines; the source gives way."""
+        body = "".join(f"    value_{number} = other_value * {number} + read_number(); /* what line {number} does */\n" for number in range(296))
+        source = ("int main(void)\n{\n" + body + "}\n").split("\n")
+        rows, shown = [cbi_files.Row(rank, 6 * rank, "pairs", "some_function", 9 * rank, f"value_{rank} >= other_value", 40 + rank, 7, 90, 400, 850000, 150000, 700000, 700000 - rank)
+                       for rank in range(1, 31)], []
+        for row in rows:
+            near = tuple(f"near {6 * other.rank} {600000 - other.rank} {other.text}" for other in rows if other is not row)[:5]
+            shown.append(f"card {row.rank} {row.predicate} {row.function} {row.line} {row.text}\ntruth {row.f} {row.s} first 3\n" + "\n".join(near))
+        self.write("cards", "\n".join(shown) + "\nend\n")
+        given = cbi_rows.Given(cbi_where.one_file("a_program.c", source), source, None, cbi_files.read_cards(self.path("cards")))
+        text = "".join(line + "\n" for line in cbi_page.page_of(cbi_rows.view_of(cbi_files.Ranking(rows, None), given)))
+        page = sound(self, text)
+        self.assertEqual(len([level for level, _ in page.headings if level == 3]), 30)
+        self.assertLessEqual(len(text.encode()), 60000)
+        self.assertIn('id="L270"', text)
+
+
+class Sarif(Hunting):
+    def valid(self, log):
+        """What a validator says of a log; none where there is no validator."""
+        self.write("log.json", json.dumps(log))
+        for python in (sys.executable, "/usr/bin/python3"):
+            if os.path.exists(python) and subprocess.run([python, "-c", "import jsonschema"], stderr=subprocess.DEVNULL, check=False).returncode == 0:
+                return subprocess.run([python, "-c", VALIDATE, SCHEMA, "log.json"], cwd=self.room, stdout=subprocess.PIPE, check=True).stdout.decode().strip()
+        self.skipTest("there is no python3-jsonschema here")
+
+    def log(self):
+        self.hunt("--inputs", "in puts", "--expect", "due", "--rate", "1", "--keep", "kept")
+        return json.loads(self.call("cbi-show", "--hunt", "kept", "--format", "sarif")[0])
+
+    def test_it_keeps_the_schema(self):
+        log = self.log()
+        self.assertEqual(self.valid(log), "valid")
+        result = log["runs"][0]["results"][0]
+        for key, value in (("level", "fatal"), ("message", {}), ("rank", 101), ("severity", 1), ("locations", [{"physicalLocation": {}}])):
+            wrong = {**result, key: value}
+            self.assertNotEqual(self.valid({**log, "runs": [{**log["runs"][0], "results": [wrong]}]}), "valid", key)
+
+    def test_what_it_says(self):
+        """Importance 0.857 is an error; what falls with the first row stands beside it."""
+        os.makedirs(self.path(".git"))
+        log = self.log()
+        run = log["runs"][0]
+        self.assertEqual(run["originalUriBaseIds"], {"%SRCROOT%": {"uri": cbi_sarif.pathlib.Path(self.room).as_uri() + "/"}})
+        driver = run["tool"]["driver"]
+        self.assertEqual((driver["name"], driver["version"], "informationUri" in driver), ("cbi", cbi_files.VERSION, False))
+        for rule in driver["rules"]:
+            self.assertTrue(rule["help"]["text"] and rule["fullDescription"]["text"])
+        first = run["results"][0]
+        place = first["locations"][0]["physicalLocation"]
+        self.assertEqual(place, {"artifactLocation": {"uri": "upper.c", "uriBaseId": "%SRCROOT%"}, "region": {"startLine": 6, "snippet": {"text": "    while ((c = getchar()) != EOF) {"}}})
+        self.assertEqual((first["level"], driver["rules"][first["ruleIndex"]]["id"], first["ruleId"]), ("error", "pairs", "pairs"))
+        self.assertTrue(first["message"]["text"].startswith("c == 97 'a' after c = getchar(): true in 3 failing runs and no successful runs; looked at in 3 failing and 9 successful. Fails 25 % of"), first["message"])
+        self.assertEqual([place["id"] for place in first["relatedLocations"]], list(range(1, len(first["relatedLocations"]) + 1)))
+        self.assertTrue(first["relatedLocations"][0]["message"]["text"].startswith("falls with it: "))
+
+    def test_levels_go_by_importance(self):
+        self.assertEqual([cbi_sarif.level_of(importance) for importance in (500000, 499999, 100000, 99999, 0)], ["error", "warning", "warning", "note", "note"])
+
+    def test_fingerprints_stay_when_lines_come_in_above(self):
+        before = self.log()["runs"][0]["results"][0]["partialFingerprints"]
+        self.write("upper.c", "/* one more line */\n" + looking.UPPER)
+        shutil.rmtree(self.path("kept"))
+        after = self.log()["runs"][0]["results"][0]
+        self.assertEqual((after["partialFingerprints"], after["locations"][0]["physicalLocation"]["region"]["startLine"]), (before, 7))

@@ -1,0 +1,134 @@
+"""Looks at hunts of texts that are ported first, as look_at_tools does at the rest: files and lines are a person's."""
+import json
+import os
+import re
+import shutil
+import sys
+
+import looking
+from looking import Case, Hunting, call
+from look_at_pages import sound
+
+sys.path.insert(0, looking.TOOLS)
+import cbi_files  # noqa: E402
+import cbi_rows  # noqa: E402
+import cbi_text  # noqa: E402
+import cbi_where  # noqa: E402
+
+MAIN = """\
+#include <stdio.h>
+#include "check.h"
+typedef unsigned char byte;
+int main(void)
+{
+    int c;
+    byte last = 0;
+    while ((c = getchar()) != EOF) {
+        switch (check(c)) {
+        case '%': puts("per cent"); break;
+        default: putchar(c);
+        }
+        last = c;
+    }
+    return last > 200;
+}
+"""
+CHECK = """\
+#include <stdlib.h>
+#include "check.h"
+int check(int c)
+{
+    if (c == '!')
+        abort();
+    return c;
+}
+"""
+LINES = """\
+cbi-lines 1
+files 2
+main.c
+check.c
+functions 1
+cbi_strlen
+lines 4
+1 3
+2 5
+added
+1 9
+end
+"""
+
+
+class Ported(Hunting):
+    def setUp(self):
+        super().setUp()
+        if call(sys.executable, "-c", "import pycparser")[0] or not any(map(shutil.which, ("gcc", "clang", "cpp"))):
+            self.skipTest("there is no pycparser here, or no preprocessor")
+        self.write("main.c", MAIN)
+        self.write("check.c", CHECK)
+        self.write("include/check.h", "int check(int c);\n")
+        self.write("in puts/05 mno", "mn!")
+        self.write("in puts/09 fgh", "fg!")
+
+    def hunted(self, *words, due=0):
+        return self.call("cbi-hunt", "main.c", "check.c", "--inputs", "in puts", "--rate", "1", "--runs", "24", "--jobs", "1", *words, "--", "-I", "include", due=due)
+
+    def test_files_and_lines_are_those_of_the_text_that_is_given(self):
+        out, err = self.hunted("--html", "page.html", "--keep", "kept")
+        self.assertTrue(out.startswith("if (c == '!') was true at check.c:5 in check. All 4 runs that saw it failed; of the 20 others that looked\n"
+                                       "there none did. All 4 failing runs ended by a call of abort (trap 14).\n\n      3 | int check(int c)\n      4 | {\n>     5 |     if (c == '!')\n"), out)
+        self.assertRegex(out, r"\nported: [^\n]*1 switch" + ("[^\n]*; 10 of 12 outputs as gcc's, 2 runs end in trap 14 where gcc's aborts\n" if shutil.which("gcc") else ""))
+        self.assertIn("\n  1. check.c:5, check: if (c == '!') is true\n", out)
+        page = sound(self, self.read("page.html").decode())
+        self.assertIn([3, "check.c"], page.headings)
+        self.assertIn("#F2L5", page.links)
+        self.assertTrue(self.call("cbi-show", "--hunt", "kept", "--format", "quickfix")[0].startswith("check.c:5: if (c == '!') is true: "))
+        log = json.loads(self.call("cbi-show", "--hunt", "kept", "--format", "sarif")[0])
+        place = log["runs"][0]["results"][0]["locations"][0]["physicalLocation"]
+        self.assertTrue(place["artifactLocation"]["uri"].endswith("/check.c"))
+        self.assertEqual(place["region"], {"startLine": 5, "snippet": {"text": "    if (c == '!')"}})
+
+    def test_the_run_is_made_again_without_what_was_kept(self):
+        out, _ = self.hunted("--no-check")
+        self.assertNotIn("outputs as gcc's", out)
+        command = re.search(r"^the run again: (.*)$", out, re.MULTILINE)[1]
+        self.assertIn("It trapped: 14 Abort", self.call("bash", "-c", command)[0])
+
+    def test_what_the_porter_refuses_is_told_with_its_line(self):
+        self.write("check.c", CHECK.replace("    return c;", "    return undeclared_name;"))
+        _, err = self.hunted(due=2)
+        self.assertRegex(err, r"^check\.c:7: ")
+
+    def test_without_the_porter_a_text_is_refused_as_cbi_refuses_it(self):
+        self.write("none/pycparser.py", "raise ImportError('not here')\n")
+        self.write("bad.c", "int main(void)\n{\n    long n;\n}\n")
+        _, err = self.call("env", f"PYTHONPATH={self.path('none')}", "cbi-hunt", "bad.c", "--inputs", "in puts", due=2)
+        self.assertTrue(err.startswith("bad.c:3: refusal 12 Syntax\n\n    2 | {\n    3 |     long n;\n\n"), err)
+        self.assertEqual(err.count("refusal"), 1, err)
+        self.assertIn("In its place: `int` or `unsigned`", err)
+        self.assertIn("python3-pycparser", err)
+
+
+class Lines(Case):
+    def test_a_map_says_whose_a_line_is(self):
+        self.write("main.c", "".join(f"main {number}\n" for number in range(1, 10)))
+        self.write("check.c", "".join(f"check {number}\n" for number in range(1, 10)))
+        self.write("map", LINES)
+        self.addCleanup(os.chdir, os.getcwd())
+        os.chdir(self.room)
+        where = cbi_where.ported("out.c", "map")
+        self.assertEqual([where.spot(line, "main") for line in (1, 2, 4)], [("main.c", 3, False), ("check.c", 5, False), ("main.c", 9, False)])
+        self.assertEqual(where.text(where.spot(2, "main")), "check 5")
+        self.assertEqual([where.named(where.spot(line, "main")) for line in (1, 2, 3, 7)], ["main.c:3", "check.c:5", "what the port added", "what the port added"])
+        self.assertTrue(where.spot(1, "cbi_strlen").added)
+        rows = [cbi_files.Row(rank, rank, "branches", function, line, "if is true", 9, 0, 9, 9, 1000000, 500000, 500000, 600000 - rank)
+                for rank, (function, line) in enumerate((("cbi_strlen", 1), ("main", 2), ("main", 3)), 1)]
+        view = cbi_rows.view_of(cbi_files.Ranking(rows, None), cbi_rows.Given(where))
+        self.assertEqual([shown.row.rank for shown in view.added], [1, 3])
+        text, whole = ("\n".join(cbi_text.text_of(view, every=every)) for every in (False, True))
+        self.assertTrue(text.startswith("if was true at check.c:5 in main. "), text)
+        self.assertIn("\n2 rows of what the port added aren't shown (--all shows them).\n", text)
+        self.assertNotIn("cbi_strlen", text)
+        self.assertIn("\n  1. what the port added, cbi_strlen: if is true\n", whole)
+        self.write("map", LINES.replace("lines 4", "lines 9"))
+        self.assertRaisesRegex(cbi_files.Fault, "map: no map of lines", cbi_where.ported, "out.c", "map")

@@ -1,0 +1,84 @@
+"""How the runs of a hunt went, and the line of progress that says so. Not proved."""
+import sys
+import time
+from typing import Dict, List, Tuple
+
+import cbi_files
+from cbi_hunt.kept import Kept
+from cbi_runs import Plan
+
+class Count:
+    """How many runs ended how, which inputs failed, and how many site lines each run has."""
+
+    def __init__(self, plan: Plan):
+        self.plan = plan
+        self.failed = self.succeeded = self.neither = self.cut = 0
+        self.failing_inputs: Dict[int, str] = {}
+        self.failing_runs: Dict[int, int] = {}
+        self.hanging_inputs: Dict[int, int] = {}
+        self.marks: List[Tuple[int, int]] = []
+
+    def add(self, collection: str) -> None:
+        for run in cbi_files.read_heads(collection):
+            self.marks.append((run.number, run.sites))
+            self.cut += run.outcome.startswith("cut")
+            self.failed += run.label == "fail"
+            self.succeeded += run.label == "pass"
+            self.neither += run.label == "none"
+            if run.outcome == "cut turns":
+                self.hanging_inputs.setdefault(self.plan.input_of(run.number), run.number)
+            if run.label == "fail":
+                self.failing_inputs.setdefault(self.plan.input_of(run.number), run.outcome)
+                self.failing_runs.setdefault(self.plan.input_of(run.number), run.number)
+
+    def runs(self) -> int:
+        return len(self.marks)
+
+
+def counted(plan: Plan, kept: Kept) -> Count:
+    """How all runs went that are there."""
+    count = Count(plan)
+    for batch in kept.made():
+        count.add(kept.batch_path(batch))
+    return count
+
+
+class Told:
+    """A line on a terminal that changes; where err is none, nothing is written."""
+
+    def __init__(self) -> None:
+        self.wanted = sys.stderr.isatty()
+        self.shown = 0.0
+
+    def show(self, line: str) -> None:
+        """Shows a line in place of the one before, ten times a second at most."""
+        if self.wanted and time.monotonic() - self.shown > 0.1:
+            self.shown = time.monotonic()
+            sys.stderr.write(f"\r{line}\x1b[K")
+            sys.stderr.flush()
+
+    def clear(self) -> None:
+        if self.wanted:
+            sys.stderr.write("\r\x1b[K")
+            sys.stderr.flush()
+
+    def tell(self, line: str) -> None:
+        """A line of its own, which stays."""
+        if self.wanted:
+            sys.stderr.write(f"\r{line}\x1b[K\n")
+            sys.stderr.flush()
+
+
+class Progress(Told):
+    """How far the runs are."""
+
+    def __init__(self, runs: int, count: Count):
+        super().__init__()
+        self.count, self.runs, self.start, self.before = count, runs, time.monotonic(), count.runs()
+
+    def step(self) -> None:
+        done = self.count.runs()
+        passed = time.monotonic() - self.start
+        left = int(passed * (self.runs - done) / (done - self.before)) if done > self.before else None
+        time_left = "" if left is None else f", {left // 60}:{left % 60:02} left"
+        self.show(f"{done} of {self.runs} runs, {self.count.failed} failed, {self.count.cut} cut{time_left}")

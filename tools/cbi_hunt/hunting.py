@@ -1,0 +1,121 @@
+"""A hunt from its words to its end: compiles, makes runs, collects, ranks and shows. Not proved."""
+import argparse
+import os
+import shlex
+import shutil
+import sys
+from typing import Any, List, Optional, Tuple
+
+import cbi_files
+from cbi_files import FOUND, INTERRUPTED, NOTHING, Fault
+from cbi_hunt.collecting import collect, sample_of
+from cbi_hunt.counts import Count, Progress, counted
+from cbi_hunt.farm import make_on_farm
+from cbi_hunt.here import make_here
+from cbi_hunt.inputs import Inputs, inputs_of
+from cbi_hunt.kept import Kept, folder_of, heed, missing_batches
+from cbi_hunt.looks import TOOLS, Hunt, newline_note
+from cbi_hunt.mutants import add_mutants
+from cbi_hunt.oracles import oracle_of
+from cbi_hunt.showing import show
+from cbi_hunt.texts import text_of, transform
+from cbi_hunt.told import keep_failing, notes
+from cbi_hunt.words import arguments
+from cbi_runs import Plan
+
+LEAST_BATCH, MOST_BATCH, FARM_BATCH = 25, 200, 500
+
+
+def processors() -> int:
+    return len(os.sched_getaffinity(0)) if hasattr(os, "sched_getaffinity") else os.cpu_count() or 1
+
+
+def plan_of(chosen: argparse.Namespace, kept: Kept, inputs: Inputs, cbi: str) -> Tuple[Plan, List[str]]:
+    """How runs are made, and what is told of a port, and of inputs that were made."""
+    told = text_of(chosen, cbi, kept, inputs)
+    program, parts = kept.path("program"), []
+    if chosen.parts > 1:
+        os.makedirs(kept.path("parts"), exist_ok=True)
+        parts = [transform(chosen, cbi, kept.path("source.c"), kept.path("parts", str(part)), part) for part in range(chosen.parts)]
+    oracle = oracle_of(chosen)
+    plan = Plan(cbi, program, chosen.rate, chosen.seed, chosen.turns, oracle, [], [], None, parts, chosen.oracle_timeout, chosen.hangs == "fail")
+    if chosen.mutate:
+        told.append(add_mutants(chosen, plan, kept, inputs, chosen.jobs or processors()))
+    plan = plan._replace(names=inputs.names, inputs=[os.path.abspath(path) for path in inputs.paths],
+                         expected=inputs.expected and [os.path.abspath(path) for path in inputs.expected])
+    kept.settle({"program": cbi_files.read_program(program).identity, "rate": plan.rate, "seed": plan.seed, "turns": plan.turns, "parts": chosen.parts,
+                 "oracle": chosen.oracle or chosen.oracle_shell, "inputs": inputs.digest(), "hangs": chosen.hangs})
+    return plan, told
+
+
+def make_runs(chosen: argparse.Namespace, plan: Plan, kept: Kept, runs: int) -> Tuple[Count, bool]:
+    """Makes the runs that aren't there yet; answers how they went, and whether all were made."""
+    made, count = kept.made(), counted(plan, kept)
+    jobs = chosen.jobs or processors()
+    most = FARM_BATCH if chosen.farm else MOST_BATCH
+    size = max(LEAST_BATCH, min(most, runs // (8 * jobs)))
+    batches = missing_batches(made, runs, size)
+    progress = Progress(max(runs, count.runs()), count)
+    if not batches:
+        return count, True
+    try:
+        whole = make_on_farm(chosen, plan, kept, batches, progress) if chosen.farm else make_here(plan, kept, batches, jobs, progress)
+    finally:
+        progress.clear()
+        kept.clean()
+    return (count if whole else counted(plan, kept)), whole
+
+
+def hunt(chosen: argparse.Namespace, cbi: str, folder: str) -> int:
+    kept = Kept(folder)
+    inputs = inputs_of(chosen, folder)
+    plan, told = plan_of(chosen, kept, inputs, cbi)
+    count, whole = make_runs(chosen, plan, kept, chosen.runs or len(inputs.names))
+    if not count.runs():
+        print("No run was made.")
+        return INTERRUPTED
+    sample = sample_of(count.marks, chosen.seed)
+    collect(plan, kept, kept.made(), sample)
+    this = Hunt(chosen, plan, kept, inputs, count)
+    keep_failing(this)
+    newline = newline_note(this)
+    found = show(this, list(notes(this, whole, told, newline, None if sample is None else len(sample))), newline)
+    return INTERRUPTED if not whole else FOUND if found else NOTHING
+
+
+def executable(name: str) -> str:
+    """The executable: from the path, or the one that stands beside this script."""
+    beside = os.path.join(TOOLS, "cbi")
+    found = shutil.which(name) or (beside if name == "cbi" and os.access(beside, os.X_OK) else None)
+    if found:
+        return os.path.abspath(found)
+    if os.path.dirname(name):
+        raise Fault(f"--cbi {name}: " + ("it isn't executable" if os.path.exists(name) else "there is no such file"))
+    raise Fault(f"{name} isn't on the path: ./build FOLDER leaves it there, or name it by --cbi")
+
+
+def interrupted(number: int, frame: Any) -> None:
+    raise KeyboardInterrupt
+
+
+def check_page(path: Optional[str]) -> None:
+    """A page that can't be written is told before the runs are made."""
+    if path is None:
+        return
+    folder = os.path.dirname(path) or "."
+    if os.path.isdir(path) or not os.path.isdir(folder) or not os.access(path if os.path.exists(path) else folder, os.W_OK):
+        why = "it is a folder" if os.path.isdir(path) else "there is no such folder" if not os.path.isdir(folder) else "it can't be written there"
+        raise Fault(f"--html {path}: {why}")
+
+
+def main() -> int:
+    chosen = arguments(sys.argv[1:])
+    heed(interrupted)
+    for path in (*chosen.texts, chosen.inputs, chosen.expect):
+        if path and not os.path.exists(path):
+            raise Fault(f"{path}: there is no such file or folder")
+    check_page(chosen.html)
+    cbi = executable(chosen.cbi)
+    chosen.command = " ".join(shlex.quote(word) for word in ["cbi-hunt", *sys.argv[1:]])
+    with folder_of(chosen) as folder:
+        return hunt(chosen, cbi, folder)

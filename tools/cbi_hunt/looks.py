@@ -1,0 +1,198 @@
+"""Looks again at failing runs: the smallest input, what it wrote beside what was due, and how the run is made again. Not proved."""
+import argparse
+import dataclasses
+import os
+import re
+import shlex
+import shutil
+import sys
+from collections import Counter
+from typing import Counter as Counts
+from typing import List, Optional, Tuple
+
+import cbi_files
+from cbi_files import Program, count_of
+from cbi_hunt.again import Repeater, for_predicate, program_for
+from cbi_hunt.counts import Count, Told
+from cbi_hunt.inputs import Inputs
+from cbi_hunt.kept import Kept
+from cbi_hunt.smaller import Smaller, Wanted
+from cbi_hunt.words import TURNS
+from cbi_hunted import Example
+from cbi_rows import Shown, Wording
+from cbi_runs import Plan, asked, oracle_name
+from cbi_seen import ending_of
+
+TOOLS = os.path.dirname(os.path.dirname(os.path.realpath(__file__)))
+CONTROL = re.compile(r"[\x00-\x1f\x7f]")
+MOST_PRINTED = 160     # bytes of an input that a command writes by itself
+MOST_LOOKED = 20       # failing inputs that are looked at for the last newline
+MOST_HANGING = 5
+
+
+@dataclasses.dataclass
+class Hunt:
+    """What belongs to a hunt while it is at work."""
+    chosen: argparse.Namespace
+    plan: Plan
+    kept: Kept
+    inputs: Inputs
+    count: Count
+
+
+# What was written beside what was due
+
+def first_difference(wrote: bytes, due: bytes) -> Tuple[int, bytes, bytes]:
+    """The first line that differs, with both of them; line 0 where none does."""
+    ours, theirs = wrote.splitlines(keepends=True), due.splitlines(keepends=True)
+    for number in range(max(len(ours), len(theirs))):
+        one = ours[number] if number < len(ours) else b""
+        other = theirs[number] if number < len(theirs) else b""
+        if one != other:
+            return number + 1, one, other
+    return 0, b"", b""
+
+
+def last_line(data: bytes) -> bytes:
+    lines = data.splitlines(keepends=True)
+    return lines[-1] if lines else b""
+
+
+# The command that makes a run again
+
+def printed(data: bytes) -> str:
+    """A `printf` that writes these bytes."""
+    def of(byte: int) -> str:
+        if byte in (37, 92):
+            return "%%" if byte == 37 else "\\\\"
+        return chr(byte) if 32 <= byte <= 126 else {10: "\\n", 9: "\\t"}.get(byte, f"\\{byte:03o}")
+    return "printf " + shlex.quote("".join(map(of, data)))
+
+
+def quoted(word: str) -> str:
+    """A word as a shell reads it, in which no control byte comes to a terminal."""
+    if not CONTROL.search(word):
+        return shlex.quote(word)
+    return "$'" + CONTROL.sub(lambda found: f"\\{ord(found[0]):03o}", word.replace("\\", "\\\\").replace("'", "\\'")) + "'"
+
+
+def script(name: str) -> str:
+    """What a script is called by: its name where it is on the path, or else its place."""
+    return name if shutil.which(name) else quoted(os.path.join(TOOLS, name))
+
+
+def command_for(hunt: Hunt, name: str, path: str, data: bytes, made: bool) -> str:
+    """A command that makes a run again and says how it ended, with paths that are there when the hunt has ended."""
+    chosen = hunt.chosen
+    cbi = quoted(chosen.cbi) if shutil.which(chosen.cbi) else quoted(hunt.plan.cbi)
+    run = f"{script('cbi-explain')} -- {cbi} run" + (f" --turns {chosen.turns}" if chosen.turns != TURNS else "") + " --input "
+    if chosen.keep:
+        file = os.path.join(chosen.keep, "smallest") if made else os.path.join(chosen.keep, "failing", name)
+        return f"{run}{quoted(file)} {quoted(os.path.join(chosen.keep, 'plain'))}"
+    compiled = f"{cbi} transform --mode plain {quoted(chosen.text)} | {run}"
+    if os.path.exists(hunt.kept.path("source.c.lines")):
+        words = ["--quiet", *(["--args", chosen.args] if chosen.args else []), *chosen.texts, *chosen.cpp]
+        compiled = f"{script('cbi-port')} {' '.join(map(quoted, words))} | {cbi} transform --mode plain - | {run}"
+    given = hunt.inputs.lines is None and hunt.inputs.names.index(name) < hunt.inputs.given
+    if not made and given:
+        return f"{compiled}{quoted(path)} -"
+    if len(data) <= MOST_PRINTED or made or hunt.inputs.lines is None:
+        return f"{printed(data)} >input; {compiled}input -"
+    return f"sed -n {hunt.inputs.names.index(name) + 1}p {quoted(hunt.inputs.lines)} >input; {compiled}input -"
+
+
+# One failing run
+
+def example_of(hunt: Hunt, first: Optional[Shown], program: Program) -> Optional[Example]:
+    """The smallest failing input of the first row, or of all failing runs where there is none."""
+    plan, inputs = hunt.plan, hunt.inputs
+    runs = first.truth.runs if first and first.truth and first.truth.runs else sorted(hunt.count.failing_runs.values())
+    places = {plan.input_of(run): run for run in reversed(runs)}
+    if not places:
+        return None
+    place = min(places, key=lambda place: (os.path.getsize(inputs.paths[place]), inputs.names[place]))
+    name, path, run = inputs.names[place], inputs.paths[place], places[place]
+    data = cbi_files.read_bytes(path)
+    plain, repeater = program_for(hunt.chosen, plan.cbi, hunt.kept, "plain"), Repeater(plan, hunt.kept.folder)
+    outcome = ending_of(repeater.run(plain, path).outcome)
+    fewer, steps = made_smaller(hunt, first, program, data, outcome) if hunt.chosen.minimize else (None, 0)
+    if fewer is not None:
+        path = hunt.kept.path("smallest")
+        with open(path, "wb") as file:
+            file.write(fewer)
+        repeater.run(plain, path)
+    wrote = cbi_files.read_bytes(repeater.output)
+    repeater.close()
+    due = cbi_files.read_bytes(inputs.expected[place]) if inputs.expected and fewer is None else None
+    line, ours, theirs = first_difference(wrote, due) if due is not None else (0, b"", b"")
+    shown = data if fewer is None else fewer
+    again = command_for(hunt, name, path, shown, fewer is not None)
+    return Example(name, run, shown[:4096], len(shown), outcome, ours[:4096] if line else last_line(wrote)[:4096], theirs[:4096] if line else None, line, again,
+                   len(data) if fewer is not None else None, steps)
+
+
+def made_smaller(hunt: Hunt, first: Optional[Shown], program: Program, data: bytes, outcome: str) -> Tuple[Optional[bytes], int]:
+    """The input made smaller, with how many runs that took; none where nothing can be made smaller."""
+    if first is None:
+        return None, 0
+    if outcome == "ended" and not hunt.plan.oracle:
+        print("cbi-hunt: --minimize asks for an oracle where runs end by other output: nothing says what the program should write on a smaller input", file=sys.stderr)
+        return None, 0
+    single, counters = for_predicate(hunt.chosen, hunt.plan.cbi, hunt.kept, program, first.row.predicate)
+    smaller = Smaller(hunt.plan, hunt.kept.folder, Wanted(single, counters, outcome), Told())
+    fewer = smaller.of(data)
+    os.remove(single)
+    return (fewer, smaller.steps) if fewer is not None and len(fewer) < len(data) else (None, 0)
+
+
+# What may be wrong with what is expected
+
+def newline_note(hunt: Hunt) -> Optional[str]:
+    """Tells where outputs and what is expected differ in the last newline alone."""
+    inputs = hunt.inputs
+    if not inputs.expected:
+        return None
+    places = [place for place in sorted(hunt.count.failing_inputs) if hunt.count.failing_inputs[place].startswith("ended")][:MOST_LOOKED]
+    if not places:
+        return None
+    plain, repeater, found = program_for(hunt.chosen, hunt.plan.cbi, hunt.kept, "plain"), Repeater(hunt.plan, hunt.kept.folder), []
+    for place in places:
+        repeater.run(plain, inputs.paths[place])
+        wrote, due = cbi_files.read_bytes(repeater.output), cbi_files.read_bytes(inputs.expected[place])
+        if wrote != due and wrote.rstrip(b"\n") == due.rstrip(b"\n") and abs(len(wrote) - len(due)) == 1:
+            found.append((inputs.names[place], len(wrote) > len(due)))
+    repeater.close()
+    if not found:
+        return None
+    name, more = found[0]
+    whose = "the program writes one more than is expected" if more else "one more is expected than the program writes"
+    return f"{len(found)} of {count_of(len(places), 'failing input')} that {'was' if len(places) == 1 else 'were'} looked at differ in the last newline alone: on {name} {whose}"
+
+
+def oracle_note(hunt: Hunt) -> Optional[str]:
+    """What the oracle wrote to err on a run that it calls wrong, where it calls all of them wrong."""
+    places = sorted(place for place, outcome in hunt.count.failing_inputs.items() if outcome.startswith("ended"))
+    if not hunt.plan.oracle or not places:
+        return None
+    repeater = Repeater(hunt.plan, hunt.kept.folder)
+    run = repeater.run(program_for(hunt.chosen, hunt.plan.cbi, hunt.kept, "plain"), hunt.inputs.paths[places[0]])
+    said = asked(hunt.plan, hunt.inputs.paths[places[0]], run.output).err.strip()
+    repeater.close()
+    return f"The oracle {oracle_name(hunt.plan)} calls all of them wrong, and wrote to err: {said.splitlines()[-1]}" if said else None
+
+
+# Runs without end
+
+def hanging_places(hunt: Hunt, program: Program, wording: Wording) -> List[Tuple[str, int]]:
+    """Where a few of the runs that were cut were seen last, each with how many of these."""
+    if not hunt.plan.hangs or not hunt.count.hanging_inputs or not program.sites:
+        return []
+    full, repeater = program_for(hunt.chosen, hunt.plan.cbi, hunt.kept, "full"), Repeater(hunt.plan, hunt.kept.folder)
+    found: Counts[str] = Counter()
+    for place in sorted(hunt.count.hanging_inputs)[:MOST_HANGING]:
+        last = repeater.run(full, hunt.inputs.paths[place]).last
+        if last is not None:
+            site = program.sites[last]
+            found[f"{wording.where.at(site.line, site.function)}: {wording.of_site(site, site.predicates()[0][0]).code}"] += 1
+    repeater.close()
+    return found.most_common()

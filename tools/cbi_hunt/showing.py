@@ -1,0 +1,73 @@
+"""Ranks what was collected, and shows it as text and as a page. Not proved."""
+import datetime
+import hashlib
+import os
+import sys
+from typing import List, Optional
+
+import cbi_files
+import cbi_rows
+import cbi_show
+import cbi_where
+from cbi_hunt.looks import Hunt, example_of, hanging_places
+from cbi_hunt.told import advice
+from cbi_hunted import Hunted, write_hunted
+from cbi_runs import call_to
+
+
+def date_of() -> str:
+    """The day of a page: that of SOURCE_DATE_EPOCH, or today."""
+    given = os.environ.get("SOURCE_DATE_EPOCH", "")
+    when = datetime.datetime.fromtimestamp(int(given), datetime.timezone.utc) if given.isdigit() else datetime.datetime.now(datetime.timezone.utc)
+    return when.strftime("%Y-%m-%d")
+
+
+def facts_of(hunt: Hunt, program: cbi_files.Program, notes: List[str], said: str) -> Hunted:
+    """How the hunt was made."""
+    chosen = hunt.chosen
+    names = {place: hunt.inputs.names[place] for place in hunt.count.failing_inputs}
+    return Hunted(chosen.command, cbi_files.VERSION, date_of(), chosen.text, hashlib.sha256(cbi_files.read_bytes(hunt.kept.path("source.c"))).hexdigest(), program.identity,
+                  chosen.seed, chosen.rate, hunt.count.runs(), chosen.turns, chosen.policy, chosen.hangs == "fail", len(hunt.inputs.names), names, notes, said, [])
+
+
+def rank(hunt: Hunt) -> cbi_files.Ranking:
+    """Has `cbi` rank the runs, and say what falls with each row and which pair is best."""
+    kept, plan = hunt.kept, hunt.plan
+    call_to(kept.path("ranking"), [plan.cbi, "rank", f"--policy={hunt.chosen.policy}", "--", plan.program, kept.path("runs")])
+    ranking = cbi_files.read_ranking(kept.path("ranking"))
+    for command in ("cards", "pairs"):
+        if ranking.rows:
+            call_to(kept.path(command), [plan.cbi, command, "--", plan.program, kept.path("runs")])
+        elif os.path.exists(kept.path(command)):
+            os.remove(kept.path(command))
+    return ranking
+
+
+def where_of(hunt: Hunt, source: List[str]) -> cbi_where.Where:
+    """Whose the lines are: of the text, or of what it was ported from."""
+    path = hunt.kept.path("source.c.lines")
+    return cbi_where.ported(hunt.chosen.text, path) if os.path.exists(path) else cbi_where.one_file(hunt.chosen.text, source)
+
+
+def show(hunt: Hunt, notes: List[str], newline: Optional[str]) -> bool:
+    """Ranks and shows; answers whether there is a row."""
+    kept = hunt.kept
+    ranking = rank(hunt)
+    program, source = cbi_files.read_program(hunt.plan.program), cbi_files.read_source(kept.path("source.c"))
+    cards = cbi_files.read_cards(kept.path("cards")) if ranking.rows else {}
+    pair = cbi_files.read_pairs(kept.path("pairs")) if ranking.rows else None
+    where = where_of(hunt, source)
+    view = cbi_rows.view_of(ranking, cbi_rows.Given(where, source, program, cards, kept.path("runs"), pair, None))
+    hunted = facts_of(hunt, program, notes, "" if ranking.rows else advice(hunt, newline))
+    hunted = hunted._replace(example=example_of(hunt, view.first(), program), hanging=hanging_places(hunt, program, cbi_rows.Wording(source, program, where)))
+    write_hunted(kept.path("told.json"), hunted)
+    view = view._replace(hunted=hunted)
+    for line in cbi_show.formatted(view, "text", hunt.chosen.all):
+        print(line)
+    pages = [page for page in (hunt.chosen.html, os.path.join(hunt.chosen.keep, "page.html") if hunt.chosen.keep else None) if page]
+    for page in pages:
+        cbi_show.write(cbi_show.formatted(view, "html"), page)
+    if pages:
+        print(f"page: {pages[0]}")
+    sys.stdout.flush()
+    return bool(ranking.rows)

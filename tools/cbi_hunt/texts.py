@@ -1,0 +1,121 @@
+"""The text of a hunt: as it is given, or ported where the dialect doesn't take it or where there are several files. Not proved."""
+import argparse
+import os
+import shlex
+import shutil
+import subprocess
+import sys
+from typing import List, Optional, Union
+
+import cbi_files
+from cbi_files import Fault, Refused, count_of
+from cbi_hunt.counts import Told
+from cbi_hunt.inputs import Inputs
+from cbi_hunt.kept import Kept
+from cbi_runs import call_to
+
+TOOLS = os.path.dirname(os.path.dirname(os.path.realpath(__file__)))
+MOST_CHECKED = 300     # inputs that a ported text is compared on with what gcc makes of the files
+MOST_DIFFERENCES = 3
+DEEP = 20000           # how deep a text of C may nest for the porter
+
+
+def transform(chosen: argparse.Namespace, cbi: str, text: str, target: str, part: Optional[int] = None) -> str:
+    """The program file of a text, whole or with a part of the sites."""
+    words = [cbi, "transform", "--mode=sampled"] + ([f"--schemes={chosen.schemes}"] if chosen.schemes else [])
+    words += ([] if part is None else [f"--part={part}/{chosen.parts}"]) + ["--", text]
+    call_to(target + ".new", words)
+    os.replace(target + ".new", target)
+    return target
+
+
+def refused(text: str, said: str) -> str:
+    """A refusal as a compiler tells it, and below it the line and what to write in its place."""
+    explained = subprocess.run([sys.executable, os.path.join(TOOLS, "cbi-explain"), text], input=said + "\n", stdout=subprocess.PIPE,
+                               stderr=subprocess.DEVNULL, universal_newlines=True, check=False)
+    more = explained.stdout.split("\n", 1)[1].rstrip() if explained.returncode == 0 else ""
+    words = said.split(" ")
+    line = words[words.index("line") + 1] if said.startswith("cbi: refusal ") and "line" in words else None
+    what = said[len("cbi: "):] if said.startswith("cbi: ") else said
+    if line:
+        what = what.replace(f" line {line}", "")
+    return f"{text}:{line + ':' if line else ''} {what}" + (f"\n{more}" if more else "")
+
+
+def words_of(chosen: argparse.Namespace) -> Optional[Union[str, List[str]]]:
+    """The arguments of main, as the porter takes them."""
+    return chosen.args if chosen.args in (None, "first-line") else shlex.split(chosen.args)
+
+
+def text_of(chosen: argparse.Namespace, cbi: str, kept: Kept, inputs: Inputs) -> List[str]:
+    """Puts the text of a hunt into its folder, as source.c, and compiles it; answers what is told of a port."""
+    for name in ("source.c", "source.c.lines"):
+        if os.path.exists(kept.path(name)):
+            os.remove(kept.path(name))
+    why = None
+    if len(chosen.texts) == 1 and not chosen.cpp and chosen.args is None:
+        try:
+            transform(chosen, cbi, chosen.text, kept.path("program"))
+            shutil.copyfile(chosen.text, kept.path("source.c"))
+            return []
+        except Fault as fault:
+            why = str(fault).split(": ", 1)[1]
+            if not why.startswith(("cbi: refusal 10 ", "cbi: refusal 11 ", "cbi: refusal 12 ", "cbi: refusal 15 ")):
+                raise Refused(refused(chosen.text, why))
+    return ported_text(chosen, cbi, kept, inputs, why)
+
+
+def ported_text(chosen: argparse.Namespace, cbi: str, kept: Kept, inputs: Inputs, why: Optional[str]) -> List[str]:
+    """Ports the files. What the porter refuses is told as it tells it; without it a text is refused as `cbi` refuses it."""
+    import cbi_port
+    limit = sys.getrecursionlimit()
+    sys.setrecursionlimit(max(limit, DEEP))
+    try:
+        ported = cbi_port.port(chosen.texts, chosen.cpp, words_of(chosen))
+    except cbi_port.Refused as problems:
+        raise Refused(str(problems))
+    except (cbi_port.Missing, ImportError) as missing:
+        lacking = "no pycparser: Debian's package python3-pycparser has it" if isinstance(missing, ImportError) else missing
+        if why is None:
+            raise Fault(f"several files, options behind -- and --args ask for the porter: {lacking}")
+        raise Refused(refused(chosen.text, why) + f"\nThe porter, which may bring it to the dialect, can't be used: {lacking}.")
+    finally:
+        sys.setrecursionlimit(limit)
+    with open(kept.path("source.c"), "wb") as file:
+        file.write(ported.text)
+    with open(kept.path("source.c.lines"), "w", encoding="utf-8", newline="\n") as lines:
+        lines.write(ported.map_text())
+    try:
+        transform(chosen, cbi, kept.path("source.c"), kept.path("program"))
+    except Fault as fault:
+        raise Fault(f"{chosen.text} was ported, and the text isn't taken: {str(fault).split(': ', 1)[1]} (cbi-port writes it)")
+    told = [f"ported: {ported.summary()}"]
+    if chosen.check:
+        checked, differences = compared(chosen, cbi, ported, inputs)
+        told[0] += f"; {checked}"
+        told += differences
+    for liberty in ported.liberties:
+        print(f"cbi-hunt: {liberty}", file=sys.stderr)
+    return told
+
+
+def compared(chosen: argparse.Namespace, cbi: str, ported: "object", inputs: Inputs) -> "tuple[str, List[str]]":
+    """How the ported text does beside gcc's build of the files, on the inputs; and the differences that nothing explains."""
+    import cbi_port
+    from cbi_port import check
+    chance = [(name, cbi_files.read_bytes(path)) for name, path in list(zip(inputs.names, inputs.paths))[:MOST_CHECKED]]
+    told = Told()
+    told.show(f"comparing {count_of(len(chance), 'output')} with gcc's")
+    try:
+        found = check.compare(chosen.texts, chosen.cpp, ported, chance, cbi, words_of(chosen), chosen.turns)  # type: ignore[arg-type]
+    except cbi_port.Missing as missing:
+        return f"not compared with gcc's: {missing}", []
+    finally:
+        told.clear()
+    odd = [difference for difference in found.differences if not difference.explained]
+    lines = [f"  {difference.name}: {difference.what}" for difference in odd[:MOST_DIFFERENCES]]
+    if odd:
+        lines.insert(0, f"{count_of(len(odd), 'output')} {'differs' if len(odd) == 1 else 'differ'} from gcc's and nothing says why: what is hunted may be of the port.")
+    if len(inputs.names) > len(chance):
+        return f"{found.summary()} (of {len(inputs.names)} inputs the first {len(chance)} were looked at)", lines
+    return found.summary(), lines

@@ -1,0 +1,91 @@
+"""What cbi-hunt tells of its runs beside the ranking. Not proved."""
+import argparse
+import os
+import shutil
+from typing import Iterator, List, Optional
+
+from cbi_files import count_of, harmless
+from cbi_hunt.collecting import MOST_MARKS, MOST_RUNS
+from cbi_hunt.counts import Count
+from cbi_hunt.inputs import Inputs
+from cbi_hunt.looks import Hunt, oracle_note
+
+NO_FAILURE = """\
+No run failed, so there is nothing that a failure could be told apart from. What may help:
+- Where the bug shows in what the program writes, say what it should write: NAME.expected, --expect or --oracle.
+- Give inputs on which it fails.{cut}"""
+ONLY_FAILURES = """\
+All runs that count failed, so there is nothing that a failure could be told apart from. What may help:
+- Give inputs on which the program does as it should.{more}"""
+NO_RANKING = """\
+No predicate passes the test: by these runs, none makes a failure more likely beyond chance. What may help:
+- More runs (--runs), of which each has other countdowns.
+- A smaller rate (--rate 1 looks at every visit)."""
+MOST_HIDDEN = 3
+
+
+def summary(count: Count, inputs: Inputs) -> str:
+    neither = f", {count.neither} neither" if count.neither else ""
+    cut = f" ({count.cut} cut)" if count.cut else ""
+    return (f"{count_of(count.runs(), 'run')} on {count_of(min(len(inputs.names), count.runs()), 'input')}: "
+            f"{count.failed} failed, {count.succeeded} succeeded{neither}{cut}")
+
+
+def keep_failing(hunt: Hunt) -> None:
+    """Keeps copies of the inputs that failed."""
+    if hunt.chosen.keep:
+        for place in hunt.count.failing_inputs:
+            target = hunt.kept.path("failing", hunt.inputs.names[place])
+            os.makedirs(os.path.dirname(target), exist_ok=True)
+            shutil.copyfile(hunt.inputs.paths[place], target)
+
+
+def failing_line(hunt: Hunt) -> Optional[str]:
+    """Names the inputs that failed."""
+    names = [hunt.inputs.names[place] for place in sorted(hunt.count.failing_inputs)]
+    if not names:
+        return None
+    shown = ", ".join(names[:5]) + (f" and {len(names) - 5} more" if len(names) > 5 else "")
+    return harmless(f"failing inputs: {shown}" + (f", in {os.path.join(hunt.chosen.keep, 'failing')}" if hunt.chosen.keep else ""))
+
+
+def cut_line(count: Count, chosen: argparse.Namespace) -> Optional[str]:
+    """Says that runs which were cut are left out, and the word that takes them in."""
+    if not count.hanging_inputs or chosen.hangs == "fail":
+        return None
+    return "runs that were cut went back more often than --turns allows; they are left out, and --hangs fail counts them as failed"
+
+
+def hidden_line(inputs: Inputs) -> Optional[str]:
+    if not inputs.hidden:
+        return None
+    rest = f" and {len(inputs.hidden) - MOST_HIDDEN} more" if len(inputs.hidden) > MOST_HIDDEN else ""
+    return harmless(f"not taken, since hidden: {', '.join(inputs.hidden[:MOST_HIDDEN])}{rest}")
+
+
+def notes(hunt: Hunt, whole: bool, told: List[str], newline: Optional[str], sample: Optional[int]) -> Iterator[str]:
+    """The lines that sum up a hunt."""
+    yield summary(hunt.count, hunt.inputs) + ("" if whole else "; interrupted, so this is what there is")
+    sampled = sample is not None and f"a collection holds {MOST_RUNS} runs with {MOST_MARKS} site lines: ranked is a uniform sample of {sample} runs, by the seed {hunt.chosen.seed}"
+    for line in (failing_line(hunt), *map(harmless, told), hidden_line(hunt.inputs), cut_line(hunt.count, hunt.chosen), newline, sampled):
+        if line:
+            yield line
+
+
+def advice(hunt: Hunt, newline: Optional[str]) -> str:
+    """What to do where there is no row."""
+    count, inputs = hunt.count, hunt.inputs
+    if not count.failed:
+        cut = f"\n- {count_of(count.cut, 'run was', 'runs were')} cut: allow more turns (--turns), or count them as failed (--hangs fail)." if count.cut else ""
+        return NO_FAILURE.format(cut=cut)
+    if count.succeeded:
+        return NO_RANKING
+    more: List[str] = []
+    if inputs.has_carriage_returns():
+        more.append("The expected outputs have carriage returns, and the program writes none: take them out (tr -d '\\r').")
+    if newline:
+        more.append(newline + ".")
+    said = oracle_note(hunt)
+    if said:
+        more.append(said)
+    return ONLY_FAILURES.format(more="".join(f"\n- {line}" for line in more))
