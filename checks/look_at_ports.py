@@ -23,6 +23,15 @@ TABLE = os.path.join(TOP, "checks", "ports_table")
 TURNS = 100000000
 
 
+def builds_32():
+    """Whether gcc builds for 32 bits here, as the porter's `long` and pointers are."""
+    done = subprocess.run(["gcc", "-m32", "-x", "c", "-o", os.devnull, "-"], input=b"#include <stdio.h>\nint main(void){return 0;}\n", stdout=subprocess.PIPE, stderr=subprocess.PIPE, check=False)
+    return done.returncode == 0
+
+
+BUILDS_32 = builds_32()
+
+
 class Due:
     """What the end of a program's text says of it."""
 
@@ -57,7 +66,7 @@ class Programs(Case):
             self.assertEqual((got.output, got.stopped), (due.output, stopped), f"{name} {mode}")
             if due.trap is None:
                 self.assertEqual(got.status, due.status, f"{name} {mode}")
-        if due.trap is None:
+        if due.trap is None and BUILDS_32:
             built = check.compiled([os.path.join(TABLE, name)], [], self.room, "built", ["-O0"])
             native = check.run_native(built, due.words, due.given)
             self.assertEqual((native.output, native.status), (due.output, due.status), f"{name} by gcc")
@@ -214,4 +223,6 @@ class Command(Case):
 if __name__ == "__main__":
     looking.heed_interrupts()
     looking.CBI = CBI = os.path.abspath(sys.argv.pop(1))
+    if not BUILDS_32:
+        print("checks/ports: gcc builds nothing with -m32 here (Debian: gcc-multilib), so the table isn't compared with what gcc makes of it")
     unittest.main(verbosity=1)
