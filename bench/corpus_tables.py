@@ -127,7 +127,7 @@ def by_importance(faults: Sequence[Any], runs: int) -> str:
             some = [row for fault in faults for row in fault["judged"][f"1 {runs}"][first - 1:last] if least <= row[0] <= most]
             words.append(f"{sum(near for *_, near in some)} of {len(some)}" if some else "-")
         rows.append(words)
-    return table(["Importance", "first rows near the fault", "rows 2 and 3", "rows 4 to 10"], rows)
+    return table(["Importance", "first rows near the fault", "second and third", "fourth to tenth"], rows)
 
 
 def by_failing(faults: Sequence[Any], runs: int) -> str:
@@ -139,7 +139,7 @@ def by_failing(faults: Sequence[Any], runs: int) -> str:
             some = [row for fault in faults for row in fault["judged"][f"1 {runs}"][first - 1:last] if least <= row[1] <= most]
             words.append(f"{sum(near for *_, near in some)} of {len(some)}" if some else "-")
         rows.append(words)
-    return table(["Failing runs of the row", "first rows near the fault", "rows 2 and 3", "rows 4 to 10"], rows)
+    return table(["Failing runs of the row", "first rows near the fault", "second and third", "fourth to tenth"], rows)
 
 
 def by_fault(faults: Sequence[Any], runs: int) -> str:
