@@ -348,20 +348,16 @@ module _ (k : Known) (global : Bool) where
   initial_tells of (Some (s.Value value)) w g = and_then (expr_tells k value w g) (λ j at h. inl h) (λ x v p.
       onwards (completes_tells {P = Begins global of value x} (first_token value) (valued global of value x (cells_of_string value)) v
       (λ u h. begins_is global value of u x h)
-      (λ h. inr (refl, (x, (p.0, refl, λ u b. none_some (valued global of value x (cells_of_string value)) u h (begins_back global value of u x b))))))
+      (λ h. inr (x, (p.0, (refl, refl, λ u b. none_some (valued global of value x (cells_of_string value)) u h (begins_back global value of u x b))))))
       (λ u z q. ((x, (p.0, q.0)), q.1 ∙ p.1)))
   initial_tells of (Some (s.Braced token items comma)) w g = and_then (exprs_tells k items [] w g) (λ j at h. inl h) (λ xs v p.
       onwards (completes_tells {P = Lists global of items xs} token (listed global items xs of) v
       (λ u h. lists_is global of items xs u h)
       (λ h. inr (
-        refl,
+        xs,
         (
-          xs,
-          (
-            subst (AreOperands k items) (sym p.0.1.0) p.0.1.1,
-            refl,
-            λ u b. none_some (listed global items xs of) u h (lists_back global of items xs u b),
-          ),
+          subst (AreOperands k items) (sym p.0.1.0) p.0.1.1,
+          (refl, refl, λ u b. none_some (listed global items xs of) u h (lists_back global of items xs u b)),
         ),
       )))
       (λ u z q. ((xs, (subst (AreOperands k items) (sym p.0.1.0) p.0.1.1, q.0)), q.1 ∙ p.1)))

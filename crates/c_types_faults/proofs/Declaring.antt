@@ -1,5 +1,5 @@
 -- Declarations: what the walk takes is declared behind it, and where it stops a rule is broken.
-use Rattle.std.proofs.Common.{◌⊎◌, inl, inr, ⊎_elim, ◌≡◌, ℕ, refl, ap, subst, sym, ◌∙◌, List, [], ◌∷◌, Some, None, Bool, true, false, length}
+use Rattle.std.proofs.Common.{◌⊎◌, inl, inr, ⊎_elim, ◌≡◌, ℕ, refl, ap, subst, sym, ◌∙◌, arith, List, [], ◌∷◌, Some, None, Bool, true, false, length}
 use Rattle.c_types_faults.proofs.Fitting.{either_true}
 use Rattle.std.specs.Prelude.{Option, is_some, ◌&&◌, if◌then◌else◌}
 use Rattle.c_syntax.specs.StatementTree.{DeclarationTree, StartTree}
@@ -16,15 +16,17 @@ use Rattle.c_types_faults.specs.Known.{Entity, Object}
 use Rattle.c_types_faults.specs.Context.{Context, counting, declare, known, IsTaken}
 use Rattle.c_types_faults.specs.Declarators.{Declares}
 use Rattle.c_types_faults.specs.Initialisers.{Completes, InitialBreaks}
-use Rattle.c_types_faults.specs.Declarations.{DeclarationBreaks, DeclarationGives, ElementBreaks, HasRoom, IsObject, IsOpen, SizeBreaks}
+use Rattle.c_types_faults.specs.Declarations.{BeginningBreaks, DeclarationBreaks, DeclarationGives, ElementBreaks, Finishes, HasRoom, IsObject, IsOpen, SizeBreaks}
 use Rattle.c_types_faults.specs.Declarations.{VariableBreaks, VariableGives, VariablesBreak, VariablesGive}
 use Rattle.c_types_faults.proofs.Beginnings.{completes_same, initial_tells}
 use Rattle.c_types_faults.proofs.Bounds.{declared_is, no_type}
 use Rattle.c_types_faults.proofs.Exprs.{base_tells}
+use Rattle.c_types_faults.proofs.Least.{least_first, least_second}
+use Rattle.c_types_faults.proofs.Quiet.{one_type}
 use Rattle.c_types_faults.proofs.Knowing.{Knows, agreed, completed, completed_knows, grown, grown_knows, object_knows, variable_shown, with_object}
 use Rattle.c_types_faults.proofs.Telling.{Agreed, Tells, and_then, shown, weaker}
 use Rattle.c_types_faults.proofs.Variables.{Moves, closes_by, completed_grown, completed_moves, declare_counted, grown_moves, joined}
-use Rattle.c_types_faults.proofs.Variables.{known_counted, not_taken}
+use Rattle.c_types_faults.proofs.Variables.{known_counted, not_taken, object_elements, opens_elements}
 use Rattle.c_types_faults.proofs.Variables.{moves_then, object_moves, opens_by, sized_tells, still, taken_by}
 
 -- what is known behind a part that declares variables
@@ -51,21 +53,21 @@ module _ (global : Bool) (base : TypeTree) (x : StartTree) (c : Context) (w : Wa
   abbrev VariableTold : Walk → Type 0
   VariableTold v = (after : Context) × (VariableGives global base c x after × Behind after w v)
 
-  -- what is broken where the declarator has this type
-  abbrev TypeBreaks : TypeTree → FaultKind → ℕ → Type 0
-  TypeBreaks t j at = ((at ≡ x.token) × (j ≡ fault.Object) × SizeBreaks global base c x t)
-      ⊎ InitialBreaks (known (declare x.declarator.name (Object t) c)) global t x.initial j at
+  -- what is broken behind a declarator that gives this type
+  abbrev BehindBreaks : TypeTree → FaultKind → ℕ → Type 0
+  BehindBreaks t j at = InitialBreaks (known (declare x.declarator.name (Object t) c)) global t x.initial j at
+      ⊎ ((u : TypeTree) × (Finishes global base c x t u × ((at ≡ x.token) × (j ≡ fault.Object) × SizeBreaks global base c u)))
 
   open_tells : (t : TypeTree) → (IsTaken x.declarator.name c → ⊥) → Declares x.declarator base t → IsOpen t x.initial
-      → Tells (walk_open global x t w) (λ (d : Done) v. VariableTold v) (TypeBreaks t)
+      → Tells (walk_open global x t w) (λ (d : Done) v. VariableTold v) (BehindBreaks t)
   open_tells t new h o =
       let name : List ℕ = x.declarator.name in
       let one : Walk = with_variable global x.declarator.name_token name t w in
       let is : shown one ≡ with_object name t (shown w) = variable_shown global x.declarator.name_token name t w in
       let k1 : Knows (declare name (Object t) c) (shown one) = subst (Knows (declare name (Object t) c)) (sym is) (object_knows name t k) in
-      and_then (initial_tells (known (declare name (Object t) c)) global t x.initial one (agreed k1)) (λ j at b. inr b) (λ u v p.
+      and_then (initial_tells (known (declare name (Object t) c)) global t x.initial one (agreed k1)) (λ j at b. inl b) (λ u v p.
       and_then (sized_tells global x.token u (declare name (Object t) c) v (subst (Knows (declare name (Object t) c)) (sym p.1) k1))
-      (λ j at f. inl (f.0, f.1, inr (o, inr (u, (p.0, ⊎_elim (λ n. inl n) (λ n. inr (λ r. n (room_declared global name (Object t) c u r))) f.2)))))
+      (λ j at f. inr (u, (p.0, (f.0, f.1, ⊎_elim (λ n. inl n) (λ n. inr (λ r. n (room_declared global name (Object t) c u r))) f.2))))
       (λ d r q.
       let n : ℕ = cells_of c.structs u in
       let all : completed (length w.variables) u (shown r) ≡ grown global n (completed (length w.variables) u (with_object name t (shown w))) =
@@ -89,17 +91,35 @@ module _ (global : Bool) (base : TypeTree) (x : StartTree) (c : Context) (w : Wa
       }))
 
   size_breaks : (t : TypeTree) → ((IsOpen t x.initial → ⊥) ⊎ (IsOpen t x.initial × ElementBreaks c.structs t))
-      → ((IsObject c.structs t → ⊥) ⊎ (HasRoom global c t → ⊥)) → SizeBreaks global base c x t
+      → SizeBreaks global base c t → BeginningBreaks global base c x t
   size_breaks t (inl f) h = inl (f, h)
-  size_breaks t (inr f) h = inr (f.0, inl f.1)
+  size_breaks t (inr f) h = inr f
+
+  -- the type of the declarator is none that the variable may have
+  type_breaks : (t : TypeTree) → Declares x.declarator base t → BeginningBreaks global base c x t → (u : TypeTree) → Declares x.declarator base u
+      → BeginningBreaks global base c x u
+  type_breaks t h b u d = subst (BeginningBreaks global base c x) (one_type x.declarator base t u h d) b
+
+  fits_closed : (t : TypeTree) → IsObject c.structs t → HasRoom global c t → BeginningBreaks global base c x t → ⊥
+  fits_closed t o r (inl (f, h)) = ⊎_elim (λ n. n o) (λ n. n r) h
+  fits_closed t o r (inr (f, h)) = object_elements c.structs t o h
+
+  fits_open : (t : TypeTree) → (is_some x.initial && is_open c.structs t) ≡ true → BeginningBreaks global base c x t → ⊥
+  fits_open t e (inl (f, h)) = f (opens_by c.structs t x.initial e)
+  fits_open t e (inr (f, h)) = opens_elements c.structs t x.initial e h
 
   closed_tells : (t : TypeTree) → (IsTaken x.declarator.name c → ⊥) → Declares x.declarator base t → ((IsOpen t x.initial
       → ⊥) ⊎ (IsOpen t x.initial × ElementBreaks c.structs t))
-      → Tells (walk_closed global x t w) (λ (d : Done) v. VariableTold v) (TypeBreaks t)
+      → Tells (walk_closed global x t w) (λ (d : Done) v. VariableTold v) (VariableBreaks global base c x)
   closed_tells t new h o =
       let name : List ℕ = x.declarator.name in
       let n : ℕ = cells_of c.structs t in
-      and_then (sized_tells global x.token t c w k) (λ j at f. inl (f.0, f.1, size_breaks t o f.2)) (λ d v p.
+      and_then (sized_tells global x.token t c w k) (λ j at f. inl (
+        f.0,
+        least_second (IsTaken name c) ((u : TypeTree) → Declares x.declarator base u → BeginningBreaks global base c x u) fault.Redeclared fault.Object j new f.1
+            (type_breaks t h (size_breaks t o f.2)),
+      ))
+      (λ d v p.
       let kv : Knows (counting global n c) (shown v) = subst (Knows (counting global n c)) (sym p.1) (grown_knows global n k) in
       let one : Walk = with_variable global x.declarator.name_token name t v in
       let is : shown one ≡ with_object name t (shown v) = variable_shown global x.declarator.name_token name t v in
@@ -107,7 +127,7 @@ module _ (global : Bool) (base : TypeTree) (x : StartTree) (c : Context) (w : Wa
       subst (Knows (declare name (Object t) (counting global n c))) (sym is) (object_knows name t kv) in
       and_then (initial_tells (known (declare name (Object t) c)) global t x.initial one
       (subst (λ z. Agreed z (shown one)) (known_counted global n name t c) (agreed k1)))
-      (λ j at b. inr b)
+      (λ j at b. inr (t, ((new, h, fits_closed t p.0 p.2), inl b)))
       (λ u z q. record {
         by = (
           declare name (Object t) (counting global n c),
@@ -141,13 +161,19 @@ module _ (global : Bool) (base : TypeTree) (x : StartTree) (c : Context) (w : Wa
 
   by_type : (b : Bool) (t : TypeTree) → (IsTaken x.declarator.name c → ⊥) → Declares x.declarator base t → (is_some x.initial && is_open c.structs t) ≡ b
       → Tells (if b then walk_open global x t w else walk_closed global x t w) (λ (d : Done) v. VariableTold v) (VariableBreaks global base c x)
-  by_type true t new h e = weaker (open_tells t new h (opens_by c.structs t x.initial e)) (λ j at b. inr (inr (t, (h, b)))) (λ d v p. p)
-  by_type false t new h e = weaker (closed_tells t new h (closes_by c.structs t x.initial e)) (λ j at b. inr (inr (t, (h, b)))) (λ d v p. p)
+  by_type true t new h e = weaker (open_tells t new h (opens_by c.structs t x.initial e)) (λ j at b. inr (t, ((new, h, fits_open t e), b))) (λ d v p. p)
+  by_type false t new h e = closed_tells t new h (closes_by c.structs t x.initial e)
 
   typed_tells : (o : Option TypeTree) → (IsTaken x.declarator.name c → ⊥) → declared_type x.declarator base ≡ o
       → Tells (walk_typed global x o w) (λ (d : Done) v. VariableTold v) (VariableBreaks global base c x)
   unfolding walk_typed
-  typed_tells None new e = record { by = inr (inl (refl, refl, no_type x.declarator base e)) }
+  typed_tells None new e = record {
+    by = inl (
+      refl,
+      least_second (IsTaken x.declarator.name c) ((u : TypeTree) → Declares x.declarator base u → BeginningBreaks global base c x u) fault.Redeclared
+          fault.Object fault.Object new refl (λ u d. absurd (no_type x.declarator base e u d)),
+    );
+  }
   typed_tells (Some t) new e = by_type (is_some x.initial && is_open w.structs t) t new (declared_is x.declarator base t e)
       (ap (λ ss. is_some x.initial && is_open ss t) k.structs)
 
@@ -157,9 +183,9 @@ module _ (global : Bool) (base : TypeTree) (x : StartTree) (c : Context) (w : Wa
   taken_tells true e = record {
     by = inl (
       refl,
-      refl,
-      taken_by x.declarator.name c (shown w) k
-          (either_true (is_reserved x.declarator.name) (is_here x.declarator.name w.names) e),
+      least_first (IsTaken x.declarator.name c) ((u : TypeTree) → Declares x.declarator base u → BeginningBreaks global base c x u) fault.Redeclared
+          fault.Object fault.Redeclared (omega arith) refl
+          (taken_by x.declarator.name c (shown w) k (either_true (is_reserved x.declarator.name) (is_here x.declarator.name w.names) e)),
     );
   }
   taken_tells false e = typed_tells (declared_type x.declarator base) (not_taken x.declarator.name c (shown w) k e) refl

@@ -1,5 +1,5 @@
 -- In a text without a fault each function of the text that is called is defined.
-use Rattle.std.proofs.Common.{◌⊎◌, inl, inr, ⊎_elim, ◌≡◌, ℕ, zero, suc, ◌+◌, ◌==◌, refl, ap, subst, sym, ◌∙◌, arith, List, [], ◌∷◌, map, Some, None}
+use Rattle.std.proofs.Common.{◌⊎◌, inl, inr, ⊎_elim, ◌≡◌, ℕ, zero, suc, ◌+◌, ◌<◌, ◌==◌, refl, ap, subst, sym, ◌∙◌, arith, List, [], ◌∷◌, map, Some, None}
 use Rattle.c_types_faults.proofs.Calling.{function_by}
 use Rattle.c_types_faults.proofs.Bounds.{some_is}
 use Rattle.std.proofs.Common.{Bool, true, false, length, option_map, ◌-◌}
@@ -12,7 +12,7 @@ use Rattle.c_rules.specs.declared.library.Library.{Library}
 use Rattle.c_rules.specs.Library.{library_named}
 use Rattle.c_rules.specs.TypeTree.{TypeTree}
 use Rattle.c_types.specs.Answers.{noted}
-use Rattle.c_types.specs.Fault.{first_undefined, lacks_definition, walk_tree}
+use Rattle.c_types.specs.Fault.{first_undefined, lacks_definition}
 use Rattle.c_types_expressions.specs.declared.names.Meaning.{Meaning}
 use Rattle.c_types_expressions.specs.declared.names.Meaning.TheVariants as meaning
 use Rattle.c_types_expressions.specs.declared.names.ScopeEntry.{ScopeEntry}
@@ -20,19 +20,20 @@ use Rattle.c_types_expressions.specs.declared.names.ScopeEntry.TheVariants as en
 use Rattle.c_types_expressions.specs.declared.walk.FunctionEntry.{FunctionEntry}
 use Rattle.c_types_expressions.specs.declared.walk.Walk.{Walk}
 use Rattle.c_types_expressions.specs.Names.{found, meaning_of, or_before}
-use Rattle.c_types_expressions.specs.Walked.{Fine}
 use Rattle.c_types_walk.specs.ItemWalk.{is_defined}
 use Rattle.c_types_laws.proofs.Steps.{noted_same}
 use Rattle.sites.specs.Table.{functions_of}
 use Rattle.c_types_notes.specs.Events.{Construct, Calls, Selects, Other, Event, Value, Initialises, Variable, Opens, Closes, Struct, Names, Defines}
 use Rattle.c_types_notes.specs.Events.{construct_at, events_of}
 use Rattle.c_types_notes.specs.Scopes.{scopes_of}
-use Rattle.c_types_notes.proofs.Functions.{Known}
+use Rattle.c_types_notes.proofs.Functions.{Known, items_known}
 use Rattle.c_types_notes.proofs.Leaving.{Left}
+use Rattle.c_types_notes.proofs.LeavingItems.{items_leave}
 use Rattle.c_types_notes.proofs.Noting.{Found, FoundAs, Listed, Named, alone_after, finds, found_is, path_onward, stays}
-use Rattle.c_types_notes.proofs.Paths.{CalledAs, View, called_name, view}
+use Rattle.c_types_notes.proofs.PathItems.{ItemsDo, items_path}
+use Rattle.c_types_notes.proofs.Paths.{CalledAs, Path, View, called_name, view}
 use Rattle.c_types_notes.proofs.Points.{Among, Once}
-use Rattle.c_types_notes.proofs.Texts.{before, text_known, text_left, text_path}
+use Rattle.c_types_notes.proofs.Texts.{before, nothing_known}
 use Rattle.c_types_faults.specs.Known.{Entity, Object, Function, Standard}
 use Rattle.c_types_faults.specs.Agrees.{Means}
 use Rattle.c_types_faults.specs.Context.{Context, Declared}
@@ -102,6 +103,21 @@ all_defined n (call ∷ calls) defs h i index e = by (lacks_definition call defs
     by false l h zero e f = defined_by (is_defined index defs) index defs refl (ap (λ o. lacks_definition o defs) (sym (some_is call (Some index) e)) ∙ l)
     by false l h (suc i) e f = f h i index e
 
+-- and before the first that does
+before_defined : (n : ℕ) (calls defs : List (Option ℕ)) (at : ℕ) → first_undefined n calls defs ≡ Some at → (i index : ℕ) → n + i < at
+    → slice_get calls i ≡ Some (Some index) → is_defined index defs ≡ true
+before_defined n [] defs at h i index l e = absurd (cc)
+before_defined n (call ∷ calls) defs at h i index l e = by (lacks_definition call defs) refl h i l e (before_defined (n + 1) calls defs at)
+  where
+    by : (b : Bool) → lacks_definition call defs ≡ b → (if b then Some n else first_undefined (n + 1) calls defs) ≡ Some at → (i : ℕ) → n + i < at
+        → slice_get (call ∷ calls) i ≡ Some (Some index)
+        → (first_undefined (n + 1) calls defs ≡ Some at → (i index : ℕ) → n + 1 + i < at → slice_get calls i ≡ Some (Some index)
+        → is_defined index defs ≡ true)
+        → is_defined index defs ≡ true
+    by true q h i l e f = absurd (omega (arith, l, some_is n at h))
+    by false q h zero l e f = defined_by (is_defined index defs) index defs refl (ap (λ o. lacks_definition o defs) (sym (some_is call (Some index) e)) ∙ q)
+    by false q h (suc i) l e f = f h i index (omega (arith, l)) e
+
 noted_is : (o : Option (Option ℕ)) (index : ℕ) → unwrap_or o None ≡ Some index → o ≡ Some (Some index)
 noted_is None index h = absurd (cc)
 noted_is (Some o) index h = ap Some h
@@ -145,23 +161,29 @@ listed_defined name index ds ns bound (entry.Declares n (meaning.Function i) ∷
 listed_defined name index ds ns bound (entry.Declares n (meaning.Library f) ∷ rest) h l = listed_defined name index ds ns bound rest h l
 listed_defined name index ds ns bound (entry.Declares n (meaning.Struct i) ∷ rest) h l = listed_defined name index ds ns bound rest h l
 
-module _ (t : SourceTree) (z : Walk) (shaped : IsShaped t) (w : walk_tree t ≡ Fine tt z) (c : Context) (k : Files c (shown z))
-    (none : first_undefined 0 z.functions_at z.defined_as ≡ None) where
+module _ (t : SourceTree) (z : Walk) (shaped : IsShaped t) (does : ItemsDo t.items (before t) (view z)) (c : Context) (k : Files c (shown z)) where
   abbrev count : ℕ
   count = length t.lines
 
+  path : Path (events_of t) (before t) (view z)
+  path = items_path t.items (before t) (view z) does
+
   left : Left false 0 count (count - 1) (events_of t) (scopes_of t) (before t) (view z)
-  left = text_left t z shaped w
+  left = (items_leave t.items 0 count (count - 1) shaped.items shaped.placed (omega (arith, shaped.lines))).by (before t) (view z) path
 
   known : Known (functions_of t) (view z)
-  known = text_known t z shaped w
+  known = items_known t.items 0 [] (before t) (view z) shaped.items shaped.placed does (nothing_known count)
+
+  -- the call of the name is noted at its token
+  abbrev IsNotedAt : ℕ → List ℕ → Type 0
+  IsNotedAt token name = (index : ℕ) × ((noted z.functions_at token ≡ Some index) × (is_defined index z.defined_as ≡ is_listed name c.defined))
 
   named_from : (token : ℕ) (name : List ℕ) (f : Found token (Calls name) (events_of t) (before t) (view z)) → Named f.from
   named_from token name f = (path_onward f.before (before t) f.from f.path).named (record { by = λ name index h. absurd h; own = tt })
 
   called_at : (token : ℕ) (name : List ℕ) (f : Found token (Calls name) (events_of t) (before t) (view z)) → Among token (events_of t)
       → HasFunction name c.scope → (m : Option Meaning) → meaning_of name f.from.names ≡ m → CalledAs token m f.from f.to
-      → is_listed name c.defined ≡ true
+      → IsNotedAt token name
   called_at token name f among h None e q = absurd q
   called_at token name f among h (Some (meaning.Variable index)) e q = absurd q
   called_at token name f among h (Some (meaning.Struct index)) e q = absurd q
@@ -181,11 +203,23 @@ module _ (t : SourceTree) (z : Walk) (shaped : IsShaped t) (w : walk_tree t ≡ 
       (path_onward (Value token (Calls name) ∷ f.after) f.from (view z) (f.to, (f.notes, f.rest))).functions index name
       ((named_from token name f).by name index (subst (λ m. FoundAs name m f.from.names)
       (function_by (found name f.from.names) (library_named name) index e) (found_is name f.from.names (named_from token name f).own))) in
-      sym (listed_defined name index z.defined_as c.defined (length z.functions) z.names k.funs (k.places.listed index name is))
-      ∙ all_defined 0 z.functions_at z.defined_as none token index (noted_is (slice_get z.functions_at token) index stay)
+      (index, (stay, listed_defined name index z.defined_as c.defined (length z.functions) z.names k.funs (k.places.listed index name is)))
 
-  pub calls_defined : (token : ℕ) (name : List ℕ) → HasCall token name (events_of t) → HasFunction name c.scope → is_listed name c.defined ≡ true
-  calls_defined token name h g =
+  called_there : (token : ℕ) (name : List ℕ) → HasCall token name (events_of t) → HasFunction name c.scope → IsNotedAt token name
+  called_there token name h g =
       let f : Found token (Calls name) (events_of t) (before t) (view z) =
-      finds token (Calls name) (events_of t) (before t) (view z) (has_construct token name (events_of t) left.once h) (text_path t z w) in
+      finds token (Calls name) (events_of t) (before t) (view z) (has_construct token name (events_of t) left.once h) path in
       called_at token name f (has_among token name (events_of t) h) g (meaning_of name f.from.names) refl f.notes
+
+  pub calls_defined : first_undefined 0 z.functions_at z.defined_as ≡ None → (token : ℕ) (name : List ℕ) → HasCall token name (events_of t)
+      → HasFunction name c.scope → is_listed name c.defined ≡ true
+  calls_defined none token name h g =
+      let n : IsNotedAt token name = called_there token name h g in
+      sym n.1.1 ∙ all_defined 0 z.functions_at z.defined_as none token n.0 (noted_is (slice_get z.functions_at token) n.0 n.1.0)
+
+  pub defined_before : (at : ℕ) → first_undefined 0 z.functions_at z.defined_as ≡ Some at → (token : ℕ) (name : List ℕ) → token < at
+      → HasCall token name (events_of t) → HasFunction name c.scope → is_listed name c.defined ≡ true
+  defined_before at first token name less h g =
+      let n : IsNotedAt token name = called_there token name h g in
+      sym n.1.1 ∙ before_defined 0 z.functions_at z.defined_as at first token n.0 (omega (arith, less))
+      (noted_is (slice_get z.functions_at token) n.0 n.1.0)

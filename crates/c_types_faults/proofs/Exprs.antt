@@ -142,9 +142,9 @@ module _ (k : Known) where
     expr_tells (e.Comma token operands) w g = and_then (exprs_tells operands [] w g) (λ j at h. inl h) (λ xs v p.
         looks token (sequenced t.Void xs) v
         (λ d r. ((xs, (subst (AreOperands k operands) (sym p.0.1.0) p.0.1.1, sequence_is t.Void xs d r)), p.1))
-        (λ j r. let b = sequence_breaks t.Void xs j r in inr (refl, (xs, (subst (AreOperands k operands) (sym p.0.1.0) p.0.1.1, b.0, b.1)))))
+        (λ j r. let b = sequence_breaks t.Void xs j r in inr (xs, (subst (AreOperands k operands) (sym p.0.1.0) p.0.1.1, (refl, b.0, b.1)))))
     expr_tells (e.Assign token s target value) w g = and_then (expr_tells target w g) (λ j at h. inl h) (λ x v p.
-        and_then (expr_tells value v (agrees_on g p.1)) (λ j at h. inr (inl h)) (λ y u q.
+        and_then (expr_tells value v (agrees_on g p.1)) (λ j at h. inr (x, (p.0, inl h))) (λ y u q.
         looks token (assigning u.structs (compound_of s) x y) u
         (λ d r. (
           (
@@ -161,34 +161,22 @@ module _ (k : Known) where
           ),
           q.1 ∙ p.1,
         ))
-        (λ j r. inr (inr (
-          refl,
-          (
-            x,
-            (
-              y,
-              (
-                p.0,
-                q.0,
-                assign_breaks k.structs (compound_of s) x y j
-                    (known_rule (λ ss. assigning ss (compound_of s) x y) (Err j) (agrees_on g (q.1 ∙ p.1)) r),
-              ),
-            ),
-          ),
-        )))))
+        (λ j r.
+        let b = assign_breaks k.structs (compound_of s) x y j (known_rule (λ ss. assigning ss (compound_of s) x y) (Err j) (agrees_on g (q.1 ∙ p.1)) r) in
+        inr (x, (p.0, inr (y, (q.0, (refl, b))))))))
     expr_tells (e.Conditional token condition first second) w g = and_then (expr_tells condition w g) (λ j at h. inl h) (λ c v p.
-        and_then (expr_tells first v (agrees_on g p.1)) (λ j at h. inr (inl h)) (λ x u q.
-        and_then (expr_tells second u (agrees_on g (q.1 ∙ p.1))) (λ j at h. inr (inr (inl h))) (λ y z n.
+        and_then (expr_tells first v (agrees_on g p.1)) (λ j at h. inr (c, (p.0, inl h))) (λ x u q.
+        and_then (expr_tells second u (agrees_on g (q.1 ∙ p.1))) (λ j at h. inr (c, (p.0, inr (x, (q.0, inl h))))) (λ y z n.
         looks token (chosen c x y) z
         (λ d r. ((c, (x, (y, (p.0, q.0, n.0, chosen_is k.structs k.structs (same_structs k.structs) c x y d r)))), n.1 ∙ q.1 ∙ p.1))
-        (λ j r. inr (inr (inr (refl, (c, (x, (y, (p.0, q.0, n.0, chosen_breaks c x y j r)))))))))))
+        (λ j r. inr (c, (p.0, inr (x, (q.0, inr (y, (n.0, (refl, chosen_breaks c x y j r)))))))))))
     expr_tells (e.Chain level first links) w g = and_then (expr_tells first w g) (λ j at h. inl h) (λ x v p.
         weaker (links_tells links x v (agrees_on g p.1)) (λ j at h. inr (x, (p.0, h))) (λ d u q. ((x, (p.0, q.0)), q.1 ∙ p.1)))
     expr_tells (e.Cast token b stars operand) w g = and_then (base_tells b w g) (λ j at h. inl h) (λ of v p.
-        and_then (expr_tells operand v (agrees_on g (ap shown p.1))) (λ j at h. inr (inl h)) (λ x u q.
+        and_then (expr_tells operand v (agrees_on g (ap shown p.1))) (λ j at h. inr (of, (p.0, inl h))) (λ x u q.
         looks token (cast_to (with_stars stars of) x) u
         (λ d r. ((of, (x, (p.0, q.0, cast_is k.structs k.structs (same_structs k.structs) (with_stars stars of) x d r))), q.1 ∙ ap shown p.1))
-        (λ j r. inr (inr (refl, (of, (x, (p.0, q.0, cast_breaks (with_stars stars of) x j r))))))))
+        (λ j r. inr (of, (p.0, inr (x, (q.0, (refl, cast_breaks (with_stars stars of) x j r))))))))
     expr_tells (e.Prefix token o operand) w g = and_then (expr_tells operand w g) (λ j at h. inl h) (λ x v p.
         looks token (prefixed v.structs o x) v
         (λ d r. (
@@ -202,7 +190,7 @@ module _ (k : Known) where
           ),
           p.1,
         ))
-        (λ j r. inr (refl, (x, (p.0, prefix_breaks k.structs o x j (known_rule (λ ss. prefixed ss o x) (Err j) (agrees_on g p.1) r))))))
+        (λ j r. inr (x, (p.0, (refl, prefix_breaks k.structs o x j (known_rule (λ ss. prefixed ss o x) (Err j) (agrees_on g p.1) r))))))
     expr_tells (e.SizeOfType token b stars) w g = and_then (base_tells b w g) (λ j at h. inl h) (λ of v p.
         looks token (measured v.structs (with_stars stars of)) v
         (λ d r. (
@@ -219,13 +207,13 @@ module _ (k : Known) where
         (λ j r.
         let b = measured_breaks k.structs (with_stars stars of) j
         (known_rule (λ ss. measured ss (with_stars stars of)) (Err j) (agrees_on g (ap shown p.1)) r) in
-        inr (refl, (of, (p.0, b.0, b.1)))))
+        inr (of, (p.0, (refl, b.0, b.1)))))
     expr_tells (e.Postfix primary operators) w g = and_then (expr_tells primary w g) (λ j at h. inl h) (λ x v p.
         weaker (postfix_tells operators x v (agrees_on g p.1)) (λ j at h. inr (x, (p.0, h))) (λ d u q. ((x, (p.0, q.0)), q.1 ∙ p.1)))
     expr_tells (e.Name token name) w g = name_tells token name (meaning_of name w.names) (k.ordinary name) w (g.by.ordinary name)
     expr_tells (e.Call token name arguments) w g = and_then (exprs_tells arguments [] w g) (λ j at h. inl h) (λ xs v p.
         weaker (call_tells token xs (meaning_of name v.names) (k.ordinary name) v ((agrees_on g p.1).by.ordinary name))
-        (λ j at h. inr (h.0, (xs, (subst (AreOperands k arguments) (sym p.0.1.0) p.0.1.1, h.1))))
+        (λ j at h. inr (xs, (subst (AreOperands k arguments) (sym p.0.1.0) p.0.1.1, h)))
         (λ d u q. ((xs, (subst (AreOperands k arguments) (sym p.0.1.0) p.0.1.1, q.0)), q.1 ∙ p.1)))
     expr_tells (e.Constant token of value) w g = record { by = (refl, refl) }
     expr_tells (e.Strings token parts) w g = record { by = (refl, refl) }
@@ -238,7 +226,7 @@ module _ (k : Known) where
         (ListBreaks k xs)
     exprs_tells e.no_exprs before w g = record { by = (([], (sym (append-nil before), tt)), refl) }
     exprs_tells (e.more_exprs x rest) before w g = and_then (expr_tells x w g) (λ j at h. inl h) (λ y v p.
-        weaker (exprs_tells rest (before ++ y ∷ []) v (agrees_on g p.1)) (λ j at h. inr h)
+        weaker (exprs_tells rest (before ++ y ∷ []) v (agrees_on g p.1)) (λ j at h. inr (y, (p.0, h)))
         (λ all u q. ((y ∷ q.0.0, (q.0.1.0 ∙ append_assoc before (y ∷ []) q.0.0, (p.0, q.0.1.1))), q.1 ∙ p.1)))
 
     pub links_tells : (links : LinkList) (left : Operand) (w : Walk) → Agreed k (shown w)

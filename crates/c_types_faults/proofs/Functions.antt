@@ -43,13 +43,15 @@ use Rattle.c_types_faults.proofs.Calling.{CallsIn, both_tell, has_left, has_righ
 use Rattle.c_types_faults.specs.Known.{Entity, Object, Function, Standard}
 use Rattle.c_types_faults.specs.Agrees.{Denotes, IsType}
 use Rattle.c_types_faults.specs.Context.{Context, HasName, IsReserved, declare, declared_in, inner}
-use Rattle.c_types_faults.specs.Functions.{Formal, FunctionBreaks, FunctionGives, FunctionRule, IsKnownAs, Names, TwiceDefined, is_listed}
+use Rattle.c_types_faults.specs.Functions.{Clashes, Formal, FunctionBreaks, FunctionGives, FunctionRule, IsDefinedBefore, IsKnownAs, Names, is_listed}
 use Rattle.c_types_faults.specs.Functions.{with_formal, FunctionFits}
 use Rattle.c_types_faults.specs.Functions.{with_formals}
 use Rattle.c_types_faults.proofs.Files.{named_in, places_new, places_on, Files, Funs, IsFlat, defined_funs, found_below, function_is, function_self}
 use Rattle.c_types_faults.proofs.Files.{funs_same, listed_is, matches_more, text_found}
 use Rattle.c_types_faults.proofs.Fitting.{or_right, either_true}
 use Rattle.c_types_faults.proofs.Knowing.{Knows, Matches, entering_knows, here_named, object_knows, variable_shown, named_here}
+use Rattle.c_types_faults.specs.Least.{IsLeast}
+use Rattle.c_types_faults.proofs.Least.{least_first, least_second}
 use Rattle.c_types_faults.proofs.Prototypes.{formal_of}
 use Rattle.c_types_faults.proofs.Statements.{IsWithin, closing_tells, entries_tell, within_from, within_on, Beyond, Within}
 use Rattle.c_types_faults.proofs.Telling.{Shown, Tells, and_then, shown, weaker}
@@ -291,7 +293,7 @@ module _ (token : ℕ) (name : List ℕ) (f : FunctionType) (c : Context) (w : W
   names_so (Some j) h = inl (h.0, refl)
 
   clash_rule : (o : Option ℕ) → Was o → ((is_reserved name ≡ true) ⊎ ((is_here name w.names && is_none o) ≡ true))
-      → IsReserved name ⊎ (HasName name c.scope × (IsKnownAs name f c → ⊥))
+      → Clashes name f c
   clash_rule o h (inl e) = inl (reserved_by (library_named name) e)
   clash_rule None h (inr e) = inr (
     here_named w.declared_types w.functions (length w.variables) (length w.functions) w.names c.scope c.outer k.knows.names name
@@ -301,18 +303,18 @@ module _ (token : ℕ) (name : List ℕ) (f : FunctionType) (c : Context) (w : W
   clash_rule (Some j) h (inr e) = absurd (false≢true (and_parts (is_here name w.names) false e).1)
 
   declares_tells : {B : FaultKind → ℕ → Type 0} (b : Bool) (gives : TypeTree) (v : Walk) → (b ≡ true → B fault.Redeclared token)
-      → (is_struct gives ≡ true → B fault.Object token) → Tells (declares token b gives v)
+      → (b ≡ false → is_struct gives ≡ true → B fault.Object token) → Tells (declares token b gives v)
       (λ (d : Done) u. (b ≡ false) × (u ≡ v) × (is_struct gives ≡ false)) B
   declares_tells true gives v g h = record { by = g refl }
-  declares_tells {B = B} false gives v g h = result (is_struct gives) h
+  declares_tells {B = B} false gives v g h = result (is_struct gives) (h refl)
     where
       result : (b : Bool) → (b ≡ true → B fault.Object token)
           → Tells (if b then Faulty fault.Object token else Fine tt v) (λ (d : Done) u. (false ≡ false) × (u ≡ v) × (b ≡ false)) B
       result true h = record { by = h refl }
       result false h = record { by = (refl, refl, refl) }
 
-  rule_of : (o : Option ℕ) → Was o → clashes name o w ≡ true → FunctionRule name f c fault.Redeclared
-  rule_of o h e = inl (refl, clash_rule o h (either_true (is_reserved name) (is_here name w.names && is_none o) e))
+  rule_of : (o : Option ℕ) → Was o → clashes name o w ≡ true → Clashes name f c
+  rule_of o h e = clash_rule o h (either_true (is_reserved name) (is_here name w.names && is_none o) e)
 
   named : (o : Option ℕ) → Named (view (with_function name f o w))
   named o = (step_onward (event.Names name) (view w) (view (with_function name f o w)) (function_step name f o w)).named (named_in w k)
@@ -322,10 +324,10 @@ module _ (token : ℕ) (name : List ℕ) (f : FunctionType) (c : Context) (w : W
   grown o i other h = (step_onward (event.Names name) (view w) (view (with_function name f o w)) (function_step name f o w)).functions i other h
 
   -- the rules that it keeps
-  fits_so : (o : Option ℕ) → Was o → clashes name o w ≡ false → is_struct f.gives ≡ false → FunctionFits name f c
-  fits_so o h e g =
+  free_so : (o : Option ℕ) → Was o → clashes name o w ≡ false → (IsReserved name → ⊥) × (HasName name c.scope → IsKnownAs name f c)
+  free_so o h e =
       let parts = or_parts (is_reserved name) (is_here name w.names && is_none o) e in
-      (λ r. false≢true (sym parts.0 ∙ reserved_true name r), λ n. known_so o h parts.1 n, g)
+      (λ r. false≢true (sym parts.0 ∙ reserved_true name r), λ n. known_so o h parts.1 n)
     where
       here : HasName name c.scope → is_here name w.names ≡ true
       here n = named_here w.declared_types w.functions (length w.variables) (length w.functions) w.names c.scope c.outer k.knows.names name n
@@ -333,6 +335,13 @@ module _ (token : ℕ) (name : List ℕ) (f : FunctionType) (c : Context) (w : W
       known_so : (o : Option ℕ) → Was o → (is_here name w.names && is_none o) ≡ false → HasName name c.scope → IsKnownAs name f c
       known_so (Some j) h e n = h.0
       known_so None h e n = absurd (false≢true (sym (and_true (is_here name w.names) e) ∙ here n))
+
+  fits_so : (o : Option ℕ) → Was o → clashes name o w ≡ false → is_struct f.gives ≡ false → FunctionFits name f c
+  fits_so o h e g = let q = free_so o h e in (q.0, q.1, g)
+
+  no_clash : (o : Option ℕ) → Was o → clashes name o w ≡ false → Clashes name f c → ⊥
+  no_clash o h e (inl r) = (free_so o h e).0 r
+  no_clash o h e (inr r) = r.1 ((free_so o h e).1 r.0)
 
   once_so : (o : Option ℕ) → Was o → is_defined (unwrap_or o (length w.functions)) w.defined_as ≡ false → IsKnownAs name f c
       → is_listed name c.defined ≡ false
@@ -346,8 +355,13 @@ module _ (token : ℕ) (name : List ℕ) (f : FunctionType) (c : Context) (w : W
   -- a declaration
   declared_tells : (o : Option ℕ) → Was o → (xs : List Parameter)
       → Tells (walk_function token f name xs None o w) (Told (map formal_of xs) None) (FunctionBreaks token name f (map formal_of xs) None c)
-  declared_tells o h xs = weaker (declares_tells {B = λ j at. (at ≡ token) × FunctionRule name f c j} (clashes name o w) f.gives (with_function name f o w)
-      (λ e. (refl, rule_of o h e)) (λ e. (refl, inr (refl, e))))
+  declared_tells o h xs = weaker (declares_tells {B = λ j at. (at ≡ token) × IsLeast (FunctionRule (Clashes name f c) f) j} (clashes name o w) f.gives
+      (with_function name f o w)
+      (λ e. (
+        refl,
+        least_first (Clashes name f c) (is_struct f.gives ≡ true) fault.Redeclared fault.Object fault.Redeclared (omega arith) refl (rule_of o h e),
+      ))
+      (λ n e. (refl, least_second (Clashes name f c) (is_struct f.gives ≡ true) fault.Redeclared fault.Object fault.Object (no_clash o h n) refl e)))
       (λ j at b. b)
       (λ d v p. (
         (
@@ -362,11 +376,24 @@ module _ (token : ℕ) (name : List ℕ) (f : FunctionType) (c : Context) (w : W
             (record { calls = λ t i n. inl (ap (λ ns. noted ns t) (sym (function_calls name f o w)) ∙ n); grows = grown o }),
       ))
 
-  twice_by : (o : Option ℕ) → Was o → is_defined (unwrap_or o (length w.functions)) w.defined_as ≡ true → TwiceDefined name f c fault.Redeclared
+  twice_by : (o : Option ℕ) → Was o → is_defined (unwrap_or o (length w.functions)) w.defined_as ≡ true → IsDefinedBefore name f c
   twice_by None h e =
       absurd (false≢true (sym (ap (λ x. is_some (unwrap_or x None)) (slice_get_past w.defined_as (length w.functions) (omega (arith, k.long)))) ∙ e))
   twice_by (Some j) h e =
-      (refl, h.0, sym (listed_is name j w.defined_as c.defined (length w.functions) w.names k.flat h.1 k.funs) ∙ e)
+      (h.0, sym (listed_is name j w.defined_as c.defined (length w.functions) w.names k.flat h.1 k.funs) ∙ e)
+
+  -- it may not be declared so here, or it may
+  abbrev MayNot : Type 0
+  MayNot = Clashes name f c ⊎ IsDefinedBefore name f c
+
+  may_not : (o : Option ℕ) → Was o → (clashes name o w || is_defined (unwrap_or o (length w.functions)) w.defined_as) ≡ true → MayNot
+  may_not o h e = ⊎_elim (λ a. inl (rule_of o h a)) (λ a. inr (twice_by o h a))
+      (either_true (clashes name o w) (is_defined (unwrap_or o (length w.functions)) w.defined_as) e)
+
+  may : (o : Option ℕ) → Was o → (clashes name o w || is_defined (unwrap_or o (length w.functions)) w.defined_as) ≡ false → MayNot → ⊥
+  may o h e (inl r) = no_clash o h (or_parts (clashes name o w) (is_defined (unwrap_or o (length w.functions)) w.defined_as) e).0 r
+  may o h e (inr r) =
+      false≢true (sym (once_so o h (or_parts (clashes name o w) (is_defined (unwrap_or o (length w.functions)) w.defined_as) e).1 r.0) ∙ r.1)
 
   place_found : (o : Option ℕ) → Was o → found name (with_function name f o w).names ≡ Some (meaning.Function (unwrap_or o (length w.functions)))
   place_found (Some j) h = h.1
@@ -407,7 +434,7 @@ module _ (token : ℕ) (name : List ℕ) (f : FunctionType) (c : Context) (w : W
       (EntriesBreak f.gives (with_formals fs (inner next)) false body) (walk_entries f.gives false body first)
       (entries_tell f.gives false body (with_formals fs (inner next)) first (params_know xs (inner next) (opened begun) (entering_knows here)))
       (entries_goes f.gives false body first))
-      (λ j at b. inl (next, (names_so o h, b)))
+      (λ j at b. (next, (names_so o h, inl b)))
       (λ d v i. record {
         by = (
           (closing_tells {B = FunctionBreaks token name f fs (Some body) c} next begun v d
@@ -419,12 +446,26 @@ module _ (token : ℕ) (name : List ℕ) (f : FunctionType) (c : Context) (w : W
       (λ j at b. b)
       (λ d v p. and_then (declares_tells {B = FunctionBreaks token name f fs (Some body) c}
       (clashes name o w || is_defined (unwrap_or o (length w.functions)) w.defined_as) f.gives v
-      (λ e. inr (
-        refl,
-        ⊎_elim (λ a. inl (rule_of o h a)) (λ a. inr (twice_by o h a))
-            (either_true (clashes name o w) (is_defined (unwrap_or o (length w.functions)) w.defined_as) e),
+      (λ e. (
+        next,
+        (
+          names_so o h,
+          inr (
+            p.2,
+            (refl, least_first MayNot (is_struct f.gives ≡ true) fault.Redeclared fault.Object fault.Redeclared (omega arith) refl (may_not o h e)),
+          ),
+        ),
       ))
-      (λ e. inr (refl, inl (inr (refl, e)))))
+      (λ n e. (
+        next,
+        (
+          names_so o h,
+          inr (
+            p.2,
+            (refl, least_second MayNot (is_struct f.gives ≡ true) fault.Redeclared fault.Object fault.Object (may o h n) refl e),
+          ),
+        ),
+      )))
       (λ j at b. b)
       (λ e u q. record {
         by = (

@@ -30,7 +30,7 @@ use Rattle.c_types_faults.proofs.Calling.{both_tell, calls_then, path_calls}
 use Rattle.c_types_faults.specs.Context.{Context, counting, known, nothing}
 use Rattle.c_types_faults.specs.Declarations.{VariableGives, VariablesGive, DeclarationGives, DeclarationBreaks}
 use Rattle.c_types_faults.specs.Structs.{StructGives}
-use Rattle.c_types_faults.specs.Functions.{PrototypeGives, is_listed, type_of, Names}
+use Rattle.c_types_faults.specs.Functions.{FunctionBreaks, PrototypeGives, is_listed, type_of, Names}
 use Rattle.c_types_faults.specs.Items.{ItemBreaks, ItemGives, ItemsBreak, ItemsGive}
 use Rattle.c_types_faults.proofs.Declaring.{Behind, declaration_tells}
 use Rattle.c_types_faults.proofs.Exprs.{base_tells}
@@ -173,11 +173,21 @@ item_tells (i.Struct token tag members) c w k = weaker (struct_tells token tag m
       no_calls (item_events (i.Struct token tag members)) w v p.1.1.calls p.1.1.functions,
     ))
 item_tells (i.Function token b stars name ps body) c w k = and_then (base_tells (known c) b w (agreed k.knows)) (λ j at h. inl h) (λ of v p.
-    and_then (params_tell c (is_some body) (listed ps) [] v (agrees_on (agreed k.knows) (ap shown p.1))) (λ j at h. inr (inl h)) (λ xs u q.
+    and_then (params_tell c (is_some body) (listed ps) [] v (agrees_on (agreed k.knows) (ap shown p.1))) (λ j at h. inr (of, (p.0, inl h)))
+    (λ xs u q.
     let f : FunctionType = record { gives = with_stars stars of; params = types_of xs } in
     let is : PrototypeGives b stars (is_some body) (listed ps) c f (map formal_of xs) = (of, (p.0, q.0, ap (made (with_stars stars of)) (types_same xs))) in
     weaker (function_tells token name f c u (subst (λ z. Files c (shown z)) (sym (q.1 ∙ p.1)) k) xs body)
-    (λ j at h. inr (inr (f, (map formal_of xs, (is, h)))))
+    (λ j at h. inr (
+      of,
+      (
+        p.0,
+        inr (
+          map formal_of xs,
+          (q.0, subst (λ ts. FunctionBreaks token name (made (with_stars stars of) ts) (map formal_of xs) body c j at) (types_same xs) h),
+        ),
+      ),
+    ))
     (λ d z n. (
       (n.0.0, ((f, (map formal_of xs, (is, n.0.1.0))), n.0.1.1)),
       function_notes token b stars name ps body w z (subst (λ y. Notes (body_events body) y z) (q.1 ∙ p.1) n.1),

@@ -1,3 +1,4 @@
+pub mod Least
 pub mod Fitting
 pub mod Refusing
 pub mod Telling
@@ -21,3 +22,7 @@ pub mod Silent
 pub mod Quiet
 pub mod QuietItems
 pub mod Defining
+pub mod First
+pub mod FirstExprs
+pub mod FirstStatements
+pub mod FirstTexts

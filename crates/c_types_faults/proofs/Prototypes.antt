@@ -1,5 +1,5 @@
 -- Parameters: what the walk takes is what they are, and where it stops a rule is broken.
-use Rattle.std.proofs.Common.{◌⊎◌, inl, inr, ◌≡◌, ℕ, refl, ap, subst, sym, ◌∙◌, List, [], ◌∷◌, ◌++◌, map, Some, None, Bool, true, false}
+use Rattle.std.proofs.Common.{◌⊎◌, inl, inr, ◌≡◌, ℕ, refl, ap, subst, sym, ◌∙◌, arith, List, [], ◌∷◌, ◌++◌, map, Some, None, Bool, true, false}
 use Rattle.c_types_faults.proofs.Fitting.{or_left, or_right, either_true}
 use Rattle.std.proofs.lemmas.Bool.{and_from, false≢true, and_parts}
 use Rattle.std.proofs.lemmas.List.{map-append}
@@ -23,7 +23,9 @@ use Rattle.c_types_walk.specs.ItemWalk.{has_length, is_among, is_length, is_name
 use Rattle.c_types_faults.specs.Context.{Context, IsReserved, known}
 use Rattle.c_types_faults.specs.Functions.{Formal, HasLength, IsFormal, IsPositive, ParamBreaks, ParamGives, ParamRule, ParamsBreak, ParamsGive}
 use Rattle.c_types_faults.specs.Functions.{adjusted, formal, ParamFits}
+use Rattle.c_types_faults.specs.Least.{IsLeast}
 use Rattle.c_types_faults.proofs.Exprs.{base_tells}
+use Rattle.c_types_faults.proofs.Least.{least_first, least_second}
 use Rattle.c_types_faults.proofs.Telling.{Agreed, Tells, agrees_on, and_then, shown, weaker}
 use Rattle.c_types_faults.proofs.Variables.{reserved_by, reserved_true}
 
@@ -68,7 +70,7 @@ among_formals name (p ∷ ps) h = by p.name refl (either_true (is_named name p.n
 
 module _ (c : Context) (body : Bool) (token : ℕ) where
   abbrev Rule : List Parameter → Option ParamName → TypeTree → FaultKind → ℕ → Type 0
-  Rule before name t j at = (at ≡ token) × ParamRule body (map formal_of before) name t j
+  Rule before name t j at = (at ≡ token) × IsLeast (ParamRule body (map formal_of before) name t) j
 
   scalar_tells : {B : FaultKind → ℕ → Type 0} (b : Bool) (p : Parameter) (w : Walk) → (b ≡ false → B fault.Object token)
       → Tells (if b then Fine p w else Faulty fault.Object token) (λ x v. (x ≡ p) × (v ≡ w) × (b ≡ true)) B
@@ -78,16 +80,28 @@ module _ (c : Context) (body : Bool) (token : ℕ) where
   no_name : (b : Bool) (t : TypeTree) (before : List Parameter) (w : Walk) → body ≡ b
       → Tells (if b then Faulty fault.Unknown token else scalar_param token None t (record { token = token; name = None; ctype = t }) w)
       (λ x v. (formal_of x ≡ formal None t) × (v ≡ w) × ParamFits body (map formal_of before) None t) (Rule before None t)
-  no_name true t before w e = record { by = (refl, inl (refl, e)) }
+  no_name true t before w e = record {
+    by = (refl, least_first (body ≡ true) (is_scalar t ≡ true → ⊥) fault.Unknown fault.Object fault.Unknown (omega arith) refl e);
+  }
   no_name false t before w e = weaker (scalar_tells {B = Rule before None t} (is_scalar t && true) (record { token = token; name = None; ctype = t }) w
-      (λ h. (refl, inr (refl, λ s. false≢true (sym h ∙ and_from (is_scalar t) true s refl)))))
+      (λ h. (
+        refl,
+        least_second (body ≡ true) (is_scalar t ≡ true → ⊥) fault.Unknown fault.Object fault.Object (λ y. false≢true (sym e ∙ y)) refl
+            (λ s. false≢true (sym h ∙ and_from (is_scalar t) true s refl)),
+      )))
       (λ j at h. h) (λ x v p. (ap formal_of p.0, p.1, (e, (and_parts (is_scalar t) true p.2).0)))
 
   named_by : (b : Bool) (n : ParamName) (t : TypeTree) (before : List Parameter) (w : Walk) → (is_reserved n.name || is_among n.name before) ≡ b
       → Tells (if b then Faulty fault.Redeclared token
       else scalar_param token n.bound (param_type n.bound t) (record { token = n.token; name = Some n.name; ctype = param_type n.bound t }) w)
       (λ x v. (formal_of x ≡ formal (Some n) t) × (v ≡ w) × ParamFits body (map formal_of before) (Some n) t) (Rule before (Some n) t)
-  named_by true n t before w e = record { by = (refl, inl (refl, taken (either_true (is_reserved n.name) (is_among n.name before) e))) }
+  named_by true n t before w e = record {
+    by = (
+      refl,
+      least_first (IsReserved n.name ⊎ IsFormal n.name (map formal_of before)) ((is_scalar (adjusted n.bound t) ≡ true) × HasLength n.bound → ⊥)
+          fault.Redeclared fault.Object fault.Redeclared (omega arith) refl (taken (either_true (is_reserved n.name) (is_among n.name before) e)),
+    );
+  }
     where
       taken : ((is_reserved n.name ≡ true) ⊎ (is_among n.name before ≡ true)) → IsReserved n.name ⊎ IsFormal n.name (map formal_of before)
       taken (inl h) = inl (reserved_by (library_named n.name) h)
@@ -96,11 +110,10 @@ module _ (c : Context) (body : Bool) (token : ℕ) where
       (record { token = n.token; name = Some n.name; ctype = param_type n.bound t }) w
       (λ h. (
         refl,
-        inr (
-          refl,
-          λ s. false≢true (sym h ∙ and_from (is_scalar (param_type n.bound t)) (has_length n.bound)
-              (ap is_scalar (adjusted_is n.bound t) ∙ s.0) (length_back n.bound s.1)),
-        ),
+        least_second (IsReserved n.name ⊎ IsFormal n.name (map formal_of before)) ((is_scalar (adjusted n.bound t) ≡ true) × HasLength n.bound → ⊥)
+            fault.Redeclared fault.Object fault.Object free refl
+            (λ s. false≢true (sym h ∙ and_from (is_scalar (param_type n.bound t)) (has_length n.bound)
+            (ap is_scalar (adjusted_is n.bound t) ∙ s.0) (length_back n.bound s.1))),
       )))
       (λ j at h. h) (λ x v p. (
         ap formal_of p.0 ∙ ap (λ u. named n u) (adjusted_is n.bound t),
@@ -130,7 +143,7 @@ module _ (c : Context) (body : Bool) where
       → Tells (walk_param body p before w) (λ x v. ParamGives c body (map formal_of before) p (formal_of x) × (v ≡ w)) (ParamBreaks c body
       (map formal_of before) p)
   param_tells p before w g = and_then (base_tells (known c) p.base w g) (λ j at h. inl h) (λ of v q.
-      weaker (looked_tells c body p.token p.name (with_stars p.stars of) before v) (λ j at h. inr (h.0, (of, (q.0, h.1))))
+      weaker (looked_tells c body p.token p.name (with_stars p.stars of) before v) (λ j at h. inr (of, (q.0, h)))
       (λ x u n. ((of, (q.0, n.2, n.0)), n.1 ∙ q.1)))
 
   pub params_tell : (ps : List Param) (before : List Parameter) (w : Walk) → Agreed (known c) (shown w)

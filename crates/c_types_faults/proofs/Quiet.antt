@@ -1,9 +1,7 @@
 -- What keeps the rules breaks none.
-use Rattle.std.proofs.Common.{◌⊎◌, inl, inr, ⊎_elim, ◌≡◌, ℕ, ◌≤◌, ap, subst, sym, ◌∙◌, List, [], ◌∷◌, Some, None, Bool, true, false, arith, ◌<◌}
-use Rattle.std.proofs.lemmas.Bool.{and_parts, false≢true}
-use Rattle.std.proofs.lemmas.Bool.Decides.{nat_tests}
-use Rattle.std.proofs.lemmas.Nat.{mul-le}
-use Rattle.std.specs.Prelude.{Option, nat_lt, ◌*◌}
+use Rattle.std.proofs.Common.{◌⊎◌, inl, inr, ⊎_elim, ◌≡◌, ℕ, ap, subst, sym, ◌∙◌, List, [], ◌∷◌, Some, None, Bool, true, false}
+use Rattle.std.proofs.lemmas.Bool.{false≢true}
+use Rattle.std.specs.Prelude.{Option}
 use Rattle.c_syntax.specs.declared.parts.Declarator.{Declarator}
 use Rattle.c_syntax.specs.ExprTree as e
 use Rattle.c_syntax.specs.ExprTree.{ExprTree, ExprList}
@@ -15,7 +13,7 @@ use Rattle.c_rules.specs.declared.layout.StructType.{StructType}
 use Rattle.c_rules.specs.declared.library.Library.TheVariants as library
 use Rattle.c_rules.specs.declared.operand.Operand.{Operand}
 use Rattle.c_rules.specs.Conversions.{is_struct}
-use Rattle.c_rules.specs.Sizes.{cells_of, is_complete}
+use Rattle.c_rules.specs.Sizes.{cells_of}
 use Rattle.c_rules.specs.TypeTree.{TypeTree, Void, Char, Int, Unsigned, Pointer, Array, Struct}
 use Rattle.c_types_walk.specs.Declarators.{declared_type}
 use Rattle.c_types_walk.specs.Initialisers.{cells_of_string, listed as list_of, valued}
@@ -25,14 +23,15 @@ use Rattle.c_types_faults.specs.Calls.{Calls}
 use Rattle.c_types_faults.specs.Context.{Context, counting, declare, inner, known}
 use Rattle.c_types_faults.specs.Declarators.{Declares}
 use Rattle.c_types_faults.specs.Initialisers.{Begins, Completes, InitialBreaks, Lists}
-use Rattle.c_types_faults.specs.Declarations.{DeclarationBreaks, DeclarationGives, ElementBreaks, Finishes, HasRoom, IsObject, IsOpen, SizeBreaks}
+use Rattle.c_types_faults.specs.Declarations.{BeginningBreaks, DeclarationBreaks, DeclarationGives, ElementBreaks, Finishes, HasRoom, IsObject, IsOpen, SizeBreaks}
 use Rattle.c_types_faults.specs.Declarations.{VariableBreaks, VariableGives, VariablesBreak, VariablesGive}
 use Rattle.c_types_faults.specs.ExprBreaks.{Breaks}
 use Rattle.c_types_faults.specs.Wholes.{IsFormatted, IsWhole, WholeBreaks, WholeCallBreaks}
-use Rattle.c_types_faults.specs.Statements.{EntriesBreak, EntriesFit, ForBreaks, GivesUpStruct, IfPart, IsCondition, IsGivenUp, NoCondition, OfPart}
+use Rattle.c_types_faults.specs.Statements.{EntriesBreak, EntriesFit, ForBreaks, GivesUpStruct, IfPart, IsCondition, IsGivenUp, IsSomeOperand, NoCondition, OfPart}
 use Rattle.c_types_faults.specs.Statements.{ReturnBreaks, Returns, StartBreaks, StartGives, StartLeaves, StatementBreaks, StatementFits, computed}
 use Rattle.c_types_faults.proofs.Beginnings.{begins_back, lists_back, completes_so, SameOrOpen}
 use Rattle.c_types_faults.proofs.Bounds.{declared_back, one_some}
+use Rattle.c_types_faults.proofs.Variables.{element_object}
 use Rattle.c_types_faults.proofs.Silent.{base_silent, call_silent, expr_silent, list_silent}
 use Rattle.c_types_faults.proofs.Single.{one_base, one_list, one_operand}
 
@@ -56,11 +55,11 @@ module _ (k : Known) (global : Bool) where
       → InitialBreaks k global of initial j at → ⊥
   initial_silent of None t j at h b = b
   initial_silent of (Some (s.Value value)) t j at (x, h) (inl b) = expr_silent k value x j at h.0 b
-  initial_silent of (Some (s.Value value)) t j at (x, h) (inr (q, (y, b))) =
-      b.2 t (subst (λ z. Begins global of value z t) (one_operand k value x y h.0 b.0) h.1)
+  initial_silent of (Some (s.Value value)) t j at (x, h) (inr (y, b)) =
+      b.1.2 t (subst (λ z. Begins global of value z t) (one_operand k value x y h.0 b.0) h.1)
   initial_silent of (Some (s.Braced token items comma)) t j at (xs, h) (inl b) = list_silent k items xs j at h.0 b
-  initial_silent of (Some (s.Braced token items comma)) t j at (xs, h) (inr (q, (ys, b))) =
-      b.2 t (subst (λ zs. Lists global of items zs t) (one_list k items xs ys h.0 b.0) h.1)
+  initial_silent of (Some (s.Braced token items comma)) t j at (xs, h) (inr (ys, b)) =
+      b.1.2 t (subst (λ zs. Lists global of items zs t) (one_list k items xs ys h.0 b.0) h.1)
 
 -- an object whose initialiser doesn't give its length keeps its type
 
@@ -78,16 +77,6 @@ pub completes_closed : (k : Known) (global : Bool) (of : TypeTree) (initial : Op
     → (IsOpen of initial → ⊥) → u ≡ of
 completes_closed k global of None u h f = h
 completes_closed k global of (Some initial) u h f = closed_same of u initial (completes_so k global of initial u h) f
-
-less_by : (m n : ℕ) → nat_lt m n ≡ true → m < n
-less_by m n h = grind (arith, nat_tests, h)
-
-element_object : (ss : List StructType) (element : TypeTree) (size : ℕ) → IsObject ss (Array element size) → IsObject ss element
-element_object ss element size h =
-    let p = and_parts (nat_lt 0 size) (is_complete ss element) h.0 in
-    let n : 0 < size = less_by 0 size p.0 in
-    let m : 1 * cells_of ss element ≤ size * cells_of ss element = mul-le 1 (cells_of ss element) size (cells_of ss element) (omega (arith, n)) (omega arith) in
-    (p.1, omega (arith, m, h.1))
 
 open_element : (ss : List StructType) (of u : TypeTree) (initial : InitialTree) → SameOrOpen of u → IsObject ss u → IsOpen of (Some initial)
     → ElementBreaks ss of → ⊥
@@ -121,34 +110,34 @@ module _ (global : Bool) (base : TypeTree) where
       (subst (λ z. Finishes global base c x z u2) is g.1) in
       h.4 ∙ ap (λ v. declare x.declarator.name (Object v) (counting global (cells_of c.structs v) c)) same ∙ sym g.4
 
-  size_silent : (x : StartTree) (c : Context) (t u : TypeTree) → Finishes global base c x t u → IsObject c.structs u → HasRoom global c u
-      → SizeBreaks global base c x t → ⊥
-  size_silent x c t u f o r (inl (closed, bad)) =
+  beginning_silent : (x : StartTree) (c : Context) (t u : TypeTree) → Finishes global base c x t u → IsObject c.structs u → HasRoom global c u
+      → BeginningBreaks global base c x t → ⊥
+  beginning_silent x c t u f o r (inl (closed, bad)) =
       let is : u ≡ t = completes_closed (known (declare x.declarator.name (Object t) c)) global t x.initial u f closed in
       ⊎_elim (λ n. n (subst (IsObject c.structs) is o)) (λ n. n (subst (HasRoom global c) is r)) bad
-  size_silent x c t u f o r (inr (opens, inl b)) =
+  beginning_silent x c t u f o r (inr (opens, b)) =
       completes_elements (known (declare x.declarator.name (Object t) c)) global c.structs t x.initial u f o opens b
-  size_silent x c t u f o r (inr (opens, inr (v, b))) =
-      let is : u ≡ v = completes_one (known (declare x.declarator.name (Object t) c)) global t x.initial u v f b.0 in
-      ⊎_elim (λ n. n (subst (IsObject c.structs) is o)) (λ n. n (subst (HasRoom global c) is r)) b.1
 
-  variable_silent : (x : StartTree) (c a : Context) (j : FaultKind) (at : ℕ) → VariableGives global base c x a → VariableBreaks global base c x j at → ⊥
-  variable_silent x c a j at (new, (t, (u, h))) (inl b) = new b.2
-  variable_silent x c a j at (new, (t, (u, h))) (inr (inl b)) = b.2 t h.0
-  variable_silent x c a j at (new, (t, (u, h))) (inr (inr (t2, b))) = by t2 (one_type x.declarator base t t2 h.0 b.0) b.1
+  pub variable_silent : (x : StartTree) (c a : Context) (j : FaultKind) (at : ℕ) → VariableGives global base c x a → VariableBreaks global base c x j at → ⊥
+  variable_silent x c a j at (new, (t, (u, h))) (inl (q, (inl b, least))) = new b.1
+  variable_silent x c a j at (new, (t, (u, h))) (inl (q, (inr b, least))) = beginning_silent x c t u h.1 h.2 h.3 (b.1 t h.0)
+  variable_silent x c a j at (new, (t, (u, h))) (inr (t2, (f, b))) = by t2 (one_type x.declarator base t t2 h.0 f.1) b
     where
-      by : (t2 : TypeTree) → t ≡ t2 → (((at ≡ x.token) × (j ≡ fault.Object) × SizeBreaks global base c x t2)
-          ⊎ InitialBreaks (known (declare x.declarator.name (Object t2) c)) global t2 x.initial j at) → ⊥
-      by t2 e (inl b) = size_silent x c t2 u (subst (λ z. Finishes global base c x z u) e h.1) h.2 h.3 b.2
-      by t2 e (inr b) = initial_silent (known (declare x.declarator.name (Object t2) c)) global t2 x.initial u j at
+      by : (t2 : TypeTree) → t ≡ t2 → (InitialBreaks (known (declare x.declarator.name (Object t2) c)) global t2 x.initial j at
+          ⊎ ((v : TypeTree) × (Finishes global base c x t2 v × ((at ≡ x.token) × (j ≡ fault.Object) × SizeBreaks global base c v)))) → ⊥
+      by t2 e (inl b) = initial_silent (known (declare x.declarator.name (Object t2) c)) global t2 x.initial u j at
           (subst (λ z. Finishes global base c x z u) e h.1) b
+      by t2 e (inr (v, b)) =
+          let is : u ≡ v = completes_one (known (declare x.declarator.name (Object t2) c)) global t2 x.initial u v
+          (subst (λ z. Finishes global base c x z u) e h.1) b.0 in
+          ⊎_elim (λ n. n (subst (IsObject c.structs) is h.2)) (λ n. n (subst (HasRoom global c) is h.3)) b.1.2
 
-  variables_one : (xs : List StartTree) (c a b : Context) → VariablesGive global base c xs a → VariablesGive global base c xs b → a ≡ b
+  pub variables_one : (xs : List StartTree) (c a b : Context) → VariablesGive global base c xs a → VariablesGive global base c xs b → a ≡ b
   variables_one [] c a b h g = h ∙ sym g
   variables_one (x ∷ xs) c a b (n, h) (m, g) =
       variables_one xs n a b h.1 (subst (λ z. VariablesGive global base z xs b) (sym (variable_one x c n m h.0 g.0)) g.1)
 
-  variables_silent : (xs : List StartTree) (c a : Context) (j : FaultKind) (at : ℕ) → VariablesGive global base c xs a
+  pub variables_silent : (xs : List StartTree) (c a : Context) (j : FaultKind) (at : ℕ) → VariablesGive global base c xs a
       → VariablesBreak global base c xs j at → ⊥
   variables_silent [] c a j at h b = b
   variables_silent (x ∷ xs) c a j at (n, h) (inl b) = variable_silent x c n j at h.0 b
@@ -192,7 +181,7 @@ module _ (k : Known) where
   whole_one (e.Null token) a b h g = one_operand k (e.Null token) a b h g
   whole_one (e.EndOfFile token) a b h g = one_operand k (e.EndOfFile token) a b h g
 
-  whole_call_silent : (x : Option Entity) (arguments : ExprList) (xs : List Operand) (t : TypeTree) (j : FaultKind) → Calls x xs t
+  pub whole_call_silent : (x : Option Entity) (arguments : ExprList) (xs : List Operand) (t : TypeTree) (j : FaultKind) → Calls x xs t
       → WholeCallBreaks x arguments xs j → ⊥
   whole_call_silent None arguments xs t j h b = call_silent None xs t j h b
   whole_call_silent (Some (Object of)) arguments xs t j h b = call_silent (Some (Object of)) xs t j h b
@@ -211,13 +200,13 @@ module _ (k : Known) where
       → IsFormatted arguments xs → WholeCallBreaks x arguments xs j → ⊥
   print_silent x arguments xs j e f b = (subst (λ z. WholeCallBreaks z arguments xs j) e b).1 f
 
-  whole_silent : (x : ExprTree) (d : Operand) (j : FaultKind) (at : ℕ) → IsWhole k x d → WholeBreaks k x j at → ⊥
+  pub whole_silent : (x : ExprTree) (d : Operand) (j : FaultKind) (at : ℕ) → IsWhole k x d → WholeBreaks k x j at → ⊥
   whole_silent (e.Call token name arguments) d j at (inl (xs, h)) (inl b) = list_silent k arguments xs j at h.0 b
-  whole_silent (e.Call token name arguments) d j at (inl (xs, h)) (inr (q, (ys, b))) = whole_call_silent (k.ordinary name) arguments xs d.ctype j h.1.0
-      (subst (λ z. WholeCallBreaks (k.ordinary name) arguments z j) (one_list k arguments ys xs b.0 h.0) b.1)
+  whole_silent (e.Call token name arguments) d j at (inl (xs, h)) (inr (ys, b)) = whole_call_silent (k.ordinary name) arguments xs d.ctype j h.1.0
+      (subst (λ z. WholeCallBreaks (k.ordinary name) arguments z j) (one_list k arguments ys xs b.0 h.0) b.1.1)
   whole_silent (e.Call token name arguments) d j at (inr h) (inl b) = list_silent k arguments h.1.0 j at h.1.1.0 b
-  whole_silent (e.Call token name arguments) d j at (inr h) (inr (q, (ys, b))) = print_silent (k.ordinary name) arguments h.1.0 j h.0 h.1.1.1
-      (subst (λ z. WholeCallBreaks (k.ordinary name) arguments z j) (one_list k arguments ys h.1.0 b.0 h.1.1.0) b.1)
+  whole_silent (e.Call token name arguments) d j at (inr h) (inr (ys, b)) = print_silent (k.ordinary name) arguments h.1.0 j h.0 h.1.1.1
+      (subst (λ z. WholeCallBreaks (k.ordinary name) arguments z j) (one_list k arguments ys h.1.0 b.0 h.1.1.0) b.1.1)
   whole_silent (e.Comma token operands) d j at h b = expr_silent k (e.Comma token operands) d j at h b
   whole_silent (e.Assign token op target x) d j at h b = expr_silent k (e.Assign token op target x) d j at h b
   whole_silent (e.Conditional token condition first second) d j at h b = expr_silent k (e.Conditional token condition first second) d j at h b
@@ -242,21 +231,21 @@ module _ (k : Known) where
   given_silent x j (a, h) (q, (b, g)) =
       false≢true (sym h.1 ∙ ap (λ (z : Operand). is_struct z.ctype) (one_operand k x a b h.0 g.0) ∙ g.1)
 
-  condition_breaks : (x : ExprTree) (j : FaultKind) (at : ℕ) → IsCondition k x → Breaks k x j at → ⊥
+  pub condition_breaks : (x : ExprTree) (j : FaultKind) (at : ℕ) → IsCondition k x → Breaks k x j at → ⊥
   condition_breaks x j at (a, h) b = expr_silent k x a j at h.0 b
 
   given_breaks : (x : ExprTree) (j : FaultKind) (at : ℕ) → IsGivenUp k x → Breaks k x j at → ⊥
   given_breaks x j at (a, h) b = expr_silent k x a j at h.0 b
 
-part_silent : (P Q : ExprTree → Type 0) (x : Option ExprTree) → ((y : ExprTree) → P y → Q y → ⊥) → IfPart P x → OfPart Q x → ⊥
+pub part_silent : (P Q : ExprTree → Type 0) (x : Option ExprTree) → ((y : ExprTree) → P y → Q y → ⊥) → IfPart P x → OfPart Q x → ⊥
 part_silent P Q None f h b = b
 part_silent P Q (Some y) f h b = f y h b
 
 start_one : (start : ForStartTree) (c a b : Context) → StartGives c start a → StartLeaves c start b → a ≡ b
 start_one (s.Declares d) c a b h g = declaration_one false d c a b h g
-start_one (s.Computes x) c a b h g = h.1 ∙ sym g
+start_one (s.Computes x) c a b h g = h.1 ∙ sym g.1
 
-start_silent : (start : ForStartTree) (c a : Context) (j : FaultKind) (at : ℕ) → StartGives c start a → StartBreaks c start j at → ⊥
+pub start_silent : (start : ForStartTree) (c a : Context) (j : FaultKind) (at : ℕ) → StartGives c start a → StartBreaks c start j at → ⊥
 start_silent (s.Declares d) c a j at h b = declaration_silent false d c a j at h b
 start_silent (s.Computes x) c a j at h b = part_silent (IsGivenUp (known c)) (λ y. Breaks (known c) y j at) x (λ y. given_breaks (known c) y j at) h.0 b
 
@@ -267,7 +256,7 @@ start_given (s.Computes x) c a j h b = part_silent (IsGivenUp (known c)) (λ y. 
 return_silent : (k : Known) (gives : TypeTree) (value : Option ExprTree) (j : FaultKind) → Returns k gives value → ReturnBreaks k gives value j → ⊥
 return_silent k gives None j h b = false≢true (sym b.1 ∙ h)
 return_silent k gives (Some x) j h (inl b) = false≢true (sym h.0 ∙ b.1)
-return_silent k gives (Some x) j (q, (a, h)) (inr (r, (b, g))) = g.1 (subst (Accepts gives) (one_operand k x a b h.0 g.0) h.1)
+return_silent k gives (Some x) j (q, (a, h)) (inr (r, v, (b, g))) = g.1 (subst (Accepts gives) (one_operand k x a b h.0 g.0) h.1)
 
 return_breaks : (k : Known) (gives : TypeTree) (value : Option ExprTree) (j : FaultKind) (at : ℕ) → Returns k gives value
     → OfPart (λ x. Breaks k x j at) value → ⊥
@@ -277,20 +266,26 @@ return_breaks k gives (Some x) j at (q, (a, h)) b = expr_silent k x a j at h.0 b
 -- statements
 
 module _ (gives : TypeTree) where
+  -- behind the first part of a `for`
+  abbrev pub ForRest : Context → ForStartTree → Option ExprTree → Option ExprTree → StatementTree → Context → FaultKind → ℕ → ℕ → Type 0
+  ForRest d start condition step body c j at token = OfPart (λ x. Breaks (known d) x j at) condition
+      ⊎ (IfPart (IsSomeOperand (known d)) condition × (OfPart (λ x. Breaks (known d) x j at) step
+      ⊎ (IfPart (IsSomeOperand (known d)) step × (StatementBreaks gives d true body j at
+      ⊎ (StatementFits gives d true body × ((at ≡ token) × ForBreaks (known (inner c)) (known d) start condition step j))))))
+
   for_silent : (start : ForStartTree) (condition step : Option ExprTree) (body : StatementTree) (c d : Context) (j : FaultKind) (at token : ℕ)
       → (StartGives (inner c) start d × IfPart (IsCondition (known d)) condition × IfPart (IsGivenUp (known d)) step × StatementFits gives d true body)
       → (StatementBreaks gives d true body j at → ⊥)
-      → (OfPart (λ x. Breaks (known d) x j at) condition ⊎ (OfPart (λ x. Breaks (known d) x j at) step ⊎ (StatementBreaks gives d true body j at
-      ⊎ ((at ≡ token) × ForBreaks (known (inner c)) (known d) start condition step j)))) → ⊥
+      → ForRest d start condition step body c j at token → ⊥
   for_silent start condition step body c d j at token h f (inl b) =
       part_silent (IsCondition (known d)) (λ x. Breaks (known d) x j at) condition (λ y. condition_breaks (known d) y j at) h.1 b
-  for_silent start condition step body c d j at token h f (inr (inl b)) =
+  for_silent start condition step body c d j at token h f (inr (p, inl b)) =
       part_silent (IsGivenUp (known d)) (λ x. Breaks (known d) x j at) step (λ y. given_breaks (known d) y j at) h.2 b
-  for_silent start condition step body c d j at token h f (inr (inr (inl b))) = f b
-  for_silent start condition step body c d j at token h f (inr (inr (inr (q, inl b)))) = start_given start (inner c) d j h.0 b
-  for_silent start condition step body c d j at token h f (inr (inr (inr (q, inr (inl b))))) =
+  for_silent start condition step body c d j at token h f (inr (p, inr (r, inl b))) = f b
+  for_silent start condition step body c d j at token h f (inr (p, inr (r, inr (m, (q, inl b))))) = start_given start (inner c) d j h.0 b
+  for_silent start condition step body c d j at token h f (inr (p, inr (r, inr (m, (q, inr (inl b)))))) =
       part_silent (IsCondition (known d)) (λ x. NoCondition (known d) x j) condition (λ y. condition_silent (known d) y j) h.1 b
-  for_silent start condition step body c d j at token h f (inr (inr (inr (q, inr (inr b))))) =
+  for_silent start condition step body c d j at token h f (inr (p, inr (r, inr (m, (q, inr (inr b)))))) =
       part_silent (IsGivenUp (known d)) (λ x. GivesUpStruct (known d) x j) step (λ y. given_silent (known d) y j) h.2 b
 
   mutual
@@ -299,29 +294,27 @@ module _ (gives : TypeTree) where
     statement_silent looping (s.Block token entries) c j at h b = entries_silent looping entries (inner c) j at h b
     statement_silent looping (s.Empty token) c j at h b = b
     statement_silent looping (s.Expr token x) c j at (a, h) (inl b) = whole_silent (known c) x a j at h.0 b
-    statement_silent looping (s.Expr token x) c j at (a, h) (inr (q, r, (d, b))) =
-        false≢true (sym h.1 ∙ ap (λ (z : Operand). is_struct z.ctype) (whole_one (known c) x a d h.0 b.0) ∙ b.1)
+    statement_silent looping (s.Expr token x) c j at (a, h) (inr (d, b)) =
+        false≢true (sym h.1 ∙ ap (λ (z : Operand). is_struct z.ctype) (whole_one (known c) x a d h.0 b.0) ∙ b.1.2)
     statement_silent looping (s.If token condition first) c j at h (inl b) = condition_breaks (known c) condition j at h.0 b
-    statement_silent looping (s.If token condition first) c j at h (inr (inl b)) = statement_silent looping first c j at h.1 b
-    statement_silent looping (s.If token condition first) c j at h (inr (inr b)) = condition_silent (known c) condition j h.0 b.1
+    statement_silent looping (s.If token condition first) c j at h (inr (o, inl b)) = statement_silent looping first c j at h.1 b
+    statement_silent looping (s.If token condition first) c j at h (inr (o, inr (f, b))) = condition_silent (known c) condition j h.0 b.1
     statement_silent looping (s.IfElse token condition first second) c j at h (inl b) = condition_breaks (known c) condition j at h.0 b
-    statement_silent looping (s.IfElse token condition first second) c j at h (inr (inl b)) = statement_silent looping first c j at h.1 b
-    statement_silent looping (s.IfElse token condition first second) c j at h (inr (inr (inl b))) = statement_silent looping second c j at h.2 b
-    statement_silent looping (s.IfElse token condition first second) c j at h (inr (inr (inr b))) = condition_silent (known c) condition j h.0 b.1
+    statement_silent looping (s.IfElse token condition first second) c j at h (inr (o, inl b)) = statement_silent looping first c j at h.1 b
+    statement_silent looping (s.IfElse token condition first second) c j at h (inr (o, inr (f, inl b))) = statement_silent looping second c j at h.2 b
+    statement_silent looping (s.IfElse token condition first second) c j at h (inr (o, inr (f, inr (g, b)))) = condition_silent (known c) condition j h.0 b.1
     statement_silent looping (s.While token condition body) c j at h (inl b) = condition_breaks (known c) condition j at h.0 b
-    statement_silent looping (s.While token condition body) c j at h (inr (inl b)) = statement_silent true body c j at h.1 b
-    statement_silent looping (s.While token condition body) c j at h (inr (inr b)) = condition_silent (known c) condition j h.0 b.1
+    statement_silent looping (s.While token condition body) c j at h (inr (o, inl b)) = statement_silent true body c j at h.1 b
+    statement_silent looping (s.While token condition body) c j at h (inr (o, inr (f, b))) = condition_silent (known c) condition j h.0 b.1
     statement_silent looping (s.Do token body condition) c j at h (inl b) = statement_silent true body c j at h.0 b
-    statement_silent looping (s.Do token body condition) c j at h (inr (inl b)) = condition_breaks (known c) condition j at h.1 b
-    statement_silent looping (s.Do token body condition) c j at h (inr (inr b)) = condition_silent (known c) condition j h.1 b.1
+    statement_silent looping (s.Do token body condition) c j at h (inr (f, inl b)) = condition_breaks (known c) condition j at h.1 b
+    statement_silent looping (s.Do token body condition) c j at h (inr (f, inr (o, b))) = condition_silent (known c) condition j h.1 b.1
     statement_silent looping (s.For token start condition step body) c j at (d, h) (inl b) = start_silent start (inner c) d j at h.0 b
     statement_silent looping (s.For token start condition step body) c j at (d, h) (inr (d2, (g, b))) =
         for_silent start condition step body c d j at token h (λ f. statement_silent true body d j at h.3 f)
-        (subst (λ z. OfPart (λ x. Breaks (known z) x j at) condition
-        ⊎ (OfPart (λ x. Breaks (known z) x j at) step ⊎ (StatementBreaks gives z true body j at
-        ⊎ ((at ≡ token) × ForBreaks (known (inner c)) (known z) start condition step j)))) (sym (start_one start (inner c) d d2 h.0 g)) b)
+        (subst (λ z. ForRest z start condition step body c j at token) (sym (start_one start (inner c) d d2 h.0 g)) b)
     statement_silent looping (s.Return token value) c j at h (inl b) = return_breaks (known c) gives value j at h b
-    statement_silent looping (s.Return token value) c j at h (inr b) = return_silent (known c) gives value j h b.1
+    statement_silent looping (s.Return token value) c j at h (inr (o, b)) = return_silent (known c) gives value j h b.1
     statement_silent looping (s.Break token) c j at h b = false≢true (sym b.1.1 ∙ h)
     statement_silent looping (s.Continue token) c j at h b = false≢true (sym b.1.1 ∙ h)
 
@@ -332,4 +325,4 @@ module _ (gives : TypeTree) where
     entries_silent looping (s.declared declaration rest) c j at (n, h) (inr (m, b)) =
         entries_silent looping rest n j at h.1 (subst (λ z. EntriesBreak gives z looping rest j at) (declaration_one false declaration c m n b.0 h.0) b.1)
     entries_silent looping (s.stated statement rest) c j at h (inl b) = statement_silent looping statement c j at h.0 b
-    entries_silent looping (s.stated statement rest) c j at h (inr b) = entries_silent looping rest c j at h.1 b
+    entries_silent looping (s.stated statement rest) c j at h (inr (f, b)) = entries_silent looping rest c j at h.1 b

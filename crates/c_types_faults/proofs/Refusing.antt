@@ -1,5 +1,5 @@
 -- What the rules refuse breaks a rule of C or of the dialect.
-use Rattle.std.proofs.Common.{◌⊎◌, inl, inr, ◌≡◌, ℕ, suc, refl, subst, sym, ◌∙◌, List, [], ◌∷◌, Some, None, Ok, Err, Bool, true, false}
+use Rattle.std.proofs.Common.{◌⊎◌, inl, inr, ⊎_elim, ◌≡◌, ℕ, suc, refl, subst, sym, ◌∙◌, List, [], ◌∷◌, Some, None, Ok, Err, Bool, true, false}
 use Rattle.std.proofs.Common.{arith, length}
 use Rattle.std.specs.Prelude.{Option, Result, ◌&&◌, ◌||◌, if◌then◌else◌, slice_get}
 use Rattle.std.proofs.lemmas.Bool.{and_from, and_parts, eqb-true, false≢true}
@@ -26,12 +26,14 @@ use Rattle.c_rules.specs.Selecting.{chosen, either, indexed, joined_pointer, kno
 use Rattle.c_rules.specs.Selecting.{pointed_type, sequenced}
 use Rattle.c_rules.specs.Sizes.{is_complete}
 use Rattle.c_types_expressions.specs.ExprWalk.{assigning, chained, prefixed}
-use Rattle.c_types_laws.specs.Operands.{Accepts, Casts, Chooses, Indexes, IsArithmetic, IsModifiable, Joins, Prefixes}
-use Rattle.c_types_laws.proofs.Ruled.{Is, accepts, value_is}
+use Rattle.c_types_laws.specs.Operands.{Accepts, Casts, Chooses, Indexes, IsArithmetic, IsModifiable, Joins, Operates, PointsToObject, Prefixes}
+use Rattle.c_types_laws.proofs.Ruled.{Is, accepts, combined_is, is_value, value_is}
+use Rattle.c_types_faults.specs.Least.{IsLeast}
 use Rattle.c_types_faults.specs.Calls.{CallsAs, CallsStandard, IsLoneScalar, Passes}
 use Rattle.c_types_faults.specs.Operands.{AsValue, Sequence}
 use Rattle.c_types_faults.specs.ExprRules.{ArrowBreaks, AssignBreaks, Counts, HasStruct, MemberBreaks, Misfits, PrefixBreaks, StepBreaks, Stores, Unmodifiable}
-use Rattle.c_types_faults.proofs.Fitting.{accepts_back, cast_back, chained_back, chosen_back, combined_back, gives_true}
+use Rattle.c_types_faults.proofs.Least.{least_first, least_second}
+use Rattle.c_types_faults.proofs.Fitting.{either_true, accepts_back, cast_back, chained_back, chosen_back, combined_back, gives_true}
 use Rattle.c_types_faults.proofs.Fitting.{indexed_back, modifiable_back, of_type, or_left, or_right, pointed_back, points_back}
 
 pub not_both : {A : Type 0} (r : Looked) (x : Operand) (k : FaultKind) → r ≡ Ok x → r ≡ Err k → A
@@ -283,11 +285,25 @@ module _ (ss : List StructType) where
   changing fits left t = if fits then if left then Ok (value_of t) else Err fault.NoPlace else Err fault.Operands
 
   changing_breaks : (p q : Bool) (t : TypeTree) (x : Operand) (P : Type 0) (k : FaultKind) → (P → p ≡ true) → (IsModifiable x → q ≡ true)
-      → changing p q t ≡ Err k
-      → ((k ≡ fault.Operands) × (P → ⊥)) ⊎ Unmodifiable x k
-  changing_breaks true true t x P k f g h = absurd (cc)
-  changing_breaks true false t x P k f g h = inr (fault_is fault.NoPlace k h, λ m. false≢true (g m))
-  changing_breaks false q t x P k f g h = inl (fault_is fault.Operands k h, λ p. false≢true (f p))
+      → (p ≡ true → P) → changing p q t ≡ Err k
+      → IsLeast (λ j. ((j ≡ fault.Operands) × (P → ⊥)) ⊎ Unmodifiable x j) k
+  changing_breaks true true t x P k f g r h = absurd (cc)
+  changing_breaks true false t x P k f g r h =
+      least_second (P → ⊥) (IsModifiable x → ⊥) fault.Operands fault.NoPlace k (λ n. n (r refl)) (fault_is fault.NoPlace k h) (λ m. false≢true (g m))
+  changing_breaks false q t x P k f g r h =
+      least_first (P → ⊥) (IsModifiable x → ⊥) fault.Operands fault.NoPlace k (omega arith) (fault_is fault.Operands k h) (λ p. false≢true (f p))
+
+  points : (t : TypeTree) → is_movable ss t ≡ true → PointsToObject ss t
+  points (Pointer to) h = h
+  points Void h = absurd (false≢true h)
+  points Char h = absurd (false≢true h)
+  points Int h = absurd (false≢true h)
+  points Unsigned h = absurd (false≢true h)
+  points (Array element size) h = absurd (false≢true h)
+  points (Struct tag) h = absurd (false≢true h)
+
+  counts_is : (x : Operand) → (is_arithmetic (value_type x) || is_movable ss (value_type x)) ≡ true → Counts ss x
+  counts_is x h = ⊎_elim (λ e. inl e) (λ e. inr (points (value_type x) e)) (either_true (is_arithmetic (value_type x)) (is_movable ss (value_type x)) h)
 
   counts_back : (x : Operand) → Counts ss x → (is_arithmetic (value_type x) || is_movable ss (value_type x)) ≡ true
   counts_back x (inl h) = or_left (is_arithmetic (value_type x)) (is_movable ss (value_type x)) h
@@ -295,24 +311,27 @@ module _ (ss : List StructType) where
 
   pub stepped_breaks : (x : Operand) (k : FaultKind) → stepped ss x ≡ Err k → StepBreaks ss x k
   stepped_breaks x k h = changing_breaks (is_arithmetic (value_type x) || is_movable ss (value_type x)) (is_left_side x) (value_type x) x (Counts ss x) k
-      (counts_back x) (modifiable_back x) h
+      (counts_back x) (modifiable_back x) (counts_is x) h
 
   compound_breaks : (o : Binary) (x y : Operand) (k : FaultKind) (r : Looked) → combined ss o x y ≡ r → (r >>= assigned x) ≡ Err k
       → AssignBreaks ss (Some o) x y k
-  compound_breaks o x y k (Err j) e h = inl (
-    only_combined ss o x y k (e ∙ h),
-    λ s. not_both (combined ss o x y) (value_of s.0) j (combined_back ss o x y s.0 s.1.0) e,
-  )
+  compound_breaks o x y k (Err j) e h = least_first (Stores ss (Some o) x y → ⊥) (IsModifiable x → ⊥) fault.Operands fault.NoPlace k (omega arith)
+      (only_combined ss o x y k (e ∙ h)) (λ s. not_both (combined ss o x y) (value_of s.0) j (combined_back ss o x y s.0 s.1.0) e)
   compound_breaks o x y k (Ok m) e h = changing_breaks (assignable (value_type x) m) (is_left_side x) (value_type x) x (Stores ss (Some o) x y) k
       (λ s. accepts_back (value_type x) m (subst (λ z. Accepts (value_type x) z) (same (value_of s.0) m (sym (combined_back ss o x y s.0 s.1.0) ∙ e)) s.1.1))
-      (modifiable_back x) h
+      (modifiable_back x) stores h
     where
       same : (a b : Operand) → Is (Ok a) b → a ≡ b
       same a b h = cc
 
+      stores : assignable (value_type x) m ≡ true → Stores ss (Some o) x y
+      stores a =
+          let q : AsValue (Operates ss o x y) m = combined_is ss ss (λ i z r. r) o x y m e in
+          (m.ctype, (q.0, subst (Accepts (value_type x)) (is_value m q.1 q.2) (accepts (value_type x) m a)))
+
   pub assign_breaks : (o : Option Binary) (x y : Operand) (k : FaultKind) → assigning ss o x y ≡ Err k → AssignBreaks ss o x y k
   assign_breaks None x y k h = changing_breaks (assignable (value_type x) y) (is_left_side x) (value_type x) x (Accepts (value_type x) y) k
-      (accepts_back (value_type x) y) (modifiable_back x) h
+      (accepts_back (value_type x) y) (modifiable_back x) (accepts (value_type x) y) h
   assign_breaks (Some o) x y k h = compound_breaks o x y k (combined ss o x y) refl h
 
   address_breaks : (p : Bool) (x : Operand) (k : FaultKind) → x.place ≡ p → IsErr (if p then Ok (value_of (Pointer x.ctype)) else Err fault.NoPlace) k

@@ -37,14 +37,14 @@ sequence_silent before (x ∷ xs) of h (inl b) = false≢true (sym h.0 ∙ b)
 sequence_silent before (x ∷ xs) of h (inr b) = sequence_silent (value_type x) xs of h.1 b
 
 assign_silent : (ss : List StructType) (o : Option Binary) (x y : Operand) (of : TypeTree) (j : FaultKind) → Assigns ss o x y of → AssignBreaks ss o x y j → ⊥
-assign_silent ss None x y of j h (inl b) = b.1 h.1
-assign_silent ss None x y of j h (inr b) = b.1 h.0
-assign_silent ss (Some o) x y of j h (inl b) = b.1 h.1
-assign_silent ss (Some o) x y of j h (inr b) = b.1 h.0
+assign_silent ss None x y of j h (inl b, least) = b.1 h.1
+assign_silent ss None x y of j h (inr b, least) = b.1 h.0
+assign_silent ss (Some o) x y of j h (inl b, least) = b.1 h.1
+assign_silent ss (Some o) x y of j h (inr b, least) = b.1 h.0
 
-step_silent : (ss : List StructType) (x : Operand) (of : TypeTree) (j : FaultKind) → Steps ss x of → StepBreaks ss x j → ⊥
-step_silent ss x of j h (inl b) = b.1 h.1
-step_silent ss x of j h (inr b) = b.1 h.0
+pub step_silent : (ss : List StructType) (x : Operand) (of : TypeTree) (j : FaultKind) → Steps ss x of → StepBreaks ss x j → ⊥
+step_silent ss x of j h (inl b, least) = b.1 h.1
+step_silent ss x of j h (inr b, least) = b.1 h.0
 
 prefix_silent : (ss : List StructType) (o : PrefixOperator) (x : Operand) (of : TypeTree) (j : FaultKind) → Prefixes ss o x of → PrefixBreaks ss o x j → ⊥
 prefix_silent ss prefix.Increment x of j h b = step_silent ss x of j h b
@@ -84,11 +84,11 @@ selects_struct ss name (t.Array element size) u h = absurd (no_member h.0 h.1.0)
     no_member : (m : Member) → member_of ss name (t.Array element size) ≡ Ok m → ⊥
     no_member m h = absurd (cc)
 
-member_silent : (ss : List StructType) (name : List ℕ) (of u : TypeTree) (j : FaultKind) → Selects ss name of u → MemberBreaks ss name of j → ⊥
+pub member_silent : (ss : List StructType) (name : List ℕ) (of u : TypeTree) (j : FaultKind) → Selects ss name of u → MemberBreaks ss name of j → ⊥
 member_silent ss name of u j h (inl b) = b.1 (selects_struct ss name of u h)
 member_silent ss name of u j h (inr b) = b.2 u h
 
-arrow_silent : (ss : List StructType) (name : List ℕ) (of u : TypeTree) (j : FaultKind) → SelectsBehind ss name of u → ArrowBreaks ss name of j → ⊥
+pub arrow_silent : (ss : List StructType) (name : List ℕ) (of u : TypeTree) (j : FaultKind) → SelectsBehind ss name of u → ArrowBreaks ss name of j → ⊥
 arrow_silent ss name (t.Pointer to) u j h b = member_silent ss name to u j h b
 arrow_silent ss name t.Void u j h b = h
 arrow_silent ss name t.Char u j h b = h
@@ -114,44 +114,44 @@ module _ (k : Known) where
   mutual
     pub expr_silent : (x : ExprTree) (d : Operand) (j : FaultKind) (at : ℕ) → IsOperand k x d → Breaks k x j at → ⊥
     expr_silent (e.Comma token operands) d j at (xs, h) (inl b) = list_silent operands xs j at h.0 b
-    expr_silent (e.Comma token operands) d j at (xs, h) (inr (q, (ys, b))) =
-        sequence_silent t.Void xs d.ctype h.1.0 (subst HasStruct (one_list k operands ys xs b.0 h.0) b.2)
+    expr_silent (e.Comma token operands) d j at (xs, h) (inr (ys, b)) =
+        sequence_silent t.Void xs d.ctype h.1.0 (subst HasStruct (one_list k operands ys xs b.0 h.0) b.1.2)
     expr_silent (e.Assign token s target value) d j at (x, (y, h)) (inl b) = expr_silent target x j at h.0 b
-    expr_silent (e.Assign token s target value) d j at (x, (y, h)) (inr (inl b)) = expr_silent value y j at h.1 b
-    expr_silent (e.Assign token s target value) d j at (x, (y, h)) (inr (inr (q, (x2, (y2, b))))) =
+    expr_silent (e.Assign token s target value) d j at (x, (y, h)) (inr (x2, (g, inl b))) = expr_silent value y j at h.1 b
+    expr_silent (e.Assign token s target value) d j at (x, (y, h)) (inr (x2, (g, inr (y2, b)))) =
         assign_silent k.structs (compound_of s) x y d.ctype j h.2.0
-        (subst (λ z. AssignBreaks k.structs (compound_of s) z y j) (one_operand k target x2 x b.0 h.0)
-        (subst (λ z. AssignBreaks k.structs (compound_of s) x2 z j) (one_operand k value y2 y b.1 h.1) b.2))
+        (subst (λ z. AssignBreaks k.structs (compound_of s) z y j) (one_operand k target x2 x g h.0)
+        (subst (λ z. AssignBreaks k.structs (compound_of s) x2 z j) (one_operand k value y2 y b.0 h.1) b.1.1))
     expr_silent (e.Conditional token condition first second) d j at (c, (x, (y, h))) (inl b) = expr_silent condition c j at h.0 b
-    expr_silent (e.Conditional token condition first second) d j at (c, (x, (y, h))) (inr (inl b)) = expr_silent first x j at h.1 b
-    expr_silent (e.Conditional token condition first second) d j at (c, (x, (y, h))) (inr (inr (inl b))) = expr_silent second y j at h.2 b
-    expr_silent (e.Conditional token condition first second) d j at (c, (x, (y, h))) (inr (inr (inr (q, (c2, (x2, (y2, b))))))) =
-        b.3.1 d.ctype
-        (subst (λ z. Chooses z x2 y2 d.ctype) (one_operand k condition c c2 h.0 b.0)
-        (subst (λ z. Chooses c z y2 d.ctype) (one_operand k first x x2 h.1 b.1)
-        (subst (λ z. Chooses c x z d.ctype) (one_operand k second y y2 h.2 b.2) h.3.0)))
+    expr_silent (e.Conditional token condition first second) d j at (c, (x, (y, h))) (inr (c2, (g, inl b))) = expr_silent first x j at h.1 b
+    expr_silent (e.Conditional token condition first second) d j at (c, (x, (y, h))) (inr (c2, (g, inr (x2, (f, inl b))))) = expr_silent second y j at h.2 b
+    expr_silent (e.Conditional token condition first second) d j at (c, (x, (y, h))) (inr (c2, (g, inr (x2, (f, inr (y2, b)))))) =
+        b.1.1.1 d.ctype
+        (subst (λ z. Chooses z x2 y2 d.ctype) (one_operand k condition c c2 h.0 g)
+        (subst (λ z. Chooses c z y2 d.ctype) (one_operand k first x x2 h.1 f)
+        (subst (λ z. Chooses c x z d.ctype) (one_operand k second y y2 h.2 b.0) h.3.0)))
     expr_silent (e.Chain level first links) d j at (x, h) (inl b) = expr_silent first x j at h.0 b
     expr_silent (e.Chain level first links) d j at (x, h) (inr (y, b)) =
         links_silent links x d j at h.1 (subst (λ z. LinksBreak k z links j at) (one_operand k first y x b.0 h.0) b.1)
     expr_silent (e.Cast token b stars operand) d j at (of, (x, h)) (inl c) = base_silent b of j at h.0 c
-    expr_silent (e.Cast token b stars operand) d j at (of, (x, h)) (inr (inl c)) = expr_silent operand x j at h.1 c
-    expr_silent (e.Cast token b stars operand) d j at (of, (x, h)) (inr (inr (q, (of2, (x2, c))))) =
-        c.2.1 d.ctype
-        (subst (λ z. Casts (with_stars stars z) x2 d.ctype) (one_base k b of of2 h.0 c.0)
-        (subst (λ z. Casts (with_stars stars of) z d.ctype) (one_operand k operand x x2 h.1 c.1) h.2.0))
+    expr_silent (e.Cast token b stars operand) d j at (of, (x, h)) (inr (of2, (g, inl c))) = expr_silent operand x j at h.1 c
+    expr_silent (e.Cast token b stars operand) d j at (of, (x, h)) (inr (of2, (g, inr (x2, c)))) =
+        c.1.1.1 d.ctype
+        (subst (λ z. Casts (with_stars stars z) x2 d.ctype) (one_base k b of of2 h.0 g)
+        (subst (λ z. Casts (with_stars stars of) z d.ctype) (one_operand k operand x x2 h.1 c.0) h.2.0))
     expr_silent (e.Prefix token o operand) d j at (x, h) (inl b) = expr_silent operand x j at h.0 b
-    expr_silent (e.Prefix token o operand) d j at (x, h) (inr (q, (y, b))) =
-        prefix_silent k.structs o x d.ctype j h.1.0 (subst (λ z. PrefixBreaks k.structs o z j) (one_operand k operand y x b.0 h.0) b.1)
+    expr_silent (e.Prefix token o operand) d j at (x, h) (inr (y, b)) =
+        prefix_silent k.structs o x d.ctype j h.1.0 (subst (λ z. PrefixBreaks k.structs o z j) (one_operand k operand y x b.0 h.0) b.1.1)
     expr_silent (e.SizeOfType token b stars) d j at (of, h) (inl c) = base_silent b of j at h.0 c
-    expr_silent (e.SizeOfType token b stars) d j at (of, h) (inr (q, (of2, c))) =
-        c.2 (subst (λ z. is_complete k.structs (with_stars stars z) ≡ true) (one_base k b of of2 h.0 c.0) h.1.0.0)
+    expr_silent (e.SizeOfType token b stars) d j at (of, h) (inr (of2, c)) =
+        c.1.2 (subst (λ z. is_complete k.structs (with_stars stars z) ≡ true) (one_base k b of of2 h.0 c.0) h.1.0.0)
     expr_silent (e.Postfix primary operators) d j at (x, h) (inl b) = expr_silent primary x j at h.0 b
     expr_silent (e.Postfix primary operators) d j at (x, h) (inr (y, b)) =
         postfix_silent operators x d j at h.1 (subst (λ z. PostfixBreaks k z operators j at) (one_operand k primary y x b.0 h.0) b.1)
     expr_silent (e.Name token name) d j at (of, h) b = subst (λ o. NameBreaks o j) h.0 b.1
     expr_silent (e.Call token name arguments) d j at (xs, h) (inl b) = list_silent arguments xs j at h.0 b
-    expr_silent (e.Call token name arguments) d j at (xs, h) (inr (q, (ys, b))) =
-        call_silent (k.ordinary name) xs d.ctype j h.1.0 (subst (λ z. CallBreaks (k.ordinary name) z j) (one_list k arguments ys xs b.0 h.0) b.1)
+    expr_silent (e.Call token name arguments) d j at (xs, h) (inr (ys, b)) =
+        call_silent (k.ordinary name) xs d.ctype j h.1.0 (subst (λ z. CallBreaks (k.ordinary name) z j) (one_list k arguments ys xs b.0 h.0) b.1.1)
     expr_silent (e.Constant token of value) d j at h b = b
     expr_silent (e.Strings token parts) d j at h b = b
     expr_silent (e.Paren token inner) d j at (x, h) b = expr_silent inner x j at h.0 b
@@ -162,7 +162,7 @@ module _ (k : Known) where
     list_silent e.no_exprs ds j at h b = b
     list_silent (e.more_exprs x rest) [] j at h b = h
     list_silent (e.more_exprs x rest) (d ∷ ds) j at h (inl b) = expr_silent x d j at h.0 b
-    list_silent (e.more_exprs x rest) (d ∷ ds) j at h (inr b) = list_silent rest ds j at h.1 b
+    list_silent (e.more_exprs x rest) (d ∷ ds) j at h (inr (y, b)) = list_silent rest ds j at h.1 b.1
 
     pub links_silent : (links : LinkList) (left d : Operand) (j : FaultKind) (at : ℕ) → LinksGive k left links d → LinksBreak k left links j at → ⊥
     links_silent e.no_links left d j at h b = b

@@ -25,7 +25,7 @@ use Rattle.c_types_faults.specs.Exprs.{IsOperand}
 use Rattle.c_types_faults.specs.ExprBreaks.{Breaks}
 use Rattle.c_types_faults.specs.Declarations.{DeclarationGives, VariableGives, VariablesGive}
 use Rattle.c_types_faults.specs.Statements.{EntriesBreak, ForBreaks, GivesUpStruct, NoCondition, OfPart, ReturnBreaks, StartBreaks, StartGives}
-use Rattle.c_types_faults.specs.Statements.{EntriesFit, StatementFits, IsCondition, IsGivenUp, IfPart, Returns, StartLeaves}
+use Rattle.c_types_faults.specs.Statements.{EntriesFit, StatementFits, IsCondition, IsGivenUp, IsSomeOperand, IfPart, Returns, StartLeaves}
 use Rattle.c_types_faults.specs.Statements.{StatementBreaks, computed}
 use Rattle.c_types_faults.proofs.Exprs.{expr_tells}
 use Rattle.c_types_faults.proofs.Wholes.{whole_tells}
@@ -111,6 +111,11 @@ optional_tells : (k : Known) (x : Option ExprTree) (w : Walk) → Agreed k (show
 optional_tells k None w g = record { by = (tt, refl) }
 optional_tells k (Some x) w g = and_then (expr_tells k x w g) (λ j at h. h) (λ a v p. record { by = p })
 
+part_is : (k : Known) (x : Option ExprTree) (o : Option Operand) → PartIs k x o → IfPart (IsSomeOperand k) x
+part_is k None o h = tt
+part_is k (Some x) None h = absurd h
+part_is k (Some x) (Some a) h = (a, h)
+
 struct_part : (k : Known) (x : Option ExprTree) (o : Option Operand) → PartIs k x o → is_struct_part o ≡ true
     → OfPart (λ y. GivesUpStruct k y fault.Operands) x
 struct_part k None None h e = absurd (false≢true e)
@@ -176,7 +181,7 @@ start_tells (s.Declares d) c w k = and_then (declaration_tells false d c w k) (�
 })
 start_tells (s.Computes x) c w k = weaker (optional_tells (known c) x w (agreed k)) (λ j at h. h) (λ o v p. record {
   after = c;
-  gives = refl;
+  gives = (part_is (known c) x o p.0, refl);
   within = refl;
   behind = record { knows = know_on k p.1; names = []; moves = still (shown w) (shown v) p.1 };
   part = p.0;
@@ -185,7 +190,7 @@ start_tells (s.Computes x) c w k = weaker (optional_tells (known c) x w (agreed 
 -- with its own rule, it gives the same
 start_gives : (start : ForStartTree) (c after : Context) → StartLeaves c start after → IfPart (IsGivenUp (known c)) (computed start) → StartGives c start after
 start_gives (s.Declares d) c after h g = h
-start_gives (s.Computes x) c after h g = (g, h)
+start_gives (s.Computes x) c after h g = (g, h.1)
 
 -- the end of a scope
 pub closing_tells : {B : FaultKind → ℕ → Type 0} (c : Context) (w v : Walk) (d : Done) → Within (inner c) (opened w) v
@@ -210,7 +215,7 @@ value_tells : {B : FaultKind → ℕ → Type 0} (b : Bool) (token : ℕ) (gives
     (λ (d : Done) v. Beyond c w v × Returns (known c) gives (Some x)) B
 value_tells true token gives x a c w k h e f = record { by = f fault.Jump (inl (refl, e)) }
 value_tells false token gives x a c w k h e f = weaker (unless_tells (not (assignable gives a)) fault.Operands token c w k
-    (λ n. f fault.Operands (inr (refl, (a, (h, λ p. false≢true (sym (is_false (assignable gives a) n) ∙ accepts_back gives a p)))))))
+    (λ n. f fault.Operands (inr (refl, e, (a, (h, λ p. false≢true (sym (is_false (assignable gives a) n) ∙ accepts_back gives a p)))))))
     (λ j at b. b) (λ d v p. (p.0, (e, (a, (h, accepts gives a (is_true (assignable gives a) p.1))))))
 
 pub within_on : {c : Context} {w v u : Walk} (ps : List (List ℕ × ℕ)) → Moves ps (shown w) (shown v) → Within c v u → Within c w u
@@ -238,33 +243,35 @@ module _ (gives : TypeTree) where
     statement_tells looping (s.Expr token x) c w k = and_then (whole_tells (known c) x w (agreed k)) (λ j at h. inl h) (λ a v p.
         weaker (unless_tells {B = λ j at. (at ≡ token) × (j ≡ fault.Operands) × (is_struct a.ctype ≡ true)} (is_struct a.ctype) fault.Operands token c v
         (know_on k p.1) (λ e. (refl, refl, e)))
-        (λ j at h. inr (h.0, h.1, (a, (p.0, h.2)))) (λ d u q. (beyond_then (beyond_here k p.1) q.0, (a, (p.0, q.1)))))
+        (λ j at h. inr (a, (p.0, h))) (λ d u q. (beyond_then (beyond_here k p.1) q.0, (a, (p.0, q.1)))))
     statement_tells looping (s.If token condition first) c w k = and_then (expr_tells (known c) condition w (agreed k)) (λ j at h. inl h) (λ a v p.
-        and_then (statement_tells looping first c v (know_on k p.1)) (λ j at h. inr (inl h)) (λ d u q.
-        weaker (condition_tells token condition a c u q.0.knows p.0 (λ j h. inr (inr (refl, h)))) (λ j at h. h)
+        and_then (statement_tells looping first c v (know_on k p.1)) (λ j at h. inr ((a, p.0), inl h)) (λ d u q.
+        weaker (condition_tells token condition a c u q.0.knows p.0 (λ j h. inr ((a, p.0), inr (q.1, (refl, h))))) (λ j at h. h)
         (λ e r n. (beyond_then (beyond_here k p.1) (beyond_then q.0 n.0), (n.1, q.1)))))
     statement_tells looping (s.IfElse token condition first second) c w k = and_then (expr_tells (known c) condition w (agreed k)) (λ j at h. inl h)
         (λ a v p.
-        and_then (statement_tells looping first c v (know_on k p.1)) (λ j at h. inr (inl h)) (λ d u q.
-        and_then (statement_tells looping second c u q.0.knows) (λ j at h. inr (inr (inl h))) (λ e r n.
-        weaker (condition_tells token condition a c r n.0.knows p.0 (λ j h. inr (inr (inr (refl, h))))) (λ j at h. h)
+        and_then (statement_tells looping first c v (know_on k p.1)) (λ j at h. inr ((a, p.0), inl h)) (λ d u q.
+        and_then (statement_tells looping second c u q.0.knows) (λ j at h. inr ((a, p.0), inr (q.1, inl h))) (λ e r n.
+        weaker (condition_tells token condition a c r n.0.knows p.0 (λ j h. inr ((a, p.0), inr (q.1, inr (n.1, (refl, h)))))) (λ j at h. h)
         (λ f z m. (beyond_then (beyond_here k p.1) (beyond_then q.0 (beyond_then n.0 m.0)), (m.1, q.1, n.1))))))
     statement_tells looping (s.While token condition body) c w k = and_then (expr_tells (known c) condition w (agreed k)) (λ j at h. inl h) (λ a v p.
-        and_then (statement_tells true body c v (know_on k p.1)) (λ j at h. inr (inl h)) (λ d u q.
-        weaker (condition_tells token condition a c u q.0.knows p.0 (λ j h. inr (inr (refl, h)))) (λ j at h. h)
+        and_then (statement_tells true body c v (know_on k p.1)) (λ j at h. inr ((a, p.0), inl h)) (λ d u q.
+        weaker (condition_tells token condition a c u q.0.knows p.0 (λ j h. inr ((a, p.0), inr (q.1, (refl, h))))) (λ j at h. h)
         (λ e r n. (beyond_then (beyond_here k p.1) (beyond_then q.0 n.0), (n.1, q.1)))))
     statement_tells looping (s.Do token body condition) c w k = and_then (statement_tells true body c w k) (λ j at h. inl h) (λ d v p.
-        and_then (expr_tells (known c) condition v (agreed p.0.knows)) (λ j at h. inr (inl h)) (λ a u q.
-        weaker (condition_tells token condition a c u (know_on p.0.knows q.1) q.0 (λ j h. inr (inr (refl, h)))) (λ j at h. h)
+        and_then (expr_tells (known c) condition v (agreed p.0.knows)) (λ j at h. inr (p.1, inl h)) (λ a u q.
+        weaker (condition_tells token condition a c u (know_on p.0.knows q.1) q.0 (λ j h. inr (p.1, inr ((a, q.0), (refl, h))))) (λ j at h. h)
         (λ e r n. (beyond_then p.0 (beyond_then (beyond_here p.0.knows q.1) n.0), (p.1, n.1)))))
     statement_tells looping (s.For token start condition step body) c w k =
         and_then (start_tells start (inner c) (opened w) (entering_knows k)) (λ j at h. inl h) (λ x v p.
         let d : Context = p.after in
         and_then (optional_tells (known d) condition v (agreed p.behind.knows)) (λ j at h. inr (d, (p.gives, inl h))) (λ y u q.
-        and_then (optional_tells (known d) step u (agrees_on (agreed p.behind.knows) q.1)) (λ j at h. inr (d, (p.gives, inr (inl h)))) (λ z r n.
-        and_then (statement_tells true body d r (know_on p.behind.knows (n.1 ∙ q.1))) (λ j at h. inr (d, (p.gives, inr (inr (inl h))))) (λ e o m.
+        and_then (optional_tells (known d) step u (agrees_on (agreed p.behind.knows) q.1)) (λ j at h. inr (d, (p.gives, inr (part_is (known d) condition y q.0, inl h))))
+        (λ z r n.
+        and_then (statement_tells true body d r (know_on p.behind.knows (n.1 ∙ q.1)))
+        (λ j at h. inr (d, (p.gives, inr (part_is (known d) condition y q.0, inr (part_is (known d) step z n.0, inl h))))) (λ e o m.
         and_then (looped_tells (known (inner c)) (known d) token start condition step x y z d o m.0.knows p.part q.0 n.0
-        (λ h. inr (d, (p.gives, inr (inr (inr (refl, h)))))))
+        (λ h. inr (d, (p.gives, inr (part_is (known d) condition y q.0, inr (part_is (known d) step z n.0, inr (m.1, (refl, h))))))))
         (λ j at h. h)
         (λ f i l. weaker (closing_tells {B = StatementBreaks gives c looping (s.For token start condition step body)} c w i f
         (within_on p.behind.names p.behind.moves (within_of (inner c) d v i p.within
@@ -272,9 +279,9 @@ module _ (gives : TypeTree) where
         (λ j at b. b)
         (λ g a b. (b, (d, (start_gives start (inner c) d p.gives l.1.0, l.1.1, l.1.2, m.1)))))))))
     statement_tells looping (s.Return token None) c w k = weaker (unless_tells (not (is_void gives)) fault.Jump token c w k
-        (λ e. inr (refl, (refl, is_false (is_void gives) e)))) (λ j at b. b) (λ d v p. (p.0, is_true (is_void gives) p.1))
+        (λ e. inr (tt, (refl, (refl, is_false (is_void gives) e))))) (λ j at b. b) (λ d v p. (p.0, is_true (is_void gives) p.1))
     statement_tells looping (s.Return token (Some x)) c w k = and_then (expr_tells (known c) x w (agreed k)) (λ j at h. inl h) (λ a v p.
-        weaker (value_tells (is_void gives) token gives x a c v (know_on k p.1) p.0 refl (λ j h. inr (refl, h))) (λ j at h. h)
+        weaker (value_tells (is_void gives) token gives x a c v (know_on k p.1) p.0 refl (λ j h. inr ((a, p.0), (refl, h)))) (λ j at h. h)
         (λ d u q. (beyond_then (beyond_here k p.1) q.0, q.1)))
     statement_tells looping (s.Break token) c w k = weaker (unless_tells (not looping) fault.Jump token c w k (λ e. (refl, (refl, is_false looping e))))
         (λ j at b. b) (λ d v p. (p.0, is_true looping p.1))
@@ -293,4 +300,4 @@ module _ (gives : TypeTree) where
           (p.0, (p.1.0, q.1)),
         )))
     entries_tell looping (s.stated statement rest) c w k = and_then (statement_tells looping statement c w k) (λ j at h. inl h) (λ d v p.
-        weaker (entries_tell looping rest c v p.0.knows) (λ j at h. inr h) (λ e u q. (within_on [] p.0.moves q.0, (p.1, q.1))))
+        weaker (entries_tell looping rest c v p.0.knows) (λ j at h. inr (p.1, h)) (λ e u q. (within_on [] p.0.moves q.0, (p.1, q.1))))

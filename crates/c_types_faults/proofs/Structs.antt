@@ -1,5 +1,5 @@
 -- Structs: what the walk takes is known behind it, and where it stops a rule is broken.
-use Rattle.std.proofs.Common.{◌⊎◌, inl, inr, ◌≡◌, ℕ, refl, ap, subst, sym, ◌∙◌, List, [], ◌∷◌, ◌++◌, Some, None, Bool, true, false, length}
+use Rattle.std.proofs.Common.{◌⊎◌, inl, inr, ◌≡◌, ℕ, ◌≤◌, refl, ap, subst, sym, ◌∙◌, arith, List, [], ◌∷◌, ◌++◌, Some, None, Bool, true, false, length}
 use Rattle.c_types_faults.proofs.Fitting.{or_left, or_right, either_true, most, most_back}
 use Rattle.std.proofs.lemmas.Bool.{false≢true}
 use Rattle.std.proofs.lemmas.Slice.Eq.{bytes_eq-Decides}
@@ -29,6 +29,7 @@ use Rattle.c_types_faults.specs.Structs.{StructGives}
 use Rattle.c_types_faults.specs.Structs.{tagging}
 use Rattle.c_types_faults.proofs.Bounds.{declared_back, declared_is, no_type, some_is}
 use Rattle.c_types_faults.proofs.Exprs.{base_tells}
+use Rattle.c_types_faults.proofs.Least.{least_first, least_second}
 use Rattle.c_types_faults.proofs.Knowing.{Knows, TagsMatch, agreed}
 use Rattle.c_types_faults.proofs.Telling.{Agreed, Shown, Tells, agrees_on, and_then, shown, weaker}
 use Rattle.c_types_faults.proofs.Variables.{no_object, object_is}
@@ -90,20 +91,36 @@ module _ (c : Context) where
     by = ((t, (new, declared_is d base t e, object_is c.structs t (ap (λ ss. is_object ss t) k ∙ h), ap (λ ss. with_member ss d.name t s) (sym k))), refl);
   }
   typed_by false base t d s w new k e h = record {
-    by = (refl, inr (refl, λ u q. no_member_type base t u d e (ap (λ ss. is_object ss t) k ∙ h) q));
+    by = (
+      refl,
+      least_second (HasMember d.name s.members) ((u : TypeTree) → law.Declares d base u → IsObject c.structs u → ⊥) fault.Redeclared fault.Object
+          fault.Object new refl (λ u q. no_member_type base t u d e (ap (λ ss. is_object ss t) k ∙ h) q),
+    );
   }
 
   typed_tells : (o : Option TypeTree) (base : TypeTree) (d : Declarator) (s : StructType) (w : Walk) → (HasMember d.name s.members → ⊥)
       → c.structs ≡ w.structs → declared_type d base ≡ o
       → Tells (typed_member d o s w) (λ next v. MemberGives c base d s next × (v ≡ w)) (NewMemberBreaks c base d s)
-  typed_tells None base d s w new k e = record { by = (refl, inr (refl, λ u q i. no_type d base e u q)) }
+  typed_tells None base d s w new k e = record {
+    by = (
+      refl,
+      least_second (HasMember d.name s.members) ((u : TypeTree) → law.Declares d base u → IsObject c.structs u → ⊥) fault.Redeclared fault.Object
+          fault.Object new refl (λ u q i. no_type d base e u q),
+    );
+  }
   typed_tells (Some t) base d s w new k e = typed_by (is_object w.structs t) base t d s w new k e refl
 
   member_by : (b : Bool) (base : TypeTree) (d : Declarator) (s : StructType) (w : Walk) → c.structs ≡ w.structs
       → is_some (member_named d.name s.members) ≡ b
       → Tells (if b then Faulty fault.Redeclared d.token else typed_member d (declared_type d base) s w) (λ next v. MemberGives c base d s next × (v ≡ w))
       (NewMemberBreaks c base d s)
-  member_by true base d s w k e = record { by = (refl, inl (refl, has_member d.name s.members e)) }
+  member_by true base d s w k e = record {
+    by = (
+      refl,
+      least_first (HasMember d.name s.members) ((u : TypeTree) → law.Declares d base u → IsObject c.structs u → ⊥) fault.Redeclared fault.Object
+          fault.Redeclared (omega arith) refl (has_member d.name s.members e),
+    );
+  }
   member_by false base d s w k e = typed_tells (declared_type d base) base d s w (no_such_member d.name s.members e) k refl
 
   line_tells : (base : TypeTree) (ds : List Declarator) (s : StructType) (w : Walk) → c.structs ≡ w.structs
@@ -169,13 +186,35 @@ fits_by true token tag members s c w k g new e = record {
   );
 }
 fits_by false token tag members s c w k g new e = record {
-  by = inr (refl, inr (refl, (s, (g, λ l. false≢true (sym e ∙ most_back s.cells most_cells l)))));
+  by = inr (
+    s,
+    (
+      g,
+      (
+        refl,
+        least_second (HasTag tag c.tags) (s.cells ≤ most_cells → ⊥) fault.Redeclared fault.Object fault.Object new refl
+            (λ l. false≢true (sym e ∙ most_back s.cells most_cells l)),
+      ),
+    ),
+  );
 }
 
 defined_tells : (b : Bool) (token : ℕ) (tag : List ℕ) (members : List Members) (s : StructType) (c : Context) (w : Walk) → Knows c (shown w)
     → MembersGive (tagging tag c) members empty_struct s → is_here tag w.tags ≡ b
     → Tells (defined token b s (with_tag tag w)) (StructTold c tag members w) (StructBreaks c token tag members)
-defined_tells true token tag members s c w k g e = record { by = inr (refl, inl (refl, has_tag tag w.tags c.tags k.tags e)) }
+defined_tells true token tag members s c w k g e = record {
+  by = inr (
+    s,
+    (
+      g,
+      (
+        refl,
+        least_first (HasTag tag c.tags) (s.cells ≤ most_cells → ⊥) fault.Redeclared fault.Object fault.Redeclared (omega arith) refl
+            (has_tag tag w.tags c.tags k.tags e),
+      ),
+    ),
+  );
+}
 defined_tells false token tag members s c w k g e = fits_by (nat_le s.cells most_cells) token tag members s c w k g
     (λ h. false≢true (sym e ∙ tag_here tag w.tags c.tags k.tags h)) refl
 

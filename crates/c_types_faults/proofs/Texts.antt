@@ -1,8 +1,9 @@
 -- A text at which the walk stops breaks a rule.
-use Rattle.std.proofs.Common.{inl, inr, ⊎_elim, ◌≡◌, ℕ, suc, ◌+◌, refl, ap, subst, sym, ◌∙◌, arith, List, [], ◌∷◌, Some, None, Bool, true, false, length}
+use Rattle.std.proofs.Common.{inl, inr, ⊎_elim, ◌≡◌, ℕ, suc, ◌+◌, ◌<◌, refl, ap, subst, sym, ◌∙◌, arith, List, [], ◌∷◌, Some, None, Bool, true, false, length}
 use Rattle.c_rules.specs.Faults.{number_of}
 use Rattle.c_types_faults.proofs.Bounds.{some_is, none_some}
-use Rattle.c_types_faults.proofs.Defining.{calls_defined, listed_defined}
+use Rattle.c_types_faults.proofs.Calling.{both_tell}
+use Rattle.c_types_faults.proofs.Defining.{calls_defined, defined_before, listed_defined}
 use Rattle.c_syntax.specs.WellFormed.{IsShaped}
 use Rattle.c_rules.proofs.Same.{equal}
 use Rattle.c_rules.specs.declared.function.FunctionType.{FunctionType}
@@ -23,15 +24,17 @@ use Rattle.c_types_expressions.specs.declared.walk.FunctionEntry.{FunctionEntry}
 use Rattle.c_types_expressions.specs.declared.walk.Walk.{Walk}
 use Rattle.c_types_expressions.specs.Names.{found}
 use Rattle.c_types_expressions.specs.Walked.{Faulty, Done, Fine, Walked}
-use Rattle.c_types_walk.specs.ItemWalk.{is_defined}
+use Rattle.c_types_walk.specs.ItemWalk.{is_defined, walk_items}
 use Rattle.c_types_notes.specs.Events.{events_of}
 use Rattle.c_types_notes.proofs.Noting.{Listed}
-use Rattle.c_types_notes.proofs.Texts.{none_noted}
+use Rattle.c_types_notes.proofs.PathItems.{ItemsDo, items_do}
+use Rattle.c_types_notes.proofs.Paths.{view}
+use Rattle.c_types_notes.proofs.Texts.{before, none_noted}
 use Rattle.c_types_faults.specs.Known.{Entity, Object, Function, Standard}
 use Rattle.c_types_faults.specs.Agrees.{Denotes, IsType, Means}
 use Rattle.c_types_faults.specs.Context.{Context, Declared, nothing, declared_in}
 use Rattle.c_types_faults.specs.Functions.{is_listed, IsKnownAs}
-use Rattle.c_types_faults.specs.Items.{ItemsGive}
+use Rattle.c_types_faults.specs.Items.{ItemsBreak, ItemsGive}
 use Rattle.c_types_faults.specs.Texts.{CallsUndefined, HasFunction, HasMain, IsFunction, TextBreaks, main_type, TextKeepsRules}
 use Rattle.c_types_faults.proofs.Files.{Files, listed_is, text_found}
 use Rattle.c_types_faults.proofs.Functions.{Notes}
@@ -164,8 +167,10 @@ pub record Ends (t : SourceTree) (w : Walk) : Type 0 where
   pub has : HasMain t after
   pub files : Files after (shown w)
   pub defined : first_undefined 0 w.functions_at w.defined_as ≡ None
+  pub does : ItemsDo t.items (before t) (view w)
 
-module _ (t : SourceTree) (c : Context) (w : Walk) (k : Files c (shown w)) (n : Notes (events_of t) (beginning (length t.lines)) w) where
+module _ (t : SourceTree) (c : Context) (w : Walk) (k : Files c (shown w)) (n : Notes (events_of t) (beginning (length t.lines)) w)
+    (does : ItemsDo t.items (before t) (view w)) where
   call_at : (token index : ℕ) → ItemsGive nothing t.items c → noted w.functions_at token ≡ Some index → is_defined index w.defined_as ≡ false
       → CallsUndefined t c token
   call_at token index g h d = ⊎_elim
@@ -188,10 +193,16 @@ module _ (t : SourceTree) (c : Context) (w : Walk) (k : Files c (shown w)) (n : 
       the_same : (i j : ℕ) → i ≡ 0 + j → i ≡ j
       the_same i j h = omega (arith, h)
 
+  -- no call before it is one
+  none_before : (token : ℕ) → ItemsGive nothing t.items c → first_undefined 0 w.functions_at w.defined_as ≡ Some token → IsShaped t → (earlier : ℕ)
+      → earlier < token → CallsUndefined t c earlier → ⊥
+  none_before token g e s earlier less u = false≢true (sym u.1.2 ∙ sym (defined_as_listed t.items c g u.0)
+      ∙ defined_before t w s does c k token e earlier u.0 less u.1.0 u.1.1)
+
   undefined_tells : (o : Option ℕ) → first_undefined 0 w.functions_at w.defined_as ≡ o → ItemsGive nothing t.items c → HasMain t c
       → Tells (ends_with (undefined_at o) w) (λ (d : Done) v. Ends t v) (TextBreaks t)
-  undefined_tells None e g m = record { by = record { after = c; gives = g; has = m; files = k; defined = e } }
-  undefined_tells (Some token) e g m = record { by = inr (c, (g, inr (refl, calls_undefined token g e))) }
+  undefined_tells None e g m = record { by = record { after = c; gives = g; has = m; files = k; defined = e; does = does } }
+  undefined_tells (Some token) e g m = record { by = inr (c, (g, inr (m, (refl, (calls_undefined token g e, none_before token g e))))) }
 
   main_tells : (b : Bool) → has_main w ≡ b → ItemsGive nothing t.items c
       → Tells (ends_with (if b then undefined_at (first_undefined 0 w.functions_at w.defined_as) else Some (fault.NoMain, length t.lines)) w)
@@ -200,8 +211,11 @@ module _ (t : SourceTree) (c : Context) (w : Walk) (k : Files c (shown w)) (n : 
   main_tells false e g = record { by = inr (c, (g, inl (refl, refl, λ m. no_main c w k e (m.0, defined_as_listed t.items c g (codes "main") ∙ m.1)))) }
 
 text_tells : (t : SourceTree) → Tells (walk_tree t) (λ (d : Done) v. Ends t v) (TextBreaks t)
-text_tells t = and_then (items_tell t.items nothing (beginning (length t.lines)) (begins (length t.lines))) (λ j at h. inl h) (λ d w p.
-    main_tells t p.0.0 w p.0.1.1 p.1 (has_main w) refl p.0.1.0)
+text_tells t = and_then (both_tell
+    (λ (d : Done) v. ((after : Context) × (ItemsGive nothing t.items after × Files after (shown v))) × Notes (events_of t) (beginning (length t.lines)) v)
+    (λ (d : Done) v. ItemsDo t.items (before t) (view v)) (ItemsBreak nothing t.items) (walk_items t.items (beginning (length t.lines)))
+    (items_tell t.items nothing (beginning (length t.lines)) (begins (length t.lines))) (items_do t.items (beginning (length t.lines))))
+    (λ j at h. inl h) (λ d w p. main_tells t p.0.0.0 w p.0.0.1.1 p.0.1 p.1 (has_main w) refl p.0.0.1.0)
 
 pub refused_text : (t : SourceTree) (kind : FaultKind) (token : ℕ) → walk_tree t ≡ Faulty kind token → TextBreaks t kind token
 refused_text t kind token h = told_fault (text_tells t) h
@@ -225,6 +239,6 @@ accepted_text t known s h =
       (
         r.gives,
         r.has,
-        λ token name q f. sym (defined_as_listed t.items r.after r.gives name) ∙ calls_defined t known s h r.after r.files r.defined token name q f,
+        λ token name q f. sym (defined_as_listed t.items r.after r.gives name) ∙ calls_defined t known s r.does r.after r.files r.defined token name q f,
       ),
     )

@@ -1,7 +1,9 @@
 -- A variable that the walk takes is declared behind it, and one at which it stops breaks a rule.
-use Rattle.std.proofs.Common.{◌⊎◌, inl, inr, ◌≡◌, ℕ, ◌+◌, ◌≤◌, refl, ap, subst, sym, ◌∙◌, List, [], ◌∷◌, Some, None, Bool, true, false, length}
+use Rattle.std.proofs.Common.{◌⊎◌, inl, inr, ◌≡◌, ℕ, ◌+◌, ◌≤◌, ◌<◌, arith, refl, ap, subst, sym, ◌∙◌, List, [], ◌∷◌, Some, None, Bool, true, false, length}
 use Rattle.c_types_faults.proofs.Fitting.{or_left, or_right, most, most_back}
-use Rattle.std.specs.Prelude.{Option, nat_le, is_some, ◌&&◌, ◌==◌, if◌then◌else◌, IsSome}
+use Rattle.std.proofs.lemmas.Bool.Decides.{nat_tests}
+use Rattle.std.proofs.lemmas.Nat.{mul-le}
+use Rattle.std.specs.Prelude.{Option, nat_lt, ◌*◌, nat_le, is_some, ◌&&◌, ◌==◌, if◌then◌else◌, IsSome}
 use Rattle.std.proofs.lemmas.Bool.{and_from, and_parts, eq-eqb, eqb-true, false≢true}
 use Rattle.c_syntax.specs.StatementTree.{InitialTree}
 use Rattle.c_rules.specs.declared.fault.FaultKind.{FaultKind}
@@ -122,6 +124,27 @@ pub sized_tells : (global : Bool) (token : ℕ) (t : TypeTree) (c : Context) (w 
     (BadSize global c t token)
 sized_tells global token t c w k = size_by (is_object w.structs t) global token t c w k refl
 
+-- the elements of an array that is an object
+
+less_by : (m n : ℕ) → nat_lt m n ≡ true → m < n
+less_by m n h = grind (arith, nat_tests, h)
+
+pub element_object : (ss : List StructType) (element : TypeTree) (size : ℕ) → IsObject ss (Array element size) → IsObject ss element
+element_object ss element size h =
+    let p = and_parts (nat_lt 0 size) (is_complete ss element) h.0 in
+    let n : 0 < size = less_by 0 size p.0 in
+    let m : 1 * cells_of ss element ≤ size * cells_of ss element = mul-le 1 (cells_of ss element) size (cells_of ss element) (omega (arith, n)) (omega arith) in
+    (p.1, omega (arith, m, h.1))
+
+pub object_elements : (ss : List StructType) (t : TypeTree) → IsObject ss t → ElementBreaks ss t → ⊥
+object_elements ss (Array element size) h b = b (element_object ss element size h)
+object_elements ss Void h b = b
+object_elements ss Char h b = b
+object_elements ss Int h b = b
+object_elements ss Unsigned h b = b
+object_elements ss (Pointer to) h b = b
+object_elements ss (Struct tag) h b = b
+
 -- an array whose length isn't known yet
 
 pub opens_by : (ss : List StructType) (t : TypeTree) (initial : Option InitialTree) → (is_some initial && is_open ss t) ≡ true → IsOpen t initial
@@ -133,6 +156,16 @@ opens_by ss Unsigned (Some i) h = absurd (false≢true h)
 opens_by ss (Pointer to) (Some i) h = absurd (false≢true h)
 opens_by ss (Struct tag) (Some i) h = absurd (false≢true h)
 opens_by ss t None h = absurd (false≢true h)
+
+pub opens_elements : (ss : List StructType) (t : TypeTree) (initial : Option InitialTree) → (is_some initial && is_open ss t) ≡ true → ElementBreaks ss t → ⊥
+opens_elements ss (Array element size) (Some i) h b = b (object_is ss element (and_parts (size == 0) (is_object ss element) h).1)
+opens_elements ss (Array element size) None h b = false≢true h
+opens_elements ss Void initial h b = b
+opens_elements ss Char initial h b = b
+opens_elements ss Int initial h b = b
+opens_elements ss Unsigned initial h b = b
+opens_elements ss (Pointer to) initial h b = b
+opens_elements ss (Struct tag) initial h b = b
 
 element_by : (ss : List StructType) (element : TypeTree) (size : ℕ) (i : InitialTree) (b : Bool) → (size == 0) ≡ b → (b && is_object ss element) ≡ false
     → (IsOpen (Array element size) (Some i) → ⊥) ⊎ (IsOpen (Array element size) (Some i) × ElementBreaks ss (Array element size))

@@ -147,7 +147,7 @@ module _ (k : Known) where
   pub whole_tells : (x : ExprTree) (w : Walk) → Agreed k (shown w) → Tells (walk_whole x w) (λ d v. IsWhole k x d × (shown v ≡ shown w)) (WholeBreaks k x)
   whole_tells (e.Call token name arguments) w g = and_then (exprs_tells k arguments [] w g) (λ j at h. inl h) (λ xs v p.
       weaker (whole_call_tells k token arguments xs (meaning_of name v.names) (k.ordinary name) v ((agrees_on g p.1).by.ordinary name))
-      (λ j at h. inr (h.0, (xs, (subst (AreOperands k arguments) (sym p.0.1.0) p.0.1.1, h.1))))
+      (λ j at h. inr (xs, (subst (AreOperands k arguments) (sym p.0.1.0) p.0.1.1, h)))
       (λ d u q. (whole_is token name arguments xs d (subst (AreOperands k arguments) (sym p.0.1.0) p.0.1.1) q.0, q.1 ∙ p.1)))
   whole_tells (e.Comma token operands) w g = expr_tells k (e.Comma token operands) w g
   whole_tells (e.Assign token s target value) w g = expr_tells k (e.Assign token s target value) w g

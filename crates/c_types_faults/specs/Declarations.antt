@@ -1,4 +1,4 @@
--- Declarations of variables (C99 6.7): what is declared behind one, and which rule one breaks.
+-- Declarations of variables (C99 6.7): what is declared behind one, and which rule one breaks first.
 use Rattle.std.specs.Prelude.{◌≡◌, ◌⊎◌, ℕ, ◌+◌, ◌≤◌, Bool, true, false, List, [], ◌∷◌, Option, Some}
 use Rattle.c_syntax.specs.StatementTree.{DeclarationTree, InitialTree, StartTree}
 use Rattle.c_rules.specs.declared.fault.FaultKind.{FaultKind}
@@ -7,6 +7,7 @@ use Rattle.c_rules.specs.declared.layout.StructType.{StructType}
 use Rattle.c_rules.specs.TypeTree.{TypeTree, Array}
 use Rattle.c_rules.specs.Sizes.{cells_of, is_complete, most_cells}
 use Rattle.c_types_faults.specs.Known.{Object}
+use Rattle.c_types_faults.specs.Least.{IsLeast}
 use Rattle.c_types_faults.specs.Context.{Context, IsTaken, counting, declare, known}
 use Rattle.c_types_faults.specs.Types.{BaseBreaks, IsBase}
 use Rattle.c_types_faults.specs.Declarators.{Declares}
@@ -41,17 +42,28 @@ module _ (global : Bool) (base : TypeTree) where
   VariableGives c x after = (IsTaken x.declarator.name c → ⊥) × ((t : TypeTree) × ((u : TypeTree) × (Declares x.declarator base t × Finishes c x t u
       × IsObject c.structs u × HasRoom global c u × (after ≡ declare x.declarator.name (Object u) (counting global (cells_of c.structs u) c)))))
 
-  -- its type is no object's, or the globals would have too many cells with it: told where the declarator begins
-  abbrev pub SizeBreaks : Context → StartTree → TypeTree → Type 0
-  SizeBreaks c x t = ((IsOpen t x.initial → ⊥) × ((IsObject c.structs t → ⊥) ⊎ (HasRoom global c t → ⊥)))
-      ⊎ ((IsOpen t x.initial) × (ElementBreaks c.structs t
-      ⊎ ((u : TypeTree) × (Finishes c x t u × ((IsObject c.structs u → ⊥) ⊎ (HasRoom global c u → ⊥))))))
+  -- the type is no object's, or the globals would have too many cells with it
+  abbrev pub SizeBreaks : Context → TypeTree → Type 0
+  SizeBreaks c t = (IsObject c.structs t → ⊥) ⊎ (HasRoom global c t → ⊥)
 
+  -- before its initialiser: where that gives the length, the elements alone decide
+  abbrev pub BeginningBreaks : Context → StartTree → TypeTree → Type 0
+  BeginningBreaks c x t = ((IsOpen t x.initial → ⊥) × SizeBreaks c t) ⊎ (IsOpen t x.initial × ElementBreaks c.structs t)
+
+  -- The name of a declarator is taken, or it gives no type that the variable may have.
+  abbrev pub DeclaratorRule : Context → StartTree → FaultKind → Type 0
+  DeclaratorRule c x kind = ((kind ≡ fault.Redeclared) × IsTaken x.declarator.name c)
+      ⊎ ((kind ≡ fault.Object) × ((t : TypeTree) → Declares x.declarator base t → BeginningBreaks c x t))
+
+  -- one that keeps these rules
+  abbrev pub DeclaratorFits : Context → StartTree → TypeTree → Type 0
+  DeclaratorFits c x t = (IsTaken x.declarator.name c → ⊥) × Declares x.declarator base t × (BeginningBreaks c x t → ⊥)
+
+  -- The declarator breaks a rule, then the initialiser, and then the type that this completed. The first and the last stand where the declarator begins.
   abbrev pub VariableBreaks : Context → StartTree → FaultKind → ℕ → Type 0
-  VariableBreaks c x kind at = ((at ≡ x.token) × (kind ≡ fault.Redeclared) × IsTaken x.declarator.name c)
-      ⊎ (((at ≡ x.token) × (kind ≡ fault.Object) × ((t : TypeTree) → Declares x.declarator base t → ⊥))
-      ⊎ ((t : TypeTree) × (Declares x.declarator base t × (((at ≡ x.token) × (kind ≡ fault.Object) × SizeBreaks c x t)
-      ⊎ InitialBreaks (known (declare x.declarator.name (Object t) c)) global t x.initial kind at))))
+  VariableBreaks c x kind at = ((at ≡ x.token) × IsLeast (DeclaratorRule c x) kind)
+      ⊎ ((t : TypeTree) × (DeclaratorFits c x t × (InitialBreaks (known (declare x.declarator.name (Object t) c)) global t x.initial kind at
+      ⊎ ((u : TypeTree) × (Finishes c x t u × ((at ≡ x.token) × (kind ≡ fault.Object) × SizeBreaks c u))))))
 
   abbrev pub VariablesGive : Context → List StartTree → Context → Type 0
   VariablesGive c [] after = after ≡ c

@@ -1,5 +1,5 @@
--- An expression breaks a rule of a kind at a token: one of its parts does, or the token is its own, its parts are operands, and no relation of types
--- that the accepted texts keep holds of them.
+-- The first rule that an expression breaks, of a kind at a token: from left to right a part of it does, where those before it are operands; or all of them
+-- are, the token is its own, and no relation of types that the accepted texts keep holds of them.
 use Rattle.std.specs.Prelude.{◌≡◌, ◌⊎◌, ℕ, true, List}
 use Rattle.c_syntax.specs.ExprTree as e
 use Rattle.c_syntax.specs.ExprTree.{ExprTree, ExprList, LinkList, PostfixList}
@@ -21,26 +21,26 @@ module _ (k : Known) where
   abbrev mutual
     pub Breaks : ExprTree → FaultKind → ℕ → Type 0
     Breaks (e.Comma token operands) kind at = ListBreaks operands kind at
-        ⊎ ((at ≡ token) × ((xs : List Operand) × (AreOperands k operands xs × (kind ≡ fault.Operands) × HasStruct xs)))
-    Breaks (e.Assign token s target value) kind at = Breaks target kind at ⊎ (Breaks value kind at
-        ⊎ ((at ≡ token) × ((x : Operand) × ((y : Operand) × (IsOperand k target x × IsOperand k value y
-        × AssignBreaks k.structs (compound_of s) x y kind)))))
-    Breaks (e.Conditional token condition first second) kind at = Breaks condition kind at ⊎ (Breaks first kind at ⊎ (Breaks second kind at
-        ⊎ ((at ≡ token) × ((c : Operand) × ((x : Operand) × ((y : Operand) × (IsOperand k condition c × IsOperand k first x × IsOperand k second y
-        × Misfits (Chooses c x y) kind)))))))
+        ⊎ ((xs : List Operand) × (AreOperands k operands xs × ((at ≡ token) × (kind ≡ fault.Operands) × HasStruct xs)))
+    Breaks (e.Assign token s target value) kind at = Breaks target kind at ⊎ ((x : Operand) × (IsOperand k target x × (Breaks value kind at
+        ⊎ ((y : Operand) × (IsOperand k value y × ((at ≡ token) × AssignBreaks k.structs (compound_of s) x y kind))))))
+    Breaks (e.Conditional token condition first second) kind at = Breaks condition kind at
+        ⊎ ((c : Operand) × (IsOperand k condition c × (Breaks first kind at
+        ⊎ ((x : Operand) × (IsOperand k first x × (Breaks second kind at
+        ⊎ ((y : Operand) × (IsOperand k second y × ((at ≡ token) × Misfits (Chooses c x y) kind)))))))))
     Breaks (e.Chain level first links) kind at = Breaks first kind at ⊎ ((x : Operand) × (IsOperand k first x × LinksBreak x links kind at))
-    Breaks (e.Cast token b stars operand) kind at = BaseBreaks k b kind at ⊎ (Breaks operand kind at
-        ⊎ ((at ≡ token) × ((of : TypeTree) × ((x : Operand) × (IsBase k b of × IsOperand k operand x × Misfits (Casts (with_stars stars of) x) kind)))))
+    Breaks (e.Cast token b stars operand) kind at = BaseBreaks k b kind at ⊎ ((of : TypeTree) × (IsBase k b of × (Breaks operand kind at
+        ⊎ ((x : Operand) × (IsOperand k operand x × ((at ≡ token) × Misfits (Casts (with_stars stars of) x) kind))))))
     Breaks (e.Prefix token o operand) kind at = Breaks operand kind at
-        ⊎ ((at ≡ token) × ((x : Operand) × (IsOperand k operand x × PrefixBreaks k.structs o x kind)))
+        ⊎ ((x : Operand) × (IsOperand k operand x × ((at ≡ token) × PrefixBreaks k.structs o x kind)))
     -- `sizeof` takes a complete type (6.5.3.4p1)
     Breaks (e.SizeOfType token b stars) kind at = BaseBreaks k b kind at
-        ⊎ ((at ≡ token) × ((of : TypeTree) × (IsBase k b of × (kind ≡ fault.Operands) × (is_complete k.structs (with_stars stars of) ≡ true → ⊥))))
+        ⊎ ((of : TypeTree) × (IsBase k b of × ((at ≡ token) × (kind ≡ fault.Operands) × (is_complete k.structs (with_stars stars of) ≡ true → ⊥))))
     Breaks (e.Postfix primary operators) kind at = Breaks primary kind at
         ⊎ ((x : Operand) × (IsOperand k primary x × PostfixBreaks x operators kind at))
     Breaks (e.Name token name) kind at = (at ≡ token) × NameBreaks (k.ordinary name) kind
     Breaks (e.Call token name arguments) kind at = ListBreaks arguments kind at
-        ⊎ ((at ≡ token) × ((xs : List Operand) × (AreOperands k arguments xs × CallBreaks (k.ordinary name) xs kind)))
+        ⊎ ((xs : List Operand) × (AreOperands k arguments xs × ((at ≡ token) × CallBreaks (k.ordinary name) xs kind)))
     Breaks (e.Constant token of value) kind at = ⊥
     Breaks (e.Strings token parts) kind at = ⊥
     Breaks (e.Paren token inner) kind at = Breaks inner kind at
@@ -49,7 +49,7 @@ module _ (k : Known) where
 
     pub ListBreaks : ExprList → FaultKind → ℕ → Type 0
     ListBreaks e.no_exprs kind at = ⊥
-    ListBreaks (e.more_exprs x rest) kind at = Breaks x kind at ⊎ ListBreaks rest kind at
+    ListBreaks (e.more_exprs x rest) kind at = Breaks x kind at ⊎ ((y : Operand) × (IsOperand k x y × ListBreaks rest kind at))
 
     -- the operators of a chain, behind this left operand
     pub LinksBreak : Operand → LinkList → FaultKind → ℕ → Type 0

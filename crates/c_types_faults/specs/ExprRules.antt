@@ -11,6 +11,7 @@ use Rattle.c_rules.specs.TypeTree.{TypeTree, Pointer}
 use Rattle.c_rules.specs.Conversions.{is_struct, value_of, value_type}
 use Rattle.c_types_laws.specs.Operands.{Accepts, IsArithmetic, IsModifiable, Operates, PointsToObject, Prefixes, Selects}
 use Rattle.c_types_faults.specs.Known.{Entity, Object, Function, Standard}
+use Rattle.c_types_faults.specs.Least.{IsLeast}
 use Rattle.c_types_faults.specs.Calls.{CallsAs, CallsStandard}
 
 -- The operands don't fit: the operator gives no type.
@@ -27,14 +28,14 @@ Stores structs None x y = Accepts (value_type x) y
 Stores structs (Some o) x y = (r : TypeTree) × (Operates structs o x y r × Accepts (value_type x) (value_of r))
 
 abbrev pub AssignBreaks : List StructType → Option Binary → Operand → Operand → FaultKind → Type 0
-AssignBreaks structs o x y kind = ((kind ≡ fault.Operands) × (Stores structs o x y → ⊥)) ⊎ Unmodifiable x kind
+AssignBreaks structs o x y kind = IsLeast (λ j. ((j ≡ fault.Operands) × (Stores structs o x y → ⊥)) ⊎ Unmodifiable x j) kind
 
 -- 1 can be added to it (6.5.2.4p1, 6.5.3.1p1)
 abbrev pub Counts : List StructType → Operand → Type 0
 Counts structs x = IsArithmetic (value_type x) ⊎ PointsToObject structs (value_type x)
 
 abbrev pub StepBreaks : List StructType → Operand → FaultKind → Type 0
-StepBreaks structs x kind = ((kind ≡ fault.Operands) × (Counts structs x → ⊥)) ⊎ Unmodifiable x kind
+StepBreaks structs x kind = IsLeast (λ j. ((j ≡ fault.Operands) × (Counts structs x → ⊥)) ⊎ Unmodifiable x j) kind
 
 -- an operator before its operand (6.5.3); only of an lvalue there is an address (6.5.3.2p1)
 abbrev pub PrefixBreaks : List StructType → PrefixOperator → Operand → FaultKind → Type 0

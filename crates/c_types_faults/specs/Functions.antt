@@ -1,4 +1,4 @@
--- Declarations and definitions of functions (C99 6.7.5.3, 6.9.1): what is declared behind one, and which rule one breaks.
+-- Declarations and definitions of functions (C99 6.7.5.3, 6.9.1): what is declared behind one, and which rule one breaks first.
 use Rattle.std.specs.Prelude.{◌≡◌, ◌⊎◌, ℕ, Bool, true, false, ◌||◌, List, [], ◌∷◌, ◌++◌, map, Option, Some, None, pos, int_le}
 use Rattle.std.specs.Str.{bytes_eq}
 use Rattle.c_syntax.specs.declared.parts.Base.{Base}
@@ -14,6 +14,7 @@ use Rattle.c_rules.specs.TypeTree.{TypeTree, Pointer}
 use Rattle.c_rules.specs.Conversions.{is_scalar, is_struct}
 use Rattle.c_types_expressions.specs.ExprWalk.{with_stars}
 use Rattle.c_types_faults.specs.Known.{Object, Function}
+use Rattle.c_types_faults.specs.Least.{IsLeast}
 use Rattle.c_types_faults.specs.Context.{Context, HasName, IsReserved, declare, declared_in, inner, known}
 use Rattle.c_types_faults.specs.Types.{BaseBreaks, IsBase}
 use Rattle.c_types_faults.specs.Statements.{EntriesBreak, EntriesFit}
@@ -69,7 +70,7 @@ module _ (c : Context) (body : Bool) where
 
   abbrev pub ParamBreaks : List Formal → Param → FaultKind → ℕ → Type 0
   ParamBreaks before p kind at = BaseBreaks (known c) p.base kind at
-      ⊎ ((at ≡ p.token) × ((base : TypeTree) × (IsBase (known c) p.base base × ParamRule body before p.name (with_stars p.stars base) kind)))
+      ⊎ ((base : TypeTree) × (IsBase (known c) p.base base × ((at ≡ p.token) × IsLeast (ParamRule body before p.name (with_stars p.stars base)) kind)))
 
   abbrev pub ParamsGive : List Formal → List Param → List Formal → Type 0
   ParamsGive before [] all = all ≡ before
@@ -103,18 +104,21 @@ abbrev pub with_formals : List Formal → Context → Context
 with_formals [] c = c
 with_formals (f ∷ fs) c = with_formals fs (with_formal f.name f.of c)
 
--- Its name is one of the library (7.1.3), or the scope declares it otherwise (6.7p4); or its result is a struct, which here no function gives.
-abbrev pub FunctionRule : List ℕ → FunctionType → Context → FaultKind → Type 0
-FunctionRule name f c kind = ((kind ≡ fault.Redeclared) × (IsReserved name ⊎ (HasName name c.scope × (IsKnownAs name f c → ⊥))))
-    ⊎ ((kind ≡ fault.Object) × (is_struct f.gives ≡ true))
+-- its name is one of the library (7.1.3), or the scope declares it otherwise (6.7p4)
+abbrev pub Clashes : List ℕ → FunctionType → Context → Type 0
+Clashes name f c = IsReserved name ⊎ (HasName name c.scope × (IsKnownAs name f c → ⊥))
+
+-- it is defined already (6.9p3)
+abbrev pub IsDefinedBefore : List ℕ → FunctionType → Context → Type 0
+IsDefinedBefore name f c = IsKnownAs name f c × (is_listed name c.defined ≡ true)
+
+-- It may not be declared so here, or its result is a struct, which here no function gives.
+abbrev pub FunctionRule : Type 0 → FunctionType → FaultKind → Type 0
+FunctionRule MayNot f kind = ((kind ≡ fault.Redeclared) × MayNot) ⊎ ((kind ≡ fault.Object) × (is_struct f.gives ≡ true))
 
 -- one that keeps these rules
 abbrev pub FunctionFits : List ℕ → FunctionType → Context → Type 0
 FunctionFits name f c = (IsReserved name → ⊥) × (HasName name c.scope → IsKnownAs name f c) × (is_struct f.gives ≡ false)
-
--- it is defined twice (6.9p3)
-abbrev pub TwiceDefined : List ℕ → FunctionType → Context → FaultKind → Type 0
-TwiceDefined name f c kind = (kind ≡ fault.Redeclared) × IsKnownAs name f c × (is_listed name c.defined ≡ true)
 
 -- A function keeps the rules, and this is declared behind it.
 abbrev pub FunctionGives : List ℕ → FunctionType → List Formal → Option EntryList → Context → Context → Type 0
@@ -123,14 +127,19 @@ FunctionGives name f formals (Some body) c after = FunctionFits name f c × (IsK
     × ((next : Context) × (Names name f c next × EntriesFit f.gives (with_formals formals (inner next)) false body
     × (after ≡ record next { defined = name ∷ next.defined })))
 
--- A part of the body breaks a rule, or the function does, at its first token.
+-- A part of the body breaks a rule; or, where none does, the function, at its first token.
 abbrev pub FunctionBreaks : ℕ → List ℕ → FunctionType → List Formal → Option EntryList → Context → FaultKind → ℕ → Type 0
-FunctionBreaks token name f formals None c kind at = (at ≡ token) × FunctionRule name f c kind
-FunctionBreaks token name f formals (Some body) c kind at =
-    ((next : Context) × (Names name f c next × EntriesBreak f.gives (with_formals formals (inner next)) false body kind at))
-    ⊎ ((at ≡ token) × (FunctionRule name f c kind ⊎ TwiceDefined name f c kind))
+FunctionBreaks token name f formals None c kind at = (at ≡ token) × IsLeast (FunctionRule (Clashes name f c) f) kind
+FunctionBreaks token name f formals (Some body) c kind at = (next : Context) × (Names name f c next
+    × (EntriesBreak f.gives (with_formals formals (inner next)) false body kind at
+    ⊎ (EntriesFit f.gives (with_formals formals (inner next)) false body
+    × ((at ≡ token) × IsLeast (FunctionRule (Clashes name f c ⊎ IsDefinedBefore name f c) f) kind))))
+
+-- the type of a function with this result and these parameters
+abbrev pub prototype : TypeTree → List Formal → FunctionType
+prototype gives formals = record { gives = gives; params = map type_of formals }
 
 -- from its base on
 abbrev pub PrototypeGives : Base → ℕ → Bool → List Param → Context → FunctionType → List Formal → Type 0
 PrototypeGives b stars body ps c f formals = (base : TypeTree) × (IsBase (known c) b base × ParamsGive c body [] ps formals
-    × (f ≡ record { gives = with_stars stars base; params = map type_of formals }))
+    × (f ≡ prototype (with_stars stars base) formals))

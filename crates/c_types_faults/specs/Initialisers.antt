@@ -71,10 +71,10 @@ module _ (k : Known) (global : Bool) where
   Completes of (Some (s.Value value)) t = (x : Operand) × (IsOperand k value x × Begins global of value x t)
   Completes of (Some (s.Braced token items comma)) t = (xs : List Operand) × (AreOperands k items xs × Lists global of items xs t)
 
-  -- An expression in it breaks a rule, or it may not initialise such an object, at its first token.
+  -- An expression in it breaks a rule first; or none does, and it may not initialise such an object, at its first token.
   abbrev pub InitialBreaks : TypeTree → Option InitialTree → FaultKind → ℕ → Type 0
   InitialBreaks of None kind at = ⊥
-  InitialBreaks of (Some (s.Value value)) kind at = Breaks k value kind at ⊎ ((at ≡ first_token value) × ((x : Operand) × (IsOperand k value x
-      × (kind ≡ fault.Initialiser) × ((t : TypeTree) → Begins global of value x t → ⊥))))
-  InitialBreaks of (Some (s.Braced token items comma)) kind at = ListBreaks k items kind at ⊎ ((at ≡ token) × ((xs : List Operand)
-      × (AreOperands k items xs × (kind ≡ fault.Initialiser) × ((t : TypeTree) → Lists global of items xs t → ⊥))))
+  InitialBreaks of (Some (s.Value value)) kind at = Breaks k value kind at ⊎ ((x : Operand) × (IsOperand k value x
+      × ((at ≡ first_token value) × (kind ≡ fault.Initialiser) × ((t : TypeTree) → Begins global of value x t → ⊥))))
+  InitialBreaks of (Some (s.Braced token items comma)) kind at = ListBreaks k items kind at ⊎ ((xs : List Operand)
+      × (AreOperands k items xs × ((at ≡ token) × (kind ≡ fault.Initialiser) × ((t : TypeTree) → Lists global of items xs t → ⊥))))

@@ -1,15 +1,17 @@
--- The items of a text (C99 6.9): what is declared behind them, and which rule one breaks.
+-- The items of a text (C99 6.9): what is declared behind them, and which rule one breaks first.
 use Rattle.std.specs.Prelude.{◌≡◌, ◌⊎◌, ℕ, true, List, [], ◌∷◌, is_some}
 use Rattle.c_syntax.specs.ItemTree as i
 use Rattle.c_syntax.specs.ItemTree.{ItemTree}
 use Rattle.c_rules.specs.declared.fault.FaultKind.{FaultKind}
 use Rattle.c_rules.specs.declared.function.FunctionType.{FunctionType}
+use Rattle.c_rules.specs.TypeTree.{TypeTree}
+use Rattle.c_types_expressions.specs.ExprWalk.{with_stars}
 use Rattle.c_types_walk.specs.ItemWalk.{listed}
 use Rattle.c_types_faults.specs.Context.{Context, known}
-use Rattle.c_types_faults.specs.Types.{BaseBreaks}
+use Rattle.c_types_faults.specs.Types.{BaseBreaks, IsBase}
 use Rattle.c_types_faults.specs.Declarations.{DeclarationBreaks, DeclarationGives}
 use Rattle.c_types_faults.specs.Structs.{StructBreaks, StructGives}
-use Rattle.c_types_faults.specs.Functions.{Formal, FunctionBreaks, FunctionGives, ParamsBreak, PrototypeGives}
+use Rattle.c_types_faults.specs.Functions.{Formal, FunctionBreaks, FunctionGives, ParamsBreak, ParamsGive, PrototypeGives, prototype}
 
 abbrev pub ItemGives : Context → ItemTree → Context → Type 0
 ItemGives c (i.Struct token tag members) after = StructGives c tag members after
@@ -19,9 +21,9 @@ ItemGives c (i.Declaration declaration) after = DeclarationGives true c declarat
 
 abbrev pub ItemBreaks : Context → ItemTree → FaultKind → ℕ → Type 0
 ItemBreaks c (i.Struct token tag members) kind at = StructBreaks c token tag members kind at
-ItemBreaks c (i.Function token b stars name ps body) kind at = BaseBreaks (known c) b kind at ⊎ (ParamsBreak c (is_some body) [] (listed ps) kind at
-    ⊎ ((f : FunctionType) × ((formals : List Formal) × (PrototypeGives b stars (is_some body) (listed ps) c f formals
-    × FunctionBreaks token name f formals body c kind at))))
+ItemBreaks c (i.Function token b stars name ps body) kind at = BaseBreaks (known c) b kind at ⊎ ((base : TypeTree) × (IsBase (known c) b base
+    × (ParamsBreak c (is_some body) [] (listed ps) kind at ⊎ ((formals : List Formal) × (ParamsGive c (is_some body) [] (listed ps) formals
+    × FunctionBreaks token name (prototype (with_stars stars base) formals) formals body c kind at)))))
 ItemBreaks c (i.Declaration declaration) kind at = DeclarationBreaks true c declaration kind at
 
 abbrev pub ItemsGive : Context → List ItemTree → Context → Type 0

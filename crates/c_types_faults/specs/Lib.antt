@@ -1,4 +1,5 @@
 pub mod Known
+pub mod Least
 pub mod Types
 pub mod Calls
 pub mod Operands

@@ -1,4 +1,5 @@
--- Which statements keep the rules (C99 6.8), and which rule one breaks: one of its parts does, or the statement itself, at its own token.
+-- Which statements keep the rules (C99 6.8), and which rule one breaks first: from left to right a part of it does, where those before it keep the rules; or
+-- all of them do, and the statement itself breaks one, at its own token.
 use Rattle.std.specs.Prelude.{◌≡◌, ◌⊎◌, ℕ, Bool, true, false, Option, Some, None}
 use Rattle.c_syntax.specs.ExprTree.{ExprTree}
 use Rattle.c_syntax.specs.StatementTree as s
@@ -24,6 +25,10 @@ NoCondition k x kind = (kind ≡ fault.Operands) × ((a : Operand) × (IsOperand
 abbrev pub GivesUpStruct : Known → ExprTree → FaultKind → Type 0
 GivesUpStruct k x kind = (kind ≡ fault.Operands) × ((a : Operand) × (IsOperand k x a × (is_struct a.ctype ≡ true)))
 
+-- an operand, which breaks no rule
+abbrev pub IsSomeOperand : Known → ExprTree → Type 0
+IsSomeOperand k x = (a : Operand) × IsOperand k x a
+
 -- of a part of a `for` that may be missing
 abbrev pub OfPart : (ExprTree → Type 0) → Option ExprTree → Type 0
 OfPart P None = ⊥
@@ -47,10 +52,10 @@ abbrev pub StartGives : Context → ForStartTree → Context → Type 0
 StartGives c (s.Declares d) after = DeclarationGives false c d after
 StartGives c (s.Computes x) after = IfPart (IsGivenUp (known c)) x × (after ≡ c)
 
--- what is declared behind the first part, whose own rule is looked at last
+-- No part of the first part breaks a rule, and this is declared behind it. That its value is given up is looked at last.
 abbrev pub StartLeaves : Context → ForStartTree → Context → Type 0
 StartLeaves c (s.Declares d) after = DeclarationGives false c d after
-StartLeaves c (s.Computes x) after = after ≡ c
+StartLeaves c (s.Computes x) after = IfPart (IsSomeOperand (known c)) x × (after ≡ c)
 
 abbrev pub StartBreaks : Context → ForStartTree → FaultKind → ℕ → Type 0
 StartBreaks c (s.Declares d) kind at = DeclarationBreaks false c d kind at
@@ -65,11 +70,11 @@ abbrev pub ForBreaks : Known → Known → ForStartTree → Option ExprTree → 
 ForBreaks before k start condition step kind = OfPart (λ x. GivesUpStruct before x kind) (computed start)
     ⊎ (OfPart (λ x. NoCondition k x kind) condition ⊎ OfPart (λ x. GivesUpStruct k x kind) step)
 
--- `return` (6.8.6.4): a value where the function gives none or where it can't be assigned to what the function gives, or none where the function gives one
+-- `return` (6.8.6.4): a value where the function gives none, one that can't be assigned to what the function gives, or none where the function gives one
 abbrev pub ReturnBreaks : Known → TypeTree → Option ExprTree → FaultKind → Type 0
 ReturnBreaks k gives None kind = (kind ≡ fault.Jump) × (is_void gives ≡ false)
 ReturnBreaks k gives (Some x) kind = ((kind ≡ fault.Jump) × (is_void gives ≡ true))
-    ⊎ ((kind ≡ fault.Operands) × ((a : Operand) × (IsOperand k x a × (Accepts gives a → ⊥))))
+    ⊎ ((kind ≡ fault.Operands) × (is_void gives ≡ false) × ((a : Operand) × (IsOperand k x a × (Accepts gives a → ⊥))))
 
 -- a value where the function gives one, and then what may be assigned to that (6.8.6.4)
 abbrev pub Returns : Known → TypeTree → Option ExprTree → Type 0
@@ -109,23 +114,28 @@ module _ (gives : TypeTree) where
     StatementBreaks c looping (s.Block token entries) kind at = EntriesBreak (inner c) looping entries kind at
     StatementBreaks c looping (s.Empty token) kind at = ⊥
     StatementBreaks c looping (s.Expr token x) kind at = WholeBreaks (known c) x kind at
-        ⊎ ((at ≡ token) × (kind ≡ fault.Operands) × ((a : Operand) × (IsWhole (known c) x a × (is_struct a.ctype ≡ true))))
+        ⊎ ((a : Operand) × (IsWhole (known c) x a × ((at ≡ token) × (kind ≡ fault.Operands) × (is_struct a.ctype ≡ true))))
     StatementBreaks c looping (s.If token condition first) kind at = Breaks (known c) condition kind at
-        ⊎ (StatementBreaks c looping first kind at ⊎ ((at ≡ token) × NoCondition (known c) condition kind))
+        ⊎ (IsSomeOperand (known c) condition × (StatementBreaks c looping first kind at
+        ⊎ (StatementFits c looping first × ((at ≡ token) × NoCondition (known c) condition kind))))
     StatementBreaks c looping (s.IfElse token condition first second) kind at = Breaks (known c) condition kind at
-        ⊎ (StatementBreaks c looping first kind at ⊎ (StatementBreaks c looping second kind at
-        ⊎ ((at ≡ token) × NoCondition (known c) condition kind)))
+        ⊎ (IsSomeOperand (known c) condition × (StatementBreaks c looping first kind at
+        ⊎ (StatementFits c looping first × (StatementBreaks c looping second kind at
+        ⊎ (StatementFits c looping second × ((at ≡ token) × NoCondition (known c) condition kind))))))
     StatementBreaks c looping (s.While token condition body) kind at = Breaks (known c) condition kind at
-        ⊎ (StatementBreaks c true body kind at ⊎ ((at ≡ token) × NoCondition (known c) condition kind))
+        ⊎ (IsSomeOperand (known c) condition × (StatementBreaks c true body kind at
+        ⊎ (StatementFits c true body × ((at ≡ token) × NoCondition (known c) condition kind))))
     StatementBreaks c looping (s.Do token body condition) kind at = StatementBreaks c true body kind at
-        ⊎ (Breaks (known c) condition kind at ⊎ ((at ≡ token) × NoCondition (known c) condition kind))
+        ⊎ (StatementFits c true body × (Breaks (known c) condition kind at
+        ⊎ (IsSomeOperand (known c) condition × ((at ≡ token) × NoCondition (known c) condition kind))))
     -- a `for` is a scope (6.8.5p5)
     StatementBreaks c looping (s.For token start condition step body) kind at = StartBreaks (inner c) start kind at
         ⊎ ((d : Context) × (StartLeaves (inner c) start d × (OfPart (λ x. Breaks (known d) x kind at) condition
-        ⊎ (OfPart (λ x. Breaks (known d) x kind at) step ⊎ (StatementBreaks d true body kind at
-        ⊎ ((at ≡ token) × ForBreaks (known (inner c)) (known d) start condition step kind))))))
+        ⊎ (IfPart (IsSomeOperand (known d)) condition × (OfPart (λ x. Breaks (known d) x kind at) step
+        ⊎ (IfPart (IsSomeOperand (known d)) step × (StatementBreaks d true body kind at
+        ⊎ (StatementFits d true body × ((at ≡ token) × ForBreaks (known (inner c)) (known d) start condition step kind)))))))))
     StatementBreaks c looping (s.Return token value) kind at = OfPart (λ x. Breaks (known c) x kind at) value
-        ⊎ ((at ≡ token) × ReturnBreaks (known c) gives value kind)
+        ⊎ (IfPart (IsSomeOperand (known c)) value × ((at ≡ token) × ReturnBreaks (known c) gives value kind))
     StatementBreaks c looping (s.Break token) kind at = (at ≡ token) × JumpBreaks looping kind
     StatementBreaks c looping (s.Continue token) kind at = (at ≡ token) × JumpBreaks looping kind
 
@@ -133,4 +143,5 @@ module _ (gives : TypeTree) where
     EntriesBreak c looping s.no_entries kind at = ⊥
     EntriesBreak c looping (s.declared declaration rest) kind at = DeclarationBreaks false c declaration kind at
         ⊎ ((next : Context) × (DeclarationGives false c declaration next × EntriesBreak next looping rest kind at))
-    EntriesBreak c looping (s.stated statement rest) kind at = StatementBreaks c looping statement kind at ⊎ EntriesBreak c looping rest kind at
+    EntriesBreak c looping (s.stated statement rest) kind at = StatementBreaks c looping statement kind at
+        ⊎ (StatementFits c looping statement × EntriesBreak c looping rest kind at)

@@ -1,4 +1,4 @@
--- Definitions of structs (C99 6.7.2.1): what is known behind one, and which rule one breaks.
+-- Definitions of structs (C99 6.7.2.1): what is known behind one, and which rule one breaks first.
 use Rattle.std.specs.Prelude.{◌≡◌, ◌⊎◌, ℕ, ◌≤◌, List, [], ◌∷◌, ◌++◌, length}
 use Rattle.c_syntax.specs.declared.parts.Declarator.{Declarator}
 use Rattle.c_syntax.specs.declared.parts.Members.{Members}
@@ -8,6 +8,7 @@ use Rattle.c_rules.specs.declared.layout.Member.{Member}
 use Rattle.c_rules.specs.declared.layout.StructType.{StructType}
 use Rattle.c_rules.specs.TypeTree.{TypeTree}
 use Rattle.c_rules.specs.Sizes.{empty_struct, most_cells, with_member}
+use Rattle.c_types_faults.specs.Least.{IsLeast}
 use Rattle.c_types_faults.specs.Context.{Context, Tagged, known}
 use Rattle.c_types_faults.specs.Types.{BaseBreaks, IsBase}
 use Rattle.c_types_faults.specs.Declarators.{Declares}
@@ -33,8 +34,8 @@ module _ (c : Context) where
 
   -- The struct has a member of the name already (6.7.2.1, 6.2.3), or the member has no type that an object may have (6.7.2.1p2).
   abbrev pub NewMemberBreaks : TypeTree → Declarator → StructType → FaultKind → ℕ → Type 0
-  NewMemberBreaks base d s kind at = (at ≡ d.token) × (((kind ≡ fault.Redeclared) × HasMember d.name s.members)
-      ⊎ ((kind ≡ fault.Object) × ((t : TypeTree) → Declares d base t → IsObject c.structs t → ⊥)))
+  NewMemberBreaks base d s kind at = (at ≡ d.token) × IsLeast (λ j. ((j ≡ fault.Redeclared) × HasMember d.name s.members)
+      ⊎ ((j ≡ fault.Object) × ((t : TypeTree) → Declares d base t → IsObject c.structs t → ⊥))) kind
 
   abbrev pub LineGives : TypeTree → List Declarator → StructType → StructType → Type 0
   LineGives base [] s after = after ≡ s
@@ -59,8 +60,8 @@ abbrev pub StructGives : Context → List ℕ → List Members → Context → T
 StructGives c tag members after = (s : StructType) × (MembersGive (tagging tag c) members empty_struct s × (HasTag tag c.tags → ⊥)
     × (s.cells ≤ most_cells) × (after ≡ record (tagging tag c) { structs = c.structs ++ s ∷ [] }))
 
--- A member breaks a rule; or, at the struct's first token, the tag is one already (6.7.2.3p1), or the struct has too many cells.
+-- A member breaks a rule; or, where none does, the tag is one already (6.7.2.3p1) or the struct has too many cells, at its first token.
 abbrev pub StructBreaks : Context → ℕ → List ℕ → List Members → FaultKind → ℕ → Type 0
 StructBreaks c token tag members kind at = MembersBreak (tagging tag c) members empty_struct kind at
-    ⊎ ((at ≡ token) × (((kind ≡ fault.Redeclared) × HasTag tag c.tags)
-    ⊎ ((kind ≡ fault.Object) × ((s : StructType) × (MembersGive (tagging tag c) members empty_struct s × (s.cells ≤ most_cells → ⊥))))))
+    ⊎ ((s : StructType) × (MembersGive (tagging tag c) members empty_struct s × ((at ≡ token)
+    × IsLeast (λ j. ((j ≡ fault.Redeclared) × HasTag tag c.tags) ⊎ ((j ≡ fault.Object) × (s.cells ≤ most_cells → ⊥))) kind)))

@@ -1,7 +1,8 @@
--- Which texts keep the rules, and which rule one breaks (C99 5.1.2.2.1, 6.9): one of its items does, by the declarations before it; or, behind the last
--- one, it has no `main`, or calls a function that it doesn't define.
-use Rattle.std.specs.Prelude.{◌≡◌, ◌⊎◌, ℕ, Bool, true, false, List, [], ◌∷◌, length, codes}
+-- Which texts keep the rules, and which rule one breaks first (C99 5.1.2.2.1, 6.9): one of its items does, by the declarations before it; or, behind the last
+-- one, it has no `main`; or it has, and calls a function that it doesn't define.
+use Rattle.std.specs.Prelude.{◌≡◌, ◌⊎◌, ℕ, ◌<◌, Bool, true, false, List, [], ◌∷◌, length, codes}
 use Rattle.c_syntax.specs.ItemTree.{SourceTree}
+use Rattle.c_syntax.specs.WellFormed.{IsShaped}
 use Rattle.c_rules.specs.declared.fault.FaultKind.{FaultKind}
 use Rattle.c_rules.specs.declared.fault.FaultKind.TheVariants as fault
 use Rattle.c_rules.specs.declared.function.FunctionType.{FunctionType}
@@ -52,8 +53,14 @@ TextKeepsRules t = (c : Context) × (ItemsGive nothing t.items c × HasMain t c 
 abbrev pub CallsUndefined : SourceTree → Context → ℕ → Type 0
 CallsUndefined t c at = (name : List ℕ) × (HasCall at name (events_of t) × HasFunction name c.scope × (is_defined_in t name ≡ false))
 
+-- The first such call: it is said of trees of the grammar, where no two constructs have one own token.
+abbrev pub FirstUndefined : SourceTree → Context → ℕ → Type 0
+FirstUndefined t c at = CallsUndefined t c at × (IsShaped t → (earlier : ℕ) → earlier < at → CallsUndefined t c earlier → ⊥)
+
+-- behind the last item
 abbrev pub EndBreaks : SourceTree → Context → FaultKind → ℕ → Type 0
-EndBreaks t c kind at = ((kind ≡ fault.NoMain) × (at ≡ length t.lines) × (HasMain t c → ⊥)) ⊎ ((kind ≡ fault.NoDefinition) × CallsUndefined t c at)
+EndBreaks t c kind at = ((kind ≡ fault.NoMain) × (at ≡ length t.lines) × (HasMain t c → ⊥))
+    ⊎ (HasMain t c × ((kind ≡ fault.NoDefinition) × FirstUndefined t c at))
 
 -- `nothing` is declared before the first item.
 abbrev pub TextBreaks : SourceTree → FaultKind → ℕ → Type 0

@@ -35,5 +35,5 @@ module _ (k : Known) where
 
   abbrev pub WholeBreaks : ExprTree → FaultKind → ℕ → Type 0
   WholeBreaks (e.Call token name arguments) kind at = ListBreaks k arguments kind at
-      ⊎ ((at ≡ token) × ((xs : List Operand) × (AreOperands k arguments xs × WholeCallBreaks (k.ordinary name) arguments xs kind)))
+      ⊎ ((xs : List Operand) × (AreOperands k arguments xs × ((at ≡ token) × WholeCallBreaks (k.ordinary name) arguments xs kind)))
   WholeBreaks x kind at = Breaks k x kind at

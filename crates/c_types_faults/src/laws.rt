@@ -1,8 +1,10 @@
-ghost use Rattle.std.specs.Prelude.{◌≡◌, ℕ, Some};
+ghost use Rattle.std.specs.Prelude.{◌≡◌, ℕ, Bool, Some};
 ghost use Rattle.c_rules.specs.declared.fault.FaultKind.{FaultKind};
 ghost use Rattle.c_rules.specs.declared.operand.Operand.{Operand};
+ghost use Rattle.c_rules.specs.TypeTree.{TypeTree};
 ghost use Rattle.c_syntax.specs.ExprTree.{ExprTree};
-ghost use Rattle.c_syntax.specs.ItemTree.{SourceTree};
+ghost use Rattle.c_syntax.specs.ItemTree.{ItemTree, SourceTree};
+ghost use Rattle.c_syntax.specs.StatementTree.{StatementTree};
 ghost use Rattle.c_syntax.specs.WellFormed.{IsShaped};
 ghost use Rattle.c_rules.specs.Faults.{number_of};
 ghost use Rattle.c_types.specs.Fault.{fault_of, walk_tree};
@@ -10,8 +12,11 @@ ghost use Rattle.c_types_expressions.specs.ExprWalk.{walk_expr};
 ghost use Rattle.c_types_expressions.specs.Walked.{Fine, Faulty};
 ghost use Rattle.c_types_expressions.specs.declared.walk.Walk.{Walk};
 ghost use Rattle.c_types_faults.specs.Agrees.{Agrees};
+ghost use Rattle.c_types_faults.specs.Context.{Context};
 ghost use Rattle.c_types_faults.specs.ExprBreaks.{Breaks};
 ghost use Rattle.c_types_faults.specs.Exprs.{IsOperand};
+ghost use Rattle.c_types_faults.specs.Items.{ItemBreaks};
+ghost use Rattle.c_types_faults.specs.Statements.{StatementBreaks};
 ghost use Rattle.c_types_faults.specs.Texts.{TextBreaks, TextKeepsRules};
 ghost use Rattle.c_types_faults.specs.Known.{Known};
 
@@ -42,4 +47,21 @@ pub fn a_refused_text_breaks_a_rule()
 pub fn an_accepted_text_keeps_the_rules()
     ensures fits { (t : SourceTree) (known : Walk) → IsShaped t → walk_tree t ≡ Fine tt known → TextKeepsRules t }
     ensures silent { (t : SourceTree) (kind : FaultKind) (token : ℕ) → TextKeepsRules t → TextBreaks t kind token → ⊥ }
+{}
+
+/// The rule that an expression breaks first is one: of one kind, at one token. Where identifiers denote what the walk knows of them, the
+/// walk meets that fault. A statement breaks one rule first too, and so does an item, by the declarations that stand before it.
+pub fn a_part_has_one_first_fault()
+    ensures expression { (k : Known) (x : ExprTree) (i j : FaultKind) (a b : ℕ) → Breaks k x i a → Breaks k x j b → (i ≡ j) × (a ≡ b) }
+    ensures told { (k : Known) (w : Walk) (x : ExprTree) (kind : FaultKind) (at : ℕ) → Agrees k w → Breaks k x kind at → walk_expr x w ≡ Faulty kind at }
+    ensures statement { (gives : TypeTree) (c : Context) (looping : Bool) (x : StatementTree) (i j : FaultKind) (a b : ℕ)
+        → StatementBreaks gives c looping x i a → StatementBreaks gives c looping x j b → (i ≡ j) × (a ≡ b) }
+    ensures item { (c : Context) (x : ItemTree) (i j : FaultKind) (a b : ℕ) → ItemBreaks c x i a → ItemBreaks c x j b → (i ≡ j) × (a ≡ b) }
+{}
+
+/// A tree of the grammar breaks one rule first, by the rules alone: of one kind, at one token. That is what `check` tells of it, so of
+/// its refusals the walk need not be believed.
+pub fn a_text_has_one_first_fault()
+    ensures single { (t : SourceTree) (i j : FaultKind) (a b : ℕ) → IsShaped t → TextBreaks t i a → TextBreaks t j b → (i ≡ j) × (a ≡ b) }
+    ensures told { (t : SourceTree) (kind : FaultKind) (at : ℕ) → IsShaped t → TextBreaks t kind at → fault_of t ≡ Some (number_of kind, at) }
 {}

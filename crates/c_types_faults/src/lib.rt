@@ -1,9 +1,10 @@
-//! Where a text is refused for its types, it breaks a rule of C or of the dialect at that token; and where it is accepted, it keeps them.
+//! Where a text is refused for its types, it breaks a rule of C or of the dialect at that token, and none before it; and where it is
+//! accepted, it keeps them.
 #![tactic(auto)]
 
 mod laws;
 
 pub use laws::{
-    a_refused_expression_breaks_a_rule, a_refused_text_breaks_a_rule,
-    an_accepted_text_keeps_the_rules, an_operand_breaks_no_rule,
+    a_part_has_one_first_fault, a_refused_expression_breaks_a_rule, a_refused_text_breaks_a_rule,
+    a_text_has_one_first_fault, an_accepted_text_keeps_the_rules, an_operand_breaks_no_rule,
 };

@@ -275,7 +275,7 @@ abbrev pub ItemsDo : List ItemTree → View → View → Type 0
 ItemsDo [] a c = c ≡ a
 ItemsDo (x ∷ xs) a c = (b : View) × (ItemDoes x a b × ItemsDo xs b c)
 
-items_do : (xs : List ItemTree) (w : Walk) → Gives (λ _ v. ItemsDo xs (view w) (view v)) (walk_items xs w)
+pub items_do : (xs : List ItemTree) (w : Walk) → Gives (λ _ v. ItemsDo xs (view w) (view v)) (walk_items xs w)
 items_do [] w = refl
 items_do (x ∷ xs) w =
     gives_then (λ _ v. ItemDoes x (view w) (view v)) (λ _ v. ItemsDo (x ∷ xs) (view w) (view v)) (walk_item x w) _ (item_does x w)

@@ -30,7 +30,7 @@ pub text_left : (t : SourceTree) (z : Walk) → IsShaped t → walk_tree t ≡ F
 text_left t z s w =
     (items_leave t.items 0 (length t.lines) (length t.lines - 1) s.items s.placed (omega (arith, s.lines))).by (before t) (view z) (text_path t z w)
 
-nothing_known : (n : ℕ) → Known [] (view (beginning n))
+pub nothing_known : (n : ℕ) → Known [] (view (beginning n))
 nothing_known n = record {
   named = record { by = λ name index h. absurd h; own = tt };
   flat = tt;
