@@ -34,3 +34,4 @@ pub mod Typed
 pub mod Chains
 pub mod Choices
 pub mod Assigned
+pub mod Passing

@@ -19,3 +19,4 @@ pub mod Frames
 pub mod Chains
 pub mod Choices
 pub mod Assigned
+pub mod Passing

@@ -15,6 +15,7 @@ ghost use Rattle.c_meaning_laws.specs.Joints.{AndIsConditional, OrIsConditional}
 ghost use Rattle.c_meaning_laws.specs.Lists.{ListLeavesZero};
 ghost use Rattle.c_meaning_laws.specs.Members.{ArrowIsMember, TypedArrowMeets};
 ghost use Rattle.c_meaning_laws.specs.Negation.{NotIsEqualsZero, TypedValueMeets};
+ghost use Rattle.c_meaning_laws.specs.Passing.{CallPassesArguments, ReturnIsAssigned};
 ghost use Rattle.c_meaning_laws.specs.Rounds.{BlockIsEntries, DoIsFirstRound, ForIsWhile, ForStartsBefore, ForWithoutStepIsWhile};
 ghost use Rattle.c_meaning_laws.specs.Rounds.{MissingConditionIsTrue, WhileIsFirstRound};
 ghost use Rattle.c_meaning_laws.specs.Steps.{DecrementIsDifference, IncrementIsSum, StepBehindIsStep};
@@ -154,6 +155,17 @@ pub fn a_call_leaves_what_nothing_leads_to()
 pub fn a_call_has_variables_of_its_own()
     ensures begins { BodyBeginsAfresh }
     ensures dies { VariablesDie }
+{}
+
+/// A call evaluates its arguments from the left, each as a cast to the type of its parameter gives it, and then is the body of the function, whose
+/// parameters hold them in their order, and which calls the functions of the text (C99 6.5.2.2p4, p7, p10, 6.9.1p10).
+pub fn a_call_passes_its_arguments()
+    ensures { CallPassesArguments }
+{}
+
+/// `return e;` gives what an assignment of e to an object of the function's type stores there (C99 6.8.6.4p3).
+pub fn a_return_is_an_assignment()
+    ensures { ReturnIsAssigned }
 {}
 
 /// Operators of one level group from the left: `a - b - c` is `(a - b) - c`, and so on, for each operator of two operands (C99 6.5.5 to 6.5.14).
