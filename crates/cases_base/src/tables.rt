@@ -24,7 +24,7 @@ const OURS: ProgramId = ProgramId { bytes: [0x0f; 32] };
 
 const THEIRS: ProgramId = ProgramId { bytes: [0xa9; 32] };
 
-const REFUSALS: [Refusal; 19] = [
+const REFUSALS: [Refusal; 21] = [
     Refusal::BadByte { line: 1 },
     Refusal::BadToken { line: 20 },
     Refusal::Syntax { line: 4294967295 },
@@ -50,6 +50,11 @@ const REFUSALS: [Refusal; 19] = [
     Refusal::BadEdits { line: 3 },
     Refusal::Absent { run: 12 },
     Refusal::NotPart,
+    Refusal::BadList {
+        file: 2,
+        line: 100001,
+    },
+    Refusal::LargeInput { line: 3 },
 ];
 
 /// Each trap and its number.

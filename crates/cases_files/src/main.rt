@@ -1,5 +1,5 @@
-//! Program files, banks, reports and collections as they are read, written and grown, the numbers of rankings, eliminations and cards, as the rows of the files
-//! ask for them that the words name.
+//! Program files, banks, lists of names, reports and collections as they are read, written and grown, the numbers of rankings, eliminations and cards, as the
+//! rows of the files ask for them that the words name.
 #![tactic(auto)]
 
 mod bytes;

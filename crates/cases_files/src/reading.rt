@@ -1,8 +1,10 @@
 //! Texts that are read: the line at which each goes wrong, or what is written of what was read.
 use case_rows::{Page, expect, has_head, has_line, rest_of};
 use cbi_base::{Memory, id_text};
+use cbi_options::Word;
 use collector::{CollectionError, read_collection};
 use countdown_bank::{Bank, BankError, make_bank, read_bank, write_bank};
+use name_lists::{ListError, read_list};
 use program_file::{ProgramError, program_id, read_program, write_program};
 use rand_pcg::Lcg64Xsh32;
 use report_file::{ReportError, read_report, write_report};
@@ -54,8 +56,33 @@ fn read_as_collection(bytes: &[u8], written: &mut Page) -> Option<u32> {
     }
 }
 
+/// Adds the names, a line each.
+fn put_names(names: &[Word], written: &mut Page) {
+    for name in names {
+        written.say(name.as_str());
+        written.byte(b'\n');
+    }
+}
+
+/// The run on the first name has this number. Where it is none of a run nothing is read, and line 0 is told, at which no text goes wrong.
+fn read_as_list(first: &str, bytes: &[u8], written: &mut Page) -> Option<u32> {
+    let first = first.parse::<u32>().unwrap_or(0);
+    if first == 0 {
+        return Some(0);
+    }
+    match read_list(written.alloc(), first, bytes) {
+        Ok(names) => put_names(names.as_slice(), written),
+        Err(ListError::BadList { line }) => return Some(line),
+        Err(ListError::Memory) => written.want(),
+    }
+    None
+}
+
 /// Adds what is written of a text that is read as this word says; the line at which it goes wrong, if it does.
 fn read_as(word: &str, bytes: &[u8], written: &mut Page) -> Option<u32> {
+    if let Some(first) = word.strip_prefix("list ") {
+        return read_as_list(first, bytes, written);
+    }
     match word {
         "program" => read_as_program(bytes, written),
         "bank" => read_as_bank(bytes, written),

@@ -15,8 +15,9 @@ use program_file::read_program;
 /// The lines of a row. A text, or the file of a program, is given in parts: a block, a text that all rows share, or a block that comes once for each number
 /// from one to another, with the number for `#`.
 ///
-/// - `reads program`, or `bank`, `report` or `collection`: the text goes wrong at a line (`bad`), or is read, and written as it was (`same`) or as `writes`
-///   says. `cuts`: each cut of it goes wrong at the line where it stops, and `cuts before x` with an x behind it. A bank's draws, and its position then.
+/// - `reads program`, or `bank`, `report` or `collection`, or `list FIRST`, where the run on the first name has this number: the text goes wrong at a line
+///   (`bad`), or is read, and written as it was (`same`) or as `writes` says. `cuts`: each cut of it goes wrong at the line where it stops, and
+///   `cuts before x` with an x behind it. A bank's draws, and its position then.
 /// - `identity`: that of the text. `makes SEED STREAM RATE COUNT`: a bank by the generator. `value QUESTION is ANSWER`.
 /// - `finds`: the run at a place of the text, with its lines and its end, and places at which there is none.
 /// - `collects`: steps, parted by `then`, over a collection of the program's runs: a report that is added, or one for each run, a collection that is merged,
@@ -26,7 +27,7 @@ use program_file::read_program;
 ///   and of a session that takes these runs its leader with its numbers, and the numbers of predicate 0.
 /// - `throws SEED COUNT`: so many collections of thrown runs, under each policy and near each predicate as the reference; so many eliminations at
 ///   least list several leaders.
-const FORM: [Head; 45] = [
+const FORM: [Head; 46] = [
     ("program is ", Rest::Some, Place::Given),
     ("program each ", Rest::Named, Place::Given),
     ("program end", Rest::Way, Place::Given),
@@ -37,6 +38,7 @@ const FORM: [Head; 45] = [
     ("text", Rest::Way, Place::Any),
     ("reads program", Rest::Nothing, Place::Given),
     ("reads bank", Rest::Nothing, Place::Given),
+    ("reads list ", Rest::Number, Place::Given),
     ("reads report", Rest::Nothing, Place::Given),
     ("reads collection", Rest::Nothing, Place::Given),
     ("bad ", Rest::Number, Place::Any),

@@ -2,7 +2,7 @@
 use Rattle.std.specs.Prelude.{◌≡◌, ℕ, List, [], ◌++◌, length, take, codes, decimal}
 use Rattle.cbi_base.specs.ProgramId.{text_of_id}
 use Rattle.cbi_base.specs.declared.refusal.Refusal.{Refusal}
-use Rattle.cbi_base.specs.declared.refusal.Refusal.TheVariants.{BadByte, BadToken, Syntax, BadType, TooLarge, TooManySites, BadProgram, BadBank, BadReport, Foreign, Conflict, TooManyReports, TooManyMarks, BadCollection, InputTooLarge, NoSite, BadEdits, Absent, NotPart}
+use Rattle.cbi_base.specs.declared.refusal.Refusal.TheVariants.{BadByte, BadToken, Syntax, BadType, TooLarge, TooManySites, BadProgram, BadBank, BadReport, Foreign, Conflict, TooManyReports, TooManyMarks, BadCollection, InputTooLarge, NoSite, BadEdits, Absent, NotPart, BadList, LargeInput}
 
 abbrev pub number_of : Refusal → ℕ
 number_of (BadByte _) = 10
@@ -24,6 +24,8 @@ number_of (NoSite _ _) = 29
 number_of (BadEdits _) = 30
 number_of (Absent _) = 31
 number_of NotPart = 32
+number_of (BadList _ _) = 33
+number_of (LargeInput _) = 28
 
 abbrev pub name_of : Refusal → List ℕ
 name_of (BadByte _) = codes "BadByte"
@@ -45,6 +47,8 @@ name_of (NoSite _ _) = codes "NoSite"
 name_of (BadEdits _) = codes "BadEdits"
 name_of (Absent _) = codes "Absent"
 name_of NotPart = codes "NotPart"
+name_of (BadList _ _) = codes "BadList"
+name_of (LargeInput _) = codes "InputTooLarge"
 
 -- what a refusal says beside its number and its name
 abbrev pub details_of : Refusal → List ℕ
@@ -67,6 +71,8 @@ details_of (NoSite run site) = (codes " run " ++ decimal run) ++ (codes " site "
 details_of (BadEdits line) = codes " line " ++ decimal line
 details_of (Absent run) = codes " run " ++ decimal run
 details_of NotPart = []
+details_of (BadList file line) = (codes " file " ++ decimal file) ++ (codes " line " ++ decimal line)
+details_of (LargeInput line) = codes " line " ++ decimal line
 
 -- the line that tells of a refusal, as `cbi: refusal 15 BadType kind 3 line 7`
 abbrev pub refusal_line : Refusal → List ℕ

@@ -28,6 +28,9 @@ pub enum Refusal {
     BadEdits { line: u32 },
     Absent { run: u32 },
     NotPart,
+    BadList { file: u64, line: u32 },
+    /// The input that this line of a list names is too large.
+    LargeInput { line: u32 },
 }
 
 fn push_text(out: &mut Vec<u8>, words: &[u8]) -> Result<(), Memory>
@@ -78,11 +81,12 @@ impl Refusal {
             Refusal::TooManyReports { .. } => 25,
             Refusal::TooManyMarks { .. } => 26,
             Refusal::BadCollection { .. } => 27,
-            Refusal::InputTooLarge => 28,
+            Refusal::InputTooLarge | Refusal::LargeInput { .. } => 28,
             Refusal::NoSite { .. } => 29,
             Refusal::BadEdits { .. } => 30,
             Refusal::Absent { .. } => 31,
             Refusal::NotPart => 32,
+            Refusal::BadList { .. } => 33,
         }
     }
 
@@ -104,11 +108,12 @@ impl Refusal {
             Refusal::TooManyReports { .. } => b"TooManyReports",
             Refusal::TooManyMarks { .. } => b"TooManyMarks",
             Refusal::BadCollection { .. } => b"BadCollection",
-            Refusal::InputTooLarge => b"InputTooLarge",
+            Refusal::InputTooLarge | Refusal::LargeInput { .. } => b"InputTooLarge",
             Refusal::NoSite { .. } => b"NoSite",
             Refusal::BadEdits { .. } => b"BadEdits",
             Refusal::Absent { .. } => b"Absent",
             Refusal::NotPart => b"NotPart",
+            Refusal::BadList { .. } => b"BadList",
         }
     }
 
@@ -125,7 +130,8 @@ impl Refusal {
             | Refusal::Syntax { line }
             | Refusal::BadProgram { line }
             | Refusal::BadBank { line }
-            | Refusal::BadEdits { line } => push_number(out, b" line ", u64::from(*line)),
+            | Refusal::BadEdits { line }
+            | Refusal::LargeInput { line } => push_number(out, b" line ", u64::from(*line)),
             Refusal::Conflict { run }
             | Refusal::TooManyReports { run }
             | Refusal::TooManyMarks { run }
@@ -134,7 +140,9 @@ impl Refusal {
                 push_number(out, b" kind ", u64::from(*kind))?;
                 push_number(out, b" line ", u64::from(*line))
             }
-            Refusal::BadReport { file, line } | Refusal::BadCollection { file, line } => {
+            Refusal::BadReport { file, line }
+            | Refusal::BadCollection { file, line }
+            | Refusal::BadList { file, line } => {
                 push_number(out, b" file ", *file)?;
                 push_number(out, b" line ", u64::from(*line))
             }

@@ -3,7 +3,7 @@ use Rattle.std.proofs.Common.{◌≡◌, inl, inr, ℕ, ◌+◌, Bool, true, fal
 use Rattle.std.proofs.lemmas.Bool.{false≢true}
 use Rattle.cbi_base.specs.Store.{Held}
 use Rattle.cbi_base.specs.declared.refusal.Refusal.{Refusal}
-use Rattle.cbi_base.specs.declared.refusal.Refusal.TheVariants.{BadByte, BadToken, Syntax, BadType, TooLarge, TooManySites, BadProgram, BadBank, BadReport, Foreign, Conflict, TooManyReports, TooManyMarks, BadCollection, InputTooLarge, NoSite, BadEdits, Absent, NotPart}
+use Rattle.cbi_base.specs.declared.refusal.Refusal.TheVariants.{BadByte, BadToken, Syntax, BadType, TooLarge, TooManySites, BadProgram, BadBank, BadReport, Foreign, Conflict, TooManyReports, TooManyMarks, BadCollection, InputTooLarge, NoSite, BadEdits, Absent, NotPart, BadList, LargeInput}
 use Rattle.flow.specs.declared.program.ProgramParts.{ProgramParts}
 use Rattle.flow.specs.Spelling.{SpellsProgram}
 use Rattle.collector.specs.declared.answers.AddFault.{AddFault}
@@ -69,6 +69,8 @@ never-memory (NoSite run site) h = false≢true (ap is_memory h)
 never-memory (BadEdits line) h = false≢true (ap is_some h)
 never-memory (Absent run) h = false≢true (ap is_some h)
 never-memory NotPart h = false≢true (ap is_some h)
+never-memory (BadList file line) h = false≢true (ap is_some h)
+never-memory (LargeInput line) h = false≢true (ap is_some h)
 
 -- texts that were gathered aren't refused, where each is read as one value
 pub gathered-never-refused : (texts : CollectTexts) (parts : ProgramParts) (bundles : List Bundle) (after : Collected) → SpellsProgram texts.program parts → AreSpelled texts.files bundles
@@ -114,6 +116,8 @@ refuses-texts (NoSite run site) texts h = inr (inr (record { refusal = NoSite ru
 refuses-texts (BadEdits line) texts h = inr (inr (record { refusal = BadEdits line; refused = h }))
 refuses-texts (Absent run) texts h = inr (inr (record { refusal = Absent run; refused = h }))
 refuses-texts NotPart texts h = inr (inr (record { refusal = NotPart; refused = h }))
+refuses-texts (BadList file line) texts h = inr (inr (record { refusal = (BadList file line); refused = h }))
+refuses-texts (LargeInput line) texts h = inr (inr (record { refusal = (LargeInput line); refused = h }))
 
 pub collect-refused : (words : CollectWords) (held : Option Held) (texts : CollectTexts) (refusal : Refusal) → AreTexts held words texts → RefusesTexts refusal texts → CollectRefused words held
 collect-refused words held texts refusal are h = record { texts = texts; are_texts = are; refused = refuses-texts refusal texts h }

@@ -3,7 +3,7 @@ use Rattle.std.proofs.Common.{◌≡◌, ◌≤◌, inl, inr, ℕ, ◌+◌, ◌-
 use Rattle.sha2.specs.Sha256.{sha256}
 use Rattle.cbi_base.specs.declared.identity.ProgramId.{ProgramId}
 use Rattle.cbi_base.specs.declared.refusal.Refusal.{Refusal}
-use Rattle.cbi_base.specs.declared.refusal.Refusal.TheVariants.{BadByte, BadToken, Syntax, BadType, TooLarge, TooManySites, BadProgram, BadBank, BadReport, Foreign, Conflict, TooManyReports, TooManyMarks, BadCollection, InputTooLarge, NoSite, BadEdits, Absent, NotPart}
+use Rattle.cbi_base.specs.declared.refusal.Refusal.TheVariants.{BadByte, BadToken, Syntax, BadType, TooLarge, TooManySites, BadProgram, BadBank, BadReport, Foreign, Conflict, TooManyReports, TooManyMarks, BadCollection, InputTooLarge, NoSite, BadEdits, Absent, NotPart, BadList, LargeInput}
 use Rattle.cbi_base.specs.Sink.{TakesPrefix}
 use Rattle.cbi_base.specs.Store.{Held}
 use Rattle.flow.specs.declared.program.ProgramParts.{ProgramParts}
@@ -51,6 +51,8 @@ files-refuse (NoSite run site) texts spelled h = absurd (never-files (NoSite run
 files-refuse (BadEdits line) texts spelled h = absurd (never-files (BadEdits line) 1 texts.files (λ n text no. no) h)
 files-refuse (Absent run) texts spelled h = absurd (never-files (Absent run) 1 texts.files (λ n text no. no) h)
 files-refuse NotPart texts spelled h = absurd (never-files NotPart 1 texts.files (λ n text no. no) h)
+files-refuse (BadList file line) texts spelled h = absurd (never-files (BadList file line) 1 texts.files (λ n text no. no) h)
+files-refuse (LargeInput line) texts spelled h = absurd (never-files (LargeInput line) 1 texts.files (λ n text no. no) h)
 
 -- a collection that held nothing, and took all
 begun-is : (texts : CollectTexts) (parts : ProgramParts) (id : ProgramId) (sites : List Site) (begun : Collected) → begun ≡ record { program = id; branches = branches_of sites; reports = [] }

@@ -4,7 +4,7 @@ use Rattle.sha2.specs.Sha256.{sha256}
 use Rattle.cbi_base.specs.Store.{Held}
 use Rattle.cbi_base.specs.declared.identity.ProgramId.{ProgramId}
 use Rattle.cbi_base.specs.declared.refusal.Refusal.{Refusal}
-use Rattle.cbi_base.specs.declared.refusal.Refusal.TheVariants.{BadByte, BadToken, Syntax, BadType, TooLarge, TooManySites, BadProgram, BadBank, BadReport, Foreign, Conflict, TooManyReports, TooManyMarks, BadCollection, InputTooLarge, NoSite, BadEdits, Absent, NotPart}
+use Rattle.cbi_base.specs.declared.refusal.Refusal.TheVariants.{BadByte, BadToken, Syntax, BadType, TooLarge, TooManySites, BadProgram, BadBank, BadReport, Foreign, Conflict, TooManyReports, TooManyMarks, BadCollection, InputTooLarge, NoSite, BadEdits, Absent, NotPart, BadList, LargeInput}
 use Rattle.cbi_base.proofs.NumberLemmas.{none-some, some-is}
 use Rattle.flow.specs.declared.program.ProgramParts.{ProgramParts}
 use Rattle.flow.specs.declared.site.Site.{Site}
@@ -71,6 +71,8 @@ refuses-runs InputTooLarge texts h = absurd h
 refuses-runs (BadEdits line) texts h = absurd h
 refuses-runs (Absent run) texts h = absurd h
 refuses-runs NotPart texts h = absurd h
+refuses-runs (BadList file line) texts h = absurd h
+refuses-runs (LargeInput line) texts h = absurd h
 
 -- what the fault of an addition tells is the refusal of the texts
 pub told-of-texts : (texts : RunsTexts) (parts : ProgramParts) (bundle : Bundle) (id : ProgramId) (f : AddFault) (refusal : Refusal) → SpellBoth texts parts bundle → id ≡ record { bytes = sha256 texts.program }
@@ -98,6 +100,8 @@ told-of-texts texts parts bundle id f InputTooLarge spell id_is told is = absurd
 told-of-texts texts parts bundle id f (BadEdits line) spell id_is told is = absurd (none-some is)
 told-of-texts texts parts bundle id f (Absent run) spell id_is told is = absurd (none-some is)
 told-of-texts texts parts bundle id f NotPart spell id_is told is = absurd (none-some is)
+told-of-texts texts parts bundle id f (BadList file line) spell id_is told is = absurd (none-some is)
+told-of-texts texts parts bundle id f (LargeInput line) spell id_is told is = absurd (none-some is)
 
 -- a collection that held nothing of the program, and what it comes to by the bundle
 begun-is : (parts : ProgramParts) (id : ProgramId) (sites : List Site) (begun : Collected) → begun ≡ record { program = id; branches = branches_of sites; reports = [] } → sites ≡ parts.sites

@@ -6,7 +6,7 @@ use Rattle.cbi_base.specs.Store.{Held}
 use Rattle.cbi_base.specs.declared.identity.ProgramId.{ProgramId}
 use Rattle.cbi_base.specs.declared.policy.Policy.{Policy}
 use Rattle.cbi_base.specs.declared.refusal.Refusal.{Refusal}
-use Rattle.cbi_base.specs.declared.refusal.Refusal.TheVariants.{BadByte, BadToken, Syntax, BadType, TooLarge, TooManySites, BadProgram, BadBank, BadReport, Foreign, Conflict, TooManyReports, TooManyMarks, BadCollection, InputTooLarge, NoSite, BadEdits, Absent, NotPart}
+use Rattle.cbi_base.specs.declared.refusal.Refusal.TheVariants.{BadByte, BadToken, Syntax, BadType, TooLarge, TooManySites, BadProgram, BadBank, BadReport, Foreign, Conflict, TooManyReports, TooManyMarks, BadCollection, InputTooLarge, NoSite, BadEdits, Absent, NotPart, BadList, LargeInput}
 use Rattle.flow.specs.declared.program.ProgramParts.{ProgramParts}
 use Rattle.flow.specs.declared.site.TableParts.{TableParts}
 use Rattle.flow.specs.Program.{table_of}
@@ -79,6 +79,8 @@ refuses-texts (Foreign ours theirs) texts h = absurd h
 refuses-texts (BadCollection file line) texts h = absurd h
 refuses-texts InputTooLarge texts h = absurd h
 refuses-texts NotPart texts h = absurd h
+refuses-texts (BadList file line) texts h = absurd h
+refuses-texts (LargeInput line) texts h = absurd h
 
 -- what the texts spell
 pub record IsLoaded (texts : SessionTexts) (parts : ProgramParts) (id : ProgramId) (table : TableParts) (list : List Edit) : Type 0 where

@@ -2,7 +2,7 @@
 use Rattle.std.proofs.Common.{◌≡◌, ℕ, refl, List, [], ◌∷◌, ◌++◌, None, Err, sym, subst, ◌∙◌}
 use Rattle.cbi_base.specs.declared.identity.ProgramId.{ProgramId}
 use Rattle.cbi_base.specs.declared.refusal.Refusal.{Refusal}
-use Rattle.cbi_base.specs.declared.refusal.Refusal.TheVariants.{BadByte, BadToken, Syntax, BadType, TooLarge, TooManySites, BadProgram, BadBank, BadReport, Foreign, Conflict, TooManyReports, TooManyMarks, BadCollection, InputTooLarge, NoSite, BadEdits, Absent, NotPart}
+use Rattle.cbi_base.specs.declared.refusal.Refusal.TheVariants.{BadByte, BadToken, Syntax, BadType, TooLarge, TooManySites, BadProgram, BadBank, BadReport, Foreign, Conflict, TooManyReports, TooManyMarks, BadCollection, InputTooLarge, NoSite, BadEdits, Absent, NotPart, BadList, LargeInput}
 use Rattle.cbi_base.proofs.NumberLemmas.{none-some, some-is}
 use Rattle.flow.specs.Program.{table_of}
 use Rattle.collector.specs.Collected.{Adds}
@@ -73,3 +73,5 @@ told-refuses texts (BadCollection file line) t = absurd (nothing-told texts (Bad
 told-refuses texts InputTooLarge t = absurd (nothing-told texts InputTooLarge refl (λ run e. cc) t)
 told-refuses texts (BadEdits line) t = absurd (nothing-told texts (BadEdits line) refl (λ run e. cc) t)
 told-refuses texts NotPart t = absurd (nothing-told texts NotPart refl (λ run e. cc) t)
+told-refuses texts (BadList file line) t = absurd (nothing-told texts (BadList file line) refl (λ run e. cc) t)
+told-refuses texts (LargeInput line) t = absurd (nothing-told texts (LargeInput line) refl (λ run e. cc) t)

@@ -3,3 +3,4 @@ mod Reports
 mod Collections
 mod Edits
 mod Banks
+mod Lists

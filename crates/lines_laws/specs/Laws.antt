@@ -16,6 +16,9 @@ use Rattle.collector.specs.declared.draft.Draft as collection_draft
 use Rattle.session_edits.specs.Grammar as edits
 use Rattle.session_edits.specs.Spelling.{SpellsEdits}
 use Rattle.session_edits.specs.declared.draft.Reading.{Reading}
+use Rattle.name_lists.specs.Grammar.{ListEnds, NameFollows, start_of_list}
+use Rattle.name_lists.specs.List.{SpellsList}
+use Rattle.name_lists.specs.declared.draft.Draft as list_draft
 
 -- the lines of the text lead from the start to an end, and what was read there is this
 pub record IsReadAs {D X : Type 0} (follows : D → List ℕ → D → Type 0) (ends : D → Type 0) (from : D) (said : D → X) (text : List ℕ) (x : X) : Type 0 where
@@ -58,3 +61,8 @@ SpellsNumbers text numbers = AreNumbers numbers × (text ≡ numbers_text number
 
 abbrev pub BanksAreLines : Type 0
 BanksAreLines = IsTheSpelling NumberFollows MayEnd [] (λ (numbers : List ℕ). numbers) SpellsNumbers
+
+-- whatever number the run on the first name has
+abbrev pub ListsAreLines : Type 0
+ListsAreLines = (alloc : Global) (first : ℕ)
+    → IsTheSpelling NameFollows ListEnds (start_of_list alloc first) (λ (d : list_draft.Draft). d.names) (SpellsList first)
