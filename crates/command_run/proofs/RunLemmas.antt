@@ -3,7 +3,7 @@ use Rattle.std.proofs.Common.{◌≡◌, ◌≤◌, ◌<◌, ◌⊎◌, inl, inr
 use Rattle.cbi_base.specs.declared.observation.Observation.{Observation}
 use Rattle.cbi_base.specs.Store.{Held}
 use Rattle.cbi_base.specs.declared.refusal.Refusal.{Refusal}
-use Rattle.cbi_base.specs.declared.refusal.Refusal.TheVariants.{BadByte, BadToken, Syntax, BadType, TooLarge, TooManySites, BadProgram, BadBank, BadReport, Foreign, Conflict, TooManyReports, TooManyMarks, BadCollection, InputTooLarge, NoSite, BadEdits, Absent, NotPart}
+use Rattle.cbi_base.specs.declared.refusal.Refusal.TheVariants.{BadByte, BadToken, Syntax, BadType, TooLarge, TooManySites, BadProgram, BadBank, BadReport, Foreign, Conflict, TooManyReports, TooManyMarks, BadCollection, InputTooLarge, NoSite, BadEdits, Absent, NotPart, BadList, LargeInput}
 use Rattle.cbi_base.specs.Sink.{Takes}
 use Rattle.flow.specs.declared.program.ProgramParts.{ProgramParts}
 use Rattle.flow.specs.declared.result.RunResult.{RunResult}
@@ -14,7 +14,7 @@ use Rattle.probes.specs.Told.{AllGrewByPrefix}
 use Rattle.countdown_bank.specs.Bank.{BankState, number_after}
 use Rattle.machine.specs.Going.{HasRun, IsWanting}
 use Rattle.machine.specs.Reached.{went, seen_in}
-use Rattle.study_runs.proofs.Adding.{length_counts}
+use Rattle.planned_runs.proofs.Adding.{length_counts}
 use Rattle.command_base.specs.Limits.{program_limit}
 use Rattle.command_base.specs.Outside.{Outside}
 use Rattle.command_base.proofs.ReadLemmas.{read-once}
@@ -126,6 +126,8 @@ refuses-bytes (NoSite run site) files h = absurd h
 refuses-bytes (BadEdits line) files h = absurd h
 refuses-bytes (Absent place) files h = absurd h
 refuses-bytes NotPart files h = absurd h
+refuses-bytes (BadList file line) files h = absurd h
+refuses-bytes (LargeInput line) files h = absurd h
 
 pub run-refused : (words : RunWords) (held : Option Held) (files : RunFiles) (refusal : Refusal) → AreFiles held words files → RefusesBytes refusal files → RunRefused words held
 run-refused words held files refusal are h = record { files = files; are_files = are; refused = refuses-bytes refusal files h }

@@ -3,18 +3,16 @@ use Rattle.std.specs.Prelude.{◌≡◌, ℕ, List, [], ◌∷◌, ◌++◌, cod
 use Rattle.std.specs.Option.{option_to_list}
 use Rattle.cbi_base.specs.Store.{Held, IsReadOf}
 use Rattle.command_base.specs.Limits.{program_limit}
+use Rattle.expected.specs.Expected.{expect_limit}
 use Rattle.command_run.specs.declared.words.RunWords.{RunWords}
 use Rattle.command_run.specs.declared.files.RunFiles.{RunFiles}
 
--- the most bytes that are read of a bank, of an input, and of a file that the output is to equal
+-- the most bytes that are read of a bank, and of an input
 abbrev pub bank_limit : ℕ
 bank_limit = 1048576
 
 abbrev pub input_limit : ℕ
 input_limit = 16777216
-
-abbrev pub expect_limit : ℕ
-expect_limit = 16777216
 
 -- the names that are read, in this order
 abbrev pub run_names : RunWords → List (List ℕ)

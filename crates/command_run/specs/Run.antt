@@ -1,9 +1,8 @@
 -- What the command `run` does: the program and the bank that its files spell, how the machine ends the run, what out takes of its output, what the
 -- watchers are told, and what the report says.
-use Rattle.std.specs.Prelude.{◌≡◌, ◌≤◌, ◌<◌, ◌⊎◌, ℕ, Bool, true, ◌&&◌, nat_le, List, length, Option, Some, None}
+use Rattle.std.specs.Prelude.{◌≡◌, ◌≤◌, ◌<◌, ◌⊎◌, ℕ, List, length, Option, Some, None}
 use Rattle.sha2.specs.Sha256.{sha256}
 use Rattle.cbi_base.specs.declared.observation.Observation.{Observation}
-use Rattle.cbi_base.specs.Numbers.{is_word}
 use Rattle.cbi_base.specs.Store.{Held, Replaces, MayReplace}
 use Rattle.cbi_base.specs.Sink.{Takes, TakesPrefix}
 use Rattle.cbi_base.specs.declared.refusal.Refusal.{Refusal}
@@ -30,7 +29,8 @@ use Rattle.command_base.specs.Outside.{IsUnmoved, Outside}
 use Rattle.command_inputs.specs.Programs.{IsNoProgram, IsSpelled}
 use Rattle.command_run.specs.declared.words.RunWords.{RunWords}
 use Rattle.command_run.specs.declared.files.RunFiles.{RunFiles}
-use Rattle.command_run.specs.Files.{AreFiles, expect_limit, input_limit}
+use Rattle.command_run.specs.Files.{AreFiles, input_limit}
+pub use Rattle.expected.specs.Expected.{agrees}
 
 -- the bank whose text the bytes are, drawn from its first number on
 pub record IsBankOf (bytes : List ℕ) (bank : BankState) : Type 0 where
@@ -57,11 +57,6 @@ pub record RunOf (held : Option Held) (r : RunWords) (files : RunFiles) (parts :
   pub bank : BankState
   pub loaded : AreLoaded held r files parts bank
   pub ends : MachineEnds parts files.input (number_after bank) r.turns ending
-
--- The output is as it should be: it equals the bytes of the file that it is to equal, where one is given. One that is too large equals none.
-abbrev pub agrees : Option (List ℕ) → List ℕ → Bool
-agrees None output = true
-agrees (Some bytes) output = nat_le (length bytes) expect_limit && is_word bytes output
 
 -- the report of a run
 abbrev pub report_of : RunWords → RunFiles → RunResult → Report

@@ -13,6 +13,7 @@ use cbi_options::Word;
 use command_base::{Fault, PROGRAM_LIMIT, read_file};
 use command_inputs::load_program;
 use countdown_bank::{Bank, BankError, read_bank};
+use expected::EXPECT_LIMIT;
 use flow::Program;
 use std::alloc::Global;
 
@@ -20,10 +21,7 @@ use std::alloc::Global;
 const BANK_LIMIT: u64 = 1048576;
 
 /// The most bytes of an input.
-const INPUT_LIMIT: u64 = 16777216;
-
-/// The most bytes of a file that an output can equal.
-pub const EXPECT_LIMIT: u64 = 16777216;
+pub const INPUT_LIMIT: u64 = 16777216;
 
 /// The text of the bank of the one number 1.
 const TEXT_OF_ONE: &[u8] = b"1\n";
@@ -67,7 +65,7 @@ fn read_or<S: Store>(
 }
 
 /// The bytes of the file with this name, or the first `max + 1` of them, where a name is given.
-fn read_where<S: Store>(
+pub fn read_where<S: Store>(
     alloc: Global,
     store: &mut S,
     name: &Option<Word>,

@@ -7,4 +7,5 @@ mod publish;
 mod words;
 
 pub use command::run_file;
+pub use files::{INPUT_LIMIT, read_where};
 pub use words::RunWords;

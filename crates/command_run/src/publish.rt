@@ -6,27 +6,17 @@ ghost use Rattle.report_file.specs.Report.{IsReport, IsSummary};
 ghost use Rattle.report_file.specs.Spelling.{report_text};
 ghost use Rattle.command_base.specs.Faults.{WriteFaultOf, Caused};
 ghost use Rattle.command_base.specs.Outside.{AllStayBut};
-ghost use Rattle.command_run.specs.Run.{PublishesPart, Reports, agrees, report_of};
+ghost use Rattle.command_run.specs.Run.{PublishesPart, Reports, report_of};
 
-use crate::files::{EXPECT_LIMIT, RunFiles};
+use crate::files::RunFiles;
 use crate::words::RunWords;
 use cbi_base::{Memory, Seq, Sink, Store};
 use command_base::{Fault, put, write_file};
+use expected::agrees;
 use flow::RunResult;
 use program_file::program_id;
 use report_file::{RunSummary, label_of, make_report, write_report};
 use std::alloc::Global;
-
-/// Whether the output is as it should be: it equals the bytes read of the file that it is to equal, where one is given. A file that is too large
-/// equals no output.
-fn agrees(expect: &Option<Seq<u8>>, output: &[u8]) -> bool
-    ensures { result ≡ agrees expect.now output.now }
-{
-    match expect {
-        None => true,
-        Some(bytes) => bytes.len() as u64 <= EXPECT_LIMIT && bytes.as_slice() == output,
-    }
-}
 
 /// What the report of a run is made of.
 fn summary_of(alloc: Global, ran: &RunResult) -> Result<RunSummary, Memory>

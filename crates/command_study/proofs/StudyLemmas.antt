@@ -2,7 +2,7 @@
 use Rattle.std.proofs.Common.{◌≡◌, inl, inr, ℕ, List, Option, IsSome, sym, subst, ◌∙◌}
 use Rattle.cbi_base.specs.declared.observation.Observation.{Observation}
 use Rattle.cbi_base.specs.declared.refusal.Refusal.{Refusal}
-use Rattle.cbi_base.specs.declared.refusal.Refusal.TheVariants.{BadByte, BadToken, Syntax, BadType, TooLarge, TooManySites, BadProgram, BadBank, BadReport, Foreign, Conflict, TooManyReports, TooManyMarks, BadCollection, InputTooLarge, NoSite, BadEdits, Absent, NotPart}
+use Rattle.cbi_base.specs.declared.refusal.Refusal.TheVariants.{BadByte, BadToken, Syntax, BadType, TooLarge, TooManySites, BadProgram, BadBank, BadReport, Foreign, Conflict, TooManyReports, TooManyMarks, BadCollection, InputTooLarge, NoSite, BadEdits, Absent, NotPart, BadList, LargeInput}
 use Rattle.cbi_base.specs.Sink.{Takes, TakesPrefix}
 use Rattle.cbi_base.specs.Store.{Held, IsReadOf}
 use Rattle.study_runs.specs.declared.plan.StudyPlan.{StudyPlan}
@@ -45,6 +45,8 @@ refuses-study law (NoSite run site) text plan h = inl (law study_form (NoSite ru
 refuses-study law (BadEdits line) text plan h = inl (law study_form (BadEdits line) text h)
 refuses-study law (Absent place) text plan h = inl (law study_form (Absent place) text h)
 refuses-study law NotPart text plan h = inl (law study_form NotPart text h)
+refuses-study law (BadList file line) text plan h = inl (law study_form (BadList file line) text h)
+refuses-study law (LargeInput line) text plan h = inl (law study_form (LargeInput line) text h)
 
 -- a refusal that is told is one of the bytes read
 pub study-refused : ((plan : Plan) (refusal : Refusal) (text : List ℕ) → RefusesText plan refusal text → IsRefusedText plan text)
@@ -74,6 +76,8 @@ refused-told text plan told before after (NoSite run site) h = inl h
 refused-told text plan told before after (BadEdits line) h = inl h
 refused-told text plan told before after (Absent place) h = inl h
 refused-told text plan told before after NotPart h = inl h
+refused-told text plan told before after (BadList file line) h = inl h
+refused-told text plan told before after (LargeInput line) h = inl h
 
 module _ {B : Type 0} (told : B → List Observation) (words : StudyWords) (before after : Outside B) where
   -- the study of the bytes that are read

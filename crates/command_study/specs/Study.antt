@@ -6,7 +6,7 @@ use Rattle.cbi_base.specs.declared.refusal.Refusal.{Refusal}
 use Rattle.cbi_base.specs.Store.{Held, IsReadOf}
 use Rattle.cbi_base.specs.Text.{ended, spaced}
 use Rattle.study_runs.specs.declared.plan.StudyPlan.{StudyPlan}
-use Rattle.study_runs.specs.declared.sums.Sums.{Sums}
+use Rattle.study_runs.specs.Sums.{Sums}
 use Rattle.study.specs.declared.ranked.StudyFault.{StudyFault}
 use Rattle.study.specs.declared.ranked.StudyFault.TheVariants as faults
 use Rattle.study.specs.declared.ranked.StudyResult.{StudyResult}

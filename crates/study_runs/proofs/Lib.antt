@@ -1,5 +1,4 @@
 pub mod Lines
 pub mod Lists
-pub mod Adding
-pub mod Going
+pub mod Made
 pub mod Once

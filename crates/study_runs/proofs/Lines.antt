@@ -1,11 +1,10 @@
 -- Made lines.
-use Rattle.std.proofs.Common.{◌≡◌, ℕ, zero, suc, ◌+◌, ◌%◌, ◌∙◌, ap, refl, sym, arith, List, [], ◌∷◌, ◌++◌, length, length-append, sum}
+use Rattle.std.proofs.Common.{◌≡◌, ℕ, zero, suc, ◌+◌, ◌≤◌, ◌%◌, ◌∙◌, ap, refl, arith, List, [], ◌∷◌, ◌++◌, length, length-append, sum}
 use Rattle.std.specs.Prelude.{All}
 use Rattle.std.proofs.lemmas.List.Elements.{All-push}
 use Rattle.rand_pcg.specs.Lcg.{Lcg}
 use Rattle.countdown_bank.specs.Bank.{BankState}
 use Rattle.countdown_bank.specs.MadeBank.{after_words, word_after}
-use Rattle.countdown_bank.proofs.Made.{IsMadeBank-once}
 use Rattle.countdown_bank.proofs.Words.{word_after-add}
 use Rattle.study_runs.specs.MadeRun.{IsMadeRun, IsPrintable, byte_from, bytes_from, generator_of, line_from}
 
@@ -35,11 +34,15 @@ pub bytes_printable : (words : ℕ → ℕ) (n : ℕ) → All IsPrintable (bytes
 bytes_printable words zero = λ k d none. absurd (omega arith)
 bytes_printable words (suc n) = All-push IsPrintable (bytes_from words n) (byte_from (words n)) (bytes_printable words n) (byte_printable (words n))
 
-pub same_input : (seed rate number : ℕ) (a b : BankState) (x y : List ℕ) → IsMadeRun seed rate number a x → IsMadeRun seed rate number b y → x ≡ y
-same_input seed rate number a b x y m n =
-    m.input_is
-    ∙ ap (λ (c : BankState). line_from (λ k. word_after (generator_of seed number) (sum c.numbers + k))) (IsMadeBank-once (generator_of seed number) rate 256 a b m.bank_is n.bank_is)
-    ∙ sym n.input_is
+-- a made line is short
+abbrev pub LinesArePrintable : Type 0
+LinesArePrintable = (words : ℕ → ℕ) → (bytes : List ℕ) × (line_from words ≡ bytes ++ 10 ∷ []) × (length bytes ≤ 63) × All IsPrintable bytes
+
+pub short : LinesArePrintable → (seed rate number : ℕ) (bank : BankState) (input : List ℕ) → IsMadeRun seed rate number bank input → length input ≤ 16777216
+short law seed rate number bank input made =
+    let line = law (λ k. word_after (generator_of seed number) (sum bank.numbers + k)) in
+    let all : input ≡ line.0 ++ 10 ∷ [] = made.input_is ∙ line.1 in
+    omega (arith, ap (λ (l : List ℕ). length l) all, length-append line.0 (10 ∷ []), line.2)
 
 -- one more byte
 pub bytes_more : (words : ℕ → ℕ) (n m : ℕ) → m ≡ n + 1 → bytes_from words m ≡ bytes_from words n ++ byte_from (words n) ∷ []

@@ -2,4 +2,5 @@ pub mod MadeRun
 pub mod Runs
 pub mod Sums
 pub mod Left
-pub mod Steps
+pub mod Faults
+pub mod Once

@@ -3,15 +3,14 @@
 
 mod fault;
 mod laws;
+mod made_plan;
 mod made_run;
 mod plan;
-mod run;
 mod runs;
-mod sums;
 
 pub use fault::RunsFault;
 pub use laws::{made_lines_are_printable, one_made_run, one_study};
 pub use made_run::{MadeRun, make_run};
 pub use plan::StudyPlan;
+pub use planned_runs::Sums;
 pub use runs::{StudyRuns, run_all};
-pub use sums::Sums;

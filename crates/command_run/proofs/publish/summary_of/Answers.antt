@@ -1,6 +1,6 @@
 use Rattle.std.proofs.Common.{sym, subst, ◌∙◌}
 use Rattle.report_file.specs.Report.{IsSummary}
-use Rattle.study_runs.proofs.Adding.{bounded_counts}
+use Rattle.planned_runs.proofs.Adding.{bounded_counts}
 use Rattle.command_run.proofs.publish.summary_of.Goals as goal
 
 pub returns-clause-is_summary : goal.returns-clause-is_summary

@@ -1,6 +1,6 @@
 use Rattle.countdown_bank.proofs.Made.{IsMadeBank-once}
 use Rattle.study_runs.specs.MadeRun.{generator_of}
-use Rattle.study_runs.proofs.Lines.{same_input}
+use Rattle.study_runs.specs.Once.{same_input}
 use Rattle.study_runs.proofs.laws.one_made_run.Goals as goal
 
 pub returns-clause-bank : goal.returns-clause-bank

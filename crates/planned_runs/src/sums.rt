@@ -1,9 +1,9 @@
 ghost use Rattle.std.specs.Prelude.{◌≡◌, ◌+◌, ◌<◌, ◌≤◌, ◌^◌, []};
-ghost use Rattle.study_runs.specs.Sums.{sums_of, with_run};
+ghost use Rattle.planned_runs.specs.Sums.{sums_of, with_run};
 
 use cbi_base::{Outcome, Work};
 
-/// How a study's runs went: how many trapped, ended and were cut, and the sums of their work.
+/// How runs went: how many trapped, ended and were cut, and the sums of their work.
 #[derive(Clone, Copy, Debug, PartialEq, Eq)]
 pub struct Sums {
     /// How many runs trapped.

@@ -1,0 +1,5 @@
+pub mod Runs
+pub mod Sums
+pub mod Labels
+pub mod Left
+pub mod Steps
