@@ -78,6 +78,40 @@ const COLLECT: [Row; 2] = [
     Row::Several("FILE", "A report, or a collection of reports"),
 ];
 
+const RUNS: [Row; 7] = [
+    Row::Needed(
+        "inputs",
+        "LIST",
+        "The file that lists the inputs, a name on each line",
+    ),
+    Row::Option(
+        "expect",
+        "LIST",
+        "The file that lists files which the outputs are to equal, a name on each line",
+    ),
+    Row::Needed(
+        "rate",
+        "D",
+        "One visit in so many is sampled, from 1 to 65536",
+    ),
+    Row::Needed(
+        "seed",
+        "S",
+        "The generator's seed; its stream is the run's number",
+    ),
+    Row::Option(
+        "first",
+        "R",
+        "The number of the first run, from 1 to 4294967295 [default: 1]",
+    ),
+    Row::Option(
+        "turns",
+        "N",
+        "The bound of turns of each run, at most 100000000 [default: 1000000]",
+    ),
+    Row::Positional("PROG", "The program file"),
+];
+
 const RANK: [Row; 3] = [
     Row::Option("policy", "POLICY", POLICY),
     Row::Positional("PROG", "The program file"),
@@ -178,7 +212,7 @@ fn command(
 /// A command: its name, what is said of it, its words, and its name behind the tool's.
 type Line = (&'static str, &'static str, &'static [Row], &'static str);
 
-const LINES: [Line; 10] = [
+const LINES: [Line; 11] = [
     (
         "transform",
         "Compile a C text to a program file",
@@ -197,6 +231,12 @@ const LINES: [Line; 10] = [
         "Collect reports of runs of a program",
         &COLLECT,
         "cbi collect",
+    ),
+    (
+        "runs",
+        "Run a program on a list of inputs, and collect the reports",
+        &RUNS,
+        "cbi runs",
     ),
     (
         "rank",

@@ -6,7 +6,7 @@ use Rattle.cbi_options.specs.Options.{value_of}
 use Rattle.cbi_options.specs.Shares.{is_share}
 use Rattle.cbi_options.specs.Values.{fits, is_mode, is_number, is_policy, is_schemes}
 use Rattle.cbi_options.specs.declared.given.Given.{Given}
-use Rattle.cbi_words.specs.Reading.{asked, bank_options, no_positional, only, rank_options, run_options, session_options, study_options, transform_options, two, widen_options}
+use Rattle.cbi_words.specs.Reading.{asked, bank_options, no_positional, only, rank_options, run_options, runs_options, session_options, study_options, transform_options, two, widen_options}
 
 -- an option that doesn't take every value, and the values that it takes
 pub record Rule : Type 0 where
@@ -33,6 +33,16 @@ bad_bank given = do
   seed ← value_of (codes "--seed") given.options
   first_bad (record { name = codes "--rate"; takes = is_number 1 65536 } ∷ record { name = codes "--count"; takes = is_number 1 65536 }
       ∷ record { name = codes "--seed"; takes = is_number 0 18446744073709551615 } ∷ record { name = codes "--stream"; takes = is_number 0 18446744073709551615 } ∷ []) given.options
+
+-- of `runs` with its program and the three options that must be given
+abbrev pub bad_runs : Given → Option (List ℕ)
+bad_runs given = do
+  program ← only given.positionals
+  inputs ← value_of (codes "--inputs") given.options
+  rate ← value_of (codes "--rate") given.options
+  seed ← value_of (codes "--seed") given.options
+  first_bad (record { name = codes "--rate"; takes = is_number 1 65536 } ∷ record { name = codes "--seed"; takes = is_number 0 18446744073709551615 }
+      ∷ record { name = codes "--first"; takes = is_number 1 4294967295 } ∷ record { name = codes "--turns"; takes = is_number 0 100000000 } ∷ []) given.options
 
 -- of `rank` with its program and its collection
 abbrev pub bad_rank : Given → Option (List ℕ)
@@ -77,7 +87,8 @@ bad_widen given = do
 unfoldable pub later_bad_in : List ℕ → List (List ℕ) → Option (List ℕ)
 later_bad_in name words =
     if is_word name (codes "session") then (asked session_options words >>= bad_session)
-    else (if is_word name (codes "widen") then (asked widen_options words >>= bad_widen) else None)
+    else (if is_word name (codes "widen") then (asked widen_options words >>= bad_widen)
+    else (if is_word name (codes "runs") then (asked runs_options words >>= bad_runs) else None))
 
 -- `collect` takes every value of its options
 unfoldable pub bad_in : List ℕ → List (List ℕ) → Option (List ℕ)

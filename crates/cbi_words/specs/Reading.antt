@@ -8,7 +8,7 @@ use Rattle.cbi_options.specs.Schemes.{all_schemes, mode_wanted, schemes_or}
 use Rattle.cbi_options.specs.Shares.{share_or, share_wanted}
 use Rattle.cbi_options.specs.declared.given.Given.{Given}
 use Rattle.cbi_words.specs.declared.command.Command.{Command}
-use Rattle.cbi_words.specs.declared.command.Command.TheVariants.{Transform, Run, Bank, Collect, Rank, Study, Session, Widen, Cards, Pairs}
+use Rattle.cbi_words.specs.declared.command.Command.TheVariants.{Transform, Run, Bank, Collect, Runs, Rank, Study, Session, Widen, Cards, Pairs}
 
 -- the one positional, where there is one alone
 abbrev pub only : List (List ℕ) → Option (List ℕ)
@@ -69,6 +69,20 @@ collect_of given = do
   program ← value_of (codes "--program") given.options
   files ← one_or_more given.positionals
   Some (Collect program files)
+
+-- `runs --inputs LIST [--expect LIST] --rate D --seed S [--first R] [--turns N] PROG`
+abbrev pub runs_options : List (List ℕ)
+runs_options = codes "--inputs" ∷ codes "--expect" ∷ codes "--rate" ∷ codes "--seed" ∷ codes "--first" ∷ codes "--turns" ∷ []
+
+abbrev pub listed_runs_of : Given → Option Command
+listed_runs_of given = do
+  inputs ← value_of (codes "--inputs") given.options
+  rate ← number_wanted 1 65536 (value_of (codes "--rate") given.options)
+  seed ← number_wanted 0 18446744073709551615 (value_of (codes "--seed") given.options)
+  first ← number_or 1 1 4294967295 (value_of (codes "--first") given.options)
+  turns ← number_or 1000000 0 100000000 (value_of (codes "--turns") given.options)
+  program ← only given.positionals
+  Some (Runs inputs (value_of (codes "--expect") given.options) rate seed first turns program)
 
 -- `rank [--policy all|failing|relabel] PROG COLL`
 abbrev pub rank_options : List (List ℕ)
@@ -141,13 +155,14 @@ pairs_of given = do
 abbrev pub asked : List (List ℕ) → List (List ℕ) → Option Given
 asked options words = cut None words >>= λ given. if are_asked options given then Some given else None
 
--- the commands that look on into collections, by their names, with the words that follow
+-- the commands that look on into collections, and the one that makes one at once, by their names, with the words that follow
 unfoldable pub later_command_in : List ℕ → List (List ℕ) → Option Command
 later_command_in name words =
     if is_word name (codes "session") then (asked session_options words >>= session_of)
     else (if is_word name (codes "widen") then (asked widen_options words >>= widen_of)
+    else (if is_word name (codes "runs") then (asked runs_options words >>= listed_runs_of)
     else (if is_word name (codes "cards") then (asked no_options words >>= cards_of)
-    else (if is_word name (codes "pairs") then (asked no_options words >>= pairs_of) else None)))
+    else (if is_word name (codes "pairs") then (asked no_options words >>= pairs_of) else None))))
 
 -- all commands, by their names
 unfoldable pub command_in : List ℕ → List (List ℕ) → Option Command

@@ -50,6 +50,23 @@ pub enum Command {
         /// The names of the files of reports, of which there is one at least.
         files: Seq<Word>,
     },
+    /// `runs`: runs a program on each input of a list, and collects the reports.
+    Runs {
+        /// The name of the file of the list of inputs.
+        inputs: Word,
+        /// The name of the file of the list of files that the outputs are to equal; without it any output is as it should be.
+        expect: Option<Word>,
+        /// From 1 to 65,536: the mean distance of sampled visits.
+        rate: u32,
+        /// The seed of each run's generator; its stream is the run's number.
+        seed: u64,
+        /// The number of the first run, at least 1.
+        first: u32,
+        /// The bound of turns of each run, at most 100,000,000.
+        turns: u32,
+        /// The name of the program file.
+        program: Word,
+    },
     /// `rank`: ranks the predicates of a program by the runs of a collection.
     Rank {
         /// What is done after each leader.

@@ -4,8 +4,9 @@ ghost use Rattle.cbi_options.specs.Answers.{ReadAs};
 ghost use Rattle.cbi_options.specs.Options.{value_of};
 ghost use Rattle.cbi_options.specs.WordRule.{texts_of};
 ghost use Rattle.cbi_words.specs.Answers.{OnUsage};
-ghost use Rattle.cbi_words.specs.BadValue.{bad_bank, bad_in, bad_rank, bad_run, bad_session, bad_study, bad_transform, bad_value, bad_widen, later_bad_in};
-ghost use Rattle.cbi_words.specs.Reading.{asked, bank_of, cards_of, collect_of, command_in, later_command_in, pairs_of, rank_of, reads, run_of, session_of, study_of, transform_of, widen_of};
+ghost use Rattle.cbi_words.specs.BadValue.{bad_bank, bad_in, bad_rank, bad_run, bad_runs, bad_session};
+ghost use Rattle.cbi_words.specs.BadValue.{bad_study, bad_transform, bad_value, bad_widen, later_bad_in};
+ghost use Rattle.cbi_words.specs.Reading.{asked, bank_of, cards_of, collect_of, command_in, later_command_in, listed_runs_of, pairs_of, rank_of, reads, run_of, session_of, study_of, transform_of, widen_of};
 ghost use Rattle.cbi_words.specs.Within.{IsWithin};
 
 use crate::command::Command;
@@ -166,6 +167,38 @@ fn collect_of(alloc: Global, given: Given) -> Result<Command, Fault>
     Ok(Command::Collect {
         program,
         files: positionals,
+    })
+}
+
+// What is given after `runs`.
+fn listed_runs_of(alloc: Global, given: &Given) -> Result<Command, Fault>
+    ensures reads { ReadAs result (listed_runs_of given.now) (bad_runs given.now) }
+    ensures within { IfOk result IsWithin }
+{
+    let [program] = given.positionals.as_slice() else {
+        return Err(Fault::Usage);
+    };
+    let Some(inputs) = given.value_of("--inputs") else {
+        return Err(Fault::Usage);
+    };
+    let Some(rate) = given.value_of("--rate") else {
+        return Err(Fault::Usage);
+    };
+    let Some(seed) = given.value_of("--seed") else {
+        return Err(Fault::Usage);
+    };
+    let rate = number_in("--rate", rate, RATES)?;
+    let seed = number_in("--seed", seed, SEEDS)?;
+    let first = number_or(given, "--first", 1, RUN_NUMBERS)?;
+    let turns = number_or(given, "--turns", DEFAULT_TURNS, TURNS)?;
+    Ok(Command::Runs {
+        inputs: Word::new(alloc, inputs)?,
+        expect: given.copy_of(alloc, "--expect")?,
+        rate: rate as u32,
+        seed,
+        first: first as u32,
+        turns: turns as u32,
+        program: program.try_clone()?,
     })
 }
 
@@ -342,7 +375,7 @@ fn command_in(alloc: Global, name: &str, words: &[String]) -> Result<Command, Fa
     later_command_in(alloc, name, words)
 }
 
-// What is given after the name of a command that looks on into collections.
+// What is given after the name of a command that looks on into collections, or of the one that makes one at once.
 #[tactic(auto, unfolding(crate::specs::Reading::later_command_in, crate::specs::BadValue::later_bad_in))]
 fn later_command_in(alloc: Global, name: &str, words: &[String]) -> Result<Command, Fault>
     ensures reads { ReadAs result (later_command_in name.now (texts_of words.now)) (later_bad_in name.now (texts_of words.now)) }
@@ -355,6 +388,13 @@ fn later_command_in(alloc: Global, name: &str, words: &[String]) -> Result<Comma
     if name == "widen" {
         let given = asked(alloc, &["--whole", "--part"], words)?;
         return widen_of(alloc, &given);
+    }
+    if name == "runs" {
+        let options = [
+            "--inputs", "--expect", "--rate", "--seed", "--first", "--turns",
+        ];
+        let given = asked(alloc, &options, words)?;
+        return listed_runs_of(alloc, &given);
     }
     if name == "cards" {
         let given = asked(alloc, &[], words)?;

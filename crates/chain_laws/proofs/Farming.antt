@@ -108,7 +108,7 @@ module _ (one_ending : OneEnding) (one_program : OneProgram) (one_tree : OneTree
         (same-through all (map_of all) left.collected.collection.reports (λ r. ((members all alike r).1, (members all alike r).0)) (same-as (map_of all) left.collected.collection.reports (sym held)))
 
     -- a widened collection
-    a-part : (words : TransformWords) (share : Share) (made : List Made) (more : List PartRun) (wide : List ℕ) (texts : List (List ℕ)) → IsLeftByWiden text whole words share made wide → AreHeldParts more texts
+    a-part : (words : TransformWords) (share : Share) (made : List Made) (more : List PartRun) (wide : List ℕ) (texts : List (List ℕ)) → IsLeftByWiden text words share made wide → AreHeldParts more texts
         → AreHeldParts (part_runs words share (by_number made) ++ more) (wide ∷ texts)
     a-part words share made more wide texts left rest =
         let w = left.widened in

@@ -1,4 +1,4 @@
--- The map of the reports that texts of `run` and `collect` hold, one text behind another, is that of their runs by number.
+-- The map of the reports that texts of `run`, `runs` and `collect` hold, one text behind another, is that of their runs by number.
 use Rattle.std.proofs.Common.{◌≡◌, ℕ, Bool, true, false, cond, ◌==◌, List, [], ◌∷◌, ◌++◌, Option, None, Some, map, ap, sym, subst, ◌∙◌, refl}
 use Rattle.report_file.specs.declared.report.Report.{Report}
 use Rattle.collector.specs.declared.collection.Bundle.{Bundle}
@@ -13,7 +13,10 @@ use Rattle.replay_laws.proofs.Printed.{at-map, first-of, map-held}
 use Rattle.command_collect.specs.Collect.{AreSpelled, SpellsFile, reports_in}
 use Rattle.chain_laws.specs.Chain.{AreReportsOf, Made}
 use Rattle.chain_laws.specs.Handed.{HoldRuns, IsLeftByCollect, IsLeftByRun, by_number}
-use Rattle.chain_laws.specs.Handed.HoldRuns.{ACollection, AReport, NoTexts}
+use Rattle.chain_laws.specs.Handed.HoldRuns.{ACollection, AReport, ListedRuns, NoTexts}
+use Rattle.command_runs.specs.Runs.{runs_collection}
+use Rattle.chain_laws.specs.Calls.{IsLeftByRuns}
+use Rattle.chain_laws.proofs.CallReports.{left-reports}
 use Rattle.chain_laws.proofs.HeadlineRuns.{AreHeldBy, HasMembers, all-alike, held-runs, placed, same-all, same-collected, same-turned}
 use Rattle.chain_laws.proofs.HeadlineTexts.{OneCollection, OneReport, WrittenCollection, collection-file, held-once, left-text, left_report, report-file}
 
@@ -64,6 +67,15 @@ module _ (one_report : OneReport) (one_collection : OneCollection) (written : Wr
       subst (λ (x : Bundle). AreReportsOf file (by_number (one ∷ made)) (map_of (x.reports ++ reports_in bundles))) same
       (placed file one r (by_number made) (map_of (reports_in bundles)) is.is rest)
 
+  listed-mapped : (made more : List Made) (text : List ℕ) (b : Bundle) (bundles : List Bundle) → IsLeftByRuns file made text → SpellsFile text b
+      → AreReportsOf file (by_number more) (map_of (reports_in bundles)) → AreReportsOf file (by_number (made ++ more)) (map_of (reports_in (b ∷ bundles)))
+  listed-mapped made more text b bundles left spells rest =
+      let c = runs_collection left.texts left.parts left.plan.first left.runs in
+      let others = reports_in bundles in
+      let same : bundle_of c ≡ b = held-once one_report one_collection text (bundle_of c) b (collection-file written text c left.fits left.text_is) spells in
+      subst (λ (x : Bundle). AreReportsOf file (by_number (made ++ more)) (map_of (x.reports ++ others))) same
+      (by-number-onto file made more c.reports others (left-reports file made text left) rest)
+
   collection-mapped : (made more : List Made) (inner : List (List ℕ)) (text : List ℕ) (b : Bundle) (bundles : List Bundle) → IsLeftByCollect file inner text → SpellsFile text b → AreHeldBy file made inner
       → AreReportsOf file (by_number more) (map_of (reports_in bundles)) → AreReportsOf file (by_number (made ++ more)) (map_of (reports_in (b ∷ bundles)))
   collection-mapped made more inner text b bundles left spells within rest =
@@ -84,6 +96,8 @@ module _ (one_report : OneReport) (one_collection : OneCollection) (written : Wr
   maps-runs NoTexts (b ∷ bundles) are = absurd are
   maps-runs (AReport left rest) [] are = absurd are
   maps-runs (AReport {made = one} {more = made} {text = text} left rest) (b ∷ bundles) are = report-mapped one made text b bundles left are.0 (maps-runs rest bundles are.1)
+  maps-runs (ListedRuns left rest) [] are = absurd are
+  maps-runs (ListedRuns {made = made} {more = more} {text = text} left rest) (b ∷ bundles) are = listed-mapped made more text b bundles left are.0 (maps-runs rest bundles are.1)
   maps-runs (ACollection left within rest) [] are = absurd are
   maps-runs (ACollection {made = made} {more = more} {text = text} {inner = inner} left within rest) (b ∷ bundles) are =
       collection-mapped made more inner text b bundles left are.0 (held-runs one_report one_collection written members file within) (maps-runs rest bundles are.1)

@@ -1,4 +1,4 @@
--- The reports behind texts that `run` and `collect` left are those of their runs, and those of a collection are those of its runs by number.
+-- The reports behind texts that `run`, `runs` and `collect` left are those of their runs, and those of a collection are those of its runs by number.
 use Rattle.std.proofs.Common.{◌≡◌, ◌↔◌, ⊎_elim, ℕ, Bool, true, false, cond, ◌==◌, List, [], ◌∷◌, ◌++◌, ap, sym, subst, ◌∙◌, refl}
 use Rattle.std.specs.Prelude.{nat_lt}
 use Rattle.sha2.specs.Sha256.{sha256}
@@ -14,7 +14,10 @@ use Rattle.collector.proofs.Taking.{either, in-back, in-front}
 use Rattle.command_collect.specs.Collect.{AreSpelled, reports_in}
 use Rattle.chain_laws.specs.Chain.{AreReportsOf, IsReportOf, Made}
 use Rattle.chain_laws.specs.Handed.{HoldRuns, IsCollectionOf, IsLeftByCollect, IsLeftByRun, by_number, with_made}
-use Rattle.chain_laws.specs.Handed.HoldRuns.{ACollection, AReport, NoTexts}
+use Rattle.chain_laws.specs.Handed.HoldRuns.{ACollection, AReport, ListedRuns, NoTexts}
+use Rattle.command_runs.specs.Runs.{runs_collection}
+use Rattle.chain_laws.specs.Calls.{IsLeftByRuns}
+use Rattle.chain_laws.proofs.CallReports.{left-reports}
 use Rattle.chain_laws.proofs.HeadlineTexts.{OneCollection, OneReport, WrittenCollection, collection-file, collection-spelled, left-text, left_report, report-file, spelled-once}
 
 -- lists of the same reports, one behind another
@@ -143,9 +146,22 @@ module _ (one_report : OneReport) (one_collection : OneCollection) (written : Wr
         same = same-both within.reports c.reports rest.reports (reports_in rest.bundles) (same-collected made inner text left within) rest.same;
       }
 
+  listed-more : (made more : List Made) (text : List ℕ) (texts : List (List ℕ)) → IsLeftByRuns file made text → AreHeldBy file more texts → AreHeldBy file (made ++ more) (text ∷ texts)
+  listed-more made more text texts left rest =
+      let c = runs_collection left.texts left.parts left.plan.first left.runs in
+      record {
+        bundles = bundle_of c ∷ rest.bundles;
+        are_spelled = (collection-file written text c left.fits left.text_is, rest.are_spelled);
+        of_file = (ap (λ bytes. record { bytes = sha256 bytes }) left.program_is, rest.of_file);
+        reports = c.reports ++ rest.reports;
+        are = are-both file made more c.reports rest.reports (left-reports file made text left) rest.are;
+        same = same-both c.reports c.reports rest.reports (reports_in rest.bundles) (same-as c.reports c.reports refl) rest.same;
+      }
+
   pub held-runs : {made : List Made} {texts : List (List ℕ)} → HoldRuns file made texts → AreHeldBy file made texts
   held-runs NoTexts = record { bundles = []; are_spelled = tt; of_file = tt; reports = []; are = tt; same = λ r. (λ is. is, λ is. is) }
   held-runs (AReport {made = one} {more = made} {text = text} {texts = texts} left rest) = report-more one made text texts left (held-runs rest)
+  held-runs (ListedRuns {made = made} {more = more} {text = text} {texts = texts} left rest) = listed-more made more text texts left (held-runs rest)
   held-runs (ACollection {made = made} {more = more} {text = text} {inner = inner} {texts = texts} left within rest) =
       collection-more made more inner text texts left (held-runs within) (held-runs rest)
 

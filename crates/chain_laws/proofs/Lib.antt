@@ -1,4 +1,5 @@
 pub mod AsMeant
+pub mod CallReports
 pub mod Chaining
 pub mod Farming
 pub mod Firsts
@@ -7,6 +8,7 @@ pub mod HeadlineMeant
 pub mod HeadlineRuns
 pub mod HeadlineSession
 pub mod HeadlineTexts
+pub mod ListedRanked
 pub mod NoneRefused
 pub mod Numbered
 pub mod Ranking

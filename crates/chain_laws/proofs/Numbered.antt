@@ -62,7 +62,7 @@ module _ (one_ending : OneEnding) (one_program : OneProgram) (one_bank : OneBank
   spelled-by one r is = subst (λ bytes. SpellsProgram bytes is.parts) is.program_is is.spells
 
   -- the same run ends in one way, so it has one report under one number
-  one-report : (a b : Made) (x y : Report) → IsReportOf file a x → IsReportOf file b y → a.words.run ≡ b.words.run → IsSameRun a b → x ≡ y
+  pub one-report : (a b : Made) (x y : Report) → IsReportOf file a x → IsReportOf file b y → a.words.run ≡ b.words.run → IsSameRun a b → x ≡ y
   one-report a b x y is also run same =
       let parts : is.parts ≡ also.parts = one_program file is.parts also.parts (spelled-by a x is) (spelled-by b y also) in
       let bank : a.bank ≡ b.bank = same-bank one_bank b.files.bank a.bank b.bank (subst (λ (f : RunFiles). IsBankOf f.bank a.bank) same.files is.bank_is) also.bank_is in

@@ -31,9 +31,10 @@ meant_part_run tree known run = record (meant_run tree known (plan_of run.words)
   entries = widened (part_of_share run.share) (meant_run tree known (plan_of run.words) run.made).entries;
 }
 
--- `transform` wrote the file of a part's program of the text, `run` and `collect` made a collection of runs of that file, and `widen` read both beside
--- the file of the program of all sites. This text was due.
-pub record IsLeftByWiden (text whole : List ℕ) (words : TransformWords) (share : Share) (made : List Made) (wide : List ℕ) : Type 0 where
+-- `transform` wrote the file of a part's program of the text, `run` and `collect` made a collection of runs of that file, and `widen` read it for this
+-- share. This text was due. (That `widen` read that very file too, and the one of the program of all sites, need not be said: it refuses the reports
+-- of another program, and so does the `collect` behind it.)
+pub record IsLeftByWiden (text : List ℕ) (words : TransformWords) (share : Share) (made : List Made) (wide : List ℕ) : Type 0 where
   pub file : List ℕ
   pub is_file : IsFileOf words text file
   pub collection : List ℕ
@@ -43,8 +44,6 @@ pub record IsLeftByWiden (text whole : List ℕ) (words : TransformWords) (share
   pub share_is : asked.part ≡ share
   pub fits : PartFits (part_of_share share)
   pub widened : IsWidened held asked wide
-  pub whole_is : widened.texts.whole ≡ whole
-  pub program_is : widened.texts.runs.program ≡ file
   pub collection_is : widened.texts.runs.collection ≡ collection
 
 -- these runs of a part's program
@@ -56,7 +55,7 @@ part_runs words share made = map (λ m. record { words = words; share = share; m
 pub data HoldParts (text whole : List ℕ) : List PartRun → List (List ℕ) → Type 0 where
   NoParts : HoldParts text whole [] []
   APart : {words : TransformWords} {share : Share} {made : List Made} {more : List PartRun} {wide : List ℕ} {texts : List (List ℕ)} →
-      IsLeftByWiden text whole words share made wide → HoldParts text whole more texts →
+      IsLeftByWiden text words share made wide → HoldParts text whole more texts →
       HoldParts text whole (part_runs words share (by_number made) ++ more) (wide ∷ texts)
   SomeParts : {runs more : List PartRun} {collection : List ℕ} {inner texts : List (List ℕ)} → IsLeftByCollect whole inner collection →
       HoldParts text whole runs inner → HoldParts text whole more texts → HoldParts text whole (runs ++ more) (collection ∷ texts)

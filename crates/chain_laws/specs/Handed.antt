@@ -6,6 +6,7 @@ use Rattle.command_base.specs.declared.done.Done.{Done}
 use Rattle.command_run.specs.Run.{IsReported}
 use Rattle.command_collect.specs.declared.words.CollectWords.{CollectWords}
 use Rattle.command_collect.specs.Collect.{IsCollected}
+use Rattle.chain_laws.specs.Calls.{IsLeftByRuns}
 use Rattle.chain_laws.specs.Chain.{Made}
 
 -- the store holds this text under the name
@@ -35,12 +36,14 @@ pub record IsLeftByCollect (file : List ℕ) (texts : List (List ℕ)) (collecti
   pub program_is : collected.texts.program ≡ file
   pub texts_are : collected.texts.files ≡ texts
 
--- Texts that `run` and `collect` left of a program file, one after another, and the runs whose reports they hold: of a report its own run, and of a
--- collection the runs of the texts that were collected, which are such texts themselves.
+-- Texts that `run`, `runs` and `collect` left of a program file, one after another, and the runs whose reports they hold: of a report its own run, of
+-- what `runs` left its runs, and of a collection the runs of the texts that were collected, which are such texts themselves.
 pub data HoldRuns (file : List ℕ) : List Made → List (List ℕ) → Type 0 where
   NoTexts : HoldRuns file [] []
   AReport : {made : Made} {more : List Made} {text : List ℕ} {texts : List (List ℕ)} → IsLeftByRun file made text → HoldRuns file more texts →
       HoldRuns file (made ∷ more) (text ∷ texts)
+  ListedRuns : {made more : List Made} {text : List ℕ} {texts : List (List ℕ)} → IsLeftByRuns file made text → HoldRuns file more texts →
+      HoldRuns file (made ++ more) (text ∷ texts)
   ACollection : {made more : List Made} {text : List ℕ} {inner texts : List (List ℕ)} → IsLeftByCollect file inner text → HoldRuns file made inner →
       HoldRuns file more texts → HoldRuns file (made ++ more) (text ∷ texts)
 

@@ -1,7 +1,9 @@
+pub mod Calls
 pub mod Chain
 pub mod Farm
 pub mod Handed
 pub mod Headline
 pub mod Laws
+pub mod Listed
 pub mod Running
 pub mod Unrefused

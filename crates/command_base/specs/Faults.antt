@@ -61,6 +61,14 @@ Passed (Err Write) P = P
 Passed (Err (Refused refusal)) P = P
 Passed (Err Memory) P = Unit {0}
 
+-- a fact of each answer that comes after all was read that is to be read
+abbrev pub Finished : {A : Type 0} → Result A Fault → Type 0 → Type 0
+Finished (Ok done) P = P
+Finished (Err (Read name)) P = Unit {0}
+Finished (Err Write) P = P
+Finished (Err (Refused refusal)) P = Unit {0}
+Finished (Err Memory) P = Unit {0}
+
 -- a write met a fault: one to out, or one to the store of a command that writes a report there
 abbrev pub WriteFaultOf : (report : Option (List ℕ)) → (out store : Type 0) → Type 0
 WriteFaultOf report out store = out ⊎ (IsSome report × store)

@@ -1,12 +1,13 @@
--- What a refusal leaves: what out has taken and what the store holds, and no more than what want of memory leaves.
-use Rattle.std.proofs.Common.{◌≡◌, ◌⊎◌, inl, inr, List, Option, Some, None}
+-- What a refusal or a file that isn't read leaves: what out has taken and what the store holds, and no more than what want of memory leaves.
+use Rattle.std.proofs.Common.{◌≡◌, ◌⊎◌, inl, inr, ℕ, List, Option, Some, None}
 use Rattle.cbi_base.specs.declared.observation.Observation.{Observation}
 use Rattle.cbi_base.specs.declared.refusal.Refusal.{Refusal}
 use Rattle.cbi_words.specs.declared.command.Command.{Command}
-use Rattle.cbi_words.specs.declared.command.Command.TheVariants.{Transform, Run, Bank, Collect, Rank, Study, Session, Widen, Cards, Pairs}
+use Rattle.cbi_words.specs.declared.command.Command.TheVariants.{Transform, Run, Bank, Collect, Rank, Study, Session, Widen, Cards, Pairs, Runs}
 use Rattle.command_base.specs.Outside.{IsUnmoved, Outside}
 use Rattle.command_study.proofs.StudyLemmas.{refused-left}
-use Rattle.commands.specs.Commands.{LeftRefused, LeftWithin, study_words}
+use Rattle.commands.proofs.LeftByRuns.{left-stopped, left-unwritten, unread-stopped, unread-unwritten as runs-unread-unwritten}
+use Rattle.commands.specs.Commands.{LeftRefused, LeftUnread, LeftWithin, runs_words, study_words}
 
 module _ {B : Type 0} (told : B → List Observation) where
   pub refused-unwritten : (command : Option Command) (refusal : Refusal) (before after : Outside B) → LeftRefused told command refusal before after
@@ -22,6 +23,7 @@ module _ {B : Type 0} (told : B → List Observation) where
   refused-unwritten (Some (Widen whole part program collection)) refusal before after h = (h.out, h.held)
   refused-unwritten (Some (Cards program collection)) refusal before after h = (h.out, h.held)
   refused-unwritten (Some (Pairs program collection)) refusal before after h = (h.out, h.held)
+  refused-unwritten (Some (Runs inputs expect rate seed first turns program)) refusal before after h = left-unwritten told (runs_words inputs expect rate seed first turns program) refusal before after h
 
   pub refused-wanting : (command : Option Command) (refusal : Refusal) (before after : Outside B) → LeftRefused told command refusal before after
       → IsUnmoved before after ⊎ LeftWithin told command before after
@@ -35,5 +37,17 @@ module _ {B : Type 0} (told : B → List Observation) where
   refused-wanting (Some (Widen whole part program collection)) refusal before after h = inl h
   refused-wanting (Some (Cards program collection)) refusal before after h = inl h
   refused-wanting (Some (Pairs program collection)) refusal before after h = inl h
+  refused-wanting (Some (Runs inputs expect rate seed first turns program)) refusal before after h = left-stopped told (runs_words inputs expect rate seed first turns program) refusal before after h
   refused-wanting (Some (Study runs seed rate turns policy text)) refusal before after h =
       inr (inl (refused-left told (study_words runs seed rate turns policy text) before after refusal h))
+
+  -- what is left where a file isn't read: what out has taken and what the store holds, and no more than what want of memory leaves
+  pub unread-unwritten : (command : Option Command) (name : List ℕ) (before after : Outside B) → LeftUnread told command name before after
+      → (after.out ≡ before.out) × (after.held ≡ before.held)
+  unread-unwritten (Some (Runs inputs expect rate seed first turns program)) name before after h = runs-unread-unwritten told (runs_words inputs expect rate seed first turns program) name before after h
+  unread-unwritten command name before after h = (h.out, h.held)
+
+  pub unread-wanting : (command : Option Command) (name : List ℕ) (before after : Outside B) → LeftUnread told command name before after
+      → IsUnmoved before after ⊎ LeftWithin told command before after
+  unread-wanting (Some (Runs inputs expect rate seed first turns program)) name before after h = unread-stopped told (runs_words inputs expect rate seed first turns program) name before after h
+  unread-wanting command name before after h = inl h

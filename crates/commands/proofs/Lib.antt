@@ -1,1 +1,2 @@
 pub mod LeftByRefusal
+pub mod LeftByRuns

@@ -2,9 +2,9 @@ ghost use Rattle.std.specs.Prelude.{◌≡◌, ◌≤◌, [], IfOk, IfErr, IsErr
 ghost use Rattle.cbi_base.specs.Faults.{Rose};
 ghost use Rattle.cbi_words.specs.Within.{IsWithin};
 ghost use Rattle.command_base.specs.Outside.{outside, AllStayBut};
-ghost use Rattle.command_base.specs.Names.{IsOneOf, IsFirstMissing, AreHeld};
-ghost use Rattle.command_base.specs.Faults.{Caused, OfRead, OfRefusal, Precedes, Passed};
-ghost use Rattle.commands.specs.Commands.{names_of, written_by, Did, LeftByFault, IsRefused, IsRefusedBy, WriteFault};
+ghost use Rattle.command_base.specs.Names.{AreHeld};
+ghost use Rattle.command_base.specs.Faults.{Caused, Finished, OfRead, OfRefusal, Precedes, Passed};
+ghost use Rattle.commands.specs.Commands.{names_of, written_by, AreReadHeld, Did, IsReadMissing, IsReadName, LeftByFault, IsRefused, IsRefusedBy, WriteFault};
 
 use cbi_base::{Sink, Store};
 use cbi_words::Command;
@@ -15,6 +15,7 @@ use command_collect::{CollectWords, collect_files};
 use command_pairs::{PairsWords, find_pairs};
 use command_rank::{RankWords, rank_runs};
 use command_run::{RunWords, run_file};
+use command_runs::{RunsWords, make_runs};
 use command_session::{SessionWords, replay_edits};
 use command_study::{StudyWords, study_text};
 use command_transform::{TransformWords, transform_text};
@@ -35,7 +36,7 @@ pub fn obey<S: Store, O: Sink>(
     ensures ok { IfOk result (Did (λ b. seen b) (Some command)
         (outside (S.holds store.old) (O.taken out.old) probes.old.items) (outside (S.holds store.new) (O.taken out.new) probes.new.items)) }
     ensures fault { IfErr result (λ e. Caused e
-        (λ name. IsOneOf (names_of (Some command)) name × Rose (S.read_faults store.old) (S.read_faults store.new))
+        (λ name. IsReadName (Some command) (S.holds store.old) name × Rose (S.read_faults store.old) (S.read_faults store.new))
         (WriteFault (Some command) (Rose (O.faults out.old) (O.faults out.new)) (Rose (S.write_faults store.old) (S.write_faults store.new)))
         (IsRefusedBy (Some command) (S.holds store.old))) }
     ensures was_refused { IfErr result (λ e. OfRefusal e (IsRefused (Some command) (S.holds store.old))) }
@@ -45,7 +46,8 @@ pub fn obey<S: Store, O: Sink>(
     ensures left { IfErr result (λ e. LeftByFault (λ b. seen b) (Some command) e
         (outside (S.holds store.old) (O.taken out.old) probes.old.items) (outside (S.holds store.new) (O.taken out.new) probes.new.items)) }
     ensures was_held { Passed result (AreHeld (S.holds store.old) (names_of (Some command))) }
-    ensures missing { S.is_sound store.old → IfErr result (λ e. OfRead e (IsFirstMissing (S.holds store.old) (names_of (Some command)))) }
+    ensures all_held { Finished result (AreReadHeld (Some command) (S.holds store.old)) }
+    ensures missing { S.is_sound store.old → IfErr result (λ e. OfRead e (IsReadMissing (Some command) (S.holds store.old))) }
     ensures held { AllStayBut (written_by (Some command)) (S.holds store.old) (S.holds store.new) }
     ensures no_read { names_of (Some command) ≡ [] → S.read_faults store.new ≡ S.read_faults store.old }
     ensures no_write { IsNone (written_by (Some command)) → S.write_faults store.new ≡ S.write_faults store.old }
@@ -56,7 +58,7 @@ pub fn obey<S: Store, O: Sink>(
     ensures out_rises { O.faults out.old ≤ O.faults out.new }
     ensures store_sound { S.is_sound store.old → S.is_sound store.new }
     ensures out_sound { O.is_sound out.old → O.is_sound out.new }
-    ensures reads_stay { S.is_sound store.old → AreHeld (S.holds store.old) (names_of (Some command)) → S.read_faults store.new ≡ S.read_faults store.old }
+    ensures reads_stay { S.is_sound store.old → AreReadHeld (Some command) (S.holds store.old) → S.read_faults store.new ≡ S.read_faults store.old }
     ensures writes_stay { S.is_sound store.old → S.write_faults store.new ≡ S.write_faults store.old }
     ensures out_stays { O.is_sound out.old → O.faults out.new ≡ O.faults out.old }
 {
@@ -188,6 +190,26 @@ pub fn obey<S: Store, O: Sink>(
                 collection,
             };
             find_pairs(alloc, &words, store, out)
+        }
+        Command::Runs {
+            inputs,
+            expect,
+            rate,
+            seed,
+            first,
+            turns,
+            program,
+        } => {
+            let words = RunsWords {
+                inputs,
+                expect,
+                rate,
+                seed,
+                first,
+                turns,
+                program,
+            };
+            make_runs(alloc, &words, store, out, probes)
         }
     }
 }

@@ -3,10 +3,8 @@ use Rattle.std.specs.Prelude.{◌≡◌, ℕ, List, ◌++◌, Option, ◌⊎◌,
 use Rattle.cbi_base.specs.Faults.{Rose}
 use Rattle.cbi_base.specs.Sink.{Takes, TakesPrefix}
 use Rattle.cbi_base.specs.Refusal.{refusal_line}
-use Rattle.cbi_base.specs.Store.{Held}
 use Rattle.cbi_base.specs.declared.refusal.Refusal.{Refusal}
 use Rattle.cbi_usage.specs.UsageText.{IsUsageText}
-use Rattle.command_base.specs.Names.{IsOneOf, IsFirstMissing}
 use Rattle.command_base.specs.declared.done.Done.{Done}
 use Rattle.command_base.specs.declared.fault.Fault.{Fault}
 use Rattle.command_base.specs.declared.fault.Fault.TheVariants.{Read, Write, Refused, Memory}
@@ -50,11 +48,12 @@ pub record DoneTold (did : Done → Type 0) (lines : List ℕ) (told : List ℕ 
   pub is_done : did said
   pub is_told : told (done_text said lines)
 
--- told of a file that wasn't read: a name of the command, and over a sound store the first of them that isn't held
-pub record ReadTold (names : List (List ℕ)) (held : Option Held) (sound : Type 0) (told : List ℕ → Type 0) : Type 0 where
+-- told of a file that wasn't read: a name that the command reads, and over a sound store the first of them that isn't held; this was left
+pub record ReadTold (named missing_first : List ℕ → Type 0) (sound : Type 0) (left_by told : List ℕ → Type 0) : Type 0 where
   pub name : List ℕ
-  pub is_named : IsOneOf names name
-  pub missing : sound → IsFirstMissing held names name
+  pub is_named : named name
+  pub missing : sound → missing_first name
+  pub left : left_by name
   pub is : told (read_line name)
 
 -- told of a refusal of the bytes read, which left this

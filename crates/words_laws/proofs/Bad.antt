@@ -12,8 +12,8 @@ use Rattle.cbi_options.specs.Schemes.{all_schemes, mode_wanted, schemes_or}
 use Rattle.cbi_options.specs.Shares.{is_share, share_or, share_wanted}
 use Rattle.cbi_options.specs.Values.{fits, is_mode, is_number, is_policy, is_schemes}
 use Rattle.cbi_words.specs.declared.command.Command.{Command}
-use Rattle.cbi_words.specs.BadValue.{Rule, bad_bank, bad_in, bad_rank, bad_run, bad_session, bad_study, bad_transform, bad_widen, first_bad, later_bad_in}
-use Rattle.cbi_words.specs.Reading.{asked, bank_of, bank_options, command_in, later_command_in, no_positional, only, rank_of, rank_options, run_of, run_options, session_of, session_options, study_of, study_options, transform_of, transform_options, two, widen_of, widen_options}
+use Rattle.cbi_words.specs.BadValue.{Rule, bad_bank, bad_in, bad_rank, bad_run, bad_runs, bad_session, bad_study, bad_transform, bad_widen, first_bad, later_bad_in}
+use Rattle.cbi_words.specs.Reading.{asked, bank_of, bank_options, command_in, later_command_in, listed_runs_of, no_positional, only, rank_of, rank_options, run_of, run_options, runs_options, session_of, session_options, study_of, study_options, transform_of, transform_options, two, widen_of, widen_options}
 use Rattle.words_laws.specs.Laws.{BadValuesAreNoCommand}
 
 -- one of these options is given a value that it doesn't take
@@ -98,6 +98,22 @@ bank_none g option e =
         then_none (number_wanted 0 18446744073709551615 (value_of (codes "--seed") g.options)) _ (λ seed. first_none _ _ (no_number_or 0 0 18446744073709551615 (value_of (codes "--stream") g.options) stream))))
     by (inr (inr (inr (inr none)))) = absurd none
 
+runs_none : (g : Given) (option : List ℕ) → bad_runs g ≡ Some option → listed_runs_of g ≡ None
+runs_none g option e =
+    by (is_bad (record { name = codes "--rate"; takes = is_number 1 65536 } ∷ record { name = codes "--seed"; takes = is_number 0 18446744073709551615 } ∷ record { name = codes "--first"; takes = is_number 1 4294967295 } ∷ record { name = codes "--turns"; takes = is_number 0 100000000 } ∷ []) g.options option (last (value_of (codes "--seed") g.options) _ option (last (value_of (codes "--rate") g.options) _ option (last (value_of (codes "--inputs") g.options) _ option (last (only g.positionals) _ option e)))))
+  where
+    by : (fits (is_number 1 65536) (value_of (codes "--rate") g.options) ≡ false) ⊎ ((fits (is_number 0 18446744073709551615) (value_of (codes "--seed") g.options) ≡ false)
+        ⊎ ((fits (is_number 1 4294967295) (value_of (codes "--first") g.options) ≡ false) ⊎ ((fits (is_number 0 100000000) (value_of (codes "--turns") g.options) ≡ false) ⊎ ⊥))) → listed_runs_of g ≡ None
+    by (inl rate) = then_none (value_of (codes "--inputs") g.options) _ (λ inputs. first_none _ _ (no_number 1 65536 (value_of (codes "--rate") g.options) rate))
+    by (inr (inl seed)) = then_none (value_of (codes "--inputs") g.options) _ (λ inputs. then_none (number_wanted 1 65536 (value_of (codes "--rate") g.options)) _ (λ rate. first_none _ _ (no_number 0 18446744073709551615 (value_of (codes "--seed") g.options) seed)))
+    by (inr (inr (inl first))) =
+        then_none (value_of (codes "--inputs") g.options) _ (λ inputs. then_none (number_wanted 1 65536 (value_of (codes "--rate") g.options)) _ (λ rate. then_none (number_wanted 0 18446744073709551615 (value_of (codes "--seed") g.options)) _ (λ seed.
+        first_none _ _ (no_number_or 1 1 4294967295 (value_of (codes "--first") g.options) first))))
+    by (inr (inr (inr (inl turns)))) =
+        then_none (value_of (codes "--inputs") g.options) _ (λ inputs. then_none (number_wanted 1 65536 (value_of (codes "--rate") g.options)) _ (λ rate. then_none (number_wanted 0 18446744073709551615 (value_of (codes "--seed") g.options)) _ (λ seed.
+        then_none (number_or 1 1 4294967295 (value_of (codes "--first") g.options)) _ (λ first. first_none _ _ (no_number_or 1000000 0 100000000 (value_of (codes "--turns") g.options) turns)))))
+    by (inr (inr (inr (inr none)))) = absurd none
+
 rank_none : (g : Given) (option : List ℕ) → bad_rank g ≡ Some option → rank_of g ≡ None
 rank_none g option e = by (is_bad (record { name = codes "--policy"; takes = is_policy } ∷ []) g.options option (last (two g.positionals) _ option e))
   where
@@ -158,7 +174,8 @@ later_none : (name : List ℕ) (words : List (List ℕ)) (option : List ℕ) →
 unfolding later_bad_in later_command_in
 later_none name words option e =
     by_name (is_word name (codes "session")) _ _ _ _ option (asked_none (asked session_options words) bad_session session_of option session_none)
-    (by_name (is_word name (codes "widen")) _ _ _ _ option (asked_none (asked widen_options words) bad_widen widen_of option widen_none) (λ none. absurd cc)) e
+    (by_name (is_word name (codes "widen")) _ _ _ _ option (asked_none (asked widen_options words) bad_widen widen_of option widen_none)
+    (by_name (is_word name (codes "runs")) _ _ _ _ option (asked_none (asked runs_options words) bad_runs listed_runs_of option runs_none) (λ none. absurd cc))) e
 
 command_none : (name : List ℕ) (words : List (List ℕ)) (option : List ℕ) → bad_in name words ≡ Some option → command_in name words ≡ None
 unfolding bad_in command_in

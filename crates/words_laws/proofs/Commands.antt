@@ -6,7 +6,7 @@ use Rattle.cbi_options.specs.declared.given.Given.{Given}
 use Rattle.cbi_options.specs.Options.{number_or, number_wanted, value_of}
 use Rattle.cbi_words.specs.declared.command.Command.{Command}
 use Rattle.cbi_words.specs.declared.command.Command.TheVariants.{Bank}
-use Rattle.cbi_words.specs.Reading.{asked, bank_of, bank_options, cards_of, collect_of, collect_options, command_in, later_command_in, no_options, no_positional, pairs_of, rank_of, rank_options, run_of, run_options, session_of, session_options, study_of, study_options, transform_of, transform_options, widen_of, widen_options}
+use Rattle.cbi_words.specs.Reading.{asked, bank_of, bank_options, cards_of, collect_of, collect_options, command_in, later_command_in, listed_runs_of, no_options, no_positional, pairs_of, rank_of, rank_options, run_of, run_options, runs_options, session_of, session_options, study_of, study_options, transform_of, transform_options, widen_of, widen_options}
 use Rattle.words_laws.specs.Laws.{CommandStays, CommandsTakeWhatIsSaid, SaySame}
 use Rattle.words_laws.proofs.Moving.{change_places}
 
@@ -23,6 +23,9 @@ run_heeds g h positionals values = rw (values (codes "--turns"), values (codes "
 
 collect_heeds : Heeds collect_of
 collect_heeds g h positionals values = rw (values (codes "--program"), positionals) refl
+
+runs_heeds : Heeds listed_runs_of
+runs_heeds g h positionals values = rw (values (codes "--inputs"), values (codes "--rate"), values (codes "--seed"), values (codes "--first"), values (codes "--turns"), values (codes "--expect"), positionals) refl
 
 rank_heeds : Heeds rank_of
 rank_heeds g h positionals values = rw (values (codes "--policy"), positionals) refl
@@ -83,8 +86,9 @@ unfolding later_command_in
 later_same name one two same =
     choose (is_word name (codes "session")) _ _ _ _ (bound session_of (asked session_options one) (asked session_options two) session_heeds (same session_options))
     (choose (is_word name (codes "widen")) _ _ _ _ (bound widen_of (asked widen_options one) (asked widen_options two) widen_heeds (same widen_options))
+    (choose (is_word name (codes "runs")) _ _ _ _ (bound listed_runs_of (asked runs_options one) (asked runs_options two) runs_heeds (same runs_options))
     (choose (is_word name (codes "cards")) _ _ _ _ (bound cards_of (asked no_options one) (asked no_options two) cards_heeds (same no_options))
-    (choose (is_word name (codes "pairs")) _ _ _ _ (bound pairs_of (asked no_options one) (asked no_options two) pairs_heeds (same no_options)) refl)))
+    (choose (is_word name (codes "pairs")) _ _ _ _ (bound pairs_of (asked no_options one) (asked no_options two) pairs_heeds (same no_options)) refl))))
 
 command_same : (name : List ℕ) (one two : List (List ℕ)) → Said one two → command_in name one ≡ command_in name two
 unfolding command_in

@@ -1,0 +1,4 @@
+pub mod Lists
+pub mod Line
+pub mod Once
+pub mod Runs

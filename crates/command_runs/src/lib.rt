@@ -1,0 +1,11 @@
+//! What the command `runs` does: it runs a program on each input of a list, and writes the collection of the reports.
+#![tactic(auto)]
+
+mod command;
+mod lists;
+mod plan;
+mod texts;
+mod words;
+
+pub use command::make_runs;
+pub use words::RunsWords;
