@@ -9,6 +9,7 @@ import unittest
 sys.dont_write_bytecode = True
 import look_at_process_collections  # noqa: E402
 import look_at_process_files  # noqa: E402
+import look_at_process_lists  # noqa: E402
 import look_at_process_samples  # noqa: E402
 import look_at_process_streams  # noqa: E402
 import look_at_process_studies  # noqa: E402
@@ -21,6 +22,7 @@ MODULES = (
     look_at_process_texts,
     look_at_process_samples,
     look_at_process_studies,
+    look_at_process_lists,
     look_at_process_streams,
 )
 

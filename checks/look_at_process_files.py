@@ -1,7 +1,7 @@
 """Looks at words, at files that are missing or damaged, and at runs of program files."""
 from look_at_process_base import NONE, SIX, THREE, Process
 
-COMMANDS = ("transform", "run", "bank", "collect", "rank", "pairs", "cards", "session", "widen", "study")
+COMMANDS = ("transform", "run", "bank", "collect", "runs", "rank", "pairs", "cards", "session", "widen", "study")
 
 
 class Words(Process):

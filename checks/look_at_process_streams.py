@@ -63,6 +63,10 @@ class Streams(Process):
     def test_a_text_is_studied_without_an_err_and_not_without_an_out(self) -> None:
         self.look_both("study", "--runs", "2", "--seed", "7", "--rate", "1", "--turns", "10", "six.c")
 
+    def test_a_list_of_inputs_is_run_without_an_err_and_not_without_an_out(self) -> None:
+        self.write("list", "six.c\nedits\n")
+        self.look_both("runs", "--inputs", "list", "--rate", "1", "--seed", "7", "first")
+
     def test_a_run_without_an_err_leaves_its_report(self) -> None:
         due = f"cbi-collection 2\nprogram {self.identity('first')}\nrun 1 ended 0 label pass work 0 0 0\nend\n"
         for way, where in WAYS:
@@ -80,6 +84,10 @@ class Streams(Process):
 
     def test_a_file_that_is_missing_has_its_status_without_an_err(self) -> None:
         self.look_deaf(3, "run", "missing")
+
+    def test_an_input_that_is_missing_has_its_status_without_an_err(self) -> None:
+        self.write("list", "edits\nmissing\n")
+        self.look_deaf(3, "runs", "--inputs", "list", "--rate", "1", "--seed", "7", "first")
 
     def test_a_file_that_is_refused_has_its_status_without_an_err(self) -> None:
         self.write("empty", "")
