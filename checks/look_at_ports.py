@@ -150,11 +150,14 @@ class Worked(Case):
         mine, theirs = self.sites(ported.text, ported.added, ported.lines), self.sites(by_hand)
         self.assertLessEqual(mine, 1.1 * theirs, f"{mine} sites by the tool, {theirs} by hand")
 
-    def test_floats_are_told(self):
-        """The program with floats is refused, each line of them."""
-        with self.assertRaises(cbi_port.Refused) as caught:
-            cbi_port.port([os.path.join(EXAMPLES, "ported", "stock.c")])
-        self.assertTrue(all("double" in problem.construct or "0.0" in problem.construct for problem in caught.exception.problems))
+    def test_stock_with_floats(self):
+        """The program as it was, with its `double`."""
+        name = os.path.join(EXAMPLES, "ported", "stock.c")
+        ported = cbi_port.port([name], args="first-line")
+        rows = ["in nuts 12", "in bolts 30", "out nuts 5", "show", "sum", "in nuts 1", "sum"]
+        given = [(str(some), ("\n".join(["", *rows[:some]]) + "\n").encode()) for some in (0, 3, 5, 7)]
+        checked = check.compare([name], [], ported, given, CBI, "first-line", TURNS)
+        self.assertEqual((checked.equal, checked.differences), (4, []))
 
 
 class Files(Case):
@@ -214,7 +217,7 @@ class Command(Case):
         self.write("in/below/y", "")
         out, _ = self.call("cbi-port", "--check", "--inputs", "in", "a.c")
         self.assertEqual(out, "2 of 2 outputs as gcc's\n")
-        self.write("c.c", "int main(void)\n{\n    float f;\n    goto x;\n}\n")
+        self.write("c.c", "int main(void)\n{\n    double f = sin(1);\n    goto x;\n}\n")
         out, err = self.call("cbi-port", "c.c", due=1)
         self.assertEqual(out, "")
         self.assertEqual([row.split(": ")[1] for row in err.strip().split("\n")], ["c.c:3", "c.c:4"])

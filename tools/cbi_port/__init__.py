@@ -60,9 +60,11 @@ class Ported(NamedTuple):
 
 
 def singular(name: str) -> str:
+    """`functions with jumps` becomes `function with jumps`."""
+    head, mark, rest = next((name.partition(mark) for mark in (" with ", " of ") if mark in name), (name, "", ""))
     for end, less in (("ches", 2), ("ies", 3), ("s", 1)):
-        if name.endswith(end):
-            return name[:-less] + ("y" if end == "ies" else "")
+        if head.endswith(end):
+            return head[:-less] + ("y" if end == "ies" else "") + mark + rest
     return name
 
 

@@ -26,7 +26,8 @@ class Body:
         self.addressed: Any = set()
         self.ends: List[str] = []  # what is done before each return
         self.whole: Any = None
-        self.direct: Any = None
+        self.direct: Any = None           # the statements within an expression before which nothing of it is evaluated
+        self.leading: Dict[int, Any] = {}  # those that may be evaluated before all else of it
         self.segments = 0
         self.leaves: List[Tuple[str, str]] = []
         self.first_rows: List[str] = []
@@ -34,6 +35,8 @@ class Body:
         self.wanted_labels: Dict[str, int] = {}
         self.defined_labels: Set[str] = set()
         self.lengths = False
+        self.outer_names: Set[str] = set()  # what is declared `extern` within the function
+        self.dead = 0              # within what a constant says is never evaluated
 
     def put(self, text: str) -> None:
         self.out.append(text)

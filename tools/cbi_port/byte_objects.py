@@ -6,13 +6,13 @@ import re
 from typing import Any, Dict, List, Optional, Tuple
 
 from cbi_port.conversions import number
-from cbi_port.declarations import kind
-from cbi_port.gnu import bytes_of
+from cbi_port.constants import bytes_of
 from cbi_port.objects import Objects
 from cbi_port.scopes import Symbol
-from cbi_port.types import (CHAR, INT, SCHAR, SHORT, UINT, Array, CType, Float, Function, Int, List_, Member, Pointer,
-                            Struct, Void, align_of, is_complete, is_long, is_whole, size_of, spelled)
-from cbi_port.values import ADD, ASSIGN, EQUAL, ORDER, POSTFIX, TIMES, UNARY, Place, Value
+from cbi_port.trees import kind
+from cbi_port.types import (CHAR, INT, SCHAR, SHORT, UINT, Array, CType, Function, Int, List_, Member, Pointer,
+                            Struct, Void, align_of, is_complete, is_long, is_open, is_whole, size_of, spelled, spread)
+from cbi_port.values import ADD, ASSIGN, EQUAL, ORDER, POSTFIX, TIMES, UNARY, Leaf, Place, Value
 
 BASE = 4096
 WORDS = 1000000
@@ -46,6 +46,9 @@ class ByteObjects(Objects):
         self.strings: Dict[bytes, int] = {}
         self.addressed = addressed_everywhere(program.units)
 
+    def hold_size(self, struct: Struct, node: Any) -> None:
+        pass
+
     # Types.
 
     def base(self, type_: CType) -> Tuple[str, int]:
@@ -72,9 +75,28 @@ class ByteObjects(Objects):
         body = self.program.function
         if body is self.program.first:
             return f"{self.static_room(size, align)}u"
-        at = -(-body.frame // 4) * 4
+        if align > 16:
+            # A frame is aligned to 16 bytes.
+            at, body.frame = body.frame, body.frame + size + align
+            return f"(cbi_frame.value + {at + align - 1}u & {(1 << 32) - align}u)"
+        at = -(-body.frame // align) * align
         body.frame = at + max(size, 1)
         return f"cbi_frame.value + {at}u" if at else "cbi_frame.value"
+
+    def room_of(self, symbol: Symbol) -> int:
+        """The bytes of what lives as long as the program, with the elements that GNU C lets an array at a struct's end begin with."""
+        size, type_ = size_of(symbol.type), symbol.type
+        if symbol.init is None or not isinstance(type_, Struct) or not type_.flexible:
+            return size
+        last = type_.members[-1]
+        _, found = self.program.leaves(type_, symbol.init)
+        ends = [path[1] + 1 for path in found if path[0] is last and len(path) > 1]
+        strings = [len(bytes_of(leaf.node.value)) + 1 for path, leaf in found.items() if path == (last,)]
+        return max(size, last.at + max(ends + strings, default=0) * size_of(last.type.of))
+
+    def alignment(self, symbol: Symbol) -> int:
+        """To what a variable is aligned, by its type or by an attribute."""
+        return max(symbol.align, align_of(symbol.type), 4)
 
     def in_memory(self, symbol: Symbol) -> bool:
         if isinstance(symbol.type, (Array, Struct)):
@@ -83,10 +105,10 @@ class ByteObjects(Objects):
 
     def variable(self, symbol: Symbol) -> Place:
         if symbol.memory:
-            level = ADD if "+" in symbol.memory else POSTFIX
+            level = ADD if "+" in symbol.memory and symbol.memory[0] != "(" else POSTFIX
             return Place(symbol.type, symbol.memory, level, memory=True)
         if symbol.outer and self.in_memory(symbol):
-            symbol.memory = f"{self.static_room(size_of(symbol.type), max(align_of(symbol.type), 4))}u"
+            symbol.memory = f"{self.static_room(self.room_of(symbol), max(self.alignment(symbol), 4))}u"
             return Place(symbol.type, symbol.memory, POSTFIX, memory=True)
         return Place(symbol.type, symbol.text)
 
@@ -122,8 +144,8 @@ class ByteObjects(Objects):
             return Value(Pointer(type_.of if isinstance(type_, Array) else type_), place.text, place.level, self.constant_of(place), pure)
         if isinstance(type_, Struct):
             return Value(type_, place.text, place.level, None, pure)
-        if isinstance(type_, (Float, Void)):
-            raise self.program.refuse(node, f"`{spelled(type_)}`", "whole numbers of a smaller unit: cents, thousandths")
+        if isinstance(type_, Void):
+            raise self.program.refuse(node, "a `void` as a value", "a value")
         if place.member is not None:
             return self.load_bits(place, pure)
         if is_long(type_):
@@ -145,12 +167,16 @@ class ByteObjects(Objects):
 
     def load_bits(self, place: Place, pure: bool) -> Value:
         member = place.member
+        assert member is not None
         type_ = member.type
+        if is_long(type_):
+            text = f"cbi_load_long_bits(&{self.program.function.temporary('long')}, {place.at(ASSIGN)}, {member.shift}, {member.width}, {int(type_.signed)})"
+            return Value(type_, text, POSTFIX, pure=pure, wide=member.width if member.width < 64 else None)
         word = "signed" if type_.signed else "bits"
-        text = f"cbi_load_{word}({place.at(ASSIGN)}, {member.shift}, {member.bits})"
-        if member.bits == 32 and not type_.signed:
+        text = f"cbi_load_{word}({place.at(ASSIGN)}, {member.shift}, {member.width})"
+        if member.width == 32 and not type_.signed:
             return Value(UINT if not is_long(type_) else UINT, f"(unsigned){text}", UNARY, pure=pure)
-        return Value(INT, text, POSTFIX, pure=pure, bits=min(member.bits, 31))
+        return Value(INT, text, POSTFIX, pure=pure, bits=min(member.width, 31))
 
     def store(self, place: Place, value: Value, used: bool) -> Value:
         if not place.memory:
@@ -160,10 +186,10 @@ class ByteObjects(Objects):
         address = place.at(ASSIGN)
         if place.member is not None:
             member = place.member
-            text = f"cbi_store_bits({address}, {member.shift}, {member.bits}, {given})"
-            if member.bits == 32 and not type_.signed:
+            text = f"cbi_store_bits({address}, {member.shift}, {member.width}, {given})"
+            if member.width == 32 and not type_.signed:
                 return Value(UINT, f"(unsigned){text}", UNARY, pure=False)
-            return Value(INT, text, POSTFIX, pure=False, bits=min(member.bits, 31))
+            return Value(INT, text, POSTFIX, pure=False, bits=min(member.width, 31))
         size = size_of(type_)
         if size == 1:
             text = f"cbi_store_byte({address}, {given})"
@@ -188,6 +214,9 @@ class ByteObjects(Objects):
         if is_long(place.type):
             if not place.memory:
                 return super().copy(place, value, used, node)
+            if place.member is not None:
+                text = f"cbi_store_long_bits({place.at(ASSIGN)}, {place.member.shift}, {place.member.width}, {self.program.long_text(value)})"
+                return Value(place.type, text, POSTFIX, pure=False)
             return Value(place.type, f"cbi_store_long({place.at(ASSIGN)}, {self.program.long_text(value)})", POSTFIX, pure=False)
         return Value(place.type, f"cbi_copy({place.at(ASSIGN)}, {value.at(ASSIGN)}, {size_of(place.type)}u)", POSTFIX, pure=False)
 
@@ -221,37 +250,45 @@ class ByteObjects(Objects):
 
     def pointer_of(self, value: Value, type_: CType, node: Any) -> Value:
         inner = self.program.converted(value, UINT)
-        return inner._replace(type=type_, null=False)
+        found: Value = inner._replace(type=type_, null=False)
+        return found
 
-    def to_pointer(self, value: Value, type_: CType, implicit: bool, node: Any) -> Value:
+    def to_pointer(self, value: Value, type_: Any, implicit: bool, node: Any) -> Value:
         return value._replace(type=type_)
 
-    def step_size(self, to: CType, node: Any) -> int:
+    def step_size(self, to: CType, node: Any) -> Tuple[int, str]:
+        """The bytes from one element to the next: a number, and a factor that the program finds out."""
         if isinstance(to, (Void, Function)):
-            return 1
+            return 1, ""
+        if is_open(to):
+            inner, count, texts = spread(to)
+            return count * size_of(inner), " * ".join(texts)
         if not is_complete(to):
             raise self.program.refuse(node, f"a moved pointer to {spelled(to)}", "a pointer to a complete type")
-        return size_of(to)
+        return size_of(to), ""
 
     def add(self, pointer: Value, index: Value, sign: str, node: Any = None) -> Value:
-        size = self.step_size(pointer.type.to, node)
+        size, more = self.step_size(pointer.type.to, node)
         pure = pointer.pure and index.pure
-        if index.constant is not None:
+        if index.constant is not None and not more:
             by = index.constant * size * (1 if sign == "+" else -1)
             text, level = moved(pointer.text, pointer.level, by)
             constant = None if pointer.constant is None else (pointer.constant + by) & 0xffffffff
             return Value(pointer.type, text, level, constant, pure)
-        text = index.at(ADD + 1) if size == 1 else f"{index.at(TIMES)} * {size}u"
+        text = index.at(ADD + 1) if size == 1 and not more else f"{index.at(TIMES)} * {size}u"
+        text += f" * {more}" if more else ""
         return Value(pointer.type, f"{pointer.at(ADD)} {sign} {text}", ADD, None, pure)
 
     def difference(self, left: Value, right: Value, node: Any = None) -> Value:
-        size = self.step_size(left.type.to, node)
-        if left.constant is not None and right.constant is not None:
+        size, more = self.step_size(left.type.to, node)
+        if left.constant is not None and right.constant is not None and not more:
             return number(INT.wrap(left.constant - right.constant) // max(size, 1))
         text = f"(int)({left.at(ADD)} - {right.at(ADD + 1)})"
         pure = left.pure and right.pure
         if size == 0:
             return number(0)
+        if more:
+            return Value(INT, f"{text} / (int)({size}u * {more})", TIMES, None, pure)
         return Value(INT, text, UNARY, None, pure) if size == 1 else Value(INT, f"{text} / {size}", TIMES, None, pure)
 
     def compared(self, sign: str, left: Value, right: Value, node: Any = None) -> Value:
@@ -296,7 +333,7 @@ class ByteObjects(Objects):
     def take_parameter(self, symbol: Symbol) -> Tuple[str, List[str]]:
         name = f"cbi_in_{symbol.text}"
         if isinstance(symbol.type, Struct) or symbol.name in self.program.function.addressed:
-            symbol.memory = self.frame_room(size_of(symbol.type))
+            symbol.memory = self.frame_room(size_of(symbol.type), self.alignment(symbol))
             place = self.variable(symbol)
             if is_whole(symbol.type):
                 return name, [self.copy(place, Value(symbol.type, name), False).text + "; "]
@@ -324,7 +361,7 @@ class ByteObjects(Objects):
 
     def declare_bare(self, symbol: Symbol) -> None:
         if self.in_memory(symbol):
-            symbol.memory = self.frame_room(size_of(symbol.type))
+            symbol.memory = self.frame_room(size_of(symbol.type), self.alignment(symbol))
             self.program.put(";")
             return
         self.program.put(f"{self.declare(symbol.type, symbol.text)};")
@@ -335,7 +372,7 @@ class ByteObjects(Objects):
             super().declare_local(symbol, node, found)
             return
         if not symbol.memory:
-            symbol.memory = self.frame_room(size_of(type_))
+            symbol.memory = self.frame_room(size_of(type_), self.alignment(symbol))
         place = self.variable(symbol)
         if node.init is None:
             program.put(";", node)
@@ -355,14 +392,12 @@ class ByteObjects(Objects):
     def open_array(self, node: Any, type_: Array) -> None:
         program = self.program
         function = program.function
-        count = program.converted(program.value(type_.count), UINT, True, node)
-        length = function.lasting("unsigned") + ".value"
         holder = function.lasting("unsigned") + ".value"
         function.first_rows.append(f"{holder} = 0u;")
         symbol = Symbol(node.name, "variable", Pointer(type_.of), holder)
         program.scope.names[node.name] = symbol
-        symbol.lengths = Value(UINT, f"{length} * {size_of(type_.of)}u", TIMES)
-        program.put(f"{length} = {count.text}; cbi_free({holder}); {holder} = cbi_malloc({length} * {size_of(type_.of)}u);", node)
+        symbol.lengths, symbol.open = program.size_value(type_), type_
+        program.put(f"cbi_free({holder}); {holder} = cbi_malloc({symbol.lengths.text});", node)
         function.ends.append(f"cbi_free({holder});")
 
     def literal(self, type_: CType, found: Any, node: Any) -> Place:
@@ -376,7 +411,7 @@ class ByteObjects(Objects):
             rows.append(program.assignment(program.part(place, path, node), leaf, node)[:-1])
         return Place(type_, f"({', '.join(rows + [base])})", POSTFIX, False, memory=True)
 
-    def store_string(self, place: Place, text: str, data: bytes, length: int, type_: CType) -> str:
+    def store_string(self, place: Place, text: str, data: bytes, length: int, type_: Any) -> str:
         count = type_.count if isinstance(type_.count, int) else len(data)
         address = place.at(ASSIGN)
         rest = f", cbi_zero({moved(place.text, place.level, length)[0]}, {count - length}u)" if count > length else ""
@@ -395,7 +430,6 @@ class ByteObjects(Objects):
         if isinstance(type_, (Array, Struct)) and (kind(init) == "InitList" or isinstance(type_, Array)):
             type_, found = program.leaves(type_, init)
         else:
-            from cbi_port.initialisers import Leaf
             found = {(): Leaf(type_, init if kind(init) != "InitList" else init.exprs[0])}
         if not self.static_parts(place, type_, found, node):
             program.first.out.extend(program.assignments(place, found, node))
@@ -420,7 +454,7 @@ class ByteObjects(Objects):
             value = program.value(leaf.node)
             value = program.converted(value, leaf.type, True, leaf.node)
             if part.member is not None and value.constant is not None:
-                value = program.cut(value, part.member.bits, leaf.type) if part.member.bits < 32 else value
+                value = program.cut(value, part.member.width, leaf.type) if part.member.width < 32 else value
             if value.constant is None:
                 return False
             size = size_of(leaf.type)
@@ -433,15 +467,15 @@ class ByteObjects(Objects):
         if member is None:
             self.image[at:at + len(data)] = data
             return
-        mask = ((1 << member.bits) - 1) << member.shift
-        size = (member.shift + member.bits + 7) // 8
+        mask = ((1 << member.width) - 1) << member.shift
+        size = (member.shift + member.width + 7) // 8
         old = int.from_bytes(self.image[at:at + size], "little")
         new = int.from_bytes(data, "little") << member.shift & mask
         self.image[at:at + size] = (old & ~mask | new).to_bytes(size, "little")
 
 
 def addressed_everywhere(units: Any) -> Any:
-    from cbi_port.scopes import names_under_address
+    from cbi_port.trees import names_under_address
     found = set()
     for unit in units:
         if unit.tree is not None:

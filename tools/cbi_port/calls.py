@@ -1,12 +1,12 @@
 """Calls (C99 6.5.2.2), also by pointers, and arguments of which no parameter tells the type (7.15)."""
 from typing import Any, List, Optional, Sequence, Tuple
 
-from cbi_port.declarations import FLOATS, kind
 from cbi_port.lines import mark
 from cbi_port.operators import Operators
 from cbi_port.scopes import Symbol
-from cbi_port.types import (INT, UCHAR, UINT, VOID, Array, CType, Float, Function, Int, List_, Pointer, Struct, Void,
-                            is_long, is_pointer, is_whole, promoted, same, size_of, spelled)
+from cbi_port.trees import kind
+from cbi_port.types import (DOUBLE, FLOAT, INT, UCHAR, UINT, VOID, Array, CType, Function, Int, List_, Pointer, Struct, Void,
+                            is_float, is_long, is_pointer, is_whole, promoted, same, size_of, spelled)
 from cbi_port.conversions import number
 from cbi_port.values import ASSIGN, POSTFIX, Value
 
@@ -18,6 +18,8 @@ class Calls(Operators):
         arguments = list(node.args.exprs) if node.args is not None else []
         if kind(node.name) == "ID":
             name = node.name.name
+            if name == "__cbi_generic":
+                return self.value(self.selected(node, arguments), used)
             if name.startswith(("__cbi_statement", "__cbi_va_arg", "__cbi_same", "__cbi_align", "__cbi_range", "__cbi_label", "__cbi_goto")) or name == "offsetof":
                 return self.special(node, name, arguments, used)
             symbol = self.scope.find(name)
@@ -27,6 +29,8 @@ class Calls(Operators):
                     return found
                 symbol = symbol or self.by_use(node, name)
             if symbol.kind == "function":
+                if self.function.dead and not symbol.defined and symbol.unit != "prelude":
+                    return self.nowhere(symbol.type)
                 self.use(symbol)
                 return self.called(symbol.text, symbol, symbol.type, arguments, node, used)
         value = self.value(node.name)
@@ -36,6 +40,13 @@ class Calls(Operators):
         if isinstance(value.origin, Symbol) and value.origin.kind == "function":
             return self.called(value.origin.text, value.origin, type_, arguments, node, used)
         return self.called_by_pointer(value, type_, arguments, node, used)
+
+    def nowhere(self, type_: Any) -> Value:
+        """A call of a function that isn't defined, where it is never evaluated."""
+        result = type_.result
+        if isinstance(result, Int):
+            return number(0, result)
+        return self.model.null(result) if is_pointer(result) else Value(VOID, "abort()", POSTFIX, pure=False)
 
     def by_use(self, node: Any, name: str) -> Symbol:
         """A function that its call declares (C90 6.3.2.2)."""
@@ -50,8 +61,6 @@ class Calls(Operators):
     def called(self, name: str, symbol: Optional[Symbol], type_: Function, arguments: Sequence[Any], node: Any, used: bool,
                first: Sequence[str] = ()) -> Value:
         """A call by name."""
-        if isinstance(type_.result, Float):
-            raise self.refuse(node, f"a function that gives a `{spelled(type_.result)}`", FLOATS)
         real = symbol.type if symbol is not None else type_
         type_ = real if symbol is not None and isinstance(real, Function) else type_
         texts = list(first)
@@ -84,12 +93,11 @@ class Calls(Operators):
 
     def by_default(self, value: Value) -> CType:
         """6.5.2.2p6."""
-        return promoted(value.type, value.bits) if isinstance(value.type, Int) else value.type
+        found: CType = promoted(value.type, value.bits) if isinstance(value.type, Int) else value.type
+        return DOUBLE if found == FLOAT else found
 
     def passed(self, value: Value, type_: CType, node: Any) -> Value:
         """An argument as a parameter of the type takes it."""
-        if isinstance(type_, Float):
-            raise self.refuse(node, f"a parameter of type `{spelled(type_)}`", FLOATS)
         value = self.converted(value, type_, True, node)
         if is_long(type_):
             return value._replace(text=self.long_text(value), level=POSTFIX)
@@ -108,8 +116,6 @@ class Calls(Operators):
     # Calls by pointers: a function for each kind of call goes through all functions that it may be.
 
     def called_by_pointer(self, value: Value, type_: Function, arguments: Sequence[Any], node: Any, used: bool) -> Value:
-        if isinstance(type_.result, Float):
-            raise self.refuse(node, f"a function that gives a `{spelled(type_.result)}`", FLOATS)
         values = [self.value(argument) for argument in arguments]
         if type_.known and (len(values) < len(type_.parameters) or len(values) > len(type_.parameters) and not type_.more):
             raise self.refuse(node, f"{len(values)} arguments where {len(type_.parameters)} are wanted", "an argument for each parameter")
@@ -124,7 +130,8 @@ class Calls(Operators):
         return Value(type_.result, f"{mark(self.place_of(node))}{name}({', '.join(texts)})", POSTFIX, pure=False)
 
     def dispatcher(self, type_: Function, kinds: Sequence[CType]) -> str:
-        key = (self.head_of(type_.result), tuple(self.model.parameter(it, "") + ("*" if is_whole(it) else "") for it in kinds), type_.more)
+        key = (self.head_of(type_.result), is_float(type_.result),
+               tuple(self.model.parameter(it, "") + "*" * is_whole(it) + "." * is_float(it) for it in kinds), type_.more)
         if key not in self.dispatchers:
             self.dispatchers[key] = (f"cbi_call_{len(self.dispatchers) + 1}", type_, list(kinds))
             self.count("kinds of calls by pointers")
@@ -157,17 +164,19 @@ class Calls(Operators):
         rows = []
         for symbol, index in self.function_numbers.items():
             other = symbol.type
-            if not isinstance(other, Function) or other.more != type_.more or len(other.parameters) != len(kinds):
+            if not isinstance(other, Function) or other.more != type_.more or not self.takes_so_many(other, type_, kinds):
                 continue
-            if self.head_of(other.result) != self.head_of(type_.result) and not isinstance(type_.result, Void):
+            if not isinstance(type_.result, Void) and (
+                    self.head_of(other.result) != self.head_of(type_.result) or is_float(other.result) != is_float(type_.result)):
                 continue
-            if any(is_whole(left) != is_whole(right) or is_whole(left) and not same(left, right) and not (is_long(left) and is_long(right))
+            if any(is_whole(left) != is_whole(right) or is_whole(left) and not same(left, right) and not (is_long(left) and is_long(right) and is_float(left) == is_float(right))
                    or not self.model.in_bytes and is_pointer(left) != is_pointer(right) or self.model.parameter(left, "") != self.model.parameter(right, "") and not (
                        self.may_pass(right, left)) for left, right in zip(other.parameters, kinds)):
                 continue
             if isinstance(type_.result, Void) and is_whole(other.result):
                 continue
-            call = f"{symbol.text}({', '.join((['cbi_result'] if is_whole(type_.result) else []) + names + (['cbi_more'] if type_.more else []))})"
+            given = names[:len(other.parameters)]
+            call = f"{symbol.text}({', '.join((['cbi_result'] if is_whole(type_.result) else []) + given + (['cbi_more'] if type_.more else []))})"
             symbol.used = True
             suffix = "u" if self.model.in_bytes else ""
             if isinstance(type_.result, Void):
@@ -177,14 +186,35 @@ class Calls(Operators):
         rows.append("cbi_no_function(cbi_function);")
         return head + ";", f"{head} {{ {' '.join(rows)} }}"
 
+    def takes_so_many(self, other: Function, type_: Function, kinds: Sequence[CType]) -> bool:
+        """Whether a function is called by so many arguments; one that isn't declared with its parameters leaves the last ones."""
+        return len(other.parameters) == len(kinds) or len(other.parameters) < len(kinds) and not type_.known and not other.known
+
     def may_pass(self, from_: CType, to: CType) -> bool:
         if isinstance(from_, Int) and isinstance(to, Int):
-            return True
+            return is_float(from_) == is_float(to)
         if self.model.in_bytes:
             return not is_whole(from_) and not is_whole(to)
         return is_pointer(from_) and is_pointer(to) and (isinstance(from_.to, Void) or isinstance(to.to, Void))
 
     # What stands for GNU C, and va_arg.
+
+    def selected(self, node: Any, arguments: Sequence[Any]) -> Any:
+        """The expression that a `_Generic` selects (C11 6.5.1.1)."""
+        quiet, self.function.quiet = self.function.quiet, True
+        try:
+            type_ = self.value(arguments[0]).type
+        finally:
+            self.function.quiet = quiet
+        default = None
+        for label, chosen in zip(arguments[1::2], arguments[2::2]):
+            if kind(label) == "ID":
+                default = chosen
+            elif same(self.type_under_sizeof(label.expr), type_):
+                return chosen
+        if default is None:
+            raise self.refuse(node, f"a `_Generic` without an entry for `{spelled(type_)}`", "a `default`")
+        return default
 
     def special(self, node: Any, name: str, arguments: Sequence[Any], used: bool) -> Value:
         if name == "offsetof":
@@ -196,7 +226,8 @@ class Calls(Operators):
             return number(int(same(left, right)))
         if name == "__cbi_align":
             from cbi_port.types import align_of
-            return number(align_of(self.type_under_sizeof(arguments[0].expr)), UINT)
+            inner = arguments[0].expr
+            return number(max(align_of(self.type_under_sizeof(inner)), self.said_alignment(inner)), UINT)
         if name.startswith("__cbi_statement"):
             return self.statement_value(node, name, used)
         if name == "__cbi_range":
@@ -243,7 +274,5 @@ class Calls(Operators):
             else:
                 raise self.refuse(node, "`va_arg` of no `va_list`", "a `va_list`")
         type_ = self.type_under_sizeof(arguments[1].expr)
-        if isinstance(type_, Float):
-            raise self.refuse(node, f"an argument of type `{spelled(type_)}`", FLOATS)
         self.count("lists of arguments")
         return self.model.next_argument(place, type_, node)

@@ -1,17 +1,20 @@
 """Memory as the dialect has it (C99 6.2.6, 6.3.2): a cell for each scalar, which gives back what was stored in it."""
-from typing import Any, List, Optional, Tuple
+from typing import Any, Dict, List, Optional, Tuple
 
 from cbi_port.conversions import number
 from cbi_port.scopes import Symbol
-from cbi_port.types import (CHAR, INT, UCHAR, Array, CType, Float, Function, Int, List_, Member, Pointer, Struct, Void,
-                            is_complete, is_long, is_whole, same, size_of, spelled, to_function)
+from cbi_port.types import (CHAR, INT, UCHAR, Array, CType, Function, Int, List_, Member, Pointer, Struct, Void,
+                            is_complete, is_long, is_open, is_whole, same, size_of, spelled, spread, to_function)
 from cbi_port.values import ADD, ASSIGN, BITAND, EQUAL, ORDER, POSTFIX, TIMES, UNARY, Place, Value, prefixed
+
+
+MOST_CELLS = 1000000  # the dialect has somewhat more, of which the prelude wants some
 
 
 def cells(type_: CType) -> int:
     """How many cells a type has."""
     if isinstance(type_, Array):
-        return int(type_.count or 0) * cells(type_.of)
+        return type_.count * cells(type_.of) if isinstance(type_.count, int) else 0
     if isinstance(type_, Struct):
         if type_.union:
             return 1 + sum(cells(member.type) for member in type_.members)
@@ -21,11 +24,8 @@ def cells(type_: CType) -> int:
 
 def innermost(type_: CType) -> Tuple[CType, int]:
     """What an array holds at last, and how many of it."""
-    count = 1
-    while isinstance(type_, Array):
-        count *= int(type_.count or 0)
-        type_ = type_.of
-    return type_, count
+    inner, count, _ = spread(type_)
+    return inner, count
 
 
 def like_char(type_: CType) -> bool:
@@ -71,10 +71,21 @@ class Cells:
     """The model of memory in which objects are the dialect's own."""
 
     in_bytes = False
+    own_calls: Dict[str, Any]
     pointer_word = "void *"
 
     def __init__(self, program: Any) -> None:
         self.program = program
+
+    def calls(self) -> Dict[str, Any]:
+        """Calls of the library that go by the model."""
+        from cbi_port.library import TypedCalls
+        return TypedCalls(self.program).table()
+
+    def hold_size(self, struct: Struct, node: Any) -> None:
+        """Refuses a struct of more scalars than an object of the dialect has."""
+        if cells(struct) > MOST_CELLS:
+            raise self.program.refuse(node, f"a struct of more than {MOST_CELLS:,} scalars", "smaller arrays", True)
 
     # Types as the dialect spells them.
 
@@ -151,18 +162,30 @@ class Cells:
             raise self.program.refuse(node, "`*` of a `void *`", "a pointer to a type", True)
         if isinstance(to, Array):
             return Place(to, pointer.text, pointer.level, pointer.pure, pointer="flat")
+        if pointer.null:
+            pointer = pointer._replace(text=f"({self.spell(pointer.type)})NULL", level=UNARY)
         return Place(to, prefixed("*", pointer.text, pointer.level), UNARY, pointer.pure, pointer=pointer.at(POSTFIX))
 
     def member(self, outer: Place, member: Member, struct: Struct, node: Any = None) -> Place:
         name = self.member_name(member)
         if struct.union:
             return self.union_member(outer, member, struct, node)
+        if outer.union is not None:
+            return self.part_of_union(outer, member, node)
         if isinstance(member.type, Array) and not member.type.count:
             raise self.program.refuse(node, "an array of no length at a struct's end", "a pointer to memory of malloc", True)
         text = f"{outer.pointer}->{name}" if outer.pointer else f"{outer.at(POSTFIX)}.{name}"
         inner = innermost(member.type)[0]
         stored = member.name in struct.forward and isinstance(inner, Pointer) and not to_function(inner)
-        return Place(member.type, text, POSTFIX, outer.pure, member=member if member.bits is not None else None, stored=stored, union=outer.union)
+        return Place(member.type, text, POSTFIX, outer.pure, member=member if member.bits is not None else None, stored=stored)
+
+    def part_of_union(self, outer: Place, member: Member, node: Any) -> Place:
+        """A member of a struct that is a member of a union."""
+        if isinstance(member.type, Array) and not member.type.count:
+            raise self.program.refuse(node, "an array of no length at a struct's end", "a pointer to memory of malloc", True)
+        inner = innermost(member.type)[0]
+        return outer._replace(type=member.type, union=outer.union[:4] + (outer.union[4] + [(member, member.name in outer.type.forward and isinstance(
+            inner, Pointer) and not to_function(inner))],), member=member if member.bits is not None else None)
 
     def union_member(self, outer: Place, member: Member, struct: Struct, node: Any) -> Place:
         program = self.program
@@ -170,7 +193,7 @@ class Cells:
             raise program.refuse(node, f"`{member.name}` of {struct!r}, of which parts are looked at", "a struct with a member for each kind of value", True)
         number_ = struct.members.index(member) + 1
         pointer = outer.pointer or f"&{outer.text}"
-        return Place(member.type, outer.text, outer.level, outer.pure, union=(struct, number_, pointer, self.member_name(member)))
+        return Place(member.type, outer.text, outer.level, outer.pure, union=(struct, number_, pointer, self.member_name(member), []))
 
     def has_tag(self, union: Struct) -> bool:
         """Whether it is known elsewhere which member a union has: a struct around it has a number, and at most one member is one."""
@@ -182,9 +205,12 @@ class Cells:
         """A member of a union as a place that may be read, or written."""
         if place.union is None:
             return place
-        struct, number_, pointer, name = place.union
+        struct, number_, pointer, name, way = place.union
         what = f"cbi_{'put' if write else 'get'}_{struct.tag}_{name}"
         self.program.union_helpers.add((struct, number_, write))
+        if way:
+            text = f"{what}({pointer})->" + ".".join(self.member_name(member) for member, _ in way)
+            return Place(place.type, text, POSTFIX, place.pure, member=place.member, stored=way[-1][1])
         stored = name in struct.forward and isinstance(place.type, Pointer) and not to_function(place.type)
         return Place(place.type, f"*{what}({pointer})", UNARY, place.pure, pointer=f"{what}({pointer})", stored=stored)
 
@@ -214,11 +240,10 @@ class Cells:
         if isinstance(type_, Function):
             return Value(Pointer(type_), place.text, place.level)
         if is_whole(type_):
+            wide = place.member.width if place.member is not None and place.member.width < 64 else None
             if place.pointer:
-                return Value(type_, place.pointer, POSTFIX, pure=place.pure)
-            return Value(type_, f"&{place.at(UNARY)}", UNARY, pure=place.pure, origin="name" if place.level == POSTFIX else None)
-        if isinstance(type_, Float):
-            raise self.program.refuse(node, f"`{spelled(type_)}`", "whole numbers of a smaller unit: cents, thousandths")
+                return Value(type_, place.pointer, POSTFIX, pure=place.pure, wide=wide)
+            return Value(type_, f"&{place.at(UNARY)}", UNARY, pure=place.pure, origin="name" if place.level == POSTFIX else None, wide=wide)
         if place.stored:
             return Value(type_, prefixed(f"({self.spell(type_)})", place.text, place.level), UNARY, pure=place.pure)
         if type_ == UCHAR and place.member is None:
@@ -253,7 +278,7 @@ class Cells:
             return Value(place.type, prefixed(f"({self.spell(place.type)})", text, ASSIGN), UNARY, pure=False)
         if place.type == UCHAR and place.member is None:
             return Value(UCHAR, f"({text}) & 255", BITAND, pure=False, raw=f"({text})")
-        if place.member is not None and place.member.bits < 32:
+        if place.member is not None and place.member.width < 32:
             return result._replace(type=INT, bits=place.member.bits)
         return result
 
@@ -324,7 +349,7 @@ class Cells:
             return value._replace(type=type_)
         raise self.program.refuse(node, "a number as a pointer", "the pointer itself, or NULL", True)
 
-    def to_pointer(self, value: Value, type_: CType, implicit: bool, node: Any) -> Value:
+    def to_pointer(self, value: Value, type_: Any, implicit: bool, node: Any) -> Value:
         from_ = value.type
         if isinstance(from_, List_) or isinstance(type_, List_):
             return value._replace(type=type_)
@@ -341,7 +366,7 @@ class Cells:
                     raise self.program.refuse(node, "memory of `calloc` or `realloc` without a type", "a pointer to the type that it is to hold", True)
                 return value._replace(type=type_, fresh=None)
             self.program.fresh_types.add(self.spell(type_.to) if not isinstance(type_.to, Array) else "array")
-            return Value(type_, value.fresh(type_.to), POSTFIX, pure=False)
+            return Value(type_, value.fresh(spread(type_.to)[0] if is_open(type_.to) else type_.to), POSTFIX, pure=False)
         if isinstance(type_.to, Void):
             self.generic(from_, value)
             if implicit or isinstance(from_.to, Void):
@@ -360,7 +385,7 @@ class Cells:
             return value._replace(type=type_)
         return Value(type_, prefixed(f"({self.spell(type_)})(void *)", value.text, value.level), UNARY, pure=value.pure)
 
-    def generic(self, from_: CType, value: Value) -> None:
+    def generic(self, from_: Any, value: Value) -> None:
         """Notes a pointer to characters that was reckoned and becomes a `void *`."""
         if like_char(from_.to) and value.level in (ADD, UNARY, ASSIGN) and "\"" not in value.text:
             self.program.to_generic.append(self.program.last_place)
@@ -378,7 +403,8 @@ class Cells:
             return not left.complete or not right.complete or is_prefix(left, right) or is_prefix(right, left) or begins_with(
                 left, right) or begins_with(right, left)
         if isinstance(left, Struct) or isinstance(right, Struct):
-            struct, other = (left, right) if isinstance(left, Struct) else (right, left)
+            struct: Any = left if isinstance(left, Struct) else right
+            other = right if isinstance(left, Struct) else left
             return begins_with(struct, other) and (all_words(struct) or isinstance(other, Struct))
         return False
 
@@ -391,9 +417,9 @@ class Cells:
             raise self.program.refuse(node, "a moved `void *`", "a `char *`, or a pointer to what is there", True)
         text = index.at(ADD + 1)
         if isinstance(to, Array):
-            count = innermost(to)[1]
-            if count != 1:
-                text = f"{index.at(TIMES)} * {count}"
+            _, count, texts = spread(to)
+            factors = [index.at(TIMES), *texts] + [str(count)] * (count != 1)
+            text = " * ".join(factors) if len(factors) > 1 else text
         return Value(pointer.type, f"{pointer.at(ADD)} {sign} {text}", ADD, pure=pointer.pure and index.pure)
 
     def difference(self, left: Value, right: Value, node: Any = None) -> Value:
@@ -403,9 +429,10 @@ class Cells:
         if isinstance(to, Void):
             raise self.program.refuse(node, "a difference of two `void *`", "pointers to what is there", True)
         text = f"{left.at(ADD)} - {right.at(ADD + 1)}"
-        count = innermost(to)[1] if isinstance(to, Array) else 1
-        if count != 1:
-            return Value(INT, f"({text}) / {count}", TIMES, pure=left.pure and right.pure)
+        _, count, texts = spread(to)
+        if count != 1 or texts:
+            per = " * ".join([*(f"(int){it}" for it in texts), str(count)])
+            return Value(INT, f"({text}) / {f'({per})' if texts else per}", TIMES, pure=left.pure and right.pure)
         return Value(INT, text, ADD, pure=left.pure and right.pure)
 
     def compared(self, sign: str, left: Value, right: Value, node: Any = None) -> Value:
@@ -426,8 +453,8 @@ class Cells:
         """How what is handed on by its place is spelled."""
         return self.base(type_)[0] + " *"
 
-    def spare(self, type_: CType) -> str:
-        return "&" + self.program.function.temporary(f"struct {type_.tag} ")
+    def spare(self, type_: Any) -> str:
+        return f"&{self.program.function.temporary(f'struct {type_.tag} ')}"
 
     def more_arguments(self, values: List[Value], node: Any) -> str:
         if not values:
@@ -457,4 +484,5 @@ class Cells:
         if isinstance(type_, Pointer) and not to_function(type_) or isinstance(type_, List_):
             return Value(type_, f"*({self.spell(type_)}*)(void *){text}++", UNARY, pure=False)
         word = "(unsigned)" if isinstance(type_, Int) and not type_.signed and type_.rank >= 3 else ""
-        return self.program.promoted(Value(type_, f"{word}*{text}++", UNARY, pure=False))
+        found: Value = self.program.promoted(Value(type_, f"{word}*{text}++", UNARY, pure=False))
+        return found

@@ -44,7 +44,9 @@ class Checked(NamedTuple):
 def compiled(files: Sequence[str], options: Sequence[str], folder: str, name: str, more: Sequence[str]) -> Optional[str]:
     """The files as gcc builds them, of 32 bits where it can."""
     out = os.path.join(folder, name)
-    for width in (["-m32"], []):
+    # Floats of 32 and 64 bits are reckoned in their own width.
+    ways: List[List[str]] = [["-m32", "-msse2", "-mfpmath=sse"], ["-m32"], []]
+    for width in ways:
         done = subprocess.run(["gcc", *width, "-std=gnu99", "-w", "-g", *more, *options, "-o", out, *files, "-lm"],
                               stdout=subprocess.PIPE, stderr=subprocess.PIPE)
         if done.returncode == 0:

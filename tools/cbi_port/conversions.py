@@ -1,8 +1,8 @@
 """Conversions (C99 6.3) of values, and the texts of numbers."""
 from typing import Any
 
-from cbi_port.declarations import FLOATS, Context
-from cbi_port.types import (BOOL, INT, UINT, VOID, CType, Float, Function, Int, Pointer, Struct, Void, is_long,
+from cbi_port.declarations import Context
+from cbi_port.types import (BOOL, INT, UINT, VOID, CType, Function, Int, Pointer, Struct, Void, is_float, is_long,
                             promoted, same, spelled)
 from cbi_port.values import ADD, ASSIGN, BITAND, COMMA, EQUAL, POSTFIX, UNARY, Value, prefixed
 
@@ -30,8 +30,6 @@ class Conversions(Context):
     def converted(self, value: Value, type_: CType, implicit: bool = False, node: Any = None) -> Value:
         """The value in a type. Where `implicit`, it goes to a place of the type, which converts it too."""
         from_ = value.type
-        if isinstance(type_, Float) or isinstance(from_, Float):
-            raise self.refuse(node, f"`{spelled(type_ if isinstance(type_, Float) else from_)}`", FLOATS)
         if isinstance(type_, Void):
             return Value(VOID, prefixed("(void)", value.text, value.level), UNARY, pure=value.pure)
         if isinstance(type_, Struct) or isinstance(from_, Struct):
@@ -60,6 +58,8 @@ class Conversions(Context):
 
     def to_number(self, value: Value, type_: Int, implicit: bool) -> Value:
         from_ = value.type
+        if is_float(type_) or is_float(from_):
+            return value if type_ == from_ else self.between(value, type_)
         if value.constant is not None:
             constant = type_.wrap(value.constant)
             if constant == value.constant and not is_long(type_) and not is_long(from_) and implicit:
@@ -80,6 +80,12 @@ class Conversions(Context):
             word = "(int)" if type_.signed else "(unsigned)"
             return Value(type_, prefixed(word, value.text, value.level), UNARY, pure=value.pure, raw=value.raw)
         return self.narrowed(value, from_, type_, implicit)
+
+    def between(self, value: Value, type_: Int) -> Value:
+        raise NotImplementedError
+
+    def float_truth(self, value: Value, one: bool) -> Value:
+        raise NotImplementedError
 
     def narrowed(self, value: Value, from_: Int, type_: Int, implicit: bool) -> Value:
         """To a type of fewer bits than int has."""
@@ -106,7 +112,7 @@ class Conversions(Context):
     def boolean(self, value: Value) -> Value:
         if value.type == BOOL:
             return value
-        if value.constant is not None:
+        if value.constant is not None and not is_float(value.type):
             return number(int(value.constant != 0), BOOL)
         return self.truth(value, True)._replace(type=BOOL)
 
@@ -114,8 +120,8 @@ class Conversions(Context):
         """A scalar that is zero where the value is; 0 or 1 where `one`."""
         if isinstance(value.type, (Struct, Void)):
             raise self.refuse(None, f"a {spelled(value.type)} as a condition", "a number or a pointer")
-        if isinstance(value.type, Float):
-            raise self.refuse(None, f"`{spelled(value.type)}`", FLOATS)
+        if is_float(value.type):
+            return self.float_truth(value, one)
         if is_long(value.type):
             if value.constant is not None:
                 return number(int(value.constant != 0))
@@ -138,7 +144,7 @@ class Conversions(Context):
 
     def long_of(self, value: Value, type_: Int) -> Value:
         if is_long(value.type):
-            return value._replace(type=type_)
+            return value._replace(type=type_, wide=None)
         maker = "cbi_long_unsigned" if not promoted(value.type).signed and value.bits is None else "cbi_long_int"
         return Value(type_, f"{maker}(&{self.temporary('long')}, {value.at(COMMA + 1)})", POSTFIX, pure=value.pure)
 

@@ -1,13 +1,19 @@
 """Declarations (C99 6.7): what type a declarator gives, and what a struct, a union and an enumeration have."""
-from typing import Any, Dict, List, Optional, Tuple
+from typing import TYPE_CHECKING, Any, Dict, List, Optional, Sequence, Set, Tuple
 
 from cbi_port.lines import Refusal, Sheet, Token
+from cbi_port.reader import HEADERS
 from cbi_port.scopes import Names, Scope, Symbol
-from cbi_port.types import (INT, UINT, VALIST, VOID, Array, CType, Float, Function, Int, Pointer, Struct, base_type,
-                            is_long, lay_out)
-from cbi_port.values import Value
+from cbi_port.trees import kind
+from cbi_port.types import (INT, LDOUBLE, LLONG, UINT, ULLONG, VALIST, VOID, Array, Asked, CType, Function, Int, Length, Pointer, Struct,
+                            base_type, is_float, is_long, is_open, lay_out, size_of, spread)
+from cbi_port.values import TIMES, Place, Value
 
-FLOATS = "whole numbers of a smaller unit: cents, thousandths"
+if TYPE_CHECKING:
+    from cbi_port.body import Body
+    from cbi_port.objects import Objects
+
+SIGNS = ("__cbi_packed", "__cbi_aligned", "__cbi_member_packed", "__cbi_member_aligned")
 
 
 class Context:
@@ -21,19 +27,19 @@ class Context:
     tags: Names
     scope: Scope
     unit: Any
-    model: Any
+    model: "Objects"
     structs: List[Struct]
-    function: Any
+    function: "Body"
     in_prelude: bool
     externals: Dict[str, Symbol]
-    by_node: Dict[int, Any]
+    by_node: Dict[int, CType]
     headers: Dict[Any, Any]
     pending_key: Any
 
     def place_of(self, node: Any) -> int:
         """The number of a node's token."""
         coord = getattr(node, "coord", None)
-        return coord.line if coord is not None and coord.line else -1
+        return int(coord.line) if coord is not None and coord.line else -1
 
     def refuse(self, node: Any, construct: str, advice: str, bytes_do: bool = False) -> Refusal:
         """The refusal at a node; who calls raises it, or adds it to the problems."""
@@ -42,6 +48,25 @@ class Context:
             at = self.last_place
         return Refusal(at, construct, advice, bytes_do)
 
+    def tell(self, refusal: Refusal, node: Any = None) -> None:
+        """Adds a refusal to the problems. What the node would have declared isn't missed where it is used."""
+        if not refusal.follows:
+            self.problems.append(refusal)
+        if kind(node) in ("Decl", "Typedef") and node.name is not None and node.name not in self.scope.names:
+            self.scope.names[node.name] = Symbol(node.name, "refused", INT)
+
+    def refuse_type(self, node: Any, construct: str, type_: CType) -> Refusal:
+        """The refusal of what has a type that isn't complete, or not what is asked of it."""
+        found = self.refuse(node, construct, "a type that is complete")
+        found.follows = isinstance(type_, Struct) and type_.refused
+        return found
+
+    def follow(self, node: Any) -> Refusal:
+        """The refusal of what was refused where it is declared."""
+        found = self.refuse(node, "what isn't declared", "a declaration")
+        found.follows = True
+        return found
+
     last_place = 0
 
     def count(self, what: str) -> None:
@@ -49,6 +74,16 @@ class Context:
             self.counts[what] = self.counts.get(what, 0) + 1
 
     # What the other parts have.
+    stderr: bool
+    exit_functions: bool
+    wide_strings: Dict[int, Symbol]
+    wrapped: Set[str]
+    wrappers: Dict[str, Symbol]
+    library_names: Set[str]
+    function_numbers: Dict[Symbol, int]
+    dispatchers: Dict[Any, Tuple[str, Function, List[CType]]]
+    label_owner: Any
+
     def value(self, node: Any, used: bool = True) -> Value:
         raise NotImplementedError
 
@@ -58,13 +93,72 @@ class Context:
     def constant(self, node: Any) -> int:
         raise NotImplementedError
 
+    def put(self, text: str, node: Any = None) -> None:
+        raise NotImplementedError
 
-def kind(node: Any) -> str:
-    return type(node).__name__
+    def converted(self, value: Value, type_: CType, implicit: bool = False, node: Any = None) -> Value:
+        raise NotImplementedError
+
+    def operated(self, sign: str, left: Value, right: Value, node: Any, at: str = "") -> Value:
+        raise NotImplementedError
+
+    def use(self, symbol: Symbol) -> None:
+        raise NotImplementedError
+
+    def literal_place(self, node: Any) -> Place:
+        raise NotImplementedError
+
+    def begin_static(self, symbol: Symbol, init: Any, node: Any) -> None:
+        raise NotImplementedError
+
+    def prelude_symbol(self, name: str) -> Optional[Symbol]:
+        raise NotImplementedError
+
+    def unit_symbol(self, name: str) -> Optional[Symbol]:
+        raise NotImplementedError
+
+    def external(self, node: Any, type_: CType) -> Symbol:
+        raise NotImplementedError
+
+    def library_function(self, name: str, node: Any) -> Optional[Symbol]:
+        raise NotImplementedError
+
+    def library_call(self, name: str, node: Any, arguments: Sequence[Any], used: bool, symbol: Optional[Symbol]) -> Optional[Value]:
+        raise NotImplementedError
+
+    def statement_value(self, node: Any, name: str, used: bool) -> Value:
+        raise NotImplementedError
+
+    def label_segment(self, name: str) -> int:
+        raise NotImplementedError
+
+    def selected(self, node: Any, arguments: Sequence[Any]) -> Any:
+        raise NotImplementedError
+
+
+class Nameless:
+    """A type's tree of which the name that it declares isn't asked."""
+
+    def __init__(self, type_: Any) -> None:
+        self.type = type_
 
 
 class Declarations(Context):
     """The types of declarators."""
+
+    def said_alignment(self, node: Any) -> int:
+        """What attributes say of a declared name's alignment, or of that of the type by whose name it is declared."""
+        said = self.unit.alignments
+        if not said:
+            return 0
+        found = said.get(getattr(node, "name", None), 0)
+        inner = node
+        while kind(inner) in ("Decl", "TypeDecl", "ArrayDecl", "Typename", "Typedef", "Nameless"):
+            inner = inner.type
+        if kind(inner) == "IdentifierType" and len(inner.names) == 1:
+            symbol = self.scope.find(inner.names[0])
+            found = max(found, symbol.align if symbol is not None and symbol.kind == "type" else 0)
+        return int(found)
 
     def resolve(self, node: Any, hint: str = "") -> CType:
         """The type that a declarator or a type name has."""
@@ -98,8 +192,13 @@ class Declarations(Context):
                 return self.type_under_sizeof(inner.expr)
             symbol = self.scope.find(names[0])
             if symbol is not None and symbol.kind == "type":
-                return symbol.type
+                named: CType = symbol.type
+                return named
+            if symbol is not None and symbol.kind == "refused":
+                raise self.follow(node)
         found = base_type(names)
+        if found == LDOUBLE and not self.in_prelude and not self.tokens[max(self.place_of(node), 0)].file.startswith(HEADERS):
+            self.liberties["a long double is a double"] = None
         if found is None:
             raise self.refuse(node, f"the type `{' '.join(names)}`", "a type of C99 that the text declares")
         return found
@@ -109,6 +208,9 @@ class Declarations(Context):
             return self.resolve(node.type)
         return self.type_of(node)
 
+    prototype = False
+    lengths: Dict[int, Length]
+
     def array_type(self, node: Any) -> CType:
         of = self.resolve(node.type)
         if isinstance(of, Function):
@@ -117,16 +219,41 @@ class Declarations(Context):
             return Array(of, None)
         length = self.known(node.dim)
         if length is None:
-            return Array(of, node.dim)
+            return Array(of, self.length(node))
         if length < 0:
             raise self.refuse(node, "an array of less than no elements", "a length of 0 or more")
         return Array(of, length)
+
+    def length(self, node: Any) -> Length:
+        """The count of an array that isn't constant (6.7.5.2p5): it is kept where it is declared."""
+        if self.prototype or kind(node.dim) == "ID" and node.dim.name == "*":
+            return Length("")
+        if self.function.name == "cbi_init":
+            raise self.refuse(node, "an array of unknown length outside functions", "a constant length")
+        known = self.lengths.get(id(node))
+        if known is not None and not self.function.quiet:
+            return known
+        value = self.value(node.dim)
+        if isinstance(value.type, Int):
+            value = self.converted(value, UINT, True, node)
+        if self.function.quiet:
+            return Length(value.at(TIMES))
+        name = self.function.lasting("unsigned") + ".value"
+        self.put(f"{name} = {value.text};", node)
+        self.lengths[id(node)] = Length(name)
+        return self.lengths[id(node)]
+
+    def size_value(self, type_: CType) -> Value:
+        """How many bytes an array has whose length is found out as the program runs."""
+        inner, count, texts = spread(type_)
+        return Value(UINT, " * ".join([*texts, f"{count * size_of(inner)}u"]), TIMES)
 
     def known(self, node: Any) -> Optional[int]:
         """The value of a constant expression; None where it is none."""
         if kind(node) == "ID" and node.name == "*":
             return None
-        return self.value(node).constant
+        value = self.value(node)
+        return value.constant if not is_float(value.type) else None
 
     def constant(self, node: Any) -> int:
         value = self.known(node)
@@ -141,6 +268,7 @@ class Declarations(Context):
         parameters: List[CType] = []
         more = False
         outer, self.scope = self.scope, Scope(self.scope)
+        within, self.prototype = self.prototype, True
         try:
             for param in node.args.params:
                 if kind(param) == "EllipsisParam":
@@ -155,7 +283,7 @@ class Declarations(Context):
                     if getattr(param, "name", None):
                         self.scope.names[param.name] = Symbol(param.name, "variable", parameters[-1])
         finally:
-            self.scope = outer
+            self.scope, self.prototype = outer, within
         return Function(result, tuple(parameters), more, True)
 
     def adjusted(self, type_: CType) -> CType:
@@ -168,13 +296,15 @@ class Declarations(Context):
         union = kind(node) == "Union"
         if node.decls is not None and id(node) in self.by_node:
             return self.by_node[id(node)]
-        known = self.seen_before(node, hint)
-        if known is not None:
-            return known
+        seen = self.seen_before(node, hint)
+        if seen is not None:
+            return seen
+        known: Any = None
         if node.name:
             known = self.scope.tags.get(node.name) if node.decls is not None else self.scope.find_tag(node.name)
         if known is not None and node.decls is None:
-            return known
+            whole: CType = known
+            return whole
         if known is None or known.complete:
             known = Struct(self.tags.take(node.name or hint or "cbi_nameless"), union)
             if node.name:
@@ -183,9 +313,14 @@ class Declarations(Context):
         if node.decls is not None:
             self.by_node[id(node)] = known
             key = self.pending_key
-            self.members(known, node)
+            try:
+                self.members(known, node)
+            except Refusal:
+                known.refused = True
+                raise
             self.headers.setdefault(key, (known, self.unit))
-        return known
+        found: Struct = known
+        return found
 
     def seen_before(self, node: Any, hint: str) -> Optional[Struct]:
         """A struct of a header that another file had already."""
@@ -197,7 +332,8 @@ class Declarations(Context):
             return None
         names = tuple(str(getattr(decl, "name", None)) for decl in node.decls)
         key = (node.name, hint, token.file, token.line, names)
-        known, unit = self.headers.get(key, (None, None))
+        row: Tuple[Optional[Struct], Any] = self.headers.get(key, (None, None))
+        known, unit = row
         if known is not None and unit is not self.unit and known.complete:
             if node.name:
                 self.scope.tags[node.name] = known
@@ -207,12 +343,12 @@ class Declarations(Context):
         return None
 
     def members(self, struct: Struct, node: Any) -> None:
-        found: List[Tuple[str, CType, Optional[int]]] = []
+        found: List[Asked] = []
         for decl in node.decls:
             if kind(decl) in ("Pragma", "StaticAssert"):
                 continue
-            if decl.name == "__cbi_packed":
-                struct.packed = True
+            if decl.name in SIGNS:
+                self.signed_layout(struct, found, decl.name, self.constant(decl.type.dim))
                 continue
             type_ = self.resolve(decl.type)
             name = decl.name
@@ -221,45 +357,54 @@ class Declarations(Context):
                     continue
                 name = f"cbi_nameless_{len(found)}"
             bits = self.constant(decl.bitsize) if getattr(decl, "bitsize", None) is not None else None
-            if isinstance(type_, Float) or isinstance(type_, Array) and isinstance(type_.of, Float):
-                self.problems.append(self.refuse(decl, f"`{'double' if 'double' in str(type_) else 'float'}`", FLOATS))
-                type_ = INT
-            if isinstance(type_, Array) and not isinstance(type_.count, int) and type_.count is not None:
+            if is_open(type_):
                 raise self.refuse(decl, "an array of unknown length in a struct", "a constant length")
             if bits is not None and isinstance(type_, Int) and (bits > 8 * type_.size or bits < 0):
                 raise self.refuse(decl, "a bit-field wider than its type", "a width that fits")
-            if bits is not None and bits > 32:
-                raise self.refuse(decl, "a bit-field of more than 32 bits", "two bit-fields")
             target = type_
             while isinstance(target, (Pointer, Array)):
                 target = target.of if isinstance(target, Array) else target.to
             if isinstance(target, Struct) and not target.complete and target is not struct:
                 struct.forward.add(name or "")
-            found.append((name or "", type_, bits))
+            found.append(Asked(name or "", type_, bits, False, self.said_alignment(Nameless(decl.type))))
         lay_out(struct, found)
-        struct.members = [it._replace(type=INT if it.type.signed else UINT) if it.bits is not None and is_long(it.type) else it
+        struct.members = [it._replace(type=INT if it.type.signed else UINT) if it.bits is not None and it.bits <= 32 and is_long(it.type) else it
                           for it in struct.members]
         self.structs.append(struct)
+        self.model.hold_size(struct, node)
         self.count("structs with bit-fields" if any(member.bits is not None for member in struct.members) else "unions" if struct.union else "")
+
+    def signed_layout(self, struct: Struct, found: "List[Asked]", what: str, amount: int) -> None:
+        """What an attribute says of a struct, or of the member before it."""
+        if what == "__cbi_packed":
+            struct.pack = amount
+        elif what == "__cbi_aligned":
+            struct.align = max(struct.align, amount)
+        elif found:
+            last = found[-1]
+            found[-1] = last._replace(packed=True) if what == "__cbi_member_packed" else last._replace(align=amount)
 
     def enumeration(self, node: Any) -> CType:
         if node.values is None:
-            known = self.scope.find_tag("enum " + str(node.name))
+            known: Optional[CType] = self.scope.find_tag("enum " + str(node.name))
             return known if known is not None else UINT
         if id(node) in self.by_node:
             return self.by_node[id(node)]
-        value, least = 0, 0
+        value, least, most = 0, 0, 0
         self.count("enumerations")
         for item in node.values.enumerators:
             if item.value is not None:
                 value = self.constant(item.value)
-            least = min(least, value)
+            least, most = min(least, value), max(most, value)
             symbol = Symbol(item.name, "constant", INT, constant=value)
             if not INT.least <= value <= INT.most:
                 symbol.type = UINT if value <= UINT.most else base_type(["long", "long"])
             self.scope.names[item.name] = symbol
             value += 1
-        type_ = self.by_node[id(node)] = INT if least < 0 else UINT
+        type_: CType = INT if least < 0 else UINT
+        if most > (INT.most if least < 0 else UINT.most) or least < INT.least:
+            type_ = LLONG if least < 0 else ULLONG
+        self.by_node[id(node)] = type_
         if node.name:
             self.scope.tags["enum " + node.name] = type_
         return type_

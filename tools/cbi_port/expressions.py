@@ -2,13 +2,13 @@
 from typing import Any, Optional, Tuple
 
 from cbi_port.conversions import number
-from cbi_port.declarations import FLOATS, kind
 from cbi_port.lines import mark
 from cbi_port.places import Places
 from cbi_port.scopes import Symbol
-from cbi_port.types import (BOOL, INT, UCHAR, UINT, VOID, Array, CType, Float, Function, Int, Pointer, Struct, Void,
-                            common, is_complete, is_long, is_pointer, is_whole, promoted, size_of, spelled)
-from cbi_port.values import ASSIGN, BITAND, COMMA, COND, POSTFIX, UNARY, Place, Value, prefixed
+from cbi_port.trees import kind, leading
+from cbi_port.types import (BOOL, INT, UCHAR, UINT, VOID, Array, CType, Function, Int, Pointer, Struct, Void,
+                            common, is_complete, is_float, is_long, is_open, is_pointer, is_whole, promoted, same, size_of, spelled)
+from cbi_port.values import ASSIGN, BITAND, COMMA, COND, POSTFIX, UNARY, Leaf, Place, Value, prefixed
 
 LONG_NAMES = {"+": "add", "-": "sub", "*": "mul", "/": "div", "%": "rem", "&": "and", "|": "or", "^": "xor", "<<": "shl", ">>": "shr"}
 
@@ -36,10 +36,12 @@ class Expressions(Places):
             if kind(node) in ("ID", "ArrayRef", "StructRef", "CompoundLiteral") or kind(node) == "UnaryOp" and node.op == "*":
                 place = self.place(node, True)
                 if place is not None:
-                    return place.type
+                    type_: CType = place.type
+                    return type_
             if kind(node) == "Constant" and node.type == "string":
                 return self.string_type(node)
-            return self.value(node).type
+            found: CType = self.value(node).type
+            return found
         finally:
             self.function.quiet = quiet
 
@@ -60,16 +62,21 @@ class Expressions(Places):
         symbol = self.scope.find(name)
         if symbol is not None and symbol.kind == "constant":
             return number(symbol.constant, symbol.type)
-        if symbol is not None and symbol.kind == "function" or symbol is None and self.library_function(name, node) is not None:
-            symbol = symbol or self.library_function(name, node)
+        symbol = self.function_named(name, symbol, node)
+        if symbol is not None and symbol.kind == "function":
+            if self.function.dead and not symbol.defined:
+                return self.model.null(Pointer(symbol.type))
             self.use(symbol)
             return self.model.function(symbol, node)
-        if name == "__func__" and symbol is None:
-            text = self.function.name
-            return self.model.string(f'"{text}"', len(text) + 1)
         place = self.place(node, True)
         assert place is not None
         return self.model.load(place, node)
+
+    def function_named(self, name: str, symbol: Optional[Symbol], node: Any) -> Optional[Symbol]:
+        """What a name means where it may be that of a function of the library, which a text declares at most."""
+        if symbol is None or symbol.kind == "function" and not symbol.defined and symbol.unit != "prelude":
+            return self.library_function(name, node) or symbol
+        return symbol
 
     def use(self, symbol: Symbol) -> None:
         if not self.function.quiet:
@@ -108,27 +115,34 @@ class Expressions(Places):
             constant = None if truth.constant is None else int(not truth.constant)
             return Value(INT, prefixed("!", truth.text, truth.level), UNARY, constant, value.pure)
         if not isinstance(value.type, Int):
-            raise self.refuse(node, f"`{sign}` of a `{spelled(value.type)}`", FLOATS if isinstance(value.type, Float) else "a number")
+            raise self.refuse(node, f"`{sign}` of a `{spelled(value.type)}`", "a number")
         value = self.promoted(value)
         if sign == "+":
             return value
-        return self.negated(value, sign)
+        return self.negated(value, sign, node)
 
-    def negated(self, value: Value, sign: str) -> Value:
+    def negated(self, value: Value, sign: str, node: Any) -> Value:
         type_ = value.type
+        if is_float(type_):
+            if sign != "-":
+                raise self.refuse(node, f"`{sign}` of a `{spelled(type_)}`", "a whole number")
+            return self.float_negated(value)
         if value.constant is not None:
             return number(type_.wrap(-value.constant if sign == "-" else ~value.constant), type_)
         if is_long(type_):
             name = ("cbi_long_neg" if type_.signed else "cbi_long_minus") if sign == "-" else "cbi_long_not"
-            return Value(type_, f"{name}(&{self.temporary('long')}, {value.at(ASSIGN)})", POSTFIX, pure=value.pure)
+            found = Value(type_, f"{name}(&{self.temporary('long')}, {value.at(ASSIGN)})", POSTFIX, pure=value.pure)
+            return found if value.wide is None else self.cut_long(found, value.wide)
         return Value(type_, prefixed(sign, value.text, value.level), UNARY, pure=value.pure)
 
     def address_of(self, node: Any) -> Value:
         inner = node.expr
         if kind(inner) == "ID":
-            symbol = self.scope.find(inner.name)
-            if symbol is not None and symbol.kind == "function" or symbol is None and self.library_function(inner.name, inner) is not None:
+            symbol = self.function_named(inner.name, self.scope.find(inner.name), inner)
+            if symbol is not None and symbol.kind == "function":
                 return self.value(inner)
+            if symbol is not None and symbol.open is not None:
+                return self.value(inner)._replace(type=Pointer(symbol.open))
         if kind(inner) == "UnaryOp" and inner.op == "*":
             value = self.value(inner.expr)
             if is_pointer(value.type):
@@ -143,12 +157,15 @@ class Expressions(Places):
         if kind(inner) == "ID":
             symbol = self.scope.find(inner.name)
             if symbol is not None and symbol.lengths is not None:
-                return symbol.lengths
+                length: Value = symbol.lengths
+                return length
         type_ = self.type_under_sizeof(inner)
-        if isinstance(type_, Array) and type_.count is not None and not isinstance(type_.count, int):
-            return self.length_of(type_, node)
+        if is_open(type_):
+            if leading(inner):
+                raise self.refuse(node, "`sizeof` of an array of unknown length that statements within an expression give", "the size itself")
+            return self.size_value(type_)
         if isinstance(type_, Struct) and not type_.complete or isinstance(type_, Array) and not is_complete(type_):
-            raise self.refuse(node, f"`sizeof` of a {spelled(type_)}", "a type that is complete")
+            raise self.refuse_type(node, f"`sizeof` of a {spelled(type_)}", type_)
         if kind(inner) in ("StructRef",) :
             way = self.place_quiet(inner)
             if way is not None and way.member is not None:
@@ -171,9 +188,9 @@ class Expressions(Places):
     def step(self, place: Place, sign: str, behind: bool, used: bool, node: Any) -> Value:
         type_ = place.type
         natural = not place.memory and place.member is None and not place.stored and (
-            isinstance(type_, Int) and (type_.rank >= 3 and type_.size == 4 or type_.size == 1 and type_.rank == 1)
+            isinstance(type_, Int) and not is_float(type_) and (type_.rank >= 3 and type_.size == 4 or type_.size == 1 and type_.rank == 1)
             or is_pointer(type_) and not isinstance(type_.to, (Void, Function, Array)) and not self.model.in_bytes)
-        if isinstance(type_, (Float, Void, Struct, Array)):
+        if isinstance(type_, (Void, Struct, Array)):
             raise self.refuse(node, f"`{sign}{sign}` of a `{spelled(type_)}`", "a number or a pointer")
         if natural:
             place = self.model.within(place, True)
@@ -226,16 +243,21 @@ class Expressions(Places):
             value = self.value(inner, False)
             if isinstance(value.type, Void):
                 return value
-            if is_whole(value.type) or not used:
-                return Value(VOID, value.text, value.level, pure=value.pure)
             return Value(VOID, prefixed("(void)", value.text, value.level), UNARY, pure=value.pure)
         value = self.value(inner)
         if isinstance(type_, Struct) and type_.union and value.type is not type_:
-            raise self.refuse(node, "a cast to a union", "a union whose member is assigned")
+            return self.model.load(self.cast_to_union(type_, value, inner, node), node)
         if isinstance(type_, (Array, Function)):
             raise self.refuse(node, f"a cast to `{spelled(type_)}`", "a cast to a pointer")
         result = self.converted(value, type_, False, node)
         return result._replace(origin=None) if result.origin != "fresh" else result
+
+    def cast_to_union(self, type_: Struct, value: Value, inner: Any, node: Any) -> Place:
+        """A union of GNU C that is made of a value of one of its members."""
+        for member in type_.members:
+            if same(member.type, value.type):
+                return self.model.literal(type_, {(member,): Leaf(member.type, inner)}, node)
+        raise self.refuse(node, f"a cast of a `{spelled(value.type)}` to a union without such a member", "a union whose member is assigned")
 
     # 6.5.16
 
@@ -257,10 +279,23 @@ class Expressions(Places):
             raise self.refuse(node, f"an assignment to a `{spelled(type_)}`", "an assignment to a variable, an element or a member")
         value = self.converted(value, type_, True, node)
         if is_long(type_):
-            return self.model.copy(place, value._replace(text=self.long_text(value)) if value.constant is None else value, used, node)
-        if place.member is not None and isinstance(type_, Int) and place.member.bits < 32:
-            value = self.cut(value, place.member.bits, type_)
+            if place.member is not None:
+                value = self.cut_long(value, place.member.width)
+            return self.model.copy(place, value._replace(text=self.long_text(value)) if value.constant is None else value, used, node)._replace(wide=value.wide)
+        if place.member is not None and isinstance(type_, Int) and place.member.width < 32:
+            value = self.cut(value, place.member.width, type_)
         return self.model.store(place, value, used)
+
+    def cut_long(self, value: Value, bits: int) -> Value:
+        """A number of 64 bits as a bit-field keeps it."""
+        if bits == 64:
+            return value
+        type_ = value.type
+        if value.constant is not None:
+            whole = value.constant & ((1 << bits) - 1)
+            return number(whole - (1 << bits) if type_.signed and whole >> (bits - 1) else whole, type_)._replace(wide=bits)
+        text = f"cbi_long_cut(&{self.temporary('long')}, {self.long_text(value)}, {bits}, {int(type_.signed)})"
+        return Value(type_, text, POSTFIX, None, value.pure, wide=bits)
 
     def cut(self, value: Value, bits: int, type_: Int) -> Value:
         """A value as a bit-field keeps it."""
@@ -279,8 +314,8 @@ class Expressions(Places):
                 place = self.model.within(place, True)
                 return Value(type_, f"{place.text} {sign}= {self.index(value).at(ASSIGN)}", ASSIGN, pure=False)
         elif not isinstance(type_, Int):
-            raise self.refuse(node, f"`{sign}=` of a `{spelled(type_)}`", FLOATS)
-        elif isinstance(value.type, Int) and not place.memory and place.member is None and not is_long(value.type) and (
+            raise self.refuse(node, f"`{sign}=` of a `{spelled(type_)}`", "a number")
+        elif isinstance(value.type, Int) and not is_float(value.type) and not is_float(type_) and not place.memory and place.member is None and not is_long(value.type) and (
                 type_.rank >= 3 and type_.size == 4 or type_.size == 1 and type_.rank == 1 and (type_ != UCHAR or sign in "+-*&|^")):
             place = self.model.within(place, True)
             text = f"{place.text} {sign}= {self.promoted(value).at(ASSIGN)}"
@@ -313,10 +348,19 @@ class Expressions(Places):
             before, condition = self.keep(condition)
             before += ", "
             self.function.same.append(condition)
-        left, right = self.value(node.iftrue, used), self.value(node.iffalse, used)
+        left = self.if_live(node.iftrue, used, condition.constant != 0)
+        right = self.if_live(node.iffalse, used, condition.constant is None or condition.constant == 0)
         if same_as:
             self.function.same.pop()
         return self.after(before, self.chosen(condition, left, right, node))
+
+    def if_live(self, node: Any, used: bool, live: bool) -> Value:
+        """A value that is evaluated at most where `live`: what isn't may name functions that are nowhere."""
+        self.function.dead += not live
+        try:
+            return self.value(node, used)
+        finally:
+            self.function.dead -= not live
 
     def chosen(self, condition: Value, left: Value, right: Value, node: Any) -> Value:
         truth = self.truth(condition)
@@ -343,7 +387,8 @@ class Expressions(Places):
         if isinstance(left.type, Void) or isinstance(right.type, Void):
             return VOID
         if left.type is right.type or isinstance(left.type, Struct):
-            return left.type
+            whole: CType = left.type
+            return whole
         if is_pointer(left.type) and is_pointer(right.type):
             if left.null and isinstance(left.type.to, Void):
                 return right.type

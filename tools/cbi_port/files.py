@@ -34,9 +34,9 @@ def port_files(files: Sequence[str], options: List[str], args: Any, stderr: bool
                 note = f"memory is kept as bytes, for {why.construct} at {why.file}:{why.line}: bounds and ends of objects aren't looked at"
                 ported = ported._replace(liberties=[note] + ported.liberties)
             return ported
-        hard = [it for it in program.problems if not it.bytes_do]
-        if hard or memory != "auto" or way == "bytes":
-            raise Refused(ordered(hard or program.problems, tokens, files))
+        if memory != "auto" or way == "bytes" or not any(it.bytes_do for it in program.problems):
+            raise Refused(ordered([it for it in program.problems if not it.bytes_do] or program.problems, tokens, files))
+        # What else is refused may come of what bytes do.
         first = program
     raise AssertionError("no model of memory")
 

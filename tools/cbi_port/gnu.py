@@ -2,7 +2,10 @@
 import re
 from typing import Dict, List, Optional, Sequence, Set, Tuple
 
+from cbi_port.constants import plain_string, wide_character, wide_prefix
 from cbi_port.lines import Refusal, Token
+from cbi_port.neighbours import (OPENS, case_end, closes_struct, closing, declared_name, is_declared, like, literal_begin,
+                                 moves, range_within, sign, split, unary_place, within_struct)
 
 SPELLINGS = {
     "__const": "const", "__const__": "const", "__volatile": "volatile", "__volatile__": "volatile",
@@ -11,32 +14,15 @@ SPELLINGS = {
     "_Noreturn": "", "__typeof": "typeof", "__typeof__": "typeof", "__asm": "asm", "__asm__": "asm",
     "__alignof": "_Alignof", "__alignof__": "_Alignof", "__attribute": "__attribute__",
     "__func__": "__func__", "__FUNCTION__": "__func__", "__PRETTY_FUNCTION__": "__func__", "__builtin_offsetof": "offsetof",
-    "_Float32": "float", "_Float64": "double", "__float128": "double", "_Float128": "double",
+    "_Float32": "float", "_Float64": "double",
     "__complex__": "_Complex", "__complex": "_Complex",
 }
+LATER_C = {"_Atomic", "_Alignas", "_Generic", "__auto_type"}
 KEPT = {"__builtin_va_list", "__builtin_va_start", "__builtin_va_end", "__builtin_va_copy", "__builtin_va_arg",
         "__builtin_types_compatible_p", "__builtin_assert", "__builtin_constant_p", "__builtin_choose_expr", "__builtin_expect"}
 # Attributes that change what a program does, or how its memory is laid out.
 WEIGHTY = {"vector_size", "mode", "constructor", "destructor", "alias", "cleanup", "scalar_storage_order", "ifunc", "weakref",
            "transparent_union", "ms_struct", "gcc_struct", "no_instrument_function_x", "naked", "interrupt", "bitwidth"}
-OPENS = {"(": ")", "[": "]", "{": "}"}
-
-
-def closing(tokens: Sequence[Token], at: int) -> int:
-    """Where what opens at a token is closed."""
-    depth = 0
-    for index in range(at, len(tokens)):
-        if tokens[index].text in OPENS and tokens[index].kind == "mark":
-            depth += 1
-        elif tokens[index].text in (")", "]", "}") and tokens[index].kind == "mark":
-            depth -= 1
-            if depth == 0:
-                return index
-    return len(tokens) - 1
-
-
-def like(token: Token, text: str, kind: str = "mark") -> Token:
-    return Token(kind, text, token.file, token.line)
 
 
 class Rewriter:
@@ -49,7 +35,10 @@ class Rewriter:
         self.early: List[str] = []
         self.count = 0
         self.packs = [0]
-        self.pending = False
+        self.alignments: Dict[str, int] = {}
+        self.pending: List[Token] = []      # what is said of a struct before its brace
+        self.of_member: List[Token] = []    # what is said of a member before its end
+        self.literals: List[Token] = []     # the braces of compound literals
 
     def pack(self, token: Token, out: List[Token]) -> None:
         """`#pragma pack`: members of structs stand closer."""
@@ -60,8 +49,6 @@ class Rewriter:
             self.packs.pop()
         if words and words[-1].isdigit() or not words:
             self.packs[-1] = int(words[-1]) if words else 0
-        if self.packs[-1] == 2:
-            self.refuse(token, f"`{token.text}`", "the text without it, if it does the same", out)
 
     def refuse(self, token: Token, construct: str, advice: str, out: List[Token]) -> None:
         # Where the tokens will stand isn't known yet: the refusal keeps the token, and is told by it.
@@ -93,7 +80,9 @@ class Rewriter:
             self.refuse(token, what, "nothing in its place" if token.kind == "pragma" else "a character of C", out)
             return at + 1
         if token.kind == "string":
-            out.append(like(token, plain_string(text), "string"))
+            return self.string(tokens, at, out)
+        if token.kind == "char" and text[0] != "'":
+            out.append(like(token, str(wide_character(text)), "number"))
             return at + 1
         if token.kind == "name":
             return self.word(tokens, at, out)
@@ -107,10 +96,20 @@ class Rewriter:
             out.extend([token, like(token, ";")])
             return at + 1
         if text == "{" and len(out) > 1 and (out[-1].text in ("struct", "union") or out[-2].text in ("struct", "union")):
-            packed, self.pending = self.pending or self.packs[-1] == 1, False
             out.append(token)
-            if packed:
-                out.extend([like(token, "char", "name"), like(token, "__cbi_packed", "name"), like(token, ";")])
+            out.extend(self.pending)
+            if self.packs[-1] in (1, 2):
+                out.extend(sign(token, "packed", [like(token, str(self.packs[-1]), "number")]))
+            self.pending = []
+            return at + 1
+        if text == "{" and out and out[-1].text == ")":
+            begin = literal_begin(tokens, at, out)
+            if begin is not None:
+                return self.literal(tokens, at, out, begin)
+        if text == ";":
+            out.append(token)
+            out.extend(self.of_member)
+            self.of_member = []
             return at + 1
         if text == "(" and after == "{" and not (out and out[-1].text in ("sizeof",)):
             return self.statement_expression(tokens, at, out)
@@ -122,6 +121,19 @@ class Rewriter:
             return close + 1
         out.append(token)
         return at + 1
+
+    def string(self, tokens: Sequence[Token], at: int, out: List[Token]) -> int:
+        """Strings side by side: one wide one makes all of them wide (6.4.5p4)."""
+        end = at
+        while end < len(tokens) and tokens[end].kind == "string":
+            end += 1
+        prefixes = {wide_prefix(it.text) for it in tokens[at:end]} - {"", "u8"}
+        if prefixes - {"L", "U"}:
+            self.refuse(tokens[at], "a string of characters of 16 bits", "a string", out)
+        for it in tokens[at:end]:
+            body = it.text[len(wide_prefix(it.text)):]
+            out.append(like(it, "L" + body if prefixes else plain_string(body), "string"))
+        return end
 
     def ranged(self, within: Sequence[Token], token: Token, out: List[Token]) -> None:
         cut = [index for index, it in enumerate(within) if it.text == "..."][0]
@@ -166,13 +178,16 @@ class Rewriter:
                 end += 1
             out.extend([like(token, "__cbi_goto", "name"), like(token, "(")] + self.run(tokens[at + 2:end]) + [like(token, ")")])
             return end
-        if text in ("_Complex", "__int128", "__int128_t", "__uint128_t", "_Alignas", "__auto_type", "_Atomic"):
-            self.refuse(token, f"`{token.text}`", "a type of C99 of whole numbers", out)
-            if text == "_Alignas" and after == "(":
-                return closing(tokens, at + 1) + 1
-            if text in ("_Complex", "_Atomic"):
+        if text in LATER_C:
+            return self.later_c(text, tokens, at, out)
+        if text in ("_Complex", "__int128", "__int128_t", "__uint128_t", "__float128", "_Float128", "__float80", "_Float16", "_Decimal32", "_Decimal64", "_Decimal128"):
+            self.refuse(token, f"`{token.text}`", "a real type of C99", out)
+            if text == "_Complex":
                 return at + 1
-            text = "int" if text != "_Alignas" else ""
+            text = "int"
+        if text == "_Alignof" and after == "(" and at + 3 < len(tokens) and tokens[at + 2].text in self.alignments and tokens[at + 3].text == ")":
+            out.append(like(token, str(self.alignments[tokens[at + 2].text]), "number"))
+            return at + 4
         if text == "_Alignof" and after == "(":
             text = "__cbi_align"
             out.extend([like(token, text, "name"), like(token, "("), like(token, "sizeof", "name")])
@@ -203,7 +218,7 @@ class Rewriter:
                     return False
                 else:
                     before = out[index - 1].text if index else ""
-                    if before == "=":
+                    if before == "=" or any(out[index] is it for it in self.literals):
                         return True
                     return before in ("{", ",") and self.in_initialiser(out[:index])
         return False
@@ -213,20 +228,51 @@ class Rewriter:
         wrong = sorted(names & WEIGHTY)
         if wrong:
             self.refuse(token, f"`__attribute__(({wrong[0]}))`", "the text without it, if it does the same", out)
-        if "packed" in names and out:
-            self.packed(out, token)
-        elif "aligned" in names and within_struct(out):
-            self.refuse(token, "`__attribute__((aligned))` in a struct", "the text without it, if it does the same", out)
-
-    def packed(self, out: List[Token], token: Token) -> None:
-        """Says within the struct that it is packed."""
-        sign = [like(token, "char", "name"), like(token, "__cbi_packed", "name"), like(token, ";")]
-        if out[-1].text == "}":
-            out[-1:-1] = sign
+        signs = sign(token, "packed", [like(token, "1", "number")]) if "packed" in names else []
+        for at, it in enumerate(within):
+            if it.text.strip("_") == "aligned":
+                said = within[at + 1].text == "("
+                signs += sign(token, "aligned", self.run(within[at + 2:closing(within, at + 1)]) if said else [like(token, "16", "number")])
+        if not signs or not out:
+            return
+        if out[-1].text == "}" and closes_struct(out):
+            out[-1:-1] = signs
         elif out[-1].text in ("struct", "union"):
-            self.pending = True
-        else:
-            self.refuse(token, "`__attribute__((packed))` of a member", "the attribute behind the struct's braces", out)
+            self.pending = signs
+        elif within_struct(out):
+            self.of_member += [it if not it.text.startswith("__cbi") else like(it, "__cbi_member" + it.text[5:], "name") for it in signs]
+        elif "packed" not in names:
+            self.aligned(token, [it for it in signs if it.kind == "number"], out, tokens[close + 1:close + 40])
+
+    def aligned(self, token: Token, amount: List[Token], out: List[Token], behind: Sequence[Token]) -> None:
+        """An alignment of a variable, which its address shows, or of a function."""
+        depth = 0
+        for at in range(len(out) - 1, -1, -1):
+            depth += (out[at].text == "}") - (out[at].text == "{")
+            if depth < 0 or depth == 0 and out[at].text in (";", "}"):
+                break
+        if len(amount) != 1 or not re.match(r"(0[xX][0-9a-fA-F]+|\d+)$", amount[0].text):
+            self.refuse(token, "`__attribute__((aligned))` by an expression", "the number", out)
+            return
+        name = declared_name(out) or next((it.text for it, more in zip(behind, behind[1:]) if it.kind == "name" and more.text in (";", "=", "[", ",")), "")
+        self.alignments[name] = max(int(amount[0].text, 0), self.alignments.get(name, 0))
+
+    def literal(self, tokens: Sequence[Token], at: int, out: List[Token], begin: int) -> int:
+        """A compound literal (6.5.2.5); where an operator stands behind it, it gets parentheses."""
+        close = closing(tokens, at)
+        within = [like(tokens[at], "{")]
+        self.literals.append(within[0])
+        index = at + 1
+        while index < close:
+            index = self.step(tokens, index, within)
+        if len(within) == 1:
+            within.append(like(tokens[at], "__cbi_none", "name"))
+        within.append(tokens[close])
+        if close + 1 < len(tokens) and tokens[close + 1].text in ("[", ".", "->") or begin and out[begin - 1].text == "sizeof":
+            out.insert(begin, like(out[begin], "("))
+            within.append(like(tokens[close], ")"))
+        out.extend(within)
+        return close + 1
 
     def assembler(self, tokens: Sequence[Token], at: int, out: List[Token]) -> int:
         token = tokens[at]
@@ -244,21 +290,63 @@ class Rewriter:
         template = "".join(it.text[1:-1] for it in within[:next((k for k, it in enumerate(within) if it.text == ":"), len(within))])
         if template.replace("\\n", "").replace("\\t", "").strip() and not re.match(r"^\s*[#;]", template):
             self.refuse(token, "`asm`", "C for what it does", out)
-        moved = moves(within)
+        moved, effects = moves(within)
         for left, right in moved:
             out.extend([like(token, "(")] + self.run(left) + [like(token, ")"), like(token, "="), like(token, "(")]
                        + self.run(right) + [like(token, ")"), like(token, ",")])
-        if moved:
+        for what in effects:
+            out.extend([like(token, "(")] + self.run(what) + [like(token, ")"), like(token, ",")])
+        if moved or effects:
             out.append(like(token, "0", "number"))
         return close + 1
 
+    def later_c(self, text: str, tokens: Sequence[Token], at: int, out: List[Token]) -> int:
+        """What C11 has, and a type that is that of what a variable begins with."""
+        token, close = tokens[at], at
+        if at + 1 < len(tokens) and tokens[at + 1].text == "(":
+            close = closing(tokens, at + 1)
+        within = tokens[at + 2:close]
+        if text == "_Atomic":
+            out.extend(self.run(within))
+        elif text == "_Alignas":
+            named = within and within[0].kind == "name"
+            amount = [like(token, "_Alignof", "name"), like(token, "("), *within, like(token, ")")] if named else list(within)
+            if within_struct(out):
+                self.of_member += sign(token, "member_aligned", self.run(amount))
+            else:
+                self.aligned(token, amount, out, tokens[close + 1:close + 40])
+        elif text == "_Generic":
+            out.extend([like(token, "__cbi_generic", "name"), like(token, "(")] + self.choices(within, token) + [like(token, ")")])
+        else:
+            end = at + 3
+            while end < len(tokens) and tokens[end].text not in (";", ","):
+                end = closing(tokens, end) + 1 if tokens[end].text in OPENS else end + 1
+            self.typed_as([like(token, "("), *tokens[at + 3:end], like(token, ")")], token, out)
+        return close + 1
+
+    def choices(self, within: Sequence[Token], token: Token) -> List[Token]:
+        """The parts of a `_Generic`: types are written as `sizeof(T)`, which keeps them."""
+        out: List[Token] = []
+        for part in split(within, ","):
+            pair = split(part, ":")
+            if len(pair) == 2 and part[0].text != "default":
+                out.extend([like(token, "sizeof", "name"), like(token, "("), *self.run(pair[0]), like(token, ")"), like(token, ",")])
+            elif len(pair) == 2:
+                out.extend([like(token, "__cbi_default", "name"), like(token, ",")])
+            out.extend([*self.run(pair[-1]), like(token, ",")])
+        return out[:-1]
+
     def typeof(self, tokens: Sequence[Token], at: int, out: List[Token]) -> int:
         close = closing(tokens, at + 1)
+        self.typed_as(tokens[at + 1:close + 1], tokens[at], out)
+        return close + 1
+
+    def typed_as(self, what: Sequence[Token], token: Token, out: List[Token]) -> None:
+        """The type of an expression, or a type, in parentheses."""
         name = self.name("typeof")
         self.early.append(name)
-        self.holds(name + "_of", [like(tokens[at], "sizeof", "name"), *self.run(tokens[at + 1:close + 1]), like(tokens[at], ";")], tokens[at])
-        out.append(like(tokens[at], name, "name"))
-        return close + 1
+        self.holds(name + "_of", [like(token, "sizeof", "name"), *self.run(what), like(token, ";")], token)
+        out.append(like(token, name, "name"))
 
     def with_types(self, tokens: Sequence[Token], at: int, out: List[Token]) -> int:
         """Arguments that are types are written as `sizeof(T)`, which keeps them."""
@@ -305,8 +393,12 @@ def with_int(tokens: Sequence[Token], types: Set[str]) -> List[Token]:
         before = out[-1].text if out else ";"
         after = tokens[at + 1].text if at + 1 < len(tokens) else ""
         named = token.kind == "name" and token.text not in KEYWORDS and token.text not in types
+        if before in STORAGE and len(out) > 1 and out[-2].text == "}" and closes_struct(out[:-1]):
+            named = False
         if named and (depth == 0 and after == "(" and (before in (";", "}") or before in STORAGE)
                       or before in STORAGE and after in ("=", ";", ",", "[")):
+            out.append(like(token, "int", "name"))
+        elif before == "typedef" and token.kind == "name" and token.text not in KEYWORDS and after == ";":
             out.append(like(token, "int", "name"))
         elif token.text == "*" and before in ("static", "extern", "register", "auto") and token.kind == "mark":
             out.append(like(token, "int", "name"))
@@ -318,24 +410,21 @@ def with_int(tokens: Sequence[Token], types: Set[str]) -> List[Token]:
 def typedef_names(tokens: Sequence[Token]) -> Set[str]:
     """Names that a `typedef` may declare."""
     found: Set[str] = {"__builtin_va_list"}
-    inside = False
-    for at, token in enumerate(tokens):
-        if token.text == "typedef":
-            inside = True
-        elif inside and token.kind == "name" and token.text not in KEYWORDS:
-            found.add(token.text)
-        if token.text == ";" and inside:
-            depth = 0
-            for back in range(at, -1, -1):
-                depth += (tokens[back].text == "}") - (tokens[back].text == "{")
-                if tokens[back].text == "typedef" or depth < 0:
-                    break
-            inside = depth < 0
+    at = 0
+    while at < len(tokens):
+        depth = 0
+        if tokens[at].text == "typedef":
+            while at < len(tokens) and (tokens[at].text != ";" or depth):
+                depth += (tokens[at].text == "{") - (tokens[at].text == "}")
+                if depth == 0 and tokens[at].kind == "name" and tokens[at].text not in KEYWORDS and tokens[at - 1].text not in ("struct", "union", "enum"):
+                    found.add(tokens[at].text)
+                at += 1
+        at += 1
     return found
 
 
-def rewrite(tokens: Sequence[Token], first: int, problems: List[Refusal]) -> Tuple[List[Token], Set[str]]:
-    """The tokens as pycparser reads them, and the names of the functions that were added behind them."""
+def rewrite(tokens: Sequence[Token], first: int, problems: List[Refusal]) -> Tuple[List[Token], Set[str], Dict[str, int]]:
+    """The tokens as pycparser reads them, the names of the functions that were added behind them, and alignments that are asked for."""
     rewriter = Rewriter(first, problems)
     main = with_int(rewriter.run(tokens), typedef_names(tokens))
     file, line = (tokens[0].file, 0) if tokens else ("", 0)
@@ -347,124 +436,9 @@ def rewrite(tokens: Sequence[Token], first: int, problems: List[Refusal]) -> Tup
     for index, token in enumerate(whole):
         places.setdefault((token.file, token.line), first + index)
     for problem in problems:
-        token = getattr(problem, "token", None)
-        if problem.at < 0 and token is not None:
-            problem.at = places.get((token.file, token.line), first)
-            if whole and whole[problem.at - first].line != token.line:
-                problem.construct += f" (line {token.line})"
-    return whole, rewriter.bodies
-
-
-def unary_place(before: Token) -> bool:
-    return before.kind == "mark" and before.text not in (")", "]", "}", "++", "--") or before.text in ("return", "case")
-
-
-def range_within(tokens: Sequence[Token], at: int) -> bool:
-    return any(token.text == "..." for token in tokens[at:closing(tokens, at)][:40])
-
-
-def case_end(tokens: Sequence[Token], at: int) -> int:
-    asked, depth = 0, 0
-    for index in range(at + 1, len(tokens)):
-        text = tokens[index].text
-        depth += (text in OPENS) - (text in (")", "]", "}"))
-        asked += text == "?"
-        if text == ":" and depth == 0:
-            if not asked:
-                return index
-            asked -= 1
-    return len(tokens)
-
-
-def within_struct(out: Sequence[Token]) -> bool:
-    """Whether the innermost open brace is that of a struct's members, or one was just closed."""
-    depth = 0
-    for index in range(len(out) - 1, -1, -1):
-        text = out[index].text
-        if text == "}":
-            depth += 1
-        elif text == "{":
-            if depth:
-                depth -= 1
-            else:
-                return any(it.text in ("struct", "union") for it in out[max(index - 2, 0):index])
-    return False
-
-
-def is_declared(out: Sequence[Token]) -> bool:
-    """Whether the `)` or `]` that stands last ends a declarator at the outermost level."""
-    depth = 0
-    for token in out:
-        depth += (token.text == "{") - (token.text == "}")
-    return depth == 0 or out[-1].text == "]"
-
-
-def moves(within: Sequence[Token]) -> List[Tuple[List[Token], List[Token]]]:
-    """What an empty `asm` moves: an input that is bound to an output by its number."""
-    parts: List[List[Token]] = [[]]
-    depth = 0
-    for token in within:
-        depth += (token.text in OPENS) - (token.text in (")", "]", "}"))
-        if token.text == ":" and depth == 0:
-            parts.append([])
-        else:
-            parts[-1].append(token)
-
-    def operands(part: Sequence[Token]) -> List[Tuple[str, List[Token]]]:
-        found: List[Tuple[str, List[Token]]] = []
-        at = 0
-        while at < len(part):
-            if part[at].kind == "string" and at + 1 < len(part) and part[at + 1].text == "(":
-                close = closing(part, at + 1)
-                found.append((part[at].text[1:-1], list(part[at + 2:close])))
-                at = close
-            at += 1
-        return found
-    if len(parts) < 3:
-        return []
-    outputs, inputs = operands(parts[1]), operands(parts[2])
-    return [(outputs[int(how)][1], what) for how, what in inputs if how.isdigit() and int(how) < len(outputs)]
-
-
-ESCAPE = re.compile(r"\\(x[0-9A-Fa-f]+|[0-7]{1,3}|u[0-9A-Fa-f]{4}|U[0-9A-Fa-f]{8}|.)", re.S)
-
-
-def plain_string(text: str) -> str:
-    """A string with escapes that mean the same before any other string."""
-    def plain(found: "re.Match[str]") -> str:
-        what = found[1]
-        if what[0] == "x":
-            return f"\\{int(what[1:], 16) & 255:03o}"
-        if what[0] in "01234567":
-            return f"\\{int(what, 8) & 255:03o}"
-        if what[0] in "uU" and len(what) > 1:
-            return "".join(f"\\{byte:03o}" for byte in chr(int(what[1:], 16)).encode("utf-8"))
-        if what in ("e", "E"):
-            return "\\033"
-        return found[0] if what in "ntrabfv\\'\"?" else what
-    body = text[text.index('"') + 1:-1]
-    prefix = text[:text.index('"')]
-    return (prefix if prefix == "L" else "") + '"' + ESCAPE.sub(plain, body) + '"'
-
-
-def bytes_of(text: str) -> bytes:
-    """The bytes of a string in quotes, or of a character constant, without a closing zero."""
-    names = {"n": 10, "t": 9, "r": 13, "a": 7, "b": 8, "f": 12, "v": 11, "e": 27}
-    out = bytearray()
-    body = text[1:-1]
-    at = 0
-    while at < len(body):
-        found: Optional["re.Match[str]"] = ESCAPE.match(body, at)
-        if not found:
-            out.append(ord(body[at]) & 255)
-            at += 1
-            continue
-        what = found[1]
-        at = found.end()
-        if what[0] == "x":
-            out.append(int(what[1:], 16) & 255)
-        elif what[0] in "01234567":
-            out.append(int(what, 8) & 255)
-        else:
-            out.append(names.get(what, ord(what[0])))
-    return bytes(out)
+        asked = getattr(problem, "token", None)
+        if problem.at < 0 and asked is not None:
+            problem.at = places.get((asked.file, asked.line), first)
+            if whole and whole[problem.at - first].line != asked.line:
+                problem.construct += f" (line {asked.line})"
+    return whole, rewriter.bodies, rewriter.alignments

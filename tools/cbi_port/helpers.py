@@ -50,7 +50,7 @@ class Helpers:
         try:
             self.typed()
         except Refusal as refusal:
-            program.problems.append(refusal)
+            program.tell(refusal)
         pairs = []
         for name, type_, kinds in program.dispatchers.values():
             pairs.append(program.dispatch_text(name, type_, kinds))
@@ -68,7 +68,7 @@ class Helpers:
             try:
                 model.finish_memory(self)
             except Refusal as refusal:
-                program.problems.append(refusal)
+                program.tell(refusal)
             start = getattr(model, "start", "") + start
         if wrapped:
             self.main_wrapper(main, start, call, rows)
@@ -172,7 +172,7 @@ class Helpers:
     def word(self, type_: CType) -> str:
         if isinstance(type_, Pointer) and not to_function(type_):
             return "void **"
-        return self.program.model.declare(Pointer(type_), "") if not to_function(type_) else "int *"
+        return str(self.program.model.declare(Pointer(type_), "")) if not to_function(type_) else "int *"
 
     def store(self, to: str, from_: str, type_: CType) -> str:
         """An element that is copied; both are pointers."""

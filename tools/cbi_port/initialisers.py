@@ -1,21 +1,15 @@
 """Initialisers (C99 6.7.8): which place gets which value."""
-from typing import Any, Dict, List, NamedTuple, Sequence, Tuple
+from typing import Any, Dict, List, Sequence, Tuple
 
 from cbi_port.calls import Calls
 from cbi_port.conversions import number
-from cbi_port.declarations import kind
-from cbi_port.gnu import bytes_of
+from cbi_port.constants import bytes_of, characters_of
+from cbi_port.trees import kind
 from cbi_port.types import Array, CType, Int, Member, Struct
-from cbi_port.values import Place
+from cbi_port.values import Leaf, Place
 
 Step = Any  # an index, or a member
 Path = Tuple[Step, ...]
-
-
-class Leaf(NamedTuple):
-    """A value for a place: `type` is that of the place."""
-    type: CType
-    node: Any
 
 
 def is_char_array(type_: CType) -> bool:
@@ -47,6 +41,9 @@ class Initialisers(Calls):
             if is_string(node) and is_char_array(type_):
                 return Array(type_.of, len(bytes_of(node.value)) + 1), {(): Leaf(Array(type_.of, len(bytes_of(node.value)) + 1), node)}
             most = max([path[0] for path in found], default=-1) + 1
+            whole = self.resolve(node.type.type) if kind(node) == "CompoundLiteral" else None
+            if isinstance(whole, Array) and isinstance(whole.count, int):
+                most = max(most, whole.count)
             return Array(type_.of, most), found
         return type_, found
 
@@ -57,7 +54,7 @@ class Initialisers(Calls):
 
     def fill(self, type_: CType, node: Any, path: Path, found: Dict[Path, Leaf]) -> None:
         if kind(node) == "InitList":
-            items = node.exprs or []
+            items = [it for it in node.exprs or [] if not (kind(it) == "ID" and it.name == "__cbi_none")]
             if not isinstance(type_, (Array, Struct)):
                 if items:
                     self.fill(type_, items[0], path, found)
@@ -71,7 +68,7 @@ class Initialisers(Calls):
             return
         if isinstance(type_, Array) and isinstance(type_.of, Int) and kind(node) == "Constant" and node.type == "string" and node.value[0] == "L":
             from pycparser import c_ast
-            data = bytes_of(node.value[1:]) + b"\0"
+            data = characters_of(node.value) + [0]
             for index, byte in enumerate(data[:type_.count if isinstance(type_.count, int) else None]):
                 self.set(found, path + (index,), Leaf(type_.of, c_ast.Constant("int", str(byte), node.coord)))
             return
@@ -82,12 +79,12 @@ class Initialisers(Calls):
             raise self.refuse(node, "an array that begins with no list", "a list in braces")
         self.set(found, path, Leaf(type_, node))
 
-    def parts(self, type_: CType) -> List[Tuple[Step, CType]]:
+    def parts(self, type_: Any) -> List[Tuple[Step, CType]]:
         """The members of a struct that an initialiser goes through."""
         members = [(member, member.type) for member in type_.members if member.name]
         return members[:1] if type_.union else members
 
-    def aggregate(self, type_: CType, cursor: Cursor, path: Path, found: Dict[Path, Leaf], top: bool, start: List[Any]) -> None:
+    def aggregate(self, type_: Any, cursor: Cursor, path: Path, found: Dict[Path, Leaf], top: bool, start: List[Any]) -> None:
         """Takes items for the parts of an array or a struct; `start` are the designators that say where it begins."""
         index = 0
         parts = self.parts(type_) if isinstance(type_, Struct) else []
@@ -130,11 +127,12 @@ class Initialisers(Calls):
     def gives(self, node: Any, struct: Struct) -> bool:
         return kind(node) not in ("Constant",) and self.type_of(node) is struct
 
-    def designated(self, type_: CType, designators: List[Any], parts: Sequence[Tuple[Step, CType]], item: Any, path: Path,
+    def designated(self, type_: Any, designators: List[Any], parts: Sequence[Tuple[Step, CType]], item: Any, path: Path,
                    found: Dict[Path, Leaf], cursor: Cursor) -> int:
         """Takes an item that says where it goes; the index of the part that it goes to."""
         first, rest = designators[0], designators[1:]
         last = None
+        step: Step
         if isinstance(type_, Struct):
             way = type_.find(first.name) if kind(first) == "ID" else None
             if way is None:
@@ -153,7 +151,9 @@ class Initialisers(Calls):
             step, inner = index, type_.of
         value = item.expr if kind(item) == "NamedInitializer" else item
         if rest:
-            self.aggregate(inner, cursor, path + (step,), found, False, rest)
+            for place in range(index, index if last is None else last):
+                self.aggregate(inner, Cursor([item]), path + (place,), found, False, rest)
+            self.aggregate(inner, cursor, path + (step if last is None else last,), found, False, rest)
         else:
             for place in range(index, (last if last is not None else index) + 1):
                 at = path + (place if isinstance(type_, Array) else step,)
@@ -210,7 +210,7 @@ class Initialisers(Calls):
         """Whether each scalar of a type has a value."""
         paths = set(found)
 
-        def full(inner: CType, path: Path) -> bool:
+        def full(inner: Any, path: Path) -> bool:
             if path in paths:
                 return not (is_char_array(inner) and isinstance(inner.count, int) and inner.count > len(bytes_of(found[path].node.value)) + 1)
             if isinstance(inner, Array):

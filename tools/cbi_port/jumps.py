@@ -4,59 +4,12 @@ Only statements that hold a label, or jump out of a loop, are cut into segments;
 """
 from typing import Any, List, Optional
 
-from cbi_port.declarations import kind
 from cbi_port.lines import Refusal
 from cbi_port.scopes import Scope, Symbol
 from cbi_port.statements import Statements
-from cbi_port.types import Array, Function, Void, is_complete, is_long
+from cbi_port.trees import CONTROL, cases_within, holds, is_cut, is_jump, kind
+from cbi_port.types import Array, Function, Struct, Void, is_complete, is_long
 from cbi_port.values import ASSIGN, COMMA, UNARY, Value
-
-LOOPS = ("While", "DoWhile", "For")
-
-
-def holds(node: Any, wanted: Any) -> bool:
-    """Whether a statement has, somewhere in it, one that is wanted."""
-    if node is None:
-        return False
-    return wanted(node) or any(holds(child, wanted) for _, child in node.children())
-
-
-def cases_within(switch: Any) -> bool:
-    """Whether a label of a `switch` stands within another statement."""
-    items = (switch.stmt.block_items or []) if kind(switch.stmt) == "Compound" else [switch.stmt]
-
-    def stray(node: Any, top: bool) -> bool:
-        if node is None or kind(node) == "Switch":
-            return False
-        if kind(node) in ("Case", "Default"):
-            return not top or any(stray(item, kind(item) in ("Case", "Default")) for item in node.stmts or [])
-        return any(stray(child, False) for _, child in node.children())
-    return any(stray(item, True) for item in items)
-
-
-def is_jump(node: Any) -> bool:
-    return kind(node) == "Goto" or kind(node) == "FuncCall" and kind(node.name) == "ID" and node.name.name == "__cbi_goto"
-
-
-def leaves_loop(node: Any) -> bool:
-    """Whether a `goto` stands within a loop or a `switch`."""
-    if node is None:
-        return False
-    if kind(node) in (*LOOPS, "Switch"):
-        return holds(node, is_jump)
-    return any(leaves_loop(child) for _, child in node.children())
-
-
-def is_cut(node: Any) -> bool:
-    """Whether a statement has to be cut into segments."""
-    return holds(node, lambda it: kind(it) == "Label") or leaves_loop(node) or holds(
-        node, lambda it: kind(it) == "Switch" and cases_within(it)) or has_stray_case(node)
-
-
-def has_stray_case(node: Any) -> bool:
-    if node is None or kind(node) == "Switch":
-        return False
-    return kind(node) in ("Case", "Default") or any(has_stray_case(child) for _, child in node.children())
 
 
 class Jumps(Statements):
@@ -72,7 +25,6 @@ class Jumps(Statements):
         self.jumping = body
         body.segments = 0
         body.case_segments = {}
-        body.targets = []
         self.put(f"{body.flat} = 0; while (1) {{ if ({body.flat} == 0) {{")
 
     def finish(self, item: Any) -> None:
@@ -126,7 +78,7 @@ class Jumps(Statements):
                 raise
             self.problems.append(self.refuse(node, f"a jump in a {kind(node)}", "a loop with `break` and `continue`"))
         except Refusal as refusal:
-            self.problems.append(refusal)
+            self.tell(refusal, node)
 
     at_level = True
     jumping: Any = None
@@ -165,7 +117,7 @@ class Jumps(Statements):
                 if isinstance(type_, Array) and type_.count is None:
                     outer = self.scope
                     type_, _ = self.leaves(type_, node.init)
-                if not self.has_float(type_):
+                if not isinstance(type_, Void):
                     symbol = Symbol(node.name, "variable", type_, self.local_name(node.name))
                     self.scope.names[node.name] = symbol
                     out, self.function.out = self.function.out, []
@@ -179,6 +131,7 @@ class Jumps(Statements):
 
     def cut_Label(self, node: Any) -> None:
         self.function.defined_labels.add(node.name)
+        self.function.dead = 0
         self.segment(self.label_segment(node.name), True, node)
         if node.stmt is not None:
             self.level_statement(node.stmt)
@@ -195,16 +148,22 @@ class Jumps(Statements):
 
     def cut_If(self, node: Any) -> None:
         yes, no, end = self.new_segment(), self.new_segment(), self.new_segment()
-        condition = self.condition(node.cond)
+        self.lead(node.cond)
+        value = self.truth(self.value(node.cond))
+        condition = self.condition_text(value)
+        dead = self.function.dead
         flat = self.function.flat
         other = no if node.iffalse is not None else end
         self.put(f"if ({condition}) {flat} = {yes}; else {flat} = {other};", node)
         self.segment(yes, False)
+        self.function.dead = dead + (value.constant == 0)
         self.level_statement(node.iftrue)
         if node.iffalse is not None:
             self.put(self.jump(end))
             self.segment(no, False)
+            self.function.dead = dead + (value.constant is not None and value.constant != 0)
             self.level_statement(node.iffalse)
+        self.function.dead = dead
         self.segment(end)
 
     def cut_While(self, node: Any) -> None:
@@ -289,13 +248,14 @@ class Jumps(Statements):
         """Where `continue` goes from within a `switch`."""
         for target in reversed(self.function.loops):
             if isinstance(target, tuple) and target[0] == "flat" and target[1] is not None:
-                return target[1]
+                return int(target[1])
         return None
 
     def cut_Case(self, node: Any) -> None:
         number = self.function.case_segments.get(id(node))
         if number is None:
             raise self.refuse(node, "a `case` outside its `switch`", "a `case` in a `switch`")
+        self.function.dead = 0
         self.segment(number, True, node)
         for item in node.stmts or []:
             self.level_statement(item)
@@ -308,26 +268,35 @@ class Jumps(Statements):
         body = self.unit.bodies.get(name)
         items = list(body.block_items or []) if body is not None else []
         outer, self.scope = self.scope, Scope(self.scope)
+        direct, led = self.function.direct, self.function.leading
         self.function.held += 1
         try:
             if node is self.function.direct:
                 return self.behind_statements(items, used)
+            if id(node) in self.function.leading and any(kind(item) in CONTROL for item in items):
+                value = self.behind_statements(items, used)
+                if isinstance(value.type, (Struct, Void)) or value.constant is not None:
+                    return value
+                text, value = self.keep(value)
+                self.put(text + ";")
+                return value
             return self.within_commas(node, items, used)
         finally:
             self.function.held -= 1
             self.scope = outer
+            self.function.direct, self.function.leading = direct, led
 
     def behind_statements(self, items: List[Any], used: bool) -> Value:
         """Where nothing else is evaluated before: the statements stand before the one that has the value."""
-        self.function.direct = None
         for item in items[:-1]:
             self.own_statement(item)
         if not items:
             return Value(Void(), "0")
         last = items[-1]
-        if kind(last) in ("If", "While", "For", "DoWhile", "Compound", "Return", "Switch", "Decl", "Goto", "Label", "Break", "Continue", "EmptyStatement"):
+        if kind(last) in (*CONTROL, "Decl", "EmptyStatement"):
             self.own_statement(last)
             return Value(Void(), "0")
+        self.lead(last)
         return self.value(last, used)
 
     def own_statement(self, item: Any) -> None:
@@ -342,7 +311,7 @@ class Jumps(Statements):
             return
         if isinstance(type_, Array) and type_.count is None and node.init is not None:
             type_, _ = self.leaves(type_, node.init)
-        if not is_complete(type_) or self.has_float(type_):
+        if not is_complete(type_):
             return
         symbol = Symbol(node.name, "variable", type_, self.names.take(node.name))
         self.pending_symbol = symbol
@@ -357,7 +326,7 @@ class Jumps(Statements):
         value = Value(Void(), "0")
         for item in items:
             last = item is items[-1]
-            if kind(item) in ("If", "While", "For", "DoWhile", "Compound", "Return", "Switch", "Goto", "Label", "Break", "Continue"):
+            if kind(item) in CONTROL:
                 raise self.refuse(node, "a statement within an expression", "a function, or the statement before")
             if kind(item) in ("EmptyStatement", "Typedef"):
                 if kind(item) == "Typedef":

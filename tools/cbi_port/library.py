@@ -4,11 +4,11 @@ from typing import Any, Dict, Optional, Sequence, Tuple
 
 from cbi_port.cells import innermost, like_char
 from cbi_port.conversions import number
-from cbi_port.declarations import FLOATS, kind
 from cbi_port.lines import mark
 from cbi_port.scopes import Symbol
-from cbi_port.statements import Statements
-from cbi_port.types import (CHAR, INT, LONG, UINT, VOID, Array, CType, Function, Int, Pointer, Struct, Void, is_long,
+from cbi_port.gnu_calls import OVERFLOWS, GnuCalls
+from cbi_port.trees import kind
+from cbi_port.types import (CHAR, INT, LONG, UINT, VOID, Array, CType, Function, Int, Pointer, Struct, Void, is_float, is_long,
                             is_pointer, same, size_of, spelled, to_function)
 from cbi_port.values import ASSIGN, POSTFIX, UNARY, Value, prefixed
 
@@ -18,6 +18,12 @@ OWN: Dict[str, Function] = {
     "putchar": Function(INT, (INT,), False, True), "getchar": Function(INT, (), False, True),
     "puts": Function(INT, (Pointer(CHAR),), False, True),
 }
+ANY, SIZED = Pointer(VOID), (Pointer(VOID), Pointer(VOID), UINT)
+# Functions of the text that is added where memory is bytes.
+RAW = {"memcpy": ("cbi_copy", Function(ANY, SIZED, False, True)), "memmove": ("cbi_move", Function(ANY, SIZED, False, True)),
+       "memset": ("cbi_fill", Function(ANY, (ANY, INT, UINT), False, True)), "memcmp": ("cbi_compare", Function(INT, SIZED, False, True)),
+       "malloc": ("cbi_malloc", Function(ANY, (UINT,), False, True)), "free": ("cbi_free", Function(VOID, (ANY,), False, True)),
+       "calloc": ("cbi_calloc", Function(ANY, (UINT, UINT), False, True)), "realloc": ("cbi_realloc", Function(ANY, (ANY, UINT), False, True))}
 # Functions that look at bytes ahead: with one of them all input goes by the prelude.
 AHEAD = {"ungetc", "scanf", "fscanf", "vscanf", "vfscanf"}
 NO = {"setjmp": "a value that says what went wrong", "longjmp": "a value that says what went wrong", "_setjmp": "a value that says what went wrong",
@@ -28,7 +34,7 @@ TYPED = {"malloc", "calloc", "realloc", "free", "memcpy", "memmove", "memset", "
          "strdup", "fread", "fwrite"}
 
 
-class Library(Statements):
+class Library(GnuCalls):
     """Calls of the library."""
 
     def library_function(self, name: str, node: Any) -> Optional[Symbol]:
@@ -42,22 +48,38 @@ class Library(Statements):
                 self.wrappers[name] = symbol
             return symbol
         found = self.prelude_symbol(name)
+        if found is None and name in self.model.own_calls and not name.startswith("lib_") and name in RAW:
+            return self.raw_function(name, node)
         return found if found is not None and found.kind == "function" else None
+
+    def raw_function(self, name: str, node: Any) -> Symbol:
+        """A function of memory as a value, where memory is bytes."""
+        if not self.model.in_bytes:
+            raise self.refuse(node, f"`{name}` as a value", "a function of your own that calls it", True)
+        symbol = self.wrappers.get(name)
+        if symbol is None:
+            text, type_ = RAW[name]
+            symbol = self.wrappers[name] = Symbol(name, "function", type_, text)
+            symbol.outer = symbol.defined = True
+            symbol.unit = "prelude"
+        return symbol
 
     def library_call(self, name: str, node: Any, arguments: Sequence[Any], used: bool, symbol: Optional[Symbol]) -> Optional[Value]:
         """A call of the library; None where the name isn't one of it."""
         if symbol is not None and symbol.defined:
             return None
         at = mark(self.place_of(node))
+        if name in OVERFLOWS:
+            return self.overflowing(node, arguments, *OVERFLOWS[name])
         method = getattr(self, "lib_" + name, None)
         if method is not None:
             value = method(node, arguments, used)
-            return value if at in value.text or not value.text else value._replace(text=at + value.text) if value.level == POSTFIX else value
+            return self.placed(value, at)
         if name in self.model.own_calls:
-            value = self.model.own_calls[name](node, arguments, used)
-            if value is not None:
+            known: Optional[Value] = self.model.own_calls[name](node, arguments, used)
+            if known is not None:
                 self.library_used(name)
-                return value
+                return known
         if name in OWN and (self.in_prelude or name not in self.wrapped):
             self.library_used(name)
             return self.own_call(name, node, arguments)
@@ -71,9 +93,12 @@ class Library(Statements):
             return self.called(found.text, found, found.type, arguments, node, used)
         if name in NO:
             raise self.refuse(node, f"`{name}`", NO[name])
-        if name.startswith("__builtin") or name in ("fabs", "sqrt", "pow", "sin", "cos", "strtod", "atof", "floor", "ceil"):
-            raise self.refuse(node, f"`{name}`", FLOATS if not name.startswith("__") else "a function of your own")
+        if name.startswith("__builtin") or name in ("pow", "sin", "cos", "tan", "exp", "log", "log10", "log2", "atan", "atan2"):
+            raise self.refuse(node, f"`{name}`", "a function of your own")
         return None
+
+    def placed(self, value: Value, at: str) -> Value:
+        return value._replace(text=at + value.text) if value.text and at not in value.text and value.level == POSTFIX else value
 
     def library_used(self, name: str) -> None:
         if not self.in_prelude:
@@ -119,34 +144,6 @@ class Library(Statements):
         value = self.truth(self.value(arguments[0]))
         return Value(VOID, f"assert({value.text or str(value.constant)})", POSTFIX, pure=False)
 
-    def lib___builtin_expect(self, node: Any, arguments: Sequence[Any], used: bool) -> Value:
-        value = self.converted(self.value(arguments[0]), LONG)
-        return value
-
-    def lib___builtin_constant_p(self, node: Any, arguments: Sequence[Any], used: bool) -> Value:
-        quiet, self.function.quiet = self.function.quiet, True
-        try:
-            value = self.value(arguments[0])
-            text = kind(arguments[0]) == "Constant"
-        finally:
-            self.function.quiet = quiet
-        return number(int(value.constant is not None or text))
-
-    def lib___builtin_choose_expr(self, node: Any, arguments: Sequence[Any], used: bool) -> Value:
-        return self.value(arguments[1] if self.constant(arguments[0]) else arguments[2], used)
-
-    def lib_unreachable(self, node: Any, arguments: Sequence[Any], used: bool) -> Value:
-        return Value(VOID, "abort()", POSTFIX, pure=False)
-
-    lib_trap = lib_unreachable
-
-    def lib_prefetch(self, node: Any, arguments: Sequence[Any], used: bool) -> Value:
-        values = [it for it in (self.value(argument, False) for argument in arguments[:1]) if not it.pure]
-        return Value(VOID, values[0].text if values else "0", values[0].level if values else POSTFIX, pure=not values)
-
-    def lib_object_size(self, node: Any, arguments: Sequence[Any], used: bool) -> Value:
-        raise self.refuse(node, "`__builtin_object_size`", "the size itself")
-
     def lib___builtin_va_start(self, node: Any, arguments: Sequence[Any], used: bool) -> Value:
         place = self.place(arguments[0])
         return Value(VOID, f"{place.text} = cbi_more", ASSIGN, pure=False) if not place.memory else self.model.store(
@@ -156,7 +153,8 @@ class Library(Statements):
     lib_stdarg_start = lib___builtin_va_start
 
     def lib___builtin_va_end(self, node: Any, arguments: Sequence[Any], used: bool) -> Value:
-        return Value(VOID, "0", POSTFIX)
+        value = self.value(arguments[0])
+        return Value(VOID, prefixed("(void)", value.text, value.level), UNARY, pure=value.pure)
 
     lib_va_end = lib___builtin_va_end
 
@@ -197,7 +195,7 @@ class Library(Statements):
                 if not is_pointer(value.type) or not like_char(value.type.to) or value.null:
                     return None
                 texts.append(value.at(ASSIGN))
-            elif not isinstance(value.type, Int) or is_long(value.type):
+            elif not isinstance(value.type, Int) or is_long(value.type) or is_float(value.type):
                 return None
             else:
                 texts.append(self.promoted(value).at(ASSIGN))
@@ -270,7 +268,7 @@ class TypedCalls:
                 raise program.refuse(node, "bytes of a struct from one member on", "an assignment of each member", True)
         if whole.constant is not None and whole.constant % max(size_of(type_), 1):
             raise program.refuse(node, f"a part of a `{spelled(type_)}`", "an assignment of each value", True)
-        count = program.model.objects(type_, [size])
+        count: Value = program.model.objects(type_, [size])
         if " + " in count.text and count.text.endswith(f"/ {size_of(type_)}u"):
             return Value(UINT, f"cbi_exact({program.converted(whole, UINT, True).at(ASSIGN)}, {size_of(type_)}u)", POSTFIX, pure=False)
         return count
@@ -299,25 +297,31 @@ class TypedCalls:
                 return found[0]
             to = places.pop(0)
             to = to.to if is_pointer(to) else to.of if isinstance(to, Array) else None
-            bytes_ = {"": 4, "l": 4, "z": 4, "t": 4, "ll": 8, "j": 8, "h": 2, "hh": 1}.get(size)
-            if not isinstance(to, Int) or to.size != bytes_:
+            real = what in "fegFEG"
+            bytes_ = {"": 4, "l": 8 if real else 4, "L": 8, "z": 4, "t": 4, "ll": 8, "j": 8, "h": 2, "hh": 1}.get(size)
+            if not isinstance(to, Int) or to.size != bytes_ or is_float(to) != real:
                 raise program.refuse(node, f"`{found[0]}` with a `{spelled(to) if to is not None else 'number'}`", "the letters of its type", True)
+            if real:
+                return f"%{width}{size.replace('L', 'l')}{what}"
             return f"%{width}{size}{'J' if (what in 'di') != to.signed else ''}{what}"
-        form = re.sub(r"%(\*?)(\d*)(hh|h|ll|l|j|z|t|)(\[\^?\]?[^\]]*\]|[a-zA-Z%])", letter, arguments[at].value)
+        form = re.sub(r"%(\*?)(\d*)(hh|h|ll|l|L|j|z|t|)(\[\^?\]?[^\]]*\]|[a-zA-Z%])", letter, arguments[at].value)
         from pycparser import c_ast
         found = program.prelude_symbol(name)
         assert found is not None
         program.use(found)
         row = [*arguments[:at], c_ast.Constant("string", form, arguments[at].coord), *arguments[at + 1:]]
-        return program.called(found.text, found, found.type, row, node, True)
+        value: Value = program.called(found.text, found, found.type, row, node, True)
+        return value
 
     def call_malloc(self, node: Any, arguments: Sequence[Any], used: bool) -> Value:
         program = self.program
         count = program.converted(program.value(arguments[0]), UINT, True, node)
-        return program.model.fresh(count, [arguments[0]], False)
+        value: Value = program.model.fresh(count, [arguments[0]], False)
+        return value
 
     def call_calloc(self, node: Any, arguments: Sequence[Any], used: bool) -> Value:
-        return self.program.model.fresh(number(0, UINT), list(arguments[:2]), True)
+        value: Value = self.program.model.fresh(number(0, UINT), list(arguments[:2]), True)
+        return value
 
     def call_realloc(self, node: Any, arguments: Sequence[Any], used: bool) -> Value:
         program = self.program

@@ -20,6 +20,7 @@ class Refusal(Exception):
     def __init__(self, at: int, construct: str, advice: str, bytes_do: bool = False) -> None:
         super().__init__(construct)
         self.at, self.construct, self.advice, self.bytes_do = at, construct, advice, bytes_do
+        self.follows = False  # comes of another one alone, which is told
 
     def problem(self, tokens: Sequence[Token]) -> Problem:
         token = tokens[min(max(self.at, 0), len(tokens) - 1)] if tokens else Token("", "", "?", 0)

@@ -2,12 +2,12 @@
 import re
 from typing import Any, List, Optional, Tuple
 
-from cbi_port.cells import Cells, cells, innermost
+from cbi_port.cells import MOST_CELLS, Cells, cells, innermost
 from cbi_port.conversions import number
-from cbi_port.declarations import kind
 from cbi_port.scopes import Symbol
+from cbi_port.trees import kind
 from cbi_port.types import (UINT, VOID, Array, CType, Int, List_, Pointer, Struct, is_long, is_whole, size_of,
-                            to_function)
+                            spread, to_function)
 from cbi_port.values import ADD, ASSIGN, POSTFIX, TIMES, UNARY, Place, Value
 
 LATER = "\x03{}\x04"  # what is known only when all is translated
@@ -20,8 +20,22 @@ def structs_in(type_: CType) -> List[Struct]:
     return [type_] + [inner for member in type_.members for inner in structs_in(member.type)]
 
 
+def goes_on(type_: CType) -> bool:
+    """Whether a struct ends with an array that may be meant as the beginning of one."""
+    last = type_.members[-1].type if isinstance(type_, Struct) and type_.members else None
+    return isinstance(last, Array) and last.count == 1
+
+
+def is_sum(node: Any) -> bool:
+    while kind(node) == "Cast":
+        node = node.expr
+    return kind(node) == "BinaryOp" and node.op in "+-"
+
+
 class Objects(Cells):
     """Declarations and values of whole objects."""
+
+    static_cells = 0  # of what lives as long as the program
 
     def declare_bare(self, symbol: Symbol) -> None:
         program = self.program
@@ -93,19 +107,15 @@ class Objects(Cells):
     def open_array(self, node: Any, type_: Array) -> None:
         """An array of variable length is memory of `malloc`, which is given back where the function returns."""
         program = self.program
-        count = program.converted(program.value(type_.count), UINT, True, node)
         function = program.function
-        name = program.local_name(node.name)
-        length = function.lasting("unsigned") + ".value"
+        inner, count, texts = spread(type_)
         holder = f"cbi_open_{len(function.ends) + 1}"
-        function.fixed.append(f"{self.spell(Pointer(type_.of))}{' ' * 0}{holder} = NULL;")
+        function.fixed.append(f"{self.spell(Pointer(type_.of))}{holder} = NULL;")
         symbol = Symbol(node.name, "variable", Pointer(type_.of), holder)
         program.scope.names[node.name] = symbol
-        size = number(size_of(type_.of), UINT)
-        symbol.lengths = Value(UINT, f"{length} * {size.text}", TIMES)
-        per = cells(type_.of)
-        times = f" * {per}" if per > 1 else ""
-        program.put(f"{length} = {count.text}; free({holder}); {holder} = malloc({length}{times});", node)
+        symbol.lengths, symbol.open = program.size_value(type_), type_
+        amount = " * ".join(texts + [str(count * cells(inner))] * (count * cells(inner) != 1))
+        program.put(f"free({holder}); {holder} = malloc({amount});", node)
         function.ends.append(f"free({holder});")
 
     def literal(self, type_: CType, found: Any, node: Any) -> Place:
@@ -122,12 +132,12 @@ class Objects(Cells):
         for path, leaf in found.items():
             rows.append(program.assignment(program.part(place, path, node), leaf, node)[:-1])
         if isinstance(type_, Array):
-            pointer = self.decayed(place)
-            return Place(type_, f"({', '.join(rows + [pointer.text])})", POSTFIX, False, pointer="flat")
+            begin = self.decayed(place)
+            return Place(type_, f"({', '.join(rows + [begin.text])})", POSTFIX, False, pointer="flat")
         pointer = f"({', '.join(rows + ['&' + name])})"
         return Place(type_, f"*{pointer}", UNARY, False, pointer=pointer)
 
-    def store_string(self, place: Place, text: str, data: bytes, length: int, type_: CType) -> str:
+    def store_string(self, place: Place, text: str, data: bytes, length: int, type_: Any) -> str:
         target = self.decayed(place).at(ASSIGN)
         count = type_.count if isinstance(type_.count, int) else len(data)
         return f"cbi_spell({target}, {text}, {length}, {count})"
@@ -241,6 +251,8 @@ class Objects(Cells):
         """A call that makes memory for objects of a type; `node` are the factors of its size in bytes."""
         program = self.program
         inner, per = innermost(type_)
+        if goes_on(type_) and any(is_sum(it) for it in node):
+            raise program.refuse(None, "an array at a struct's end that goes on behind it", "a pointer to memory of malloc", True)
         count = self.objects(type_, node)
         amount = self.amount(type_, count)
         maker = "cbi_malloc" if program.keeps_sizes else "malloc"
@@ -248,7 +260,8 @@ class Objects(Cells):
             program.makers.setdefault(self.maker_name(inner), inner)
             objects = count.text if per == 1 else f"{count.at(TIMES)} * {per}"
             return f"cbi_new_{self.maker_name(inner)}({objects})"
-        program.later.append((structs_in(type_) or [self.maker_name(inner)], f"cbi_new_{self.maker_name(inner)}({count.text if per == 1 else f'{count.at(TIMES)} * {per}'})", f"{maker}({amount})"))
+        held: List[Any] = [*structs_in(type_)] or [self.maker_name(inner)]
+        program.later.append((held, f"cbi_new_{self.maker_name(inner)}({count.text if per == 1 else f'{count.at(TIMES)} * {per}'})", f"{maker}({amount})"))
         program.makers_if.setdefault(self.maker_name(inner), inner)
         return LATER.format(len(program.later) - 1)
 
@@ -313,6 +326,9 @@ class Objects(Cells):
         """The declaration of a global; what it can't begin with in the text is stored at the program's start."""
         program, type_ = self.program, symbol.type
         text = self.declare(type_, symbol.text)
+        self.static_cells += cells(type_)
+        if self.static_cells > MOST_CELLS:
+            raise program.refuse(node, f"more than {MOST_CELLS:,} scalars in variables that live as long as the program", "smaller arrays", True)
         if init is None:
             return text + ";"
         place = self.variable(symbol)

@@ -2,9 +2,8 @@
 from typing import Any, Optional
 
 from cbi_port.conversions import number
-from cbi_port.declarations import FLOATS
 from cbi_port.expressions import LONG_NAMES, Expressions
-from cbi_port.types import INT, Float, Int, Void, common, is_long, is_pointer, spelled
+from cbi_port.types import INT, Int, Void, common, is_float, is_long, is_pointer, spelled
 from cbi_port.values import COND, LEVELS, POSTFIX, SHIFT, UNARY, Value
 
 
@@ -42,7 +41,9 @@ class Operators(Expressions):
         return self.operated(sign, left, right, node, at)
 
     def joined(self, node: Any, sign: str) -> Value:
-        left, right = self.truth(self.value(node.left)), self.truth(self.value(node.right))
+        left = self.truth(self.value(node.left))
+        live = left.constant is None or bool(left.constant) == (sign == "&&")
+        right = self.truth(self.if_live(node.right, True, live))
         level = LEVELS[sign]
         at = self.pieces_between(node.right, sign)
         text = f"{left.at(level)} {at}{sign} {right.at(level + 1)}"
@@ -57,14 +58,15 @@ class Operators(Expressions):
 
     def operated(self, sign: str, left: Value, right: Value, node: Any, at: str = "") -> Value:
         """An operator's value; both operands are evaluated."""
-        if isinstance(left.type, (Float, Void)) or isinstance(right.type, (Float, Void)):
-            what = left.type if isinstance(left.type, (Float, Void)) else right.type
-            raise self.refuse(node, f"`{sign}` of a `{spelled(what)}`", FLOATS)
+        if isinstance(left.type, Void) or isinstance(right.type, Void):
+            raise self.refuse(node, f"`{sign}` of a `void`", "a value")
         if is_pointer(left.type) or is_pointer(right.type):
             return self.with_pointer(sign, left, right, node)
         if not isinstance(left.type, Int) or not isinstance(right.type, Int):
             raise self.refuse(node, f"`{sign}` of a `{spelled(left.type)}` and a `{spelled(right.type)}`", "numbers")
         left, right = self.promoted(left), self.promoted(right)
+        if is_float(left.type) or is_float(right.type):
+            return self.float_operated(sign, left, right, node)
         if sign in ("<<", ">>"):
             return self.shifted(sign, left, right, at)
         type_ = common(left.type, right.type)
@@ -75,9 +77,16 @@ class Operators(Expressions):
             if found is not None:
                 return number(found, type_)
         if is_long(type_):
-            return self.long_operated(sign, left, right, type_)
+            return self.of_width(self.long_operated(sign, left, right, type_), sign, left, right)
         level = LEVELS[sign]
         return Value(type_, f"{left.at(level)} {at}{sign} {right.at(level + 1)}", level, None, left.pure and right.pure)
+
+    def of_width(self, found: Value, sign: str, left: Value, right: Value) -> Value:
+        """gcc reckons with bit-fields of more than 32 bits in their own width."""
+        widths = [it.wide or 64 for it in (left, right) if is_long(it.type)]
+        if max(widths) == 64:
+            return found
+        return self.cut_long(found, max(widths))
 
     def long_operated(self, sign: str, left: Value, right: Value, type_: Int) -> Value:
         left, right = self.converted(left, type_), self.converted(right, type_)
@@ -98,7 +107,8 @@ class Operators(Expressions):
         if is_long(type_):
             name = {"<<": "shl", ">>": "sar" if type_.signed else "shr"}[sign]
             text = f"cbi_long_{name}(&{self.temporary('long')}, {self.long_text(left)}, {self.converted(right, INT, True).at(COND)})"
-            return Value(type_, text, POSTFIX, None, left.pure and right.pure)
+            shifted = Value(type_, text, POSTFIX, None, left.pure and right.pure)
+            return shifted if left.wide is None else self.cut_long(shifted, left.wide)
         return Value(type_, f"{left.at(SHIFT)} {at}{sign} {right.at(SHIFT + 1)}", SHIFT, None, left.pure and right.pure)
 
     def ordered(self, sign: str, left: Value, right: Value, type_: Int, at: str) -> Value:
@@ -108,12 +118,12 @@ class Operators(Expressions):
             return number(int({"<": a < b, ">": a > b, "<=": a <= b, ">=": a >= b, "==": a == b, "!=": a != b}[sign]))
         level = LEVELS[sign]
         if is_long(type_):
-            left, right = (self.long_text(self.converted(it, type_)) for it in (left, right))
+            one, other = (self.long_text(self.converted(it, type_)) for it in (left, right))
             if sign in ("==", "!="):
-                text = f"cbi_long_same({left}, {right})"
+                text = f"cbi_long_same({one}, {other})"
                 return Value(INT, text if sign == "==" else f"!{text}", POSTFIX if sign == "==" else UNARY, None, pure)
             name = "cbi_long_before" if type_.signed else "cbi_long_below"
-            text = f"{name}({left}, {right})" if sign in ("<", ">=") else f"{name}_turned({left}, {right})"
+            text = f"{name}({one}, {other})" if sign in ("<", ">=") else f"{name}_turned({one}, {other})"
             return Value(INT, text if sign in "<>" else f"!{text}", POSTFIX if sign in "<>" else UNARY, None, pure)
         return Value(INT, f"{left.at(level)} {at}{sign} {right.at(level + 1)}", level, None, pure)
 

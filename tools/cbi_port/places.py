@@ -1,17 +1,19 @@
 """Constants (C99 6.4.4, 6.4.5) and places (6.3.2.1)."""
 from typing import Any, List
 
-from cbi_port.conversions import Conversions, number
-from cbi_port.declarations import FLOATS, Declarations, kind
-from cbi_port.gnu import bytes_of
+from cbi_port.conversions import number
+from cbi_port.declarations import Declarations
+from cbi_port.constants import bytes_of, characters_of, written_name
+from cbi_port.floats import Floats
 from cbi_port.lines import mark
 from cbi_port.scopes import Symbol
-from cbi_port.types import (CHAR, INT, LLONG, LONG, UCHAR, UINT, ULLONG, ULONG, Array, CType, Float, Function, Int, Pointer, Struct, Void, is_complete,
-                            is_long, is_pointer, size_of, spelled)
+from cbi_port.trees import kind
+from cbi_port.types import (CHAR, INT, LLONG, LONG, UCHAR, UINT, ULLONG, ULONG, Array, CType, Function, Int, Pointer, Struct, Void, is_complete,
+                            is_float, is_long, is_pointer, size_of, spelled)
 from cbi_port.values import POSTFIX, Place, Value
 
 
-class Places(Conversions, Declarations):
+class Places(Floats, Declarations):
     """What stands for a value by itself, and where objects lie."""
 
     def of_Constant(self, node: Any, used: bool) -> Value:
@@ -26,7 +28,7 @@ class Places(Conversions, Declarations):
         if "'" in text:
             return self.character(node, text, at)
         if any(word in node.type for word in ("float", "double")) or not text.lower().startswith("0x") and ("." in text or "e" in text.lower()):
-            raise self.refuse(node, f"`{text}`", FLOATS)
+            return self.float_constant(node, text)
         return self.integer(text, at, node)
 
     def integer(self, text: str, at: str, node: Any) -> Value:
@@ -54,10 +56,9 @@ class Places(Conversions, Declarations):
         return number(ULLONG.wrap(value), ULLONG)
 
     def character(self, node: Any, text: str, at: str) -> Value:
-        wide = text[0] == "L"
-        data = bytes_of(text[text.index("'"):])
+        data = bytes_of(text)
         if len(data) == 1:
-            value = data[0] if wide else CHAR.wrap(data[0])
+            value = CHAR.wrap(data[0])
             if len(text) == 3 and 32 <= ord(text[1]) < 127 or len(text) == 4 and text[2] in "ntrabfv\\'\"?0":
                 return Value(INT, at + text, POSTFIX, value, null=value == 0)
             return number(value)
@@ -73,7 +74,7 @@ class Places(Conversions, Declarations):
             from pycparser import c_ast
             symbol = Symbol("cbi_wide", "variable", self.string_type(node), self.names.take("cbi_wide"))
             symbol.outer = True
-            items = [c_ast.Constant("int", str(byte), node.coord) for byte in bytes_of(node.value[1:])]
+            items = [c_ast.Constant("int", str(byte), node.coord) for byte in characters_of(node.value)]
             self.begin_static(symbol, c_ast.InitList(items + [c_ast.Constant("int", "0", node.coord)], node.coord), node)
             self.wide_strings[id(node)] = symbol
         return self.model.variable(symbol)
@@ -85,7 +86,7 @@ class Places(Conversions, Declarations):
 
     def string_type(self, node: Any) -> CType:
         if node.value[0] == "L":
-            return Array(INT, len(bytes_of(node.value[1:])) + 1)
+            return Array(INT, len(characters_of(node.value)) + 1)
         return Array(CHAR, len(bytes_of(node.value)) + 1)
 
     # Places (6.3.2.1)
@@ -115,6 +116,8 @@ class Places(Conversions, Declarations):
             return self.model.target(value, node)._replace(type=self.string_type(node), pointer="flat", text=value.text, level=value.level)
         if what == "UnaryOp" and node.op in ("__real__", "__extension__"):
             return self.place(node.expr)
+        if what == "FuncCall" and kind(node.name) == "ID" and node.name.name == "__cbi_generic":
+            return self.place(self.selected(node, node.args.exprs))
         value = self.value(node)
         if isinstance(value.type, Struct):
             return self.model.target(value._replace(type=Pointer(value.type)), node)
@@ -122,6 +125,9 @@ class Places(Conversions, Declarations):
 
     def named_place(self, node: Any) -> Place:
         symbol = self.scope.find(node.name)
+        if symbol is None and node.name == "__func__":
+            from pycparser import c_ast
+            return self.place(c_ast.Constant("string", f'"{written_name(self.function.name)}"', node.coord))
         if symbol is None and node.name.startswith("__cbi_"):
             symbol = self.prelude_symbol(node.name)
             if node.name == "__cbi_err" and not self.in_prelude and not self.stderr:
@@ -132,10 +138,10 @@ class Places(Conversions, Declarations):
             self.use(symbol)
             value = self.model.function(symbol, node)
             return Place(symbol.type, value.text, value.level)
+        if symbol.kind == "refused":
+            raise self.follow(node)
         if symbol.kind == "type":
             raise self.refuse(node, f"the type `{node.name}` as a value", "a value")
-        if isinstance(symbol.type, Float) or isinstance(symbol.type, Array) and isinstance(symbol.type.of, Float):
-            raise self.refuse(node, f"`{node.name}`, a `double`", FLOATS)
         self.use(symbol)
         place = self.model.variable(symbol)
         at = mark(self.place_of(node))
@@ -171,6 +177,8 @@ class Places(Conversions, Declarations):
 
     def index(self, value: Value) -> Value:
         """A number by which a pointer is moved."""
+        if is_float(value.type):
+            raise self.refuse(None, f"a `{spelled(value.type)}` as an index", "a whole number")
         if is_long(value.type):
             return self.converted(value, INT)
         if value.type == UCHAR:
@@ -188,9 +196,7 @@ class Places(Conversions, Declarations):
         struct = outer.type
         way = struct.find(node.field.name) if isinstance(struct, Struct) and struct.complete else None
         if way is None:
-            raise self.refuse(node, f"no member `{node.field.name}` in a {spelled(struct)}", "a member of it")
+            raise self.refuse_type(node, f"no member `{node.field.name}` in a {spelled(struct)}", struct)
         for member in way:
             outer = self.model.member(outer, member, outer.type, node)
-        if isinstance(outer.type, Float):
-            raise self.refuse(node, f"`{node.field.name}`, a `double`", FLOATS)
         return outer

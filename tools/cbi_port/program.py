@@ -5,15 +5,20 @@ from typing import Any, Dict, List, Optional, Sequence, Set, Tuple
 from cbi_port import Ported
 from cbi_port.body import Body
 from cbi_port.bytes import Bytes
-from cbi_port.declarations import FLOATS, kind
 from cbi_port.helpers import Helpers
 from cbi_port.jumps import Jumps
-from cbi_port.library import AHEAD, Library, TypedCalls
+from cbi_port.library import AHEAD, Library
 from cbi_port.lines import Refusal, Sheet, Token, bare, mark
 from cbi_port.objects import Objects
 from cbi_port.reader import HEADERS, Unit, prelude_index, read_prelude
-from cbi_port.scopes import TAKEN, Names, Scope, Symbol, names_under_address
-from cbi_port.types import INT, VOID, Array, CType, Float, Function, Int, Struct, Void, is_complete, spelled
+from cbi_port.scopes import TAKEN, Names, Scope, Symbol
+from cbi_port.trees import declared_outside, gives_value, holds_open, kind, names_under_address
+from cbi_port.types import (INT, VOID, Array, CType, Function, Int, Pointer, Struct, Void, is_complete, is_whole,
+                            spelled, to_function)
+
+# Functions of the library by which floats come in without a word of theirs.
+FLOAT_NAMES = {"strtod", "strtof", "atof", "sqrt", "floor", "ceil", "fabs"}
+
 
 class Program(Jumps, Library):
     """A translation of files into one text, with one model of memory."""
@@ -27,6 +32,9 @@ class Program(Jumps, Library):
         self.names.used |= {token.text for token in tokens if token.kind == "name"}
         self.words = {token.text for token in tokens if token.kind == "name" and not token.file.startswith(HEADERS)}
         self.tags.used = set(TAKEN)
+        self.floats = bool(self.words & {"float", "double", *FLOAT_NAMES}) or any(
+            token.kind == "number" and token.text[:2] not in ("0x", "0X") and re.search("[.eE]", token.text) for token in tokens)
+        self.lengths = {}
         self.structs, self.externals, self.by_node, self.headers = [], {}, {}, {}
         self.statics: Dict[str, Dict[str, Symbol]] = {}
         self.in_prelude = False
@@ -57,8 +65,8 @@ class Program(Jumps, Library):
         self.prelude_units: Dict[str, Unit] = {}
         self.prelude_symbols: Dict[str, Symbol] = {}
         self.prelude_scope = Scope()
-        self.model: Any = Bytes(self) if memory == "bytes" else Objects(self)
-        self.model.own_calls = TypedCalls(self).table() if memory != "bytes" else self.model.calls()
+        self.model: Objects = Bytes(self) if memory == "bytes" else Objects(self)
+        self.model.own_calls = self.model.calls()
         self.first = Body("cbi_init", VOID)
         self.function = self.first
         self.scope = Scope()
@@ -83,13 +91,15 @@ class Program(Jumps, Library):
             try:
                 self.outer(item, unit)
             except Refusal as refusal:
-                self.problems.append(refusal)
+                self.tell(refusal, item)
 
     def outer(self, item: Any, unit: Unit) -> None:
         self.last_place = max(self.place_of(item), 0)
         if kind(item) == "Typedef":
             type_ = self.resolve(item.type, item.name)
+            align = self.said_alignment(item)
             self.scope.names[item.name] = Symbol(item.name, "type", type_)
+            self.scope.names[item.name].align = align
             if not item.name.startswith("__") and self.is_users(item):
                 self.count("typedefs")
         elif kind(item) == "Decl":
@@ -101,11 +111,12 @@ class Program(Jumps, Library):
                 self.outer_symbol(item, type_, "function", "static" in (item.storage or []), unit)
             else:
                 symbol = self.outer_symbol(item, type_, "variable", "static" in (item.storage or []), unit)
+                symbol.align = max(symbol.align, self.said_alignment(item))
                 if "extern" not in (item.storage or []) or item.init is not None:
                     symbol.defined = True
                 if item.init is not None:
                     symbol.init, symbol.node, symbol.unit = item.init, item, unit.file
-                    if isinstance(symbol.type, Array) and symbol.type.count is None and not self.has_float(symbol.type):
+                    if isinstance(symbol.type, Array) and symbol.type.count is None:
                         symbol.type, _ = self.leaves(symbol.type, item.init)
         elif kind(item) == "FuncDef":
             type_ = self.definition_type(item)
@@ -126,7 +137,7 @@ class Program(Jumps, Library):
 
     def definition_type(self, item: Any) -> Function:
         """The type of a defined function, also where its parameters' types stand behind `)`."""
-        type_ = self.resolve(item.decl.type)
+        type_: Any = self.resolve(item.decl.type)
         if item.param_decls or item.decl.type.args is not None and any(kind(it) == "ID" for it in item.decl.type.args.params):
             known = {decl.name: self.adjusted(self.resolve(decl.type)) for decl in item.param_decls or []}
             names = [it.name for it in item.decl.type.args.params] if item.decl.type.args is not None else []
@@ -134,7 +145,8 @@ class Program(Jumps, Library):
             return Function(type_.result, tuple(known.get(name, INT) for name in names), False, False)
         if item.decl.type.args is None:
             return Function(type_.result, (), False, False)
-        return type_
+        found: Function = type_
+        return found
 
     def outer_symbol(self, node: Any, type_: CType, what: str, static: bool, unit: Unit) -> Symbol:
         name = node.name
@@ -192,7 +204,7 @@ class Program(Jumps, Library):
         if file is None or file in self.prelude_units:
             return None
         unit, scope, function, inside = getattr(self, "unit", None), self.scope, self.function, self.in_prelude
-        self.prelude_units[file] = unit_ = read_prelude(file, self.tokens)
+        self.prelude_units[file] = unit_ = read_prelude(file, self.tokens, self.floats)
         self.in_prelude = True
         before = len(self.definitions)
         externals, self.externals = self.externals, self.prelude_symbols
@@ -215,14 +227,13 @@ class Program(Jumps, Library):
     def begin_static(self, symbol: Symbol, init: Any, node: Any) -> None:
         """Declares what lives as long as the program, with what it begins with."""
         symbol.declared = True
+        symbol.init = symbol.init or init
         if isinstance(symbol.type, Array) and symbol.type.count is None and init is not None:
             symbol.type, _ = self.leaves(symbol.type, init)
         if isinstance(symbol.type, Array) and symbol.type.count is None:
             symbol.type = Array(symbol.type.of, 1)
-        if self.has_float(symbol.type):
-            raise self.refuse(node, f"`{spelled(symbol.type)}`", FLOATS)
         if not is_complete(symbol.type):
-            raise self.refuse(node, f"`{symbol.name}` of the type {spelled(symbol.type)}", "a type that is complete")
+            raise self.refuse_type(node, f"`{symbol.name}` of the type {spelled(symbol.type)}", symbol.type)
         outer, self.function = self.function, self.first
         try:
             text = self.model.declare_static(symbol, init, node)
@@ -254,9 +265,8 @@ class Program(Jumps, Library):
         self.function = body = Body(symbol.name, type_.result)
         self.scope = Scope(self.scopes[unit.file])
         body.addressed = names_under_address(item)
+        body.outer_names = declared_outside(item.body)
         self.last_place = max(self.place_of(item.decl), 0)
-        if isinstance(type_.result, Float):
-            raise self.refuse(item.decl, f"`{symbol.name}`, which gives a `{spelled(type_.result)}`", FLOATS)
         names, entry = self.parameters(item, type_)
         self.prepare(item)
         main = symbol.name == "main" and symbol.unit != "prelude"
@@ -269,6 +279,8 @@ class Program(Jumps, Library):
         self.finish(item)
         last = item.body.block_items[-1] if item.body.block_items else None
         tail = self.model.leave("", None) if kind(last) != "Return" and (body.ends or self.model.in_bytes) else ""
+        if kind(last) != "Return" and not isinstance(type_.result, Void) and symbol.text != "main" and not gives_value(item.body):
+            tail = self.model.leave(self.nothing(type_.result), None)
         if main and symbol.text != "main" and not isinstance(type_.result, Void) and kind(last) != "Return":
             tail += " return 0;"
         head = self.signature(symbol.text, self.defined_as(type_), type_.parameters, names) if not (main and symbol.text == "main") else "int main(void)"
@@ -284,6 +296,12 @@ class Program(Jumps, Library):
         else:
             self.sheet.put(token.file, text)
 
+    def nothing(self, result: CType) -> str:
+        """What a function returns that has no `return` with a value: its callers may hand on what they got."""
+        if is_whole(result):
+            return "return cbi_result;"
+        return "return NULL;" if isinstance(result, Pointer) and not to_function(result) and not self.model.in_bytes else "return 0;"
+
     def defined_as(self, type_: Function) -> Function:
         return type_
 
@@ -296,16 +314,32 @@ class Program(Jumps, Library):
             nodes = []
         for index, (node, inner) in enumerate(zip(nodes, type_.parameters)):
             name = getattr(node, "name", None) or f"cbi_unnamed_{index}"
-            if isinstance(inner, Float):
-                raise self.refuse(node, f"a parameter of type `{spelled(inner)}`", FLOATS)
             if isinstance(inner, Struct) and not inner.complete:
-                raise self.refuse(node, f"a parameter of type {spelled(inner)}", "a type that is complete")
+                raise self.refuse_type(node, f"a parameter of type {spelled(inner)}", inner)
             symbol = Symbol(name, "variable", inner, self.local_name(name) if not name.startswith("cbi_unnamed") else name)
             self.scope.names[name] = symbol
             text, rows = self.model.take_parameter(symbol)
             names.append(text)
             entry.extend(rows)
+        self.open_parameters({it.name: it for it in item.param_decls or []}, nodes)
         return names, entry
+
+    def open_parameters(self, behind: Dict[str, Any], nodes: Sequence[Any]) -> None:
+        """Finds out the lengths in the types of parameters, as the function begins (6.9.1p10)."""
+        for node in nodes:
+            decl = behind.get(node.name, node) if getattr(node, "name", None) else node
+            type_ = decl.type if kind(decl) in ("Decl", "Typename") else None
+            if kind(type_) == "ArrayDecl":
+                if type_.dim is not None and self.known(type_.dim) is None and not (kind(type_.dim) == "ID" and type_.dim.name == "*"):
+                    value = self.value(type_.dim)
+                    if not value.pure:
+                        self.put(value.text + ";", decl)
+                type_ = type_.type
+            if type_ is not None and holds_open(type_):
+                found = self.resolve(type_)
+                symbol = self.scope.names[decl.name]
+                symbol.type = Pointer(found) if type_ is not decl.type else found
+
 
     def run(self) -> Ported:
         """The whole translation; `self.problems` has what can't be kept."""
@@ -346,7 +380,7 @@ class Program(Jumps, Library):
                         self.scope = self.scopes.get(symbol.unit, self.scope)
                         self.begin_static(symbol, symbol.init, symbol.node or item)
             except Refusal as refusal:
-                self.problems.append(refusal)
+                self.tell(refusal)
         self.function = self.first
 
     def define_or_wait(self, symbol: Symbol, item: Any, unit: Unit) -> None:
@@ -359,7 +393,7 @@ class Program(Jumps, Library):
             try:
                 self.define(symbol, item, unit)
             except Refusal as refusal:
-                self.problems.append(refusal)
+                self.tell(refusal)
             if len(self.problems) > before:
                 del self.problems[before:]
                 if symbol.emitted:
@@ -404,7 +438,7 @@ class Program(Jumps, Library):
                     except Refusal as refusal:
                         if self.in_prelude:
                             refusal.construct += f" (in the prelude, {symbol.name})"
-                        self.problems.append(refusal)
+                        self.tell(refusal)
                     if self.in_prelude:
                         self.added.append(symbol.text)
                     self.in_prelude = True

@@ -21,7 +21,7 @@ PIECE = re.compile(r"""
   | (?P<string>(?:L|u8|u|U)?"(?:[^"\\\n]|\\.)*")
   | (?P<char>(?:L|u|U)?'(?:[^'\\\n]|\\.)*')
   | (?P<number>\.?[0-9](?:[eEpP][+-]|[0-9A-Za-z_.])*)
-  | (?P<name>[A-Za-z_$][A-Za-z0-9_$]*)
+  | (?P<name>(?:[A-Za-z_$\x80-\xff]|\\u[0-9A-Fa-f]{4}|\\U[0-9A-Fa-f]{8})(?:[A-Za-z0-9_$\x80-\xff]|\\u[0-9A-Fa-f]{4}|\\U[0-9A-Fa-f]{8})*)
   | (?P<mark>\.\.\.|<<=|>>=|->|\+\+|--|<<|>>|<=|>=|==|!=|&&|\|\||\*=|/=|%=|\+=|-=|&=|\^=|\|=|[][(){}.&*+~!/%<>^|?:;=,\-\#])
 """, re.X)
 MARKER = re.compile(r'#\s*(?:line\s+)?(\d+)\s+"((?:[^"\\]|\\.)*)"')
@@ -34,6 +34,7 @@ class Unit(NamedTuple):
     file: str
     tree: Any
     bodies: Dict[str, Any]
+    alignments: Dict[str, int]
 
 
 def preprocessor() -> List[str]:
@@ -90,9 +91,18 @@ def pieces(text: str, file: str) -> List[Token]:
         if kind == "line":
             line, fresh = line + 1, True
         elif kind != "space":
-            tokens.append(Token(kind, found.group(), file, line))
+            tokens.append(Token(kind, plain_name(found.group()) if kind == "name" else found.group(), file, line))
             fresh = False
     return tokens
+
+
+def plain_name(name: str) -> str:
+    """A name in letters of ASCII: others are written by their numbers (C99 6.4.3)."""
+    if name.isascii() and "\\" not in name:
+        return name
+    spelled = re.sub(r"\\[uU]([0-9A-Fa-f]+)", lambda it: f"_u{int(it[1], 16):04x}_", name)
+    letters = spelled.encode("latin-1").decode("utf-8", "replace")
+    return "".join(letter if letter.isascii() else f"_u{ord(letter):04x}_" for letter in letters)
 
 
 def parser() -> Any:
@@ -146,7 +156,7 @@ def opens_struct(tokens: Sequence[Token], begin: int) -> bool:
 def read(file: str, options: Sequence[str], table: List[Token], problems: List[Refusal]) -> Unit:
     """A file's tree. Its tokens are added to the table; what it can't be read for is added to the problems."""
     tokens = pieces(preprocessed(file, options), file)
-    tokens, bodies = rewrite(tokens, len(table), problems)
+    tokens, bodies, alignments = rewrite(tokens, len(table), problems)
     first = len(table)
     trees: Dict[str, Any] = {}
     tree = None
@@ -164,7 +174,33 @@ def read(file: str, options: Sequence[str], table: List[Token], problems: List[R
         trees = {item.decl.name: item.body for item in tree.ext
                  if type(item).__name__ == "FuncDef" and item.decl.name in bodies}
         tree.ext = [item for item in tree.ext if not (type(item).__name__ == "FuncDef" and item.decl.name in bodies)]
-    return Unit(file, tree, trees)
+        for root in [tree, *trees.values()]:
+            unwrap(root, trees)
+    return Unit(file, tree, trees, alignments)
+
+
+def unwrapped(node: Any, bodies: Dict[str, Any]) -> Any:
+    """A statement that is nothing but statements within an expression is a block."""
+    inner = node
+    while type(inner).__name__ == "Cast" and getattr(inner.to_type.type.type, "names", None) == ["void"]:
+        inner = inner.expr
+    if type(inner).__name__ == "FuncCall" and type(inner.name).__name__ == "ID" and inner.name.name in bodies:
+        from pycparser import c_ast
+        body = bodies[inner.name.name]
+        return c_ast.Compound(body.block_items, node.coord)
+    return node
+
+
+def unwrap(node: Any, bodies: Dict[str, Any]) -> None:
+    for name in ("iftrue", "iffalse", "stmt"):
+        if getattr(node, name, None) is not None and type(node).__name__ != "TernaryOp":
+            setattr(node, name, unwrapped(getattr(node, name), bodies))
+    for name in ("block_items", "stmts"):
+        items = getattr(node, name, None)
+        if items and not (name == "block_items" and any(node is body for body in bodies.values())):
+            setattr(node, name, [unwrapped(item, bodies) for item in items])
+    for _, child in node.children():
+        unwrap(child, bodies)
 
 
 def unread(tokens: Sequence[Token], begin: int, at: int, first: int) -> Refusal:
@@ -197,9 +233,9 @@ def prelude_index() -> Dict[str, str]:
     return found
 
 
-def read_prelude(file: str, tokens: List[Token]) -> Unit:
+def read_prelude(file: str, tokens: List[Token], floats: bool) -> Unit:
     problems: List[Refusal] = []
-    unit = read(file, ["-D__CBI_PRELUDE__"], tokens, problems)
+    unit = read(file, ["-D__CBI_PRELUDE__", *["-D__CBI_FLOATS__"] * floats], tokens, problems)
     if unit.tree is None or problems:
         raise AssertionError(f"the prelude isn't read: {file}: {[(it.construct, it.problem(tokens)) for it in problems]}")
     return unit

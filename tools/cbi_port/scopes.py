@@ -14,7 +14,8 @@ class Symbol:
     """A name's meaning. `kind` is variable, function, type or constant; `text` is the name in the text."""
 
     def __init__(self, name: str, kind: str, type_: CType, text: str = "", constant: int = 0) -> None:
-        self.name, self.kind, self.type, self.text, self.constant = name, kind, type_, text or name, constant
+        self.name, self.kind, self.text, self.constant = name, kind, text or name, constant
+        self.type: Any = type_     # a CType
         self.outer = False         # stands outside functions, or lives as long
         self.static = False
         self.memory = ""           # its first byte's number, where memory is kept as bytes
@@ -26,7 +27,9 @@ class Symbol:
         self.declared = False      # its declaration stands in the text
         self.used = False
         self.emitted = False
+        self.align = 0             # what its declaration says of its alignment
         self.lengths: Any = None   # of an array whose length is found out as the program runs
+        self.open: Any = None      # the type of such an array; `type` is that of a pointer to its elements
         self.at = -1
 
 
@@ -70,20 +73,3 @@ class Names:
 
     def may_be_local(self, name: str) -> bool:
         return name not in TAKEN and not name.startswith("cbi_") and "$" not in name and len(name) < 63
-
-
-def names_under_address(body: Any) -> Set[str]:
-    """The names whose address is taken somewhere in a body."""
-    found: Set[str] = set()
-    stack: List[Any] = [body]
-    while stack:
-        node = stack.pop()
-        if type(node).__name__ == "UnaryOp" and node.op == "&":
-            inner = node.expr
-            while type(inner).__name__ in ("StructRef", "ArrayRef"):
-                inner = inner.name
-            if type(inner).__name__ == "ID":
-                found.add(inner.name)
-        if node is not None:
-            stack.extend(child for _, child in node.children())
-    return found

@@ -2,12 +2,12 @@
 from typing import Any, List, Tuple
 
 from cbi_port.conversions import number
-from cbi_port.declarations import FLOATS, kind
 from cbi_port.initialisers import Initialisers
 from cbi_port.lines import Refusal, mark
 from cbi_port.scopes import Scope, Symbol
-from cbi_port.types import (UCHAR, Array, CType, Float, Function, Int, Struct, Void, is_complete, is_long, is_whole,
-                            spelled)
+from cbi_port.trees import breaks, direct_of, ends_by_itself, goes_before, kind, leading, mentions
+from cbi_port.types import (UCHAR, Array, CType, Function, Int, Struct, Void, is_complete, is_float, is_long, is_open,
+                            is_whole, spelled)
 from cbi_port.values import ASSIGN, UNARY, Value
 
 
@@ -22,16 +22,21 @@ class Statements(Initialisers):
         try:
             getattr(self, "st_" + kind(node), self.st_expression)(node)
         except Refusal as refusal:
-            self.problems.append(refusal)
+            self.tell(refusal, node)
 
     def put(self, text: str, node: Any = None) -> None:
         self.function.put((mark(self.place_of(node)) if node is not None else "") + text)
 
     def st_expression(self, node: Any) -> None:
         self.function.whole = node
-        self.function.direct = direct_of(node)
+        self.lead(node)
         value = self.value(node, False)
         self.put((value.text if not value.pure else "") + ";", node)
+
+    def lead(self, node: Any) -> None:
+        """Says which statements within the expression may stand before it."""
+        self.function.direct = direct_of(node)
+        self.function.leading = {id(it): it for it in leading(node)}
 
     def st_Pragma(self, node: Any) -> None:
         self.put(";")
@@ -44,7 +49,9 @@ class Statements(Initialisers):
 
     def st_Typedef(self, node: Any) -> None:
         self.count("typedefs")
+        align = self.said_alignment(node)
         self.scope.names[node.name] = Symbol(node.name, "type", self.resolve(node.type, node.name))
+        self.scope.names[node.name].align = align
 
     def st_Compound(self, node: Any) -> None:
         self.put("{", node)
@@ -56,7 +63,7 @@ class Statements(Initialisers):
 
     def body(self, node: Any) -> None:
         """A statement that another one has, in braces unless it is one line of text anyway."""
-        if kind(node) in ("Decl", "Case", "Default", "Typedef", "DeclList"):
+        if kind(node) in ("Decl", "Case", "Default", "Typedef", "DeclList") or goes_before(node):
             self.put("{")
             self.statement(node)
             self.put("}")
@@ -65,21 +72,30 @@ class Statements(Initialisers):
 
     def condition(self, node: Any) -> str:
         self.function.fresh_statement()
-        value = self.truth(self.value(node))
+        return self.condition_text(self.truth(self.value(node)))
+
+    def condition_text(self, value: Value) -> str:
         if value.constant is not None and not value.text:
             return str(int(value.constant != 0))
         return value.text
 
     def st_If(self, node: Any) -> None:
-        self.put(f"if ({self.condition(node.cond)})", node)
+        self.function.fresh_statement()
+        self.lead(node.cond)
+        value = self.truth(self.value(node.cond))
+        dead = (value.constant == 0, value.constant is not None and value.constant != 0)
+        self.put(f"if ({self.condition_text(value)})", node)
         begun = len(self.function.out)
+        self.function.dead += dead[0]
         self.body(node.iftrue) if node.iftrue is not None else self.put(";")
+        self.function.dead += dead[1] - dead[0]
         if node.iffalse is not None:
             if kind(node.iftrue) != "Compound" and self.function.out[begun] != "{" and self.holds_if(node.iftrue):
                 self.function.out.insert(begun, "{")
                 self.put("}")
             self.put("else")
             self.body(node.iffalse)
+        self.function.dead -= dead[1]
 
     def holds_if(self, node: Any) -> bool:
         """Whether an `else` behind the statement would be taken by an `if` in it."""
@@ -143,7 +159,7 @@ class Statements(Initialisers):
             else:
                 self.put(self.model.leave("return;", None), node)
             return
-        self.function.direct = direct_of(node.expr)
+        self.lead(node.expr)
         value = self.value(node.expr)
         if isinstance(result, Void):
             if isinstance(value.type, Void) or not value.pure:
@@ -202,8 +218,6 @@ class Statements(Initialisers):
         if isinstance(type_, Function):
             self.local_function(node, type_)
             return
-        if self.has_float(type_):
-            raise self.refuse(node, f"`{spelled(innermost_type(type_))}`", FLOATS)
         if "extern" in storage:
             symbol = self.external(node, type_)
             self.scope.names[node.name] = symbol
@@ -213,9 +227,6 @@ class Statements(Initialisers):
             self.local_static(node, type_)
             return
         self.automatic(node, type_)
-
-    def has_float(self, type_: CType) -> bool:
-        return isinstance(innermost_type(type_), Float)
 
     def local_function(self, node: Any, type_: Function) -> None:
         symbol = self.externals.get(node.name) or self.unit_symbol(node.name)
@@ -231,13 +242,14 @@ class Statements(Initialisers):
     def local_static(self, node: Any, type_: CType) -> None:
         symbol = Symbol(node.name, "variable", type_, self.names.take(f"{self.function.name}_{node.name}"))
         symbol.outer = symbol.static = True
+        symbol.align = self.said_alignment(node)
         symbol.at = self.place_of(node)
         self.scope.names[node.name] = symbol
         self.begin_static(symbol, node.init, node)
 
     def local_name(self, name: str) -> str:
         """What a local is called in the text."""
-        if self.function.flat is not None or not self.names.may_be_local(name):
+        if self.function.flat is not None or name in self.function.outer_names or not self.names.may_be_local(name):
             return self.names.take(name)
         return name
 
@@ -250,43 +262,33 @@ class Statements(Initialisers):
             type_ = symbol.type
         else:
             if isinstance(type_, Array) and not is_complete(type_) and not (type_.count is None and node.init is not None):
-                if type_.count is None or not self.is_open(type_):
+                if not is_open(type_):
                     raise self.refuse(node, f"`{node.name}`, an array of unknown length", "a length")
                 self.open_array(node, type_)
                 return
             symbol = Symbol(node.name, "variable", type_, self.local_name(node.name))
+            symbol.align = self.said_alignment(node)
             self.scope.names[node.name] = symbol
             if isinstance(type_, Array) and type_.count is None:
                 type_, found = self.leaves(type_, node.init)
                 symbol.type = type_
         if isinstance(type_, Void) or isinstance(type_, Struct) and not type_.complete:
-            raise self.refuse(node, f"`{node.name}` of the type {spelled(type_)}", "a type that is complete")
-        self.function.direct = direct_of(node.init)
+            raise self.refuse_type(node, f"`{node.name}` of the type {spelled(type_)}", type_)
+        self.lead(node.init)
         self.model.declare_local(symbol, node, found)
-
-    def is_open(self, type_: CType) -> bool:
-        while isinstance(type_, Array):
-            if type_.count is None:
-                return False
-            type_ = type_.of
-        return True
 
     def open_array(self, node: Any, type_: Array) -> None:
         """An array whose length is found out as the program runs (6.7.5.2p4)."""
-        if isinstance(type_.of, Array) and not is_complete(type_.of):
-            raise self.refuse(node, f"`{node.name}`, an array of arrays of unknown length", "`malloc` of all elements, and the place counted out")
         self.count("arrays of variable length")
         self.model.open_array(node, type_)
-
-    def length_of(self, type_: Array, node: Any) -> Value:
-        raise self.refuse(node, "`sizeof` of an array of unknown length here", "the count of its elements times the size of one")
 
     # 6.8.4.2
 
     def st_Switch(self, node: Any) -> None:
         self.count("switches")
+        self.lead(node.cond)
         value = self.value(node.cond)
-        if not isinstance(value.type, Int):
+        if not isinstance(value.type, Int) or is_float(value.type):
             raise self.refuse(node, f"a `switch` of a `{spelled(value.type)}`", "a `switch` of a number")
         value = self.promoted(value)
         before, groups = self.groups(node)
@@ -453,40 +455,3 @@ class Statements(Initialisers):
             self.put(f"if ({again}.value)")
             self.st_Continue(node)
             self.function.out[-1] = self.function.out[-1]
-
-
-def direct_of(node: Any) -> Any:
-    """The statement within an expression before which nothing of it is evaluated."""
-    if kind(node) == "Assignment" and kind(node.lvalue) == "ID":
-        node = node.rvalue
-    while kind(node) == "Cast":
-        node = node.expr
-    return node if kind(node) == "FuncCall" and kind(node.name) == "ID" and node.name.name.startswith("__cbi_statement") else None
-
-
-def innermost_type(type_: CType) -> CType:
-    while isinstance(type_, Array):
-        type_ = type_.of
-    return type_
-
-
-def ends_by_itself(rest: List[Any]) -> bool:
-    last = rest[-1] if rest else None
-    while kind(last) == "Compound" and last.block_items:
-        last = last.block_items[-1]
-    return kind(last) in ("Break", "Return", "Continue", "Goto")
-
-
-def breaks(node: Any) -> int:
-    """How many times a statement leaves the `switch` around it."""
-    if kind(node) == "Break":
-        return 1
-    if kind(node) in ("While", "DoWhile", "For", "Switch") or node is None:
-        return 0
-    return sum(breaks(child) for _, child in node.children())
-
-
-def mentions(node: Any, name: str) -> bool:
-    if kind(node) == "ID" and node.name == name:
-        return True
-    return any(mentions(child, name) for _, child in node.children())

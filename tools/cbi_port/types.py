@@ -1,5 +1,8 @@
 """The types of C (C99 6.2.5, 6.2.7, 6.7.2): 32 bits for int, long and pointers, laid out as on i386."""
-from typing import Any, List, NamedTuple, Optional, Sequence, Set, Tuple, Union
+from typing import TYPE_CHECKING, Any, List, NamedTuple, Optional, Sequence, Set, Tuple, Union
+
+if TYPE_CHECKING:
+    from typing_extensions import TypeGuard
 
 
 class Void(NamedTuple):
@@ -29,17 +32,17 @@ class Int(NamedTuple):
         return value - (1 << (8 * self.size)) if value > self.most else value
 
 
-class Float(NamedTuple):
-    name: str
-    size: int
-
-
 class Pointer(NamedTuple):
     to: Any
 
 
+class Length(NamedTuple):
+    """How many elements an array has where the program finds it out: the text that has the number."""
+    text: str
+
+
 class Array(NamedTuple):
-    """`count` is None where it isn't known, and a tree where the program finds it out."""
+    """`count` is None where it isn't known, and a `Length` where the program finds it out."""
     of: Any
     count: Any
 
@@ -60,6 +63,20 @@ class Member(NamedTuple):
     bits: Optional[int] = None
     shift: int = 0
 
+    @property
+    def width(self) -> int:
+        """The bits of a bit-field."""
+        return self.bits or 0
+
+
+class Asked(NamedTuple):
+    """A member as it is declared, with what attributes say of it."""
+    name: str
+    type: Any
+    bits: Optional[int] = None
+    packed: bool = False
+    align: int = 0
+
 
 class Struct:
     """A struct or union; its identity is what makes it one type."""
@@ -71,7 +88,8 @@ class Struct:
         self.size = 0
         self.align = 1
         self.flexible = False
-        self.packed = False
+        self.refused = False
+        self.pack = 0               # the most that a member is aligned to, where it is said
         self.at = -1
         self.forward: Set[str] = set()  # members that point to a struct that is completed later
         self.copied = False
@@ -110,8 +128,12 @@ LONG = Int("long", 4, True, 4)
 ULONG = Int("unsigned long", 4, False, 4)
 LLONG = Int("long long", 8, True, 5)
 ULLONG = Int("unsigned long long", 8, False, 5)
+# Floating types are kept by their bits; of the greatest ranks, as 6.3.1.8 has them above all others.
+FLOAT = Int("float", 4, False, 20)
+DOUBLE = Int("double", 8, False, 21)
+LDOUBLE = Int("long double", 8, False, 22)
 VALIST = List_()
-CType = Union[Void, Int, Float, Pointer, Array, Function, Struct, List_]
+CType = Union[Void, Int, Pointer, Array, Function, Struct, List_]
 
 
 def base_type(names: Sequence[str]) -> Optional[CType]:
@@ -120,7 +142,7 @@ def base_type(names: Sequence[str]) -> Optional[CType]:
     if words == ["void"]:
         return VOID
     if "float" in words or "double" in words:
-        return Float(" ".join(words), 4 if "float" in words else 12 if "long" in words else 8)
+        return FLOAT if "float" in words else LDOUBLE if "long" in words else DOUBLE
     if "_Bool" in words:
         return BOOL
     signed = "unsigned" not in words
@@ -138,21 +160,43 @@ def base_type(names: Sequence[str]) -> Optional[CType]:
 
 
 def size_of(type_: CType) -> int:
-    if isinstance(type_, (Int, Float)):
+    if isinstance(type_, Int):
         return type_.size
     if isinstance(type_, Array):
-        return int(type_.count or 0) * size_of(type_.of)
+        return type_.count * size_of(type_.of) if isinstance(type_.count, int) else 0
     if isinstance(type_, Struct):
         return type_.size
     return 1 if isinstance(type_, (Void, Function)) else 4
 
 
 def align_of(type_: CType) -> int:
-    if isinstance(type_, (Int, Float)):
+    if isinstance(type_, Int):
         return min(type_.size, 4)
     if isinstance(type_, Array):
         return align_of(type_.of)
     return type_.align if isinstance(type_, Struct) else 4
+
+
+def is_open(type_: CType) -> bool:
+    """An array of which some length is found out as the program runs."""
+    return isinstance(type_, Array) and (isinstance(type_.count, Length) or is_open(type_.of))
+
+
+def has_open(type_: CType) -> bool:
+    """A type that is such an array, or points to one."""
+    return is_open(type_) or isinstance(type_, (Array, Pointer)) and has_open(type_.of if isinstance(type_, Array) else type_.to)
+
+
+def spread(type_: CType) -> Tuple[CType, int, List[str]]:
+    """What an array holds at last, how many of it, and the texts of the counts that the program finds out."""
+    count, texts = 1, []
+    while isinstance(type_, Array):
+        if isinstance(type_.count, Length):
+            texts.append(type_.count.text)
+        else:
+            count *= int(type_.count or 0)
+        type_ = type_.of
+    return type_, count, texts
 
 
 def is_complete(type_: CType) -> bool:
@@ -163,30 +207,18 @@ def is_complete(type_: CType) -> bool:
     return not isinstance(type_, (Void, Function))
 
 
-def lay_out(struct: Struct, members: Sequence[Tuple[str, CType, Optional[int]]]) -> None:
+def lay_out(struct: Struct, members: Sequence[Asked]) -> None:
     """Gives each member its place, as the System V rules for i386 do."""
     at = 0  # in bits
-    for name, type_, bits in members:
-        align = 1 if struct.packed else align_of(type_)
-        if bits is not None:
-            unit = 8 * size_of(type_)
-            if struct.union:
-                at = 0
-            if bits == 0:
-                at = -(-at // unit) * unit
-                continue
-            if not struct.packed and at // unit != (at + bits - 1) // unit:
-                at = -(-at // unit) * unit
-            start = at // 8 * 8 if struct.packed else at // unit * unit
-            if name:
-                struct.align = max(struct.align, align)
-                struct.members.append(Member(name, type_, start // 8, bits, at - start))
-            at += bits
-            struct.size = max(struct.size, (at + 7) // 8)
-            continue
-        struct.align = max(struct.align, align)
+    for name, type_, bits, packed, said in members:
+        most = 1 if packed else struct.pack
+        align = max(min(align_of(type_), most) if most else align_of(type_), said)
         if struct.union:
             at = 0
+        if bits is not None:
+            at = lay_bits(struct, at, Asked(name, type_, bits), align, said)
+            continue
+        struct.align = max(struct.align, align)
         at = -(-at // (8 * align)) * 8 * align
         struct.members.append(Member(name, type_, at // 8))
         at += 8 * size_of(type_)
@@ -196,7 +228,26 @@ def lay_out(struct: Struct, members: Sequence[Tuple[str, CType, Optional[int]]])
     struct.complete = True
 
 
-def promoted(type_: CType, bits: Optional[int] = None) -> CType:
+def lay_bits(struct: Struct, at: int, asked: Asked, align: int, said: int) -> int:
+    """Gives a bit-field its place; where the next one may begin."""
+    name, type_, bits = asked.name, asked.type, asked.bits or 0
+    unit = 8 * align_of(type_)
+    if bits == 0:
+        return int(-(-at // unit) * unit)
+    tight = align < align_of(type_)
+    if said:
+        at = -(-at // (8 * said)) * 8 * said
+    if not tight and -(-(at % unit + bits) // unit) > 8 * size_of(type_) // unit:
+        at = -(-at // unit) * unit
+    start = at // 8 * 8 if tight else at // unit * unit
+    if name:
+        struct.align = max(struct.align, align)
+        struct.members.append(Member(name, type_, start // 8, bits, at - start))
+    struct.size = max(struct.size, (at + bits + 7) // 8)
+    return int(at + bits)
+
+
+def promoted(type_: Any, bits: Optional[int] = None) -> Any:
     """6.3.1.1p2; a bit-field of fewer bits than int has is an int."""
     if isinstance(type_, Int):
         if bits is not None and type_.rank <= 4 and bits < 32:
@@ -221,13 +272,18 @@ def common(left: Int, right: Int) -> Int:
     return left
 
 
-def is_number(type_: CType) -> bool:
+def is_number(type_: CType) -> "TypeGuard[Int]":
     return isinstance(type_, Int)
 
 
-def is_long(type_: CType) -> bool:
+def is_long(type_: CType) -> "TypeGuard[Int]":
     """Of 64 bits."""
     return isinstance(type_, Int) and type_.size == 8
+
+
+def is_float(type_: CType) -> bool:
+    """A floating type."""
+    return isinstance(type_, Int) and type_.rank >= FLOAT.rank
 
 
 def is_whole(type_: CType) -> bool:
@@ -235,18 +291,18 @@ def is_whole(type_: CType) -> bool:
     return isinstance(type_, Struct) or is_long(type_)
 
 
-def is_pointer(type_: CType) -> bool:
+def is_pointer(type_: CType) -> "TypeGuard[Pointer]":
     return isinstance(type_, Pointer)
 
 
-def to_function(type_: CType) -> bool:
+def to_function(type_: CType) -> "TypeGuard[Pointer]":
     return isinstance(type_, Pointer) and isinstance(type_.to, Function)
 
 
 def same(left: CType, right: CType) -> bool:
     """Whether two types are compatible (6.2.7)."""
     if isinstance(left, Array) and isinstance(right, Array):
-        return same(left.of, right.of) and (left.count is None or right.count is None or left.count == right.count)
+        return same(left.of, right.of) and (not isinstance(left.count, int) or not isinstance(right.count, int) or left.count == right.count)
     if isinstance(left, Pointer) and isinstance(right, Pointer):
         return same(left.to, right.to)
     if isinstance(left, Function) and isinstance(right, Function):

@@ -14,7 +14,7 @@ class Value(NamedTuple):
     `constant` is its number where that is known. `raw` is a text that is zero where the value is. `fresh` gives
     the text for memory of the library that is to hold objects of a type. `null` is a null pointer constant.
     """
-    type: CType
+    type: Any                   # a CType: what it is is asked where it is used
     text: str
     level: int = POSTFIX
     constant: Optional[int] = None
@@ -24,6 +24,7 @@ class Value(NamedTuple):
     fresh: Optional[Callable[[Optional[CType]], str]] = None
     null: bool = False
     origin: Any = None
+    wide: Optional[int] = None  # the width of a bit-field of more than 32 bits, in which gcc reckons
 
     def at(self, level: int) -> str:
         """The text as an operand that wants to be held together as tightly as `level`."""
@@ -35,7 +36,7 @@ class Place(NamedTuple):
 
     `pointer` is a text that points there, where one is at hand. `stored` where a pointer lies as `void *`.
     """
-    type: CType
+    type: Any                   # a CType
     text: str
     level: int = POSTFIX
     pure: bool = True
@@ -47,6 +48,12 @@ class Place(NamedTuple):
 
     def at(self, level: int) -> str:
         return self.text if self.level >= level else f"({self.text})"
+
+
+class Leaf(NamedTuple):
+    """A value of an initialiser for a place: `type` is that of the place, a CType."""
+    type: Any
+    node: Any
 
 
 def lead(text: str) -> str:

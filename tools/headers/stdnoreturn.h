@@ -1,2 +1,2 @@
 /* The library of cbi-port: <stdnoreturn.h>. */
-#define noreturn
+#define noreturn _Noreturn

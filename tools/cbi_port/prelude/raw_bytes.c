@@ -108,6 +108,17 @@ int cbi_store_bits(unsigned a, int shift, int bits, int value) {
     }
     return value;
 }
+struct cbi_long *cbi_load_long_bits(struct cbi_long *to, unsigned a, int shift, int bits, int is_signed) {
+    cbi_long_of(to, (unsigned)cbi_load_bits(a + 4u, shift, bits - 32), (unsigned)cbi_load_bits(a, shift, 32));
+    if (bits < 64) return cbi_long_cut(to, to, bits, is_signed);
+    return to;
+}
+struct cbi_long *cbi_store_long_bits(unsigned a, int shift, int bits, struct cbi_long *value) {
+    unsigned high = value->high;
+    cbi_store_bits(a, shift, 32, (int)value->low);
+    cbi_store_bits(a + 4u, shift, bits - 32, (int)high);
+    return value;
+}
 unsigned cbi_next(unsigned a, unsigned size) {
     unsigned at = cbi_load_word(a);
     cbi_store_word(a, at + size);

@@ -21,8 +21,53 @@ struct cbi_long *cbi_long_copy(struct cbi_long *to, struct cbi_long *a) {
     to->low = low;
     return to;
 }
+struct cbi_long *cbi_long_cut(struct cbi_long *to, struct cbi_long *a, int bits, int is_signed) {
+    unsigned mask = (1u << (bits - 32)) - 1u;
+    unsigned high = a->high & mask;
+    if (is_signed && high >> (bits - 33)) high = high | ~mask;
+    return cbi_long_of(to, high, a->low);
+}
 int cbi_long_is(struct cbi_long *a) {
     return (a->low | a->high) != 0;
+}
+int cbi_reckoned(struct cbi_long *to, struct cbi_long *a, int a_signed, struct cbi_long *b, int b_signed, int what, int bits, int is_signed) {
+    int a_below = a_signed && a->high >> 31;
+    int b_below = b_signed && b->high >> 31;
+    int below;
+    int over = 0;
+    struct cbi_long left;
+    struct cbi_long right;
+    struct cbi_long most;
+    struct cbi_long sum;
+    cbi_long_copy(&left, a);
+    cbi_long_copy(&right, b);
+    if (a_below) cbi_long_minus(&left, &left);
+    if (b_below) cbi_long_minus(&right, &right);
+    if (what == 1) b_below = !b_below;
+    below = a_below;
+    if (what == 2) {
+        below = a_below != b_below;
+        cbi_long_times(&sum, &left, &right);
+        if (cbi_long_is(&left)) {
+            cbi_long_over(&most, &sum, &left);
+            over = !cbi_long_same(&most, &right);
+        }
+    } else if (a_below == b_below) {
+        cbi_long_plus(&sum, &left, &right);
+        over = cbi_long_below(&sum, &left);
+    } else if (cbi_long_below(&left, &right)) {
+        cbi_long_less(&sum, &right, &left);
+        below = b_below;
+    } else cbi_long_less(&sum, &left, &right);
+    if (!cbi_long_is(&sum)) below = 0;
+    cbi_long_copy(to, &sum);
+    if (below) cbi_long_minus(to, &sum);
+    if (below && !is_signed) return 1;
+    if (bits == 64 && !is_signed) return over;
+    cbi_long_of(&most, 0, 1);
+    cbi_long_shl(&most, &most, bits - is_signed);
+    if (!below) cbi_long_less(&most, &most, cbi_long_of(&left, 0, 1));
+    return over || cbi_long_below(&most, &sum);
 }
 int cbi_long_same(struct cbi_long *a, struct cbi_long *b) {
     return a->low == b->low && a->high == b->high;

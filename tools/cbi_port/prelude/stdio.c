@@ -72,7 +72,7 @@ int __cbi_format(struct __cbi_sink *to, const char *form, va_list more) {
             if (*form == '*') { most = va_arg(more, int); form++; if (most < 0) most = -1; }
             else while (*form >= '0' && *form <= '9') { most = most * 10 + (*form - '0'); form++; }
         }
-        while (*form == 'l' || *form == 'h' || *form == 'z' || *form == 't' || *form == 'j' || *form == 'q') {
+        while (*form == 'l' || *form == 'h' || *form == 'z' || *form == 't' || *form == 'j' || *form == 'q' || *form == 'L') {
             if (*form == 'l') size++; else if (*form == 'h') size--; else if (*form == 'j' || *form == 'q') size = 2;
             form++;
         }
@@ -99,8 +99,13 @@ int __cbi_format(struct __cbi_sink *to, const char *form, va_list more) {
         } else if (*form == 'p') {
             p = va_arg(more, void *);
             if (p) __cbi_text(to, "0x1000", width, -1, flags & 1); else __cbi_text(to, "(nil)", width, -1, flags & 1);
+#ifdef __CBI_FLOATS__
+        } else if (*form == 'f' || *form == 'F' || *form == 'e' || *form == 'E' || *form == 'g' || *form == 'G') {
+            if (flags & 8) sign = "+"; else if (flags & 16) sign = " ";
+            __cbi_real(to, __cbi_bits(va_arg(more, double)), *form, flags, width, most, sign);
+#endif
         } else if (*form == 'n') {
-            *va_arg(more, int *) = to->count;
+            if (size >= 2) *va_arg(more, long long *) = to->count; else if (size == -1) *va_arg(more, short *) = to->count; else if (size == -2) *va_arg(more, signed char *) = to->count; else *va_arg(more, int *) = to->count;
         } else if (*form == '%') {
             __cbi_put(to, '%');
         } else abort();
@@ -117,7 +122,7 @@ int snprintf(char *at, unsigned room, const char *form, ...) { va_list more; va_
 int vsprintf(char *at, const char *form, va_list more) { return vsnprintf(at, 2147483647u, form, more); }
 int sprintf(char *at, const char *form, ...) { va_list more; va_start(more, form); return vsnprintf(at, 2147483647u, form, more); }
 int dprintf(int number, const char *form, ...) { va_list more; va_start(more, form); return vfprintf(number == 1 ? &__cbi_out : &__cbi_err, form, more); }
-struct __cbi_source { const char *at; int count; };
+struct __cbi_source { const char *at; int count; int ended; };
 int __cbi_take(struct __cbi_source *from) { int c; if (!from->at) c = fgetc(&__cbi_in); else { c = *from->at & 255; if (c == 0) c = -1; else from->at++; } if (c != -1) from->count++; return c; }
 void __cbi_give(struct __cbi_source *from, int c) { if (c == -1) return; from->count--; if (!from->at) ungetc(c, &__cbi_in); else from->at--; }
 int __cbi_blank(int c) { return c == ' ' || c >= 9 && c <= 13; }
@@ -128,7 +133,28 @@ void __cbi_keep(unsigned n, unsigned high, int sign, int size, va_list *more) {
     else if (size == -2) { if (sign) *va_arg(*more, signed char *) = (signed char)n; else *va_arg(*more, unsigned char *) = (unsigned char)n; }
     else if (sign) *va_arg(*more, int *) = (int)n; else *va_arg(*more, unsigned *) = n;
 }
+#ifdef __CBI_FLOATS__
+int __cbi_real_word(struct __cbi_source *from, char *word, int width) {
+    int n = 0; int digits = 0; int point = 0; int power = 0; int c = __cbi_take(from);
+    from->ended = c == -1;
+    while (n < width) {
+        if (c >= '0' && c <= '9') digits = 1;
+        else if ((c == '-' || c == '+') && (n == 0 || power && (word[n - 1] | 32) == 'e')) ;
+        else if (c == '.' && !point && !power) point = 1;
+        else if ((c == 'e' || c == 'E') && digits && !power) power = 1;
+        else break;
+        word[n] = c; n++;
+        c = n < width ? __cbi_take(from) : -1;
+    }
+    __cbi_give(from, c);
+    word[n] = 0;
+    return digits ? n : 0;
+}
+#endif
 int __cbi_scan(struct __cbi_source *from, const char *form, va_list more) {
+#ifdef __CBI_FLOATS__
+    char word[304];
+#endif
     int done = 0; int c; int width; int size; int drop; int letter; int base; int minus; int begun; int d; int length; int other; const char *set; char *s; unsigned n; unsigned high; unsigned part;
     while (*form) {
         if (__cbi_blank(*form)) { while (__cbi_blank(c = __cbi_take(from))) ; __cbi_give(from, c); form++; continue; }
@@ -164,6 +190,15 @@ int __cbi_scan(struct __cbi_source *from, const char *form, va_list more) {
             if (!drop) { s[d] = 0; done++; }
             continue;
         }
+#ifdef __CBI_FLOATS__
+        if (letter == 'f' || letter == 'e' || letter == 'g' || letter == 'E' || letter == 'G' || letter == 'F') {
+            if (width == 0 || width > 300) width = 300;
+            d = __cbi_real_word(from, word, width);
+            if (d == 0) { if (done == 0 && from->ended) return -1; return done; }
+            if (!drop) { done++; if (size > 0) *va_arg(more, double *) = strtod(word, 0); else *va_arg(more, float *) = strtof(word, 0); }
+            continue;
+        }
+#endif
         base = letter == 'x' || letter == 'X' || letter == 'p' ? 16 : letter == 'o' ? 8 : letter == 'i' ? 0 : 10;
         minus = 0; begun = 0; n = 0; high = 0;
         c = __cbi_take(from);

@@ -1,0 +1,77 @@
+"""Functions that GNU C has beside the library, and that C99 can say."""
+from typing import Any, Dict, Optional, Sequence, Tuple
+
+from cbi_port.conversions import number
+from cbi_port.statements import Statements
+from cbi_port.trees import kind
+from cbi_port.types import INT, LLONG, LONG, UINT, ULLONG, ULONG, VOID, Int, Pointer, spelled
+from cbi_port.values import ASSIGN, POSTFIX, UNARY, Value
+
+KINDS = {"add": 0, "sub": 1, "mul": 2}
+# What each function of overflows reckons, the type of its operands where its name says it, and whether it only asks.
+OVERFLOWS: Dict[str, Tuple[int, Optional[Int], bool]] = {}
+for _word, _number in KINDS.items():
+    OVERFLOWS[f"{_word}_overflow"] = (_number, None, False)
+    OVERFLOWS[f"{_word}_overflow_p"] = (_number, None, True)
+    for _begin, _end, _type in (("s", "", INT), ("s", "l", LONG), ("s", "ll", LLONG), ("u", "", UINT), ("u", "l", ULONG), ("u", "ll", ULLONG)):
+        OVERFLOWS[f"{_begin}{_word}{_end}_overflow"] = (_number, _type, False)
+
+
+class GnuCalls(Statements):
+    """Calls of functions that begin with `__builtin_`."""
+
+    def overflowing(self, node: Any, arguments: Sequence[Any], what: int, type_: Optional[Int], asks: bool) -> Value:
+        """A sum, difference or product of whole numbers of any size, and whether its type takes it."""
+        if len(arguments) != 3:
+            raise self.refuse(node, f"{len(arguments)} arguments where 3 are wanted", "an argument for each parameter")
+        values = [self.value(it) for it in arguments]
+        operands = [self.converted(it, type_) if type_ is not None else it for it in values[:2]]
+        if not all(isinstance(it.type, Int) for it in operands):
+            raise self.refuse(node, "an operand that is no number", "a number")
+        operands = [self.promoted(it) for it in operands]
+        signs = [int(it.type.signed) for it in operands]
+        wide = [self.long_text(self.converted(it, LLONG if it.type.signed else ULLONG)) for it in operands]
+        target = values[2].type if asks else values[2].type.to if isinstance(values[2].type, Pointer) else None
+        if not isinstance(target, Int):
+            raise self.refuse(node, f"a result of type `{spelled(values[2].type)}`", "a pointer to a number")
+        room = f"&{self.temporary('long')}"
+        bits = values[2].bits or values[2].wide or 8 * target.size if asks else 1 if target.rank == 0 else 8 * target.size
+        call = f"cbi_reckoned({room}, {wide[0]}, {signs[0]}, {wide[1]}, {signs[1]}, {what}, {bits}, {int(target.signed)})"
+        if asks:
+            return Value(INT, call, POSTFIX, pure=False)
+        before, place = self.model.pin(self.model.target(values[2], node))
+        flag = self.temporary("int") + ".value"
+        store = self.assigned(place, Value(ULLONG, room, UNARY), False, node)
+        return Value(INT, f"({before}{flag} = {call}, {store.at(ASSIGN)}, {flag})", POSTFIX, pure=False)
+
+    def lib___builtin_expect(self, node: Any, arguments: Sequence[Any], used: bool) -> Value:
+        value = self.converted(self.value(arguments[0]), LONG)
+        other = self.value(arguments[1], False)
+        if other.pure:
+            return value
+        kept, value = self.keep(value)
+        return self.after(f"{kept}, {other.at(ASSIGN)}, ", value)
+
+    def lib___builtin_constant_p(self, node: Any, arguments: Sequence[Any], used: bool) -> Value:
+        quiet, self.function.quiet = self.function.quiet, True
+        try:
+            value = self.value(arguments[0])
+            text = kind(arguments[0]) == "Constant"
+        finally:
+            self.function.quiet = quiet
+        return number(int(value.constant is not None and isinstance(value.type, Int) or text))
+
+    def lib___builtin_choose_expr(self, node: Any, arguments: Sequence[Any], used: bool) -> Value:
+        return self.value(arguments[1] if self.constant(arguments[0]) else arguments[2], used)
+
+    def lib_unreachable(self, node: Any, arguments: Sequence[Any], used: bool) -> Value:
+        return Value(VOID, "abort()", POSTFIX, pure=False)
+
+    lib_trap = lib_unreachable
+
+    def lib_prefetch(self, node: Any, arguments: Sequence[Any], used: bool) -> Value:
+        values = [it for it in (self.value(argument, False) for argument in arguments[:1]) if not it.pure]
+        return Value(VOID, values[0].text if values else "0", values[0].level if values else POSTFIX, pure=not values)
+
+    def lib_object_size(self, node: Any, arguments: Sequence[Any], used: bool) -> Value:
+        raise self.refuse(node, "`__builtin_object_size`", "the size itself")

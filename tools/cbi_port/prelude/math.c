@@ -1,0 +1,49 @@
+double fabs(double x) { return __cbi_of_bits(__cbi_bits(x) & 0x7fffffffffffffffULL); }
+double copysign(double x, double y) { return __cbi_of_bits(__cbi_bits(x) & 0x7fffffffffffffffULL | __cbi_bits(y) & 0x8000000000000000ULL); }
+int signbit(double x) { return (int)(__cbi_bits(x) >> 63); }
+int isnan(double x) { return __cbi_double_is_nan(__cbi_bits(x)); }
+int isinf(double x) { unsigned long long a = __cbi_bits(x); if (!__cbi_double_is_infinite(a)) return 0; return a >> 63 ? -1 : 1; }
+int isfinite(double x) { return (__cbi_bits(x) >> 52 & 2047) != 2047; }
+double __cbi_inf(void) { return __cbi_of_bits(0x7ff0000000000000ULL); }
+double __cbi_quiet(void) { return __cbi_of_bits(0x7ff8000000000000ULL); }
+double trunc(double x) { unsigned long long a = __cbi_bits(x); int e = (int)(a >> 52 & 2047) - 1023; if (e < 0) return __cbi_of_bits(a & 0x8000000000000000ULL); if (e >= 52) return x; return __cbi_of_bits(a >> (52 - e) << (52 - e)); }
+double floor(double x) { double t = trunc(x); return t > x ? t - 1 : t; }
+double ceil(double x) { double t = trunc(x); if (t < x) { t = t + 1; } return t == 0 ? copysign(t, x) : t; }
+double round(double x) { double t = trunc(x); if (fabs(x - t) >= 0.5) t = t + copysign(1, x); return t == 0 ? copysign(t, x) : t; }
+double rint(double x) { double big = copysign(4503599627370496.0, x); double r; if (fabs(x) >= 4503599627370496.0 || x != x) return x; r = x + big - big; return r == 0 ? copysign(r, x) : r; }
+double nearbyint(double x) { return rint(x); }
+long lround(double x) { return (long)round(x); }
+long long llround(double x) { return (long long)round(x); }
+long lrint(double x) { return (long)rint(x); }
+double fmin(double x, double y) { if (x != x) return y; if (y != y) return x; return x < y ? x : y; }
+double fmax(double x, double y) { if (x != x) return y; if (y != y) return x; return x > y ? x : y; }
+double fdim(double x, double y) { return x > y ? x - y : x != x || y != y ? x + y : 0; }
+double sqrt(double x) { unsigned long long a = __cbi_bits(x); unsigned long long m; unsigned long long root = 0; unsigned long long left = 0; int e; int n; if (x != x) return x + x; if (x == 0) return x; if (a >> 63) return __cbi_of_bits(0xfff8000000000000ULL); if (__cbi_double_is_infinite(a)) return x; e = __cbi_double_exponent(a); m = __cbi_double_mantissa(a); while (!(m >> 52)) { m = m << 1; e--; } if (e & 1) { m = m << 1; e--; } for (n = 54; n > -58; n -= 2) { left = left << 2; if (n >= 0) left = left | m >> n & 3; root = root << 1; if (left > root << 1) { left = left - (root << 1) - 1; root++; } } return __cbi_of_bits(__cbi_double_pack(0, e / 2 - 29, root << 1 | (left != 0))); }
+double fmod(double x, double y) { unsigned long long a = __cbi_bits(x) & 0x7fffffffffffffffULL; unsigned long long b = __cbi_bits(y) & 0x7fffffffffffffffULL; unsigned long long m; unsigned long long d; int e; int f; if (x != x || y != y) return x + y; if (b == 0 || a >> 52 == 2047) return __cbi_of_bits(0xfff8000000000000ULL); if (a < b) return x; e = __cbi_double_exponent(a); f = __cbi_double_exponent(b); m = __cbi_double_mantissa(a); d = __cbi_double_mantissa(b); m = m % d; while (e > f) { m = m << 1; e--; if (m >= d) m = m - d; } return __cbi_of_bits(__cbi_double_pack(signbit(x), f, m)); }
+double ldexp(double x, int n) { unsigned long long a = __cbi_bits(x); if (!__cbi_double_is(a) || (a >> 52 & 2047) == 2047) return x; if (n > 5000) n = 5000; if (n < -5000) n = -5000; return __cbi_of_bits(__cbi_double_pack((unsigned)(a >> 63), __cbi_double_exponent(a) + n, __cbi_double_mantissa(a))); }
+double scalbn(double x, int n) { return ldexp(x, n); }
+double frexp(double x, int *n) { unsigned long long a = __cbi_bits(x); unsigned long long m; int e; *n = 0; if (!__cbi_double_is(a) || (a >> 52 & 2047) == 2047) return x; e = __cbi_double_exponent(a); m = __cbi_double_mantissa(a); while (!(m >> 52)) { m = m << 1; e--; } *n = e + 53; return __cbi_of_bits(__cbi_double_pack((unsigned)(a >> 63), -53, m)); }
+double modf(double x, double *whole) { double t = trunc(x); *whole = t; if (x - x != 0) return x != x ? x : copysign(0, x); return copysign(x - t, x); }
+float fabsf(float x) { return (float)fabs(x); }
+float sqrtf(float x) { return (float)sqrt(x); }
+float floorf(float x) { return (float)floor(x); }
+float ceilf(float x) { return (float)ceil(x); }
+float truncf(float x) { return (float)trunc(x); }
+float roundf(float x) { return (float)round(x); }
+float fmodf(float x, float y) { return (float)fmod(x, y); }
+float fminf(float x, float y) { return (float)fmin(x, y); }
+float fmaxf(float x, float y) { return (float)fmax(x, y); }
+float copysignf(float x, float y) { return (float)copysign(x, y); }
+float ldexpf(float x, int n) { return (float)ldexp(x, n); }
+double fabsl(double x) { return fabs(x); }
+double sqrtl(double x) { return sqrt(x); }
+double floorl(double x) { return floor(x); }
+double ceill(double x) { return ceil(x); }
+double nan(const char *tag) { return __cbi_quiet(); }
+int isnormal(double x) { int e = (int)(__cbi_bits(x) >> 52 & 2047); return e != 0 && e != 2047; }
+int isunordered(double x, double y) { return x != x || y != y; }
+int isless(double x, double y) { return x < y; }
+int islessequal(double x, double y) { return x <= y; }
+int isgreater(double x, double y) { return x > y; }
+int isgreaterequal(double x, double y) { return x >= y; }
+int islessgreater(double x, double y) { return x < y || x > y; }
