@@ -1,47 +1,77 @@
 #!/usr/bin/env python3
 """Measures how far the rows of `cbi` are from known faults, beside coverage-based ranking on the same runs.
 
-usage: corpus.py CBI [--runs N,N] [--rates D,D] [--faults all|open|kept] [--three N] [--jobs N] [--results FILE] [--write FILE] [NAME ..]
+usage: corpus.py CBI [--faults all|open|kept] [--runs N,..] [--rates D,..] [--again N,K] [--three N,..] [--table NAME:N,..] [--jobs N] [--results FILE] [--write FILE ..] [NAME ..]
 
-Each fault of `bench/corpus/` is put in, and run on N inputs made from a seed (1,000), whose due outputs are those of the right version as gcc builds it:
-with each visit observed, and with banks of mean distance D. gcc's build of the same text is run on the same inputs, and gcov tells to which lines
-each run came. Results are kept as JSON in FILE after each program, and a second call with the same FILE measures what isn't there yet.
-With --write the tables and plots of docs/EVIDENCE.md are made anew of them. What the columns mean stands there.
+Each fault of `bench/corpus/` is put in, and run on N inputs made from a seed (100, 1,000 and 10,000), whose due outputs are those of the right
+version as gcc builds it: with each visit observed, and with banks of mean distance D (1, 5 and 100), and at these N runs (1,000) with K on an
+input (10). gcc's build of the same text is run on the same inputs, and gcov tells to which lines each run came. Programs with three faults
+have them all at once, too (1,000 runs), and one of them has its table of rows and faults (allocator, 3,000 and 30,000 runs).
+Results are kept as JSON in FILE, and a second call with the same FILE measures what isn't there yet; what was measured stands in FILE.lines
+at once. With --write the tables and plots of docs/EVIDENCE.md, or what README has of it, are made anew of them. What the columns mean stands there.
 """
 import argparse
 import json
 import multiprocessing
 import os
+import shutil
 import subprocess
 import sys
 import tempfile
 import time
-from typing import Any, Dict, List, Tuple
+from typing import Any, Dict, List, NamedTuple, Tuple
 
 import corpus_tables
 from corpus_files import Subject, names, read_subject
+from corpus_gcc import CoverageError
 from corpus_measure import Measure
-from corpus_runs import CallError, Runs
+from corpus_runs import CallError, Runs, processor_seconds
 from corpus_subject import Bench, NotTaken
+from corpus_three import Three
 
 Results = Dict[str, Any]
+PARTS = ("programs", "faults", "three", "tables", "not taken", "seconds", "processor")
+IN_MEMORY = "/dev/shm"
+ROOM = 4 << 30
+RIGHT_RUNS = 100
+
+
+class Work(NamedTuple):
+    """What is to be measured of a program: its right version, some of its faults, three at once, and the table."""
+    name: str
+    right: bool
+    faults: Tuple[str, ...]
+    three: Tuple[int, ...]
+    tables: Tuple[int, ...]
+    chosen: argparse.Namespace
+
+    def size(self) -> int:
+        """How many runs that are, about."""
+        return int(len(self.faults) * max(self.chosen.runs) * (len(self.chosen.rates) + 1) + 4 * sum(self.three) + 4 * max(self.tables, default=0))
 
 
 def numbers(text: str) -> List[int]:
-    return [int(word) for word in text.split(",")]
+    return [int(word) for word in text.split(",") if word]
+
+
+def table(text: str) -> Tuple[str, List[int]]:
+    name, _, counts = text.partition(":")
+    return name, numbers(counts)
 
 
 def arguments() -> argparse.Namespace:
     parser = argparse.ArgumentParser(usage=(__doc__ or "").split("\n")[2].replace("usage: ", ""))
     parser.add_argument("cbi")
-    parser.add_argument("--runs", type=numbers, default=[100, 1000])
+    parser.add_argument("--faults", choices=("all", "open", "kept"), default="open")
+    parser.add_argument("--runs", type=numbers, default=[100, 1000, 10000])
     parser.add_argument("--rates", type=numbers, default=[1, 5, 100])
-    parser.add_argument("--faults", choices=("all", "open", "kept"), default="all")
-    parser.add_argument("--three", type=int, default=1000)
+    parser.add_argument("--again", type=numbers, default=[1000, 10])
+    parser.add_argument("--three", type=numbers, default=[1000])
+    parser.add_argument("--table", type=table, default=("allocator", [3000, 30000]))
     parser.add_argument("--seed", type=int, default=1)
     parser.add_argument("--jobs", type=int, default=os.cpu_count() or 1)
     parser.add_argument("--results")
-    parser.add_argument("--write")
+    parser.add_argument("--write", action="append")
     parser.add_argument("names", nargs="*")
     chosen = parser.parse_intermixed_args()
     chosen.cbi = os.path.abspath(chosen.cbi)
@@ -49,53 +79,66 @@ def arguments() -> argparse.Namespace:
 
 
 def whole(found: Results, chosen: argparse.Namespace) -> bool:
-    return all(f"rows {rate} {count}" in found["ways"] for rate in chosen.rates for count in chosen.runs)
+    return all(f"truth {rate} {count}" in found["ways"] for rate in chosen.rates for count in chosen.runs)
 
 
-def missing(subject: Subject, chosen: argparse.Namespace, known: Results) -> Tuple[Dict[str, Results], bool]:
-    """The faults that are to be measured and aren't yet, with what is known of them, and whether the three at once are."""
-    wanted = {}
-    for fault in subject.faults:
-        there = known["faults"].get(fault.title(), {})
-        if (chosen.faults == "all" or fault.kept == (chosen.faults == "kept")) and not (there and whole(there, chosen)):
-            wanted[fault.name] = there
-    return wanted, bool(subject.three()) and chosen.three > 0 and chosen.faults != "kept" and subject.name not in known["three"]
+def missing(subject: Subject, chosen: argparse.Namespace, known: Results) -> Work:
+    """What is to be measured of a program, and isn't yet."""
+    of_kind = [fault for fault in subject.faults if chosen.faults == "all" or fault.kept == (chosen.faults == "kept")]
+    faults = [fault.name for fault in of_kind if not (fault.title() in known["faults"] and whole(known["faults"][fault.title()], chosen))]
+    opened = bool(subject.three()) and chosen.faults != "kept"
+    three = [count for count in chosen.three if opened and f"{subject.name} {count}" not in known["three"]]
+    tables = [count for count in chosen.table[1] if opened and subject.name == chosen.table[0] and f"{subject.name} {count}" not in known["tables"]]
+    return Work(subject.name, subject.name not in known["programs"], tuple(faults), tuple(three), tuple(tables), chosen)
 
 
-def measure(work: Tuple[str, Dict[str, Results], bool, argparse.Namespace]) -> Results:
-    """Measures a program: those of its faults that are named, and three at once."""
-    name, wanted, three, chosen = work
-    subject = read_subject(name)
-    found: Results = {"programs": {}, "faults": {}, "three": {}, "not taken": {}}
-    began = time.monotonic()
-    with tempfile.TemporaryDirectory(prefix="corpus-") as folder:
-        runs = Runs(chosen.cbi, folder, 1, chosen.seed)
-        bench = Bench(subject, runs, folder, max(chosen.runs + [chosen.three]), chosen.seed)
-        taken = Measure(bench, chosen.rates, chosen.runs)
+def scratch() -> str:
+    """Where many small files cost least: in memory, where there is room for them."""
+    if os.path.isdir(IN_MEMORY) and os.access(IN_MEMORY, os.W_OK) and shutil.disk_usage(IN_MEMORY).free > ROOM:
+        return IN_MEMORY
+    return tempfile.gettempdir()
+
+
+def measure(work: Work) -> Results:
+    """Measures what is to be measured of a program."""
+    chosen, began, used = work.chosen, time.monotonic(), processor_seconds()
+    found: Results = {part: {} for part in PARTS}
+    with tempfile.TemporaryDirectory(prefix="corpus-", dir=scratch()) as folder:
         try:
-            found["programs"][name] = taken.right_version(100)
+            subject = read_subject(work.name)
+            runs = Runs(chosen.cbi, folder, 1, chosen.seed)
+            bench = Bench(subject, runs, folder, max([*(chosen.runs if work.faults else [RIGHT_RUNS]), *work.three, *work.tables]), chosen.seed)
+            taken = Measure(bench, chosen.rates, chosen.runs, chosen.again)
+            if work.right:
+                add(found, chosen, "programs", work.name, taken.right_version(RIGHT_RUNS))
             for fault in subject.faults:
-                if fault.name in wanted:
-                    found["faults"][fault.title()] = taken.fault(fault, wanted[fault.name])
-                    note(chosen, "faults", fault.title(), found["faults"][fault.title()])
-            if three:
-                found["three"][name] = taken.three(chosen.three)
-                note(chosen, "three", name, found["three"][name])
-        except (NotTaken, CallError, subprocess.CalledProcessError) as error:
-            found["not taken"][name] = str(error)
-    found["seconds"] = {name: time.monotonic() - began}
+                if fault.name in work.faults:
+                    add(found, chosen, "faults", fault.title(), taken.fault(fault))
+            for count in work.three:
+                add(found, chosen, "three", f"{work.name} {count}", Three(bench, count, taken.failing if count <= taken.most else {}).measured())
+            if work.tables:
+                three = Three(bench, max(work.tables), {})
+                for count in work.tables:
+                    add(found, chosen, "tables", f"{work.name} {count}", three.table(count))
+        except (NotTaken, CallError, CoverageError, subprocess.CalledProcessError) as error:
+            found["not taken"][work.name] = str(error)[:200]
+    found["seconds"][work.name] = time.monotonic() - began
+    found["processor"][work.name] = processor_seconds() - used
     return found
 
 
-def note(chosen: argparse.Namespace, part: str, name: str, found: Results) -> None:
-    """Adds a line to a file beside the results, so that what was measured isn't lost with its program."""
+def add(found: Results, chosen: argparse.Namespace, part: str, name: str, measured: Results) -> None:
+    """Keeps what was measured, also in a file beside the results, so that it isn't lost with its program; and tells of it."""
+    found[part][name] = measured
     if chosen.results:
         with open(chosen.results + ".lines", "a", encoding="ascii") as file:
-            file.write(json.dumps([part, name, found]) + "\n")
+            file.write(json.dumps([part, name, measured]) + "\n")
+    if part != "programs":
+        print(f"{time.strftime('%H:%M:%S')} {part} {name}: {measured['failed']} of {measured['runs']} runs failed", file=sys.stderr, flush=True)
 
 
 def load(path: str) -> Results:
-    results: Results = {"programs": {}, "faults": {}, "three": {}, "not taken": {}, "seconds": {}}
+    results: Results = {part: {} for part in PARTS}
     if path and os.path.exists(path):
         with open(path, encoding="ascii") as file:
             results.update(json.load(file))
@@ -114,26 +157,36 @@ def keep(path: str, results: Results) -> None:
         os.replace(path + ".part", path)
 
 
+def take(results: Results, found: Results, done: str) -> None:
+    """Adds what was measured of a program to the results, and tells of it."""
+    results["not taken"] = {name: why for name, why in results["not taken"].items() if name not in found["seconds"]}
+    for part in PARTS[:-2]:
+        results[part].update(found[part])
+    for part in PARTS[-2:]:
+        for name, seconds in found[part].items():
+            results[part][name] = results[part].get(name, 0) + seconds
+    for name, seconds in found["seconds"].items():
+        lacking = "".join(f"; {why}" for why in found["not taken"].values())
+        print(f"{done} {name}: {len(found['faults'])} faults, {seconds:.0f} s, {found['processor'][name]:.0f} of a processor{lacking}", flush=True)
+
+
 def main() -> int:
     chosen = arguments()
-    results = load(chosen.results)
-    work = []
-    for name in chosen.names or names():
-        wanted, three = missing(read_subject(name), chosen, results)
-        if wanted or three:
-            work.append((name, wanted, three, chosen))
+    began, results = time.monotonic(), load(chosen.results)
+    work = [missing(read_subject(name), chosen, results) for name in chosen.names or names()]
+    work = sorted((one for one in work if one.size()), key=lambda one: -one.size())
+    used = 0.0
     with multiprocessing.Pool(chosen.jobs) as pool:
-        for found in pool.imap_unordered(measure, work):
-            results["not taken"] = {name: why for name, why in results["not taken"].items() if name not in found["programs"]}
-            for part in ("programs", "faults", "three", "not taken"):
-                results[part].update(found[part])
-            for name, seconds in found["seconds"].items():
-                results["seconds"][name] = results["seconds"].get(name, 0) + seconds
-                print(f"{name}: {len(found['faults'])} faults, {seconds:.0f} s" + "".join(f"; {why}" for why in found["not taken"].values()), flush=True)
+        for number, found in enumerate(pool.imap_unordered(measure, work, 1), 1):
+            take(results, found, f"{number}/{len(work)}")
+            used += sum(found["processor"].values())
             keep(chosen.results, results)
+    if work:
+        print(f"{time.monotonic() - began:.0f} s by the clock with {chosen.jobs} at a time, {used:.0f} s of a processor, on {os.cpu_count()} processors "
+              f"with a load of {os.getloadavg()[2]:.1f}")
     print(corpus_tables.summary(results))
     if chosen.write:
-        corpus_tables.write_document(results, chosen.write)
+        corpus_tables.write_documents(results, chosen.write)
     return 0
 
 

@@ -6,7 +6,7 @@ too long), a handler on a stack of its own writes the coverage first, so that a 
 import json
 import os
 import subprocess
-from typing import Dict, List, NamedTuple, Set
+from typing import Dict, FrozenSet, List, NamedTuple, Set
 
 DRIVER = r"""
 #include <fcntl.h>
@@ -20,12 +20,45 @@ DRIVER = r"""
 #include <sys/wait.h>
 #include <unistd.h>
 int program_main(void);
-void __gcov_dump(void) __attribute__((weak));
+void __gcov_dump(void);
+void *__libc_malloc(size_t);
+void *__libc_calloc(size_t, size_t);
+void *__libc_realloc(void *, size_t);
+void __libc_free(void *);
 static char aside[65536];
+static char room[1 << 20];
+static size_t taken;
+static int has_crashed;
+/* What a crash needs has a room of its own, since the heap may be broken by then. */
+static void *taken_aside(size_t size)
+{
+    void *found = room + taken;
+    taken += (size + 15) / 16 * 16;
+    return taken <= sizeof room ? found : NULL;
+}
+void *malloc(size_t size)
+{
+    return has_crashed ? taken_aside(size) : __libc_malloc(size);
+}
+void *calloc(size_t count, size_t size)
+{
+    return has_crashed ? taken_aside(count * size) : __libc_calloc(count, size);
+}
+void *realloc(void *old, size_t size)
+{
+    return has_crashed ? NULL : __libc_realloc(old, size);
+}
+void free(void *old)
+{
+    if (!has_crashed)
+        __libc_free(old);
+}
 static void ended(int signal)
 {
-    if (__gcov_dump)
-        __gcov_dump();
+    has_crashed = 1;
+#ifdef COVERED
+    __gcov_dump();
+#endif
     _exit(128 + signal);
 }
 static void child(const char *given, const char *out, const char *coverage)
@@ -72,11 +105,18 @@ int main(void)
 """
 
 
+A_CALL = 200  # runs between two calls of gcov
+
+
+class CoverageError(Exception):
+    """What gcov says can't be used."""
+
+
 class Covered(NamedTuple):
-    """Statuses of the runs, all lines with code, and for each run those that it came to."""
+    """How each run ended, the lines with code, and of each run the lines that it came to."""
     statuses: List[int]
     lines: List[int]
-    runs: List[Set[int]]
+    runs: List[FrozenSet[int]]
 
 
 def write(path: str, text: str) -> str:
@@ -92,7 +132,7 @@ def build(folder: str, name: str, text: str, coverage: bool) -> str:
     driver = write(os.path.join(home, "driver.c"), DRIVER)
     source = write(os.path.join(home, "program.c"), text)
     common = ["gcc", "-std=gnu99", "-w", "-O0", "-g", "-c"]
-    subprocess.run(common + ["-o", "driver.o", driver], cwd=home, check=True)
+    subprocess.run(common + (["-DCOVERED"] if coverage else []) + ["-o", "driver.o", driver], cwd=home, check=True)
     subprocess.run(common + (["--coverage"] if coverage else []) + ["-Dmain=program_main", "-o", "program.o", source], cwd=home, check=True)
     subprocess.run(["gcc", "-o", "program", "driver.o", "program.o"] + (["--coverage"] if coverage else []), cwd=home, check=True)
     return home
@@ -111,27 +151,42 @@ def outputs(folder: str, name: str, text: str, given: List[str], target: List[st
 
 
 def coverage(folder: str, name: str, text: str, given: List[str], target: List[str]) -> Covered:
-    """Runs the program on each input, and reads by gcov which lines it came to. `target` are the files for what it writes."""
+    """Runs the program on each input, and reads by gcov which lines it came to. `target` are the files for what it writes.
+
+    Each run's counters stand in a folder of their own, and gcov is called once for many of them.
+    """
     home = build(folder, name, text, True)
-    places = [os.path.join(home, f"c{number}") for number in range(len(given))]
+    places = [os.path.join(home, f"c{number}") for number in range(min(A_CALL, len(given)))]
     for place in places:
         os.mkdir(place)
         os.symlink(os.path.join(home, "program.gcno"), os.path.join(place, "program.gcno"))
-    statuses = drive(home, [f"{one} {out} {place}" for one, out, place in zip(given, target, places)])
-    found: Dict[str, Set[int]] = {}
+    found = Covered([], [], [])
     every: Set[int] = set()
-    for start in range(0, len(places), 100):
-        files = [os.path.join(place, "program.gcda") for place in places[start:start + 100]]
-        there = [file for file in files if os.path.exists(file)]
-        done = subprocess.run(["gcov", "-t", "-j"] + there, cwd=home, stdout=subprocess.PIPE, stderr=subprocess.DEVNULL, check=True)
-        for text_line in done.stdout.split(b"\n"):
-            if not text_line.strip():
-                continue
-            said = json.loads(text_line)
-            for file in said["files"]:
-                if not file["file"].endswith("program.c"):
-                    continue
-                counts = {line["line_number"]: line["count"] for line in file["lines"]}
-                every.update(counts)
-                found.setdefault(said["data_file"], set()).update(number for number, count in counts.items() if count > 0)
-    return Covered(statuses, sorted(every), [found.get(os.path.join(place, "program.gcda"), set()) for place in places])
+    known: Dict[FrozenSet[int], FrozenSet[int]] = {}
+    for start in range(0, len(given), A_CALL):
+        some = list(zip(given[start:start + A_CALL], target[start:start + A_CALL], places))
+        found.statuses.extend(drive(home, [" ".join(words) for words in some]))
+        read = counted(home, [os.path.join(place, "program.gcda") for _, _, place in some], every)
+        found.runs.extend(known.setdefault(lines, lines) for lines in read)
+    return Covered(found.statuses, sorted(every), found.runs)
+
+
+def counted(home: str, files: List[str], every: Set[int]) -> List[FrozenSet[int]]:
+    """Of each file of counters the lines that gcov has with a count above 0; the file goes. All lines with code are added to `every`."""
+    there = [file for file in files if os.path.exists(file)]
+    if not there:
+        return [frozenset()] * len(files)
+    # Its status isn't 0 where a run left half a file; that one has no coverage.
+    done = subprocess.run(["gcov", "-t", "-j"] + there, cwd=home, stdout=subprocess.PIPE, stderr=subprocess.DEVNULL, check=False)
+    if not done.stdout:
+        raise CoverageError(f"gcov says nothing: status {done.returncode}")
+    found: Dict[str, Set[int]] = {}
+    for text in filter(None, done.stdout.split(b"\n")):
+        said = json.loads(text)
+        for file in said["files"]:
+            if file["file"].endswith("program.c"):
+                every.update(line["line_number"] for line in file["lines"])
+                found.setdefault(said["data_file"], set()).update(line["line_number"] for line in file["lines"] if line["count"] > 0)
+    for name in there:
+        os.remove(name)
+    return [frozenset(found.get(name, ())) for name in files]

@@ -3,8 +3,8 @@ from typing import List, Sequence, Tuple
 
 WIDTH, HEIGHT = 720, 380
 LEFT, RIGHT, TOP, BOTTOM = 60, 190, 40, 50
-COLOURS = ("#0b6e4f", "#c1440e", "#3d5a98", "#8d6a9f", "#7a7a7a", "#b8860b", "#2a9d8f")
-DASHES = ("", "6 3", "2 3", "8 3 2 3", "1 4", "12 4", "4 2")
+COLOURS = ("#0b6e4f", "#c1440e", "#3d5a98", "#8d6a9f", "#7a7a7a", "#b8860b", "#2a9d8f", "#b03060")
+DASHES = ("", "6 3", "2 3", "8 3 2 3", "1 4", "12 4", "4 2", "1 7")
 
 Curve = Tuple[str, Sequence[Tuple[float, float]]]
 

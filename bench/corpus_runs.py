@@ -1,14 +1,13 @@
 """Runs of a program on inputs with banks, collected: the one place of the corpus where `cbi` makes runs.
 
-`Runs.collect` hides how they are made: by one call of `cbi runs` where the executable has that command, else by a call of `cbi run` each.
-Run R is on input R, and its bank is that which `bank --rate D --count 256 --seed S --stream R` writes, so both ways give the same collection.
+`Runs.collect` hides how they are made: by calls of `cbi runs` where the executable has that command, else by a call of `cbi run` each.
+Run R is on input R, and its bank is that which `bank --rate D --count 256 --seed S --stream R` writes, so both ways give the same collection;
+`corpus_runs_check.py` compares them.
 """
 import os
+import resource
 import subprocess
-import sys
-from typing import Dict, Iterator, List, NamedTuple, Optional, Tuple
-
-sys.path.insert(0, os.path.join(os.path.dirname(os.path.abspath(__file__)), "..", "tools"))
+from typing import List, NamedTuple, Optional
 
 # Starts calls, so many at a time; each line of its input is the words of one. Of a call that ends otherwise than well the number is written.
 SPAWNER = r"""
@@ -86,6 +85,11 @@ def call(words: List[str], out: Optional[str] = None) -> str:
     return said
 
 
+def processor_seconds() -> float:
+    """What this process and those that it waited for have used of a processor, which other work on the machine doesn't change."""
+    return sum(used.ru_utime + used.ru_stime for used in map(resource.getrusage, (resource.RUSAGE_SELF, resource.RUSAGE_CHILDREN)))
+
+
 def text_of(words: List[str]) -> str:
     done = subprocess.run(words, stdin=subprocess.DEVNULL, stdout=subprocess.PIPE, stderr=subprocess.PIPE, check=False)
     if done.returncode:
@@ -96,12 +100,13 @@ def text_of(words: List[str]) -> str:
 class Runs:
     """Makes runs with so many processes at a time, in a scratch folder."""
 
-    def __init__(self, cbi: str, folder: str, jobs: int, seed: int):
+    def __init__(self, cbi: str, folder: str, jobs: int, seed: int, singly: bool = False):
+        """`singly` asks that runs can be made by a call each, also where the executable makes many at once."""
         self.cbi, self.folder, self.jobs, self.seed = cbi, folder, jobs, seed
         self.many = "runs" in self.commands()
         os.makedirs(os.path.join(folder, "banks"), exist_ok=True)
         self.spawner = os.path.join(folder, "spawn")
-        if not self.many:
+        if singly or not self.many:
             with open(self.spawner + ".c", "w", encoding="ascii") as file:
                 file.write(SPAWNER)
             call(["gcc", "-O1", "-w", "-o", self.spawner, self.spawner + ".c"])
@@ -165,65 +170,3 @@ class Runs:
         call([self.cbi, "collect", f"--program={program}", "--"] + parts, target)
         for path in reports + parts:
             os.remove(path)
-
-
-def first_runs(source: str, most: int, target: str) -> str:
-    """A collection of those runs whose numbers are at most `most`."""
-    kept = True
-    with open(source, "rb") as lines, open(target, "wb") as out:
-        for line in lines:
-            if line.startswith(b"run "):
-                kept = int(line.split(b" ", 2)[1]) <= most
-            elif line == b"end\n":
-                kept = True
-            if kept:
-                out.write(line)
-    return target
-
-
-def narrowed(source: str, identity: str, sites: Dict[int, int], target: str) -> str:
-    """A collection of a program as one of the same program with some of its sites: the others are left out, and these are numbered anew."""
-    with open(source, encoding="ascii") as lines, open(target, "w", encoding="ascii") as out:
-        for line in lines:
-            if line.startswith("site "):
-                _, site, counters = line.split(" ", 2)
-                if int(site) in sites:
-                    out.write(f"site {sites[int(site)]} {counters}")
-            else:
-                out.write(f"program {identity}\n" if line.startswith("program ") else line)
-    return target
-
-
-def labels(path: str) -> Dict[int, str]:
-    """The label of each run of a collection."""
-    found = {}
-    with open(path, encoding="ascii") as lines:
-        for line in lines:
-            if line.startswith("run "):
-                words = line.split()
-                found[int(words[1])] = words[words.index("label") + 1]
-    return found
-
-
-class Seen(NamedTuple):
-    """What a run says: its number, how it ended, its label, and the counters of its sites."""
-    run: int
-    outcome: str
-    label: str
-    sites: List[Tuple[int, int, int, int]]
-
-
-def seen_runs(path: str) -> Iterator[Seen]:
-    """The runs of a collection."""
-    now: Optional[Seen] = None
-    with open(path, encoding="ascii") as lines:
-        for line in lines:
-            words = line.split()
-            if words[0] == "site" and now is not None:
-                now.sites.append((int(words[1]), int(words[2]), int(words[3]), int(words[4])))
-            elif words[0] in ("run", "end"):
-                if now is not None:
-                    yield now
-                if words[0] == "run":
-                    at = words.index("label")
-                    now = Seen(int(words[1]), " ".join(words[2:at]), words[at + 1], [])

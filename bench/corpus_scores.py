@@ -7,9 +7,9 @@ import math
 import random
 from collections import Counter
 from functools import lru_cache
-from typing import Callable, Dict, Iterable, List, NamedTuple, Optional, Sequence, Set, Tuple
+from typing import Callable, Dict, FrozenSet, Iterable, List, NamedTuple, Optional, Sequence, Set, Tuple
 
-from corpus_runs import Seen
+from corpus_collections import Tallies, Tally
 
 NEAR = 5
 QUANTILE = 1.96
@@ -121,22 +121,22 @@ def dstar(failing: int, successful: int, failures: int, successes: int) -> float
 FORMULAS: Dict[str, Callable[[int, int, int, int], float]] = {"Tarantula": tarantula, "Ochiai": ochiai, "DStar": dstar}
 
 
-def visits(runs: Sequence[Tuple[bool, Set[int]]]) -> Dict[int, List[int]]:
+def visits(runs: Iterable[Tuple[bool, FrozenSet[int]]]) -> Dict[int, List[int]]:
     """Of each line, how many successful and how many failing runs came to it."""
-    counts = (Counter(), Counter())  # type: Tuple[Counter[int], Counter[int]]
-    for failed, lines in runs:
-        counts[failed].update(lines)
-    return {line: [counts[0][line], counts[1][line]] for line in set(counts[0]) | set(counts[1])}
+    found: Dict[int, List[int]] = {}
+    for (failed, lines), times in Counter(runs).items():
+        for line in lines:
+            found.setdefault(line, [0, 0])[failed] += times
+    return found
 
 
-def suspicious(formula: Callable[[int, int, int, int], float], coded: Sequence[int], runs: Sequence[Tuple[bool, Set[int]]]) -> Dict[int, float]:
-    """How suspicious each line is, by runs that failed or not and the lines that they came to."""
-    failures = sum(failed for failed, _ in runs)
-    found = visits(runs)
+def suspicious(formula: Callable[[int, int, int, int], float], coded: Sequence[int], found: Dict[int, List[int]], failures: int,
+               successes: int) -> Dict[int, float]:
+    """How suspicious each line is, by how many successful and failing runs came to it."""
     scores = {}
     for line in coded:
         successful, failing = found.get(line, (0, 0))
-        scores[line] = formula(failing, successful, failures, len(runs) - failures)
+        scores[line] = formula(failing, successful, failures, successes)
     return scores
 
 
@@ -177,13 +177,6 @@ def found_by_chance(target: Target, coded: Sequence[int]) -> Found:
 
 # Predicates without elimination
 
-class Tally(NamedTuple):
-    failing: int
-    successful: int
-    observed_failing: int
-    observed_successful: int
-
-
 def increase(t: Tally) -> float:
     return t.failing / (t.failing + t.successful) - t.observed_failing / (t.observed_failing + t.observed_successful) if t.failing + t.successful else 0.0
 
@@ -200,51 +193,26 @@ def importance(t: Tally, failures: int) -> float:
     return 2 / (1 / increase(t) + math.log(failures) / math.log(t.failing))
 
 
-def tallies(runs: Iterable[Seen], counters: Dict[int, List[Tuple[int, Tuple[int, ...]]]]) -> Tuple[Dict[int, Tally], int, int]:
-    """The numbers of each predicate, and how many runs failed and succeeded. `counters` are, by site, its predicates and what each sums up."""
-    seen: Dict[Tuple[int, int], List[int]] = {}
-    totals = [0, 0]
-    for run in runs:
-        if run.label == "none":
-            continue
-        good = run.label == "pass"
-        totals[good] += 1
-        for site, one, two, three in run.sites:
-            mark = (site, (one > 0) + 2 * (two > 0) + 4 * (three > 0))
-            if mark in seen:
-                seen[mark][good] += 1
-            else:
-                seen[mark] = [int(not good), int(good)]
-    found = {}
-    for site, several in counters.items():
-        marks = [(mask, seen[(site, mask)]) for mask in range(1, 8) if (site, mask) in seen]
-        observed = [sum(counts[good] for _, counts in marks) for good in (0, 1)]
-        for predicate, sums in several:
-            true = [sum(counts[good] for mask, counts in marks if any(mask >> one & 1 for one in sums)) for good in (0, 1)]
-            if sum(true):
-                found[predicate] = Tally(*true, *observed)
-    return found, totals[0], totals[1]
-
-
-def by_increase(found: Dict[int, Tally]) -> List[int]:
+def by_increase(found: Tallies) -> List[int]:
     """The predicates that pass, by falling Increase and then by how many failing runs they have."""
-    passing = [predicate for predicate, tally in found.items() if passes(tally)]
-    return sorted(passing, key=lambda predicate: (-increase(found[predicate]), -found[predicate].failing, predicate))
+    passing = [predicate for predicate, tally in found.of.items() if passes(tally)]
+    return sorted(passing, key=lambda predicate: (-increase(found.of[predicate]), -found.of[predicate].failing, predicate))
 
 
-def by_importance(found: Dict[int, Tally], failures: int) -> List[int]:
-    passing = [predicate for predicate, tally in found.items() if passes(tally)]
-    return sorted(passing, key=lambda predicate: (-importance(found[predicate], failures), predicate))
+def by_importance(found: Tallies) -> List[int]:
+    """The same by falling Importance."""
+    passing = [predicate for predicate, tally in found.of.items() if passes(tally)]
+    return sorted(passing, key=lambda predicate: (-importance(found.of[predicate], found.failures), predicate))
 
 
-def by_line(found: Dict[int, Tally], lines: Dict[int, Optional[int]], failures: int, successes: int) -> Tuple[Dict[int, float], Dict[int, float]]:
+def by_line(found: Tallies, lines: Dict[int, Optional[int]]) -> Tuple[Dict[int, float], Dict[int, float]]:
     """Ochiai of each line with a predicate: of how often failing runs came to it, and of its best predicate's truth."""
     reached: Dict[int, float] = {}
     true: Dict[int, float] = {}
-    for predicate, tally in found.items():
+    for predicate, tally in found.of.items():
         line = lines[predicate]
         if line is None:
             continue
-        reached[line] = max(reached.get(line, 0.0), ochiai(tally.observed_failing, tally.observed_successful, failures, successes))
-        true[line] = max(true.get(line, 0.0), ochiai(tally.failing, tally.successful, failures, successes))
+        reached[line] = max(reached.get(line, 0.0), ochiai(tally.observed_failing, tally.observed_successful, found.failures, found.successes))
+        true[line] = max(true.get(line, 0.0), ochiai(tally.failing, tally.successful, found.failures, found.successes))
     return reached, true

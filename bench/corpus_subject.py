@@ -2,27 +2,27 @@
 
 A program outside the dialect is ported by `tools/cbi_port`; its rows are told by the lines and functions that its author wrote.
 """
-import csv
-import io
 import os
 import sys
-import time
 from functools import lru_cache
 from typing import Dict, List, NamedTuple, Optional, Sequence, Tuple
 
 from corpus_files import Subject, functions
 from corpus_gcc import Covered, coverage, outputs, write
-from corpus_runs import CallError, Inputs, Runs, narrowed, text_of
+from corpus_collections import Collection, Counters
+from corpus_runs import CallError, Inputs, Runs, processor_seconds, text_of
 from corpus_scores import Place
 
 sys.path.insert(0, os.path.join(os.path.dirname(os.path.abspath(__file__)), "..", "tools"))
 
 import cbi_files  # noqa: E402
+import cbi_rows  # noqa: E402
+import cbi_seen  # noqa: E402
 
 try:
     import cbi_port
 except ImportError:
-    cbi_port = None  # type: ignore
+    cbi_port = None
 
 
 Numbered = Dict[int, Tuple[cbi_files.Site, str, Tuple[int, ...]]]
@@ -62,8 +62,10 @@ class Bench:
                 file.write(data)
         outputs(self.folder, "right", subject.text(), self.inputs.given, self.inputs.due)
 
-    def some(self, count: int) -> Inputs:
-        return Inputs(self.inputs.given[:count], self.inputs.due[:count])
+    def some(self, count: int, times: int = 1) -> Inputs:
+        """The inputs of so many runs, where each input has so many."""
+        fewer = count // times
+        return Inputs(self.inputs.given[:fewer] * times, self.inputs.due[:fewer] * times)
 
     def built(self, name: str, text: str) -> Built:
         """The program file of a text; one that the dialect refuses is ported first."""
@@ -87,16 +89,16 @@ class Bench:
             raise NotTaken(f"{self.subject.name}: ported, and refused: {str(refused)[-60:]}")
         return Built(program, target, [None if line.added else line.line for line in ported.lines])
 
-    def collected(self, built: Built, count: int, rate: int, name: str) -> Tuple[str, float]:
-        """A collection of runs on the first inputs, and how many seconds they took."""
-        began = time.monotonic()
-        path = self.runs.collect(built.program, self.some(count), rate, os.path.join(self.folder, name))
-        return path, time.monotonic() - began
+    def collected(self, built: Built, inputs: Inputs, rate: int, name: str) -> Tuple[str, float]:
+        """The file of a collection of a run on each of some inputs, and how many seconds of a processor they took."""
+        began = processor_seconds()
+        path = self.runs.collect(built.program, inputs, rate, os.path.join(self.folder, name))
+        return path, processor_seconds() - began
 
     def covered(self, name: str, text: str, count: int) -> Tuple[Covered, float]:
-        began = time.monotonic()
+        began = processor_seconds()
         found = coverage(self.folder, name, text, self.inputs.given[:count], [os.path.join(self.folder, f"out{place}") for place in range(count)])
-        return found, time.monotonic() - began
+        return found, processor_seconds() - began
 
     def other_output(self, count: int) -> List[bool]:
         """Whether what gcc's program wrote last, for `covered`, is other than what is due."""
@@ -108,14 +110,41 @@ def read(path: str) -> bytes:
         return file.read()
 
 
-def ranked(runs: Runs, built: Built, collection: str, policy: str = "all") -> Tuple[List[Place], float]:
-    """The rows of a ranking, and how many seconds it took."""
-    began = time.monotonic()
+class Ranked(NamedTuple):
+    """The rows of a ranking as `cbi` writes them, where they point, and how many seconds of a processor it took."""
+    rows: List[cbi_files.Row]
+    places: List[Place]
+    seconds: float
+
+
+def ranked(runs: Runs, built: Built, collection: str, policy: str = "all") -> Ranked:
+    began = processor_seconds()
     text = text_of([runs.cbi, "rank", f"--policy={policy}", "--", built.program, collection])
-    rows = list(csv.DictReader(io.StringIO(text)))
-    return [Place(built.line(int(row["line"]), row["function"]), row["function"], row["text"], int(row["f"]), int(row["s"]), int(row["predicate"]),
-                  int(row["importance"])) for row in rows], \
-        time.monotonic() - began
+    seconds = processor_seconds() - began
+    rows = [cbi_files.ranking_row("the ranking", number, line) for number, line in enumerate(text.split("\n")[1:], 2) if line]
+    places = [Place(built.line(row.line, row.function), row.function, row.text, row.f, row.s, row.predicate, row.importance) for row in rows]
+    return Ranked(rows, places, seconds)
+
+
+class Sections(NamedTuple):
+    """Where `cbi-hunt` shows the rows of a ranking: those that it leads with, and why each of the others is folded."""
+    leading: List[Place]
+    folded: List[Place]
+    why: List[str]
+
+
+def shown(built: Built, ranking: Ranked, tried: int) -> Sections:
+    """The rows in the order in which `cbi-hunt` shows them, without what cards bring together; `tried` is how many predicates were looked at."""
+    parts = cbi_rows.bodies(cbi_files.read_source(built.text))
+    why = []
+    for row, place in zip(ranking.rows, ranking.places):
+        weak = cbi_seen.expected_by_chance(row, tried) >= 1
+        unrelated = bool(row.importance) and cbi_rows.unrelated(row, parts)
+        why.append("added" if place.line is None else "unrelated" if unrelated else "weak" if weak else "" if row.importance else "unimportant")
+    if "" not in why and "weak" in why:
+        why[why.index("weak")] = ""
+    order = sorted(range(len(why)), key=lambda at: (("", "unrelated", "unimportant", "weak", "added").index(why[at]), at))
+    return Sections([ranking.places[at] for at in order if not why[at]], [ranking.places[at] for at in order if why[at]], why)
 
 
 @lru_cache(maxsize=2)
@@ -128,14 +157,14 @@ def numbered_of(built: Built) -> Numbered:
     return numbered(built.program, os.path.getmtime(built.program))
 
 
-def without_pairs(runs: Runs, built: Built, collection: str) -> Tuple[Built, str]:
+def without_pairs(runs: Runs, built: Built, collection: Collection) -> Tuple[Built, Collection]:
     """The same program with the sites of branches and returns alone, and the same runs as a collection of that."""
     narrow = Built(runs.compiled(built.text, f"{built.program}.narrow", "branches,returns"), built.text, built.lines)
     kept = [site.number for site in cbi_files.read_program(built.program).sites if site.scheme != "pairs"]
     program = cbi_files.read_program(narrow.program)
     if len(kept) != len(program.sites):
         raise NotTaken(f"{built.program}: {len(kept)} sites without pairs, and {len(program.sites)} in the program without")
-    return narrow, narrowed(collection, program.identity, {old: new for new, old in enumerate(kept)}, f"{collection}.narrow")
+    return narrow, collection.narrowed(program.identity, {old: new for new, old in enumerate(kept)})
 
 
 def numbered_places(built: Built) -> Dict[int, Place]:
@@ -144,9 +173,9 @@ def numbered_places(built: Built) -> Dict[int, Place]:
             for number, (site, text, _) in numbered_of(built).items()}
 
 
-def counters_of(built: Built) -> Dict[int, List[Tuple[int, Tuple[int, ...]]]]:
+def counters_of(built: Built) -> Counters:
     """By site its predicates, and which counters each sums up."""
-    found: Dict[int, List[Tuple[int, Tuple[int, ...]]]] = {}
+    found: Counters = {}
     for number, (site, _, counters) in numbered_of(built).items():
         found.setdefault(site.number, []).append((number, counters))
     return found

@@ -8,14 +8,18 @@ from statistics import mean, median
 from typing import Any, Callable, Dict, List, Optional, Sequence, Tuple
 
 import corpus_plots
+import corpus_words as words
 from corpus_files import KINDS, read_corpus
+from corpus_words import capped, percent
 
 Results = Dict[str, Any]
-WAYS = (("rows {rate} {runs}", "`rank`"), ("narrow {rate} {runs}", "`rank` of branches and returns alone"),
-        ("first card", "the first card of `cards`"), ("best pair", "`pairs`"),
-        ("importance", "predicates by Importance, nothing set aside"), ("increase", "predicates by Increase alone"),
-        ("reach", "lines with sites by reach (Ochiai of being observed)"), ("truth", "lines with sites by Ochiai of a predicate's truth"),
-        ("turns", "`rank` and reach by turns"),
+SHOWN = 1000  # runs of which tables without a number in their name and plots are made, where there are so many
+WAYS = (("rows {rate} {runs}", "`rank`"), ("shown {rate} {runs}", "`rank` as `cbi-hunt` shows it"), ("narrow {rate} {runs}", "`rank` of branches and returns alone"),
+        ("card {rate} {runs}", "the first card of `cards`"), ("pair {rate} {runs}", "`pairs`"),
+        ("importance {rate} {runs}", "predicates by Importance, nothing set aside"), ("increase {rate} {runs}", "predicates by Increase alone"),
+        ("reach {rate} {runs}", "lines with sites by reach (Ochiai of being observed)"),
+        ("truth {rate} {runs}", "lines with sites by Ochiai of a predicate's truth"),
+        ("turns {rate} {runs}", "`rank` and reach by turns"),
         ("Ochiai {runs}", "Ochiai"), ("Tarantula {runs}", "Tarantula"), ("DStar {runs}", "DStar"), ("chance", "lines by chance"))
 
 
@@ -23,10 +27,6 @@ def told(value: Optional[float]) -> str:
     if value is None:
         return "-"
     return f"{value:.0f}" if value == int(value) or value >= 10 else f"{value:.1f}"
-
-
-def percent(share: float) -> str:
-    return f"{100 * share:.1f} %" if share < 0.0995 else f"{100 * share:.0f} %"
 
 
 def table(head: Sequence[str], rows: Sequence[Sequence[str]]) -> str:
@@ -43,8 +43,9 @@ def faults_of(results: Results, chosen: Callable[[Any], bool] = lambda fault: Tr
     return [fault for _, fault in sorted(results["faults"].items()) if chosen(fault)]
 
 
-def most_runs(results: Results) -> int:
-    return max((int(way.split()[2]) for fault in results["faults"].values() for way in fault["ways"] if way.startswith("rows ")), default=0)
+def counts_of(results: Results) -> List[int]:
+    """The numbers of runs with each visit observed, rising."""
+    return sorted({int(way.split()[2]) for fault in results["faults"].values() for way in fault["ways"] if way.startswith("rows 1 ")})
 
 
 def way_of(fault: Any, way: str) -> Optional[Any]:
@@ -61,22 +62,22 @@ def exams(faults: Sequence[Any], way: str, what: str = "exam") -> List[float]:
     return [found[what] for found in (way_of(fault, way) for fault in faults) if found is not None and found.get(what) is not None]
 
 
-def by_turns(fault: Any, rows: str) -> None:
+def add_turns(fault: Any) -> None:
     """A row and a line by reach in turn, row first."""
-    first, second = fault["ways"][rows], fault["ways"].get("reach")
-    if second is None:
-        return
-    found: Dict[str, Optional[float]] = {}
-    for what in ("line", "near", "function"):
-        places = [2 * one - less for one, less in ((first[what], 1), (second[what], 0)) if one is not None]
-        found[what] = min(places) if places else None
-    fault["ways"]["turns"] = found
+    ways = fault["ways"]
+    for way in [way for way in ways if way.startswith(("rows ", "again rows "))]:
+        rows, reach = ways[way], ways.get(way.replace("rows", "reach"))
+        if reach is None:
+            continue
+        found: Dict[str, Optional[float]] = {}
+        for what in ("line", "near", "function"):
+            places = [2 * one - less for one, less in ((rows[what], 1), (reach[what], 0)) if one is not None]
+            found[what] = min(places) if places else None
+        ways[way.replace("rows", "turns")] = found
 
 
 def by_way(faults: Sequence[Any], runs: int) -> str:
     rows = []
-    for fault in faults:
-        by_turns(fault, f"rows 1 {runs}")
     for form, name in WAYS:
         way = form.format(rate=1, runs=runs)
         values = exams(faults, way)
@@ -84,23 +85,82 @@ def by_way(faults: Sequence[Any], runs: int) -> str:
         looked = [percent(median(values)), percent(mean(values))] if values else ["", ""]
         around = percent(median(walks)) if walks else "" if name.startswith("lines by chance") else looked[0]
         near = [within(faults, way, "near", most) for most in (1, 3, 5, 10)]
-        there = str(sum(way in fault["ways"] for fault in faults))
-        rows.append([name, there] + near + [within(faults, way, "line", 5), within(faults, way, "function", 5)] + looked + [around])
-    return table(["Way", "faults", "near in 1", "in 3", "in 5", "in 10", "the line in 5", "the function in 5", "EXAM, median", "mean",
-                  "with lines around, median"], rows)
+        there = sum(way in fault["ways"] for fault in faults)
+        if not there:
+            continue
+        rows.append([name if there == len(faults) else f"{name} ({there} of the faults)"] + near + [within(faults, way, "line", 5), within(faults, way, "function", 5)] + looked + [around])
+    return table(["Way", "near in 1", "in 3", "in 5", "in 10", "the line in 5", "the function in 5", "EXAM, median", "mean", "with lines around, median"], rows)
+
+
+def rates_of(faults: Sequence[Any]) -> List[Tuple[int, int]]:
+    """Numbers of runs and rates, rising, that were measured of all these faults."""
+    ways = {(int(way.split()[2]), int(way.split()[1])) for fault in faults for way in fault["ways"] if way.startswith("rows ")}
+    return sorted(one for one in ways if all(f"rows {one[1]} {one[0]}" in fault["ways"] for fault in faults))
 
 
 def by_rate(faults: Sequence[Any]) -> str:
-    ways = {(int(way.split()[2]), int(way.split()[1])) for fault in faults for way in fault["ways"] if way.startswith("rows ")}
     rows = []
-    for runs, rate in sorted(ways):
+    for runs, rate in rates_of(faults):
         way = f"rows {rate} {runs}"
-        there = [fault for fault in faults if way in fault["ways"]]
-        rows.append([str(runs), str(rate), str(len(there))] + [within(there, way, "near", most) for most in (1, 3, 5)]
-                    + [within(there, way, "function", 5), percent(median(exams(there, way)))]
-                    + [within(there, f"narrow {rate} {runs}", "near", most) for most in (1, 3, 5)] + [within(there, f"Ochiai {runs}", "near", 5)])
-    return table(["Runs", "Rate", "Faults", "near in 1", "in 3", "in 5", "the function in 5", "EXAM, median", "without pairs: near in 1", "in 3", "in 5",
-                  "Ochiai: near in 5"], rows)
+        rows.append([f"{runs:,}", str(rate)] + [within(faults, way, "near", most) for most in (1, 3, 5)]
+                    + [within(faults, way, "function", 5), percent(median(exams(faults, way)))]
+                    + [within(faults, f"{other} {rate} {runs}", "near", 5) if words.has(faults, f"{other} {rate} {runs}") else ""
+                       for other in ("shown", "narrow", "card", "importance", "reach", "truth", "turns")]
+                    + [within(faults, f"Ochiai {runs}", "near", 5) if rate == 1 else ""])
+    return table(["Runs", "Rate", "rows: near in 1", "in 3", "in 5", "the function in 5", "EXAM, median", "shown: near in 5", "without pairs", "first card", "Importance",
+                  "reach", "truth", "turns", "Ochiai"], rows)
+
+
+def by_policy(faults: Sequence[Any]) -> str:
+    rows = []
+    for runs, rate in rates_of(faults):
+        words = [f"{runs:,}", str(rate)]
+        for policy in ("rows", "failing", "relabel"):
+            words += [within(faults, f"{policy} {rate} {runs}", "near", most) for most in (1, 3, 5, 10)]
+        rows.append(words)
+    return table(["Runs", "Rate", "`all`: near in 1", "in 3", "in 5", "in 10", "`failing`: in 1", "in 3", "in 5", "in 10", "`relabel`: in 1", "in 3", "in 5", "in 10"],
+                 rows)
+
+
+def by_inputs(faults: Sequence[Any]) -> str:
+    """So many runs, each on an input of its own, beside as many on fewer inputs, and beside as few runs."""
+    found = {tuple(map(int, way.split()[2:])) for fault in faults for way in fault["ways"] if way.startswith("again rows ")}
+    rows = []
+    for rate, runs, times in sorted(found):
+        fewer = runs // times
+        for inputs, form in ((runs, f"{{}} {rate} {runs}"), (fewer, f"again {{}} {rate} {runs} {times}"), (fewer, f"{{}} {rate} {fewer}")):
+            made = fewer if form == f"{{}} {rate} {fewer}" else runs
+            if all(form.format("rows") in fault["ways"] for fault in faults):
+                rows.append([str(rate), f"{made:,}", f"{inputs:,}"] + [within(faults, form.format(way), "near", most) for way, most in
+                                                                      (("rows", 1), ("rows", 3), ("rows", 5), ("truth", 5), ("turns", 5))])
+    return table(["Rate", "Runs", "Inputs", "rows: near in 1", "in 3", "in 5", "truth", "turns"], rows)
+
+
+def by_failures(faults: Sequence[Any]) -> str:
+    """By how many failing runs a fault had, over all numbers of runs, with each visit observed."""
+    rows = []
+    for least, most, name in ((0, 0, "none"), (1, 1, "1"), (2, 4, "2 to 4"), (5, 9, "5 to 9"), (10, 29, "10 to 29"), (30, 99, "30 to 99"), (100, 10 ** 9, "100 and more")):
+        words, some = [name], [(fault, count) for fault in faults for count, failing in fault["failing"].items() if least <= failing <= most]
+        for form in ("rows 1 {}", "reach 1 {}", "truth 1 {}", "turns 1 {}", "Ochiai {}"):
+            words.append(str(sum(capped(fault["ways"][form.format(count)]["near"]) <= 5 for fault, count in some)))
+        rows.append(words[:1] + [str(len(some))] + words[1:])
+    return table(["Failing runs", "cases", "rows: near in 5", "reach", "truth", "turns", "Ochiai"], rows)
+
+
+SECTIONS = (("", "leading"), ("unrelated", "pairs that no statement brings together"), ("unimportant", "Importance 0"), ("weak", "as strong by chance"),
+            ("added", "of what the port added"))
+
+
+def by_section(faults: Sequence[Any]) -> str:
+    """How often a row is right, by where `cbi-hunt` shows it."""
+    rows = []
+    for runs, rate in rates_of(faults):
+        words = [f"{runs:,}", str(rate)]
+        for section, _ in SECTIONS:
+            some = [row for fault in faults for row in fault["judged"][f"{rate} {runs}"][:10] if row[4] == section]
+            words.append(f"{sum(row[3] for row in some)} of {len(some)}" if some else "-")
+        rows.append(words)
+    return table(["Runs", "Rate"] + [name for _, name in SECTIONS], rows)
 
 
 def by_kind(faults: Sequence[Any], runs: int) -> str:
@@ -109,10 +169,11 @@ def by_kind(faults: Sequence[Any], runs: int) -> str:
         some = [fault for fault in faults if fault["kind"] == kind]
         if some:
             row, line = f"rows 1 {runs}", f"Ochiai {runs}"
-            rows.append([kind, str(len(some)), within(some, row, "near", 5), within(some, row, "function", 5), within(some, "first card", "near", 6),
-                         within(some, line, "near", 5), percent(median(exams(some, row))), percent(median(exams(some, line)))])
-    return table(["Kind", "Faults", "rows: near in 5", "the function in 5", "near in the first card", "Ochiai: near in 5", "EXAM of rows, median",
-                  "of Ochiai, median"], rows)
+            rows.append([kind, str(len(some)), within(some, row, "near", 5), within(some, row, "function", 5), within(some, f"card 1 {runs}", "near", 6),
+                         within(some, f"truth 1 {runs}", "near", 5), within(some, line, "near", 5), percent(median(exams(some, row))),
+                         percent(median(exams(some, line)))])
+    return table(["Kind", "Faults", "rows: near in 5", "the function in 5", "near in the first card", "truth: near in 5", "Ochiai: near in 5",
+                  "EXAM of rows, median", "of Ochiai, median"], rows)
 
 
 BANDS = ((0, 0, "0"), (1, 99999, "below 0.1"), (100000, 299999, "0.1 to 0.3"), (300000, 499999, "0.3 to 0.5"), (500000, 1000000, "0.5 and more"))
@@ -125,7 +186,7 @@ def by_importance(faults: Sequence[Any], runs: int) -> str:
         words = [name]
         for first, last in ((1, 1), (2, 3), (4, 10)):
             some = [row for fault in faults for row in fault["judged"][f"1 {runs}"][first - 1:last] if least <= row[0] <= most]
-            words.append(f"{sum(near for *_, near in some)} of {len(some)}" if some else "-")
+            words.append(f"{sum(near for _, _, _, near, _ in some)} of {len(some)}" if some else "-")
         rows.append(words)
     return table(["Importance", "first rows near the fault", "second and third", "fourth to tenth"], rows)
 
@@ -137,7 +198,7 @@ def by_failing(faults: Sequence[Any], runs: int) -> str:
         words = [name]
         for first, last in ((1, 1), (2, 3), (4, 10)):
             some = [row for fault in faults for row in fault["judged"][f"1 {runs}"][first - 1:last] if least <= row[1] <= most]
-            words.append(f"{sum(near for *_, near in some)} of {len(some)}" if some else "-")
+            words.append(f"{sum(near for _, _, _, near, _ in some)} of {len(some)}" if some else "-")
         rows.append(words)
     return table(["Failing runs of the row", "first rows near the fault", "second and third", "fourth to tenth"], rows)
 
@@ -145,41 +206,72 @@ def by_failing(faults: Sequence[Any], runs: int) -> str:
 def by_fault(faults: Sequence[Any], runs: int) -> str:
     rows = []
     for fault in faults:
-        found, lines = fault["ways"][f"rows 1 {runs}"], fault["ways"][f"Ochiai {runs}"]
-        first = fault["rows"][0] if fault["rows"] else None
+        ways, first = fault["ways"], fault["rows"][0] if fault["rows"] else None
+        found, lines = ways[f"rows 1 {runs}"], ways[f"Ochiai {runs}"]
         text = where(*first[:3]) if first else "none"
         fails = percent(fault["failed"] / max(1, fault["runs"] - fault["cut"]))
         rows.append([f"{fault['program']}/{fault['fault']}", fault["kind"], fails, told(found["line"]), told(found["near"]), told(found["function"]),
-                     percent(found["exam"]), told(lines["line"]), told(lines["near"]), percent(lines["exam"]), text])
-    return table(["Fault", "Kind", "fails", "row: line", "near", "function", "EXAM", "Ochiai: line", "near", "EXAM", "the first row"], rows)
+                     percent(found["exam"]), told(ways[f"truth 1 {runs}"]["near"]), told(lines["line"]), told(lines["near"]), percent(lines["exam"]), text])
+    return table(["Fault", "Kind", "fails", "row: line", "near", "function", "EXAM", "truth: near", "Ochiai: line", "near", "EXAM", "the first row"], rows)
+
+
+def apart(faults: Sequence[Any], runs: int) -> str:
+    """Which faults rows and Ochiai have among their first five."""
+    names: Dict[Tuple[bool, bool], List[str]] = {}
+    for fault in faults:
+        found = [capped(fault["ways"][way]["near"]) <= 5 for way in (f"rows 1 {runs}", f"Ochiai {runs}")]
+        names.setdefault((found[0], found[1]), []).append(f"{fault['program']}/{fault['fault']}")
+    rows = []
+    for name, which in (("both", (True, True)), ("rows alone", (True, False)), ("Ochiai alone", (False, True)), ("neither", (False, False))):
+        some = names.get(which, [])
+        rows.append([name, str(len(some)), ", ".join(some)])
+    return table(["Near in five", "Faults", "Which"], rows)
+
+
+def three_of(results: Results) -> Tuple[int, List[Any]]:
+    """The most runs that programs with three faults had, and what was measured of these."""
+    most = max((three["runs"] for three in results["three"].values()), default=0)
+    return most, [three for _, three in sorted(results["three"].items()) if three["runs"] == most]
 
 
 def three_at_once(results: Results) -> str:
     rows = []
-    for name, three in sorted(results["three"].items()):
+    for three in three_of(results)[1]:
         for place, fault in enumerate(three["faults"]):
-            rows.append([name if place == 0 else "", fault["fault"], str(fault["failing alone"]), told(fault["own"]), told(fault["near"]),
+            rows.append([three["program"] if place == 0 else "", fault["fault"], str(fault["failing alone"]), told(fault["own"]), told(fault["near"]),
                          told(fault["function"])] + [told(fault[way]["near"]) for way in ("Ochiai", "Tarantula", "DStar")])
     return table(["Program", "Fault", "failing runs", "row of its own", "row near it", "row in its function", "Ochiai: near", "Tarantula", "DStar"], rows)
 
 
 Value = Callable[[Any], Optional[float]]
+
+
+def picked(*keys: str) -> Value:
+    """What stands under these keys, one within the other."""
+    def value(fault: Any) -> Optional[float]:
+        for key in keys:
+            fault = fault[key]
+        found: Optional[float] = fault
+        return found
+    return value
+
+
 THREE_WAYS: Sequence[Tuple[str, Value]] = (
-    ("a row of its own, by its runs", lambda fault: fault["own"]),
-    ("the same, under the policy `failing`", lambda fault: fault["policies"]["failing"]["own"]),
-    ("the same, under `relabel`", lambda fault: fault["policies"]["relabel"]["own"]),
-    ("a row near it", lambda fault: fault["near"]),
-    ("the same, under `failing`", lambda fault: fault["policies"]["failing"]["near"]),
-    ("the same, under `relabel`", lambda fault: fault["policies"]["relabel"]["near"]),
-    ("a row in its function", lambda fault: fault["function"]),
-    ("Ochiai, near", lambda fault: fault["Ochiai"]["near"]),
-    ("Tarantula, near", lambda fault: fault["Tarantula"]["near"]),
-    ("DStar, near", lambda fault: fault["DStar"]["near"]))
+    ("a row of its own, by its runs", picked("own")),
+    ("the same, under the policy `failing`", picked("policies", "failing", "own")),
+    ("the same, under `relabel`", picked("policies", "relabel", "own")),
+    ("a row near it", picked("near")),
+    ("the same, under `failing`", picked("policies", "failing", "near")),
+    ("the same, under `relabel`", picked("policies", "relabel", "near")),
+    ("a row in its function", picked("function")),
+    ("Ochiai, near", picked("Ochiai", "near")),
+    ("Tarantula, near", picked("Tarantula", "near")),
+    ("DStar, near", picked("DStar", "near")))
 
 
 def three_summed(results: Results) -> str:
-    every = [fault for three in results["three"].values() for fault in three["faults"]]
-    there = [three for three in results["three"].values()]
+    there = three_of(results)[1]
+    every = [fault for three in there for fault in three["faults"]]
 
     def last(three: Any, value: Value) -> Optional[float]:
         values = [value(fault) for fault in three["faults"]]
@@ -206,18 +298,19 @@ def bug_by_predicate(three: Any) -> str:
 
 
 def speeds(results: Results, runs: int) -> str:
+    """Seconds of a processor."""
     rows = []
-    for rate, name in ((1, "runs with each visit observed"), (5, "runs at rate 5"), (100, "runs at rate 100")):
+    for rate in sorted({rate for _, rate in rates_of(faults_of(results))}):
         key = f"runs {rate} {runs}"
         seconds = [fault["times"][key] for fault in results["faults"].values() if key in fault["times"]]
-        if seconds:
-            rows.append([name, f"{runs / median(seconds):.0f} a second", f"{min(seconds):.1f} to {max(seconds):.1f} s"])
+        lines = [fault["site lines"][str(rate)] for fault in results["faults"].values()]
+        rows.append([f"runs at rate {rate}", f"{runs / median(seconds):.0f} a second", f"{min(seconds):.1f} to {max(seconds):.1f} s", f"{median(lines):.0f}"])
     ranks = [fault["times"][f"rank 1 {runs}"] for fault in results["faults"].values()]
-    rows.append([f"`rank` of {runs} runs", "", f"{min(ranks):.2f} to {max(ranks):.2f} s"])
-    covers = [fault["times"]["coverage"] for fault in results["faults"].values()]
-    what = f"{runs} runs of gcc's build with coverage, and gcov of each"
-    rows.append([what, f"{runs / median(covers):.0f} a second", f"{min(covers):.1f} to {max(covers):.1f} s"])
-    return table(["What", "median", "from, to"], rows)
+    rows.append([f"`rank` of {runs:,} runs", f"{median(ranks):.1f} s", f"{min(ranks):.2f} to {max(ranks):.2f} s", ""])
+    covers = [fault["times"][f"coverage {runs}"] for fault in results["faults"].values()]
+    what = f"{runs:,} runs of gcc's build with coverage, and gcov of each"
+    rows.append([what, f"{runs / median(covers):.0f} a second", f"{min(covers):.1f} to {max(covers):.1f} s", ""])
+    return table(["What, by seconds of a processor", "median", "from, to", "sites observed a run, median"], rows)
 
 
 def corpus_table() -> str:
@@ -230,37 +323,61 @@ def corpus_table() -> str:
     return table(["Program", "Lines", "Fault", "Kind", "At line", "Kept back", "What"], rows)
 
 
-def capped(value: Optional[float]) -> float:
-    return 1e9 if value is None else value
-
-
 def plots(faults: Sequence[Any], runs: int) -> List[Tuple[str, str]]:
-    drawn = (("rows {rate} {runs}", "rows of rank"), ("reach", "lines by reach"), ("increase", "Increase alone"),
-             ("Ochiai {runs}", "Ochiai"), ("Tarantula {runs}", "Tarantula"), ("DStar {runs}", "DStar"), ("chance", "chance"))
+    drawn = (("rows {rate} {runs}", "rows of rank"), ("reach {rate} {runs}", "lines by reach"), ("truth {rate} {runs}", "lines by truth"),
+             ("increase {rate} {runs}", "Increase alone"), ("Ochiai {runs}", "Ochiai"), ("Tarantula {runs}", "Tarantula"), ("DStar {runs}", "DStar"),
+             ("chance", "chance"))
     rows, looks = [], []
     for form, name in drawn:
         way = form.format(rate=1, runs=runs)
         places = [capped(fault["ways"][way]["near"]) for fault in faults]
         rows.append((name, [(float(k), sum(place <= k for place in places) / len(faults)) for k in range(1, 21)]))
         looks.append((name, corpus_plots.share_curve(exams(faults, way), 0.5, 50)))
-    of = f"({len(faults)} faults, {runs} runs)"
+    of = f"({len(faults)} faults, {runs:,} runs)"
     return [("evidence-rows.svg", corpus_plots.plot(f"Faults within five lines of one of the first k rows, or lines {of}", "k", rows,
                                                     [(float(k), str(k)) for k in (1, 3, 5, 10, 15, 20)], 1, 20)),
             ("evidence-lines.svg", corpus_plots.plot(f"Faults whose line is met by looking at so many of the lines {of}", "share of the lines with code",
                                                      looks, [(k / 100, f"{k} %") for k in (0, 10, 20, 30, 40, 50)], 0, 0.5))]
 
 
+def shown_count(results: Results) -> int:
+    counts = counts_of(results)
+    return SHOWN if SHOWN in counts else counts[-1]
+
+
+def of_faults(faults: Sequence[Any], runs: int, most: int, prefix: str) -> Dict[str, str]:
+    """The tables of some faults, of so many runs; and some of the most runs."""
+    made = {"measured": f"{words.measured(faults, runs)}, each visit observed.", "by way": by_way(faults, runs), "by kind": by_kind(faults, runs),
+            "by importance": by_importance(faults, runs), "by failing": by_failing(faults, runs), "by fault": by_fault(faults, runs), "apart": apart(faults, runs),
+            "beside Ochiai": words.beside_ochiai(faults, runs), "of rankings": words.of_rankings(faults, runs), "unseen": words.kinds_unseen(faults, runs), "gcc alone": words.by_gcc_alone(faults),
+            "by rate": by_rate(faults), "by policy": by_policy(faults), "by inputs": by_inputs(faults),
+            "by failures": by_failures(faults), "by section": by_section(faults)}
+    if most != runs:
+        made.update({"by way of most": f"{words.measured(faults, most)}.\n\n{by_way(faults, most)}", "by kind of most": by_kind(faults, most)})
+    for name, way in (("by policy", "failing"), ("by section", "shown")):
+        if not words.has(faults, f"{way} 1 {runs}"):
+            del made[name]
+    return {prefix + name: text for name, text in made.items() if not is_empty(text)}
+
+
+def is_empty(text: str) -> bool:
+    """Whether it is a table without a row."""
+    return text.startswith("| ") and text.count("\n") < 2
+
+
 def parts(results: Results) -> Dict[str, str]:
-    runs = most_runs(results)
-    opened, kept = faults_of(results, lambda fault: not fault["kept"]), faults_of(results, lambda fault: fault["kept"])
-    made = {"by way": by_way(opened, runs), "by rate": by_rate(opened), "by kind": by_kind(opened, runs), "by fault": by_fault(opened, runs),
-            "by importance": by_importance(opened, runs), "by failing": by_failing(opened, runs),
-            "three": three_at_once(results), "three summed": three_summed(results), "speeds": speeds(results, runs), "corpus": corpus_table()}
-    if kept:
-        made.update({"kept by way": by_way(kept, runs), "kept by rate": by_rate(kept), "kept by fault": by_fault(kept, runs),
-                     "kept by kind": by_kind(kept, runs)})
-    for name, three in results["three"].items():
-        made[f"table {name} {three['runs']}"] = bug_by_predicate(three)
+    """Each table, and each sentence with numbers, by its name."""
+    runs, most = shown_count(results), counts_of(results)[-1]
+    opened, kept = faults_of(results, lambda fault: not fault["kept"]), faults_of(results, lambda fault: bool(fault["kept"]))
+    for fault in opened + kept:
+        add_turns(fault)
+    made = {"three": three_at_once(results), "three summed": three_summed(results), "speeds": speeds(results, most), "corpus": corpus_table(),
+            "headline": words.headline(opened, kept, three_of(results)[1], runs), "decided": words.decided(kept, opened, runs)}
+    for some, prefix in ((opened, ""), (kept, "kept ")):
+        if some:
+            made.update(of_faults(some, runs, most, prefix))
+    for name, three in results["tables"].items():
+        made[f"table {name}"] = bug_by_predicate(three)
     return made
 
 
@@ -269,21 +386,24 @@ def summary(results: Results) -> str:
         return f"nothing measured; not taken: {results['not taken']}"
     made = parts(results)
     lacking = f"\nnot taken: {results['not taken']}" if results["not taken"] else ""
-    return "\n\n".join(made[name] for name in ("by way", "by rate", "three summed")) + lacking
+    wanted = ["headline", "decided"] + [prefix + name for prefix in ("", "kept ") for name in ("by way", "by rate", "by policy", "by inputs")] + ["three summed"]
+    return "\n\n".join(f"{name}\n{made[name]}" for name in wanted if name in made) + lacking
 
 
-def write_document(results: Results, path: str) -> None:
-    """Fills in what is made, and writes the plots that the document shows beside it."""
-    made = parts(results)
-    with open(path, encoding="utf-8") as file:
-        text = file.read()
+def write_documents(results: Results, paths: Sequence[str]) -> None:
+    """Fills in what is made, and writes the plots that a document shows beside it."""
+    made, runs = parts(results), shown_count(results)
+    opened = faults_of(results, lambda fault: not fault["kept"])
 
     def fill(found: Any) -> str:
         return f"<!-- made: {found[1]} -->\n{made.get(found[1], found[2].strip())}\n<!-- end -->"
 
-    with open(path, "w", encoding="utf-8") as file:
-        file.write(re.sub(r"<!-- made: (.*?) -->\n(.*?)<!-- end -->", fill, text, flags=re.DOTALL))
-    for name, svg in plots(faults_of(results, lambda fault: not fault["kept"]), most_runs(results)):
-        if name in text:
-            with open(os.path.join(os.path.dirname(path), name), "w", encoding="utf-8") as file:
-                file.write(svg)
+    for path in paths:
+        with open(path, encoding="utf-8") as file:
+            text = file.read()
+        with open(path, "w", encoding="utf-8") as file:
+            file.write(re.sub(r"<!-- made: (.*?) -->\n(.*?)<!-- end -->", fill, text, flags=re.DOTALL))
+        for name, svg in plots(opened, runs) if opened else []:
+            if name in text:
+                with open(os.path.join(os.path.dirname(path), name), "w", encoding="utf-8") as file:
+                    file.write(svg)

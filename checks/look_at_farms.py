@@ -36,6 +36,25 @@ exec sh -c "$*"
 """
 
 
+# What stands in for sbatch: it says a number, and runs the tasks of the array one after another. The second one is lost once, where ROOM/loses says so.
+SBATCH = """\
+#!/bin/sh
+echo "$*" >>"ROOM/asked"
+for word; do
+    case $word in
+    --array=1-*) last=${word#--array=1-} ;;
+    --chdir=*) folder=${word#--chdir=} ;;
+    esac
+done
+echo 7
+cd "$folder"
+for number in $(seq "${last%%%*}"); do
+    [ "$number" = 2 ] && rm "ROOM/loses" 2>/dev/null && continue
+    SLURM_ARRAY_TASK_ID=$number sh "$word" >>said 2>&1
+done
+"""
+
+
 class Farm(Hunting):
     def setUp(self):
         super().setUp()
@@ -86,6 +105,32 @@ class Farm(Hunting):
             self.assertIn(f"\n  {said}\n", err)
         self.assertTrue(err.startswith("cbi-hunt: the farm made no runs of 130, and parallel ended with status "), err)
         self.assertEqual(self.left(homes[:4]), [])
+
+    def test_tasks_of_slurm_make_the_same_runs(self):
+        place = tempfile.mkdtemp(prefix="cbi-slurm-")
+        self.addCleanup(shutil.rmtree, place)
+        words = ["cbi-hunt", "upper.c", "--inputs", "both", "--runs", "130", "--jobs", "1"]
+        self.call(*words, "--keep", "here")
+        bare = os.pathsep.join([os.path.dirname(looking.CBI), looking.TOOLS, os.path.dirname(sys.executable)])
+        if not shutil.which("sbatch", path=bare):
+            done = self.on_slurm(words, bare, due=2)
+            self.assertEqual(done, b"cbi-hunt: --farm slurm asks for Slurm, and there is no sbatch on the path\n")
+        for name, text in (("sbatch", SBATCH.replace("ROOM", self.room)), ("scancel", "#!/bin/sh\n")):
+            with open(os.path.join(place, name), "w", encoding="ascii") as file:
+                file.write(text)
+            os.chmod(os.path.join(place, name), 0o755)
+        self.write("loses", "")
+        self.assertEqual(self.on_slurm(words, place + os.pathsep + environment()["PATH"]), b"")
+        self.assertEqual(self.read("farm/runs"), self.read("here/runs"))
+        asked = [[word for word in line.split(" ") if word.startswith("--array=")] for line in self.read("asked").decode().splitlines()]
+        self.assertEqual(asked, [["--array=1-6%1"], ["--array=1-1%1"]])  # six batches, and then the one that was lost
+        self.assertEqual(self.left([]), [])
+
+    def on_slurm(self, words, path, due=0):
+        """A hunt with tasks of Slurm, and this path; what it writes to err."""
+        done = subprocess.run([*words, "--keep", "farm", "--farm", "slurm"], cwd=self.room, env=dict(environment(), PATH=path), stdout=subprocess.PIPE, stderr=subprocess.PIPE, check=False)
+        self.assertEqual(done.returncode, due, done.stderr)
+        return done.stderr
 
     def test_a_farm_that_is_interrupted_leaves_nothing_on_a_host(self):
         homes = self.farm("near")

@@ -1,4 +1,4 @@
-"""Makes runs on other hosts, by GNU parallel. Not proved."""
+"""Makes runs on other hosts, by GNU parallel or by Slurm. Not proved."""
 import argparse
 import os
 import re
@@ -8,20 +8,22 @@ import subprocess
 import sys
 import tempfile
 import time
-from typing import Dict, List, Tuple
+from typing import Dict, List, Tuple, Union
 
 import cbi_files
 import cbi_runs
 from cbi_files import Fault, count_of
 from cbi_hunt.counts import Progress
 from cbi_hunt.kept import Kept
+from cbi_hunt.signals import heed_now, heeded
+from cbi_hunt.slurm import NAME, Slurm
 from cbi_runs import Batch, Plan
 
 
 # A host that has gone is noticed in half a minute, where ssh by itself may wait for hours.
 WATCHFUL_SSH = "ssh -o ConnectTimeout=10 -o ServerAliveInterval=10 -o ServerAliveCountMax=3"
 # How what the farm says begins where something is wrong. What rsync says then follows from that.
-TOLD_TROUBLE = re.compile("cbi-hunt: |ssh: |Timeout, server |Connection |Host key verification failed|bash: |sh: |parallel: Error|.*: Permission denied")
+TOLD_TROUBLE = re.compile("cbi-hunt: |ssh: |Timeout, server |Connection |Host key verification failed|bash: |sh: |parallel: Error|sbatch: error: |slurmstepd: error: |.*: Permission denied")
 MOST_TROUBLES = 5
 
 
@@ -58,13 +60,43 @@ def environment_of_farm() -> Dict[str, str]:
     return {"PARALLEL_SSH": WATCHFUL_SSH, **os.environ, "HOME": home_of_farm()}
 
 
-def begin_farm(words: List[str], folder: str, batches: List[Batch]) -> "subprocess.Popen[bytes]":
+class Parallel:
     """GNU parallel at work, in a session of its own: ^C doesn't come to it, so that it can bring to an end what hosts are at."""
-    names = os.path.join(folder, "names")
-    with open(names, "w", encoding="ascii") as file:
-        file.writelines(batch.name() + "\n" for batch in batches)
-    with open(names, "rb") as given, open(os.path.join(folder, "said"), "ab") as told:
-        return subprocess.Popen(words, cwd=folder, env=environment_of_farm(), stdin=given, stdout=told, stderr=told, start_new_session=True)
+
+    name = "parallel"
+
+    def __init__(self, chosen: argparse.Namespace):
+        self.words = parallel_words(chosen)
+
+    def begin(self, folder: str, batches: List[Batch]) -> None:
+        names = os.path.join(folder, "names")
+        with open(names, "w", encoding="ascii") as file:
+            file.writelines(batch.name() + "\n" for batch in batches)
+        with open(names, "rb") as given, open(os.path.join(folder, "said"), "ab") as told:
+            self.engine = subprocess.Popen(self.words, cwd=folder, env=environment_of_farm(), stdin=given, stdout=told, stderr=told, start_new_session=True)
+
+    def ended(self) -> bool:
+        return self.engine.poll() is not None
+
+    def status(self) -> int:
+        return self.engine.returncode
+
+    @property
+    def again(self) -> bool:
+        """Whether batches that didn't come back are made again. Of those that no host could make there is no hope."""
+        return not self.engine.returncode
+
+    def hold(self) -> None:
+        """Begins no batch any more."""
+        self.engine.send_signal(signal.SIGHUP)
+
+    def end(self) -> None:
+        """Lets go of the batches that hosts are at."""
+        self.engine.terminate()
+        self.engine.wait()
+
+
+Farm = Union[Parallel, Slurm]
 
 
 def troubles_of(said: str) -> Tuple[List[str], List[str]]:
@@ -78,57 +110,61 @@ def troubles_of(said: str) -> Tuple[List[str], List[str]]:
 def make_on_farm(chosen: argparse.Namespace, plan: Plan, kept: Kept, batches: List[Batch], progress: Progress) -> bool:
     """Shares the batches out; answers whether all were made. What hosts made by then is taken over after ^C too.
 
-    The batches stand beneath what parallel takes for the home folder, since it then has the same place beneath the home of a host.
+    The batches stand beneath what parallel takes for the home folder, since it then has the same place beneath the home of a host;
+    nodes of Slurm see the home folder itself.
     """
-    words = parallel_words(chosen)
+    farm: Farm = Slurm(chosen) if chosen.farm == NAME else Parallel(chosen)
     with tempfile.TemporaryDirectory(prefix=".cbi-hunt-", dir=home_of_farm()) as folder:
         for batch in batches:
             cbi_runs.pack(plan._replace(cbi=chosen.cbi), batch, os.path.join(folder, batch.name()))
         left = batches
         while True:
-            engine = begin_farm(words, folder, left)
-            if not watch_farm(engine, folder, kept, progress):
+            farm.begin(folder, left)
+            if not watch_farm(farm, folder, kept, progress):
                 return False
             lost = [batch for batch in left if not os.path.exists(kept.batch_path(batch))]
             # A batch that was made on a host which then went away has ended well there, and hasn't come back.
-            if engine.returncode or not lost or len(lost) == len(left):
+            if not farm.again or not lost or len(lost) == len(left):
                 break
             left = lost
-        judge_farm(engine, os.path.join(folder, "said"), progress, chosen)
+        judge_farm(farm, os.path.join(folder, "said"), progress, chosen)
     return True
 
 
-def judge_farm(engine: "subprocess.Popen[bytes]", said: str, progress: Progress, chosen: argparse.Namespace) -> None:
+def judge_farm(farm: Farm, said: str, progress: Progress, chosen: argparse.Namespace) -> None:
     """Where runs are missing that is a fault, with what the hosts said; where none is, it is told which host couldn't help."""
     (troubles, last), made = troubles_of(said), progress.count.runs()
     progress.clear()
     if made < progress.runs:
         on = "; a call with the same words goes on from there" if chosen.keep and made else ""
-        raise Fault("\n  ".join([f"the farm made {count_of(made, 'run')} of {progress.runs}, and parallel ended with status {engine.returncode}{on}", *(troubles or last)]))
+        told = f"the farm made {count_of(made, 'run')} of {progress.runs}, and {farm.name} ended with status {farm.status()}{on}"
+        raise Fault("\n  ".join([told, *(troubles or last)]))
     for line in troubles:
         print(f"cbi-hunt: other hosts made up for this: {line}", file=sys.stderr)
 
 
-def watch_farm(engine: "subprocess.Popen[bytes]", folder: str, kept: Kept, progress: Progress) -> bool:
+def watch_farm(farm: Farm, folder: str, kept: Kept, progress: Progress) -> bool:
     """Takes over the collections as they come back. After ^C no batch is begun, and those that hosts are at are waited
     for; after a second ^C they are let go."""
     try:
-        wait_for_farm(engine, folder, kept, progress)
+        wait_for_farm(farm, folder, kept, progress)
         return True
     except KeyboardInterrupt:
-        engine.send_signal(signal.SIGHUP)
+        heeded()
+        farm.hold()
     try:
         progress.tell("waiting for the batches that hosts are at; ^C again lets go of them")
-        wait_for_farm(engine, folder, kept, progress)
+        wait_for_farm(farm, folder, kept, progress)
     except KeyboardInterrupt:
-        engine.terminate()
-        engine.wait()
+        heeded()
+        farm.end()
         take_over(folder, kept, progress)
     return False
 
 
-def wait_for_farm(engine: "subprocess.Popen[bytes]", folder: str, kept: Kept, progress: Progress) -> None:
-    while engine.poll() is None:
+def wait_for_farm(farm: Farm, folder: str, kept: Kept, progress: Progress) -> None:
+    while not farm.ended():
+        heed_now()
         take_over(folder, kept, progress)
         time.sleep(0.2)
     take_over(folder, kept, progress)
