@@ -15,6 +15,7 @@ sys.path.insert(0, looking.TOOLS)
 import cbi_files  # noqa: E402
 import cbi_seen  # noqa: E402
 import cbi_source  # noqa: E402
+import cbi_text  # noqa: E402
 import cbi_told  # noqa: E402
 from cbi_hunt import looks, mutants, oracles, smaller  # noqa: E402
 
@@ -149,6 +150,17 @@ class Sections(Case):
         runs = [self.run_of(number, number <= 9, number <= 9, number > 9) for number in range(1, 28)]
         self.assertNotIn("Two facts", self.show(runs))
 
+    def test_a_pair_that_leaves_no_run_of_the_first_row_out_is_not_shown(self):
+        """`b` is true wherever `a` is; since it was looked at in more runs, the pair's importance is greater: Context is 9/39 where that of `a` is 9/18."""
+        self.transform(TWO, "full", "branches")
+        runs = [self.run_of(number, number <= 9, number <= 9 if number <= 18 else None, number <= 18) for number in range(1, 40)]
+        text = self.show(runs)
+        self.assertIn("  1. line 2, main: if (a) is true\n", text)
+        best = cbi_files.read_pairs(self.path("pairs"))
+        self.assertEqual((best.failing, best.successful, best.known_failing, best.known_successful), (9, 0, 9, 30))
+        self.assertGreater(best.importance, cbi_files.read_ranking(self.path("rank")).rows[0].importance + 100000)
+        self.assertNotIn("Two facts", text)
+
     def test_weak_rows_are_folded_by_a_rule_that_is_told(self):
         """The second condition is true in the one failing run that looked there and in neither of two others: one draw in three has it so, of each of four predicates."""
         self.transform(TWO, "full", "branches")
@@ -161,14 +173,23 @@ class Sections(Case):
         rows = re.findall(r"^ +\d+\. .*$", self.show(first + second, "--all"), re.MULTILINE)
         self.assertEqual(rows, ["  1. line 2, main: if (a) is true", "  2. line 3, main: if (b) is true"])
 
+    def test_a_fact_that_chance_alone_would_make_is_told_as_such(self):
+        """The one failing run of three has `b` true; one draw in three has it so, of each of four predicates."""
+        self.transform(TWO, "full", "branches")
+        runs = [self.run_of(number, number == 1, False, number == 1) for number in range(1, 4)]
+        text = self.show(runs).replace("\n", " ")
+        self.assertTrue(text.startswith("Perhaps by chance, if (b) was true at prog.c:3 in main. The one run that saw it failed; of the 2 others that looked there none did. "
+                                        "The one failing run ended by a call of abort (trap 14). Of the 4 facts that were looked at chance alone would make 1.3 look as strong."), text)
+        self.assertIn("<h1>Perhaps by chance, <code>if (b)</code> was true at prog.c:3 in <code>main</code></h1>", self.show(runs, "--format", "html"))
+
     def test_how_failing_runs_ended_and_where_they_go(self):
         self.transform(TWO, "full", "branches")
         runs = [self.run_of(number, True, True, True if number <= 8 else None, outcome="trapped 8" if number <= 7 else "ended 0" if number <= 9 else "cut turns") for number in range(1, 11)]
         runs += [self.run_of(number, False, False, True if number <= 12 else None) for number in range(11, 31)]
         text = self.show(runs)
-        self.assertIn("Failing runs ended by a null pointer that is used (trap 8, 7 runs), by other output (2) and by no end within its turns (1).",
+        self.assertIn("Failing runs ended by a null pointer that is used (trap 8, 7 runs), by other output (2) and by going back more often than --turns allows (1).",
                       text.replace("\n", " "))
-        self.assertIn("     its failing runs ended by a null pointer that is used (trap 8, 7 runs), by other output (2) and by no end within its turns (1)\n", text)
+        self.assertIn("     its failing runs ended by a null pointer that is used (trap 8, 7 runs), by other output (2) and by going back more often than --turns allows (1)\n", text)
         self.assertIn("\nWhere failing runs go:\n     line 3, main: 80 % of the failing runs, 10 % of the others\nLines that failing runs are seen at more often than others", text)
 
 
@@ -241,6 +262,14 @@ failing inputs: 02 abc, 04 zza, 08 caa, in kept/failing
         lines = done.stdout.decode().split("\n")
         self.assertTrue(all(len(line) <= 60 for line in lines if not line.startswith("the run again: ")), lines)
         self.assertIn("      5 |     int c; /* wide wide wide wide wide wide wide..", lines)
+        legend = " ".join(lines[next(place for place, line in enumerate(lines) if line.startswith("Each row is about the runs")):])
+        self.assertEqual(legend.strip(), cbi_text.LEGEND)
+
+    def test_of_which_row_an_input_is_the_smallest_is_told(self):
+        """The first row is about three inputs of three bytes, and `!` is a smaller input that fails."""
+        self.write("in puts/13 !", "!")
+        out = self.hunt("--inputs", "in puts", "--oracle", "python3 judge.py", "--rate", "1")
+        self.assertIn("\nsmallest failing input of the first row, 02 abc (3 bytes): abc\n", out)
 
 
 HANG = "#include <stdio.h>\nint main(void)\n{\n    int c = getchar();\n    while (c != 'x')\n        if (c == 'y')\n            c = 'x';\n    return 0;\n}\n"
@@ -257,17 +286,27 @@ class Hangs(Hunting):
         self.assertIn("\nruns that were cut went back more often than --turns allows; they are left out, and --hangs fail counts them as failed\n", out)
         out, _ = self.call(*words, "--hangs", "fail", "--runs", "40", "--keep", "kept")
         self.assertTrue(out.startswith("c < 120 'x' after c = getchar() at hang.c:4 in main. All 8 runs that saw it failed; of the 32 others that\nlooked there none did."), out)
-        self.assertIn("All 8 failing runs ended by no end within its turns.", out.replace("\n", " "))
-        self.assertIn("2 runs that had no end were made again, and last seen at line 6, main: if (c == 'y') (2).", out.replace("\n", " "))
+        self.assertIn("All 8 failing runs ended by going back more often than --turns allows.", out.replace("\n", " "))
+        self.assertIn("2 runs that went on without end were made again, and last seen at line 6, main: if (c == 'y') (2).", out.replace("\n", " "))
         self.assertEqual(self.read("kept/runs").count(b" cut turns label fail "), 8)
         _, err = self.call(*words, "--runs", "40", "--keep", "kept", due=2)
         self.assertIn("another hangs (fail, and not neither)", err)
+
+    def test_the_statement_is_told_at_which_a_run_without_end_was_seen_last(self):
+        """From 3 on the half between 3 and 4 is 3 again and again, so the last new value is that of `low`."""
+        self.write("half.c", "int main(void)\n{\n    int low = 0, high = 4, wanted = getchar() - '0';\n    while (low < high)\n        if ((low + high) / 2 <= wanted)\n            low = (low + high) / 2;\n"
+                   "        else\n            high = (low + high) / 2;\n    return 0;\n}\n")
+        for digit in "34567":
+            self.write(f"digits/{digit}", digit)
+        self.write("digits/end", "")
+        out, _ = self.call("cbi-hunt", "half.c", "--inputs", "digits", "--turns", "1000", "--rate", "1", "--jobs", "1", "--runs", "30", "--hangs", "fail", due=None)
+        self.assertIn("5 runs that went on without end were made again, and last seen at line 6, main: low = (low + high) / 2 (5).", out.replace("\n", " "))
 
 
 class Oracles(Hunting):
     def test_one_that_takes_too_long_is_ended(self):
         self.write("slow.sh", "sleep 30 &\nsleep 30\n")
-        self.assertIn("the oracle sh took more than 1 s on ", self.hunt("--inputs", "in puts", "--oracle", "sh slow.sh", "--oracle-timeout", "1", due=2))
+        self.assertIn("the oracle sh took more than 1 s on 00 bcd: --oracle-timeout allows it more", self.hunt("--inputs", "in puts", "--oracle", "sh slow.sh", "--oracle-timeout", "1", due=2))
 
     def test_one_that_a_shell_reads(self):
         self.write("keep", "")
@@ -279,6 +318,11 @@ class Oracles(Hunting):
                             ("a '|;$'", None), ('a "|;"', None), ("a \\| b", None), ("python3 judge.py", None)):
             self.assertEqual(oracles.asks_for_shell(words), sign, words)
         self.assertIn("--oracle has |, which a shell alone heeds: say --oracle-shell", self.hunt("--inputs", "in puts", "--oracle", "cat | wc", due=2))
+
+    def test_one_that_is_ended_by_a_signal_is_told_with_the_name_of_the_input(self):
+        self.write("killed.sh", "echo no table >&2\nkill -SEGV $$\n")
+        said = self.hunt("--inputs", "lines", "--oracle", "sh killed.sh", due=2)
+        self.assertIn("cbi-hunt: the oracle sh ended with status -11 on line01: 0 says right, 1 to 124 wrong, and 125 neither; it wrote no table\n", said)
 
     def test_one_that_crashes_is_told_with_what_it_wrote(self):
         self.write("broken.py", "import no_such_module_here\n")
@@ -371,11 +415,19 @@ class Folders(Hunting):
                            ("crashes/README.txt", "Command line used"), ("fuzzer_stats", "start_time"), ("plot_data", "1"), ("cmdline", "a"), (".synced/other", "")):
             self.write("out/default/" + name, text)
         out = self.hunt("--inputs", "out", "--rate", "1", "--runs", "12", "--keep", "kept")
-        self.assertIn("12 runs on 3 inputs: 4 failed, 8 succeeded\nfailing inputs: default/crashes/id:000000,sig:06, in kept/failing\n", out)
+        self.assertIn("12 runs on 3 inputs: 4 failed, 8 succeeded\nfailing inputs: default/crashes/id:000000, in kept/failing\n\n", out)
         self.assertEqual(self.read("kept/failing/default/crashes/id:000000,sig:06"), b"!")
+        self.assertIn("smallest failing input, default/crashes/id:000000,sig:06 (1 byte): !\n", out)
         out = self.hunt("--inputs", "out/default/queue", due=1)
         self.assertIn("2 runs on 2 inputs: 0 failed, 2 succeeded\nNo run failed", out)
-        self.assertIn("1 run on 1 input: 1 failed, 0 succeeded\n", self.hunt("--inputs", "out/default/crashes", due=1))
+        self.assertIn("\n- Name the folder above (out/default): its crashes has inputs that AFL++ saw crash.\n", out)
+        out = self.hunt("--inputs", "out/default/crashes", due=1)
+        self.assertIn("1 run on 1 input: 1 failed, 0 succeeded\n", out)
+        self.assertIn("\n- Name the folder above (out/default): its queue has inputs that AFL++ saw end.\n", out)
+
+    def test_names_of_a_fuzzer_are_short_where_several_stand_together(self):
+        for name, due in (("default/crashes/id:000005,sig:11,src:000000,time:207", "default/crashes/id:000005"), ("id:000005,orig:a", "id:000005"), ("grid:1,2", "grid:1,2"), ("id:7", "id:7"), ("a/b", "a/b")):
+            self.assertEqual(cbi_told.short_name(name), due)
 
     def test_subfolders_are_taken_and_hidden_files_told(self):
         for number, word in enumerate(("bcd", "abc", "q")):
@@ -385,6 +437,23 @@ class Folders(Hunting):
         self.write("deep/0/.DS_Store", "!")
         out = self.hunt("--inputs", "deep", "--rate", "1", "--runs", "12")
         self.assertIn("12 runs on 3 inputs: 4 failed, 8 succeeded\nfailing inputs: 1/one\nnot taken, since hidden: .hidden, 0/.DS_Store\n", out)
+
+
+STAND_IN_FOR_RT = """\
+#!{python}
+import os, signal, subprocess, sys, tempfile
+signal.signal(signal.SIGTERM, lambda *_: sys.exit(143))
+folder = sys.argv[sys.argv.index("--cases") + 1]
+for name in sorted(name for name in os.listdir(folder) if not name.endswith(".args")):
+    with open(os.path.join(folder, name + ".args")) as file:
+        words = file.read().split("\\n")[:-1]
+    with open(os.path.join(folder, name), "rb") as given, tempfile.TemporaryDirectory() as room:
+        done = subprocess.run([{cbi!r}, *words], stdin=given, stdout=subprocess.PIPE, stderr=subprocess.PIPE, cwd=room)
+    sys.stdout.buffer.write(f"== {{name}}\\n".encode() + done.stdout)
+    sys.stdout.flush()
+    sys.stderr.buffer.write(done.stderr + f"case={{name}} run=ended status={{done.returncode}} runners=1 proved=no\\n".encode())
+    sys.stderr.flush()
+"""
 
 
 class Ways(Case):
@@ -416,16 +485,70 @@ class Ways(Case):
 
     def test_the_demo_ends_in_the_answer_and_leaves_the_page(self):
         out, _ = self.call(os.path.join(looking.TOP, "demo"), "page.html")
-        self.assertTrue(out.startswith("find(name) returned NULL at examples/lookup/lookup.c:41 in main. All 38 runs that saw it failed; of the 540"), out)
+        self.assertTrue(out.startswith("find(name) returned NULL at examples/lookup/lookup.c:41 in main. All 164 runs that saw it failed; of the 828"), out)
         self.assertTrue(out.endswith(f"page: {self.path('page.html')}\n"), out)
         self.assertIn(b"<h1><code>find(name)</code> returned NULL at examples/lookup/lookup.c:41", self.read("page.html"))
+
+    def test_without_an_executable_the_demo_ends_in_the_same_words(self):
+        """What stands in for rt runs what it is given as cases, one after another, each in a folder of its own; no cbi is on the path."""
+        self.write("bin/rt", STAND_IN_FOR_RT.format(python=sys.executable, cbi=os.path.abspath(looking.CBI)))
+        os.chmod(self.path("bin/rt"), 0o755)
+        os.makedirs(self.path("top/crates/cbi"))
+        shutil.copy(os.path.join(looking.TOP, "demo"), self.path("top/demo"))
+        for name in ("tools", "examples"):
+            os.symlink(os.path.join(looking.TOP, name), self.path("top", name))
+        path = os.pathsep.join([self.path("bin"), os.path.dirname(sys.executable), "/usr/local/bin", "/usr/bin", "/bin"])
+        os.mkdir(self.path("tmp"))
+        done = subprocess.run([self.path("top/demo"), "page.html"], cwd=self.room, env=dict(environment(), PATH=path, TMPDIR=self.path("tmp")), stdout=subprocess.PIPE, stderr=subprocess.PIPE, check=False)
+        self.assertEqual(os.listdir(self.path("tmp")), [])
+        self.wait_for(lambda: not self.at_work_in(self.path("tmp")))
+        self.assertEqual(self.at_work_in(self.path("tmp")), [])
+        out = done.stdout.decode()
+        self.assertEqual(done.returncode, 0, done.stderr)
+        self.assertTrue(out.startswith("find(name) returned NULL at examples/lookup/lookup.c:41 in main. All 12 runs that saw it failed; of the 87\n"
+                                       "others that looked there none did. All 12 failing runs ended by a null pointer that is used (trap 8).\n"), out)
+        self.assertIn("\nthe run again: printf 'd=6 d? d? d? c? d? d?\\n' >input; cbi transform --mode plain examples/lookup/lookup.c | ", out)
+        self.assertTrue(out.endswith(f"page: {self.path('page.html')}\n"), out)
+        self.assertIn(b"./demo: builds cbi without its proofs", done.stderr)
+        self.assertIn(b"<h1><code>find(name)</code> returned NULL at examples/lookup/lookup.c:41", self.read("page.html"))
+
+    def at_work_in(self, folder):
+        """The processes that have a file of a folder among their words."""
+        found = []
+        for number in filter(str.isdigit, os.listdir("/proc")):
+            try:
+                with open(f"/proc/{number}/cmdline", "rb") as file:
+                    found += [number] if folder.encode() in file.read() else []
+            except OSError:
+                pass
+        return found
+
+    def test_where_nothing_can_be_built_it_says_why(self):
+        self.write("bin/rt", "#!/bin/sh\necho 'error: no such crate' >&2\nexit 2\n")
+        os.chmod(self.path("bin/rt"), 0o755)
+        _, err = self.call("env", f"PATH={self.path('bin')}:{os.environ['PATH']}", os.path.join(looking.TOOLS, "try-cbi"), "cbi", "bank", "--rate", "1", "--count", "1", "--seed", "1", due=2)
+        self.assertIn("tools/try-cbi: error: no such crate\n", err)
+
+    def test_the_text_in_the_documents_is_what_the_hunt_writes(self):
+        shutil.copytree(os.path.join(looking.EXAMPLES, "lookup"), self.path("lookup"))
+        out, _ = self.call("cbi-hunt", "lookup/lookup.c", "--inputs", "lookup/inputs", "--runs", "1000", "--html", "page.html")
+        with open(os.path.join(looking.TOP, "docs", "hunt.txt"), encoding="utf-8") as file:
+            self.assertEqual(out, file.read())
+
+    def test_the_first_screen_is_short_and_says_when_to_take_something_else(self):
+        with open(os.path.join(looking.TOP, "README.md"), encoding="utf-8") as file:
+            first = file.read().split("\n## What is proved\n")[0]
+        self.assertLess(len(first.split()), 900)
+        table = first.split("\n## When to take something else\n")[1].strip().split("\n\n")[0]
+        self.assertEqual([line.split("|")[1].strip() for line in table.split("\n")[2:]], ["a debugger, `rr`", "AFL++", "coverage-based ranking (Ochiai)", "sanitizers", "sampler-cc"])
+        self.assertTrue(all(len(line.split("|")) == 5 and all(cell.strip() for cell in line.split("|")[1:4]) for line in table.split("\n")[2:]), table)
 
 
 class Signals(Hunting):
     def begun(self, *more, **kinds):
         self.room_of_files = tempfile.mkdtemp(prefix="cbi tmp ")
         self.addCleanup(shutil.rmtree, self.room_of_files, True)
-        words = ["cbi-hunt", "upper.c", "--inputs", "both", "--runs", "3000", "--jobs", "2", *more]
+        words = ["cbi-hunt", "upper.c", "--inputs", "both", "--runs", "1000000", "--jobs", "2", *more]
         return subprocess.Popen(words, cwd=self.room, env=dict(environment(), TMPDIR=self.room_of_files), stdout=subprocess.PIPE, stderr=subprocess.PIPE, start_new_session=True, **kinds)
 
     def at_work(self):
@@ -450,6 +573,43 @@ class Signals(Hunting):
         os.kill(begun.pid, signal.SIGTERM)
         begun.communicate()
         self.assertEqual((begun.returncode, os.listdir(self.room_of_files)), (130, []))
+
+    def test_an_explained_command_leaves_nothing_either(self):
+        self.write("turns.c", "int main(void) { int i; for (i = 0; i < 2000000000; i++); return 0; }\n")
+        self.write("turns", self.call("cbi", "transform", "--mode", "plain", "turns.c")[0])
+        folder = tempfile.mkdtemp(prefix="cbi tmp ")
+        self.addCleanup(shutil.rmtree, folder, True)
+        for number in (signal.SIGTERM, signal.SIGHUP, signal.SIGINT):
+            begun = subprocess.Popen(["cbi-explain", "--", "cbi", "run", "--turns", "100000000", "turns"], cwd=self.room, env=dict(environment(), TMPDIR=folder), stdout=subprocess.PIPE, stderr=subprocess.PIPE,
+                                     preexec_fn=heed_interrupts)
+            self.wait_for(lambda: os.listdir(folder))
+            begun.send_signal(number)
+            self.assertEqual(begun.communicate(), (b"", b"cbi-explain: interrupted\n"))
+            self.assertEqual((begun.returncode, os.listdir(folder)), (130, []))
+
+    def test_a_signal_that_python_swallowed_is_heeded_all_the_same(self):
+        """What a handler raises behind a fork is told and lost. Here it is lost in an object that goes, before the first batch is there."""
+        self.write("lose.py", f"""\
+import os, signal, sys, threading
+sys.path.insert(0, {looking.TOOLS!r})
+from cbi_hunt import here, hunting
+sys.unraisablehook = lambda lost: None
+class Going:
+    def __del__(self):
+        os.kill(os.getpid(), signal.SIGTERM)
+        for _ in range(1000):
+            pass
+before = here.taken
+def taken(*words):
+    before(*words)
+    Going()
+here.taken = taken
+sys.argv = ["cbi-hunt", "upper.c", "--inputs", "both", "--runs", "1000000", "--jobs", "1"]
+sys.exit(hunting.main())
+""")
+        out, _ = self.call(sys.executable, "lose.py", due=130)
+        made = re.search(r"^(\d+) runs on 12 inputs: .*; interrupted, so this is what there is$", out, re.MULTILINE)
+        self.assertLess(int(made[1]), 1000000)
 
     def test_nothing_is_left_behind_a_pipe_that_closes(self):
         folder = tempfile.mkdtemp(prefix="cbi tmp ")

@@ -176,14 +176,31 @@ class Pages(Hunting):
     def test_lines_are_the_darker_the_more_they_say(self):
         _, text = self.page("--inputs", "in puts", "--expect", "due", "--rate", "1")
         marked = re.search(r'<p id="L6" class="marked" style="background:rgb\(var\(--hot\) / (0\.\d\d)\)">(.*?)</p>', text)
-        self.assertEqual(marked[1], f"{0.08 + 0.27 * 0.857:.2f}")
+        self.assertEqual(marked[1], f"{0.12 + 0.23 * 0.857:.2f}")
         self.assertIn("1. c == 97 &#x27;a&#x27; after c = getchar()</a></span>", marked[2])
         self.assertIn('<p id="L5"><code>    <b>int</b> c;</code></p>', text)
+
+    def test_the_lines_of_the_card_begin_at_its_edge(self):
+        self.assertEqual(cbi_page.shared_blank(["        a", "", "      b", "            c"]), "      ")
+        self.assertEqual(cbi_page.shared_blank(["\ta", "\t\tb"]), "\t")
+        self.assertEqual(cbi_page.shared_blank(["  a", "\tb"]), "")
+        for line, due in (("      <b>if</b> (a)", "<b>if</b> (a)"), ("<i>      b */</i> c", "<i>b */</i> c"), ("", ""), ("        a", "  a")):
+            self.assertEqual(cbi_page.without_blank(line, "      "), due)
+        _, text = self.page("--inputs", "in puts", "--rate", "1", "--oracle", "false", "--runs", "12", due=1)
+        self.assertNotIn('class="lines" style="counter-reset', text)
+        _, text = self.page("--inputs", "in puts", "--expect", "due", "--rate", "1")
+        self.assertIn('<code>{</code></p>', text.split("</header>")[0])
+
+    def test_the_command_is_marked_as_a_whole(self):
+        _, text = self.page("--inputs", "in puts", "--expect", "due", "--rate", "1")
+        self.assertRegex(text, r'<dl class="run">.*<dt>The run again</dt><dd><code>[^<]*</code></dd>\n</dl>'.replace(".*", "[\\s\\S]*"))
+        self.assertIn(".run dd:last-child code { user-select: all;", cbi_style.STYLE)
 
     def test_no_row_still_makes_a_page(self):
         page, _ = self.page("--inputs", "in puts", due=1)
         self.assertEqual(page.headings[0], [1, "upper.c: no fact stands out"])
         self.assertIn("No run failed, so there is nothing that a failure could be told apart from.", page.text)
+        self.assertIn("<li>Give inputs on which it fails.</li></ul>", self.read("page.html").decode())
         self.assertIn("12 runs on 12 inputs: 0 failed, 12 succeeded", page.text)
 
     def test_thirty_rows_have_room_in_sixty_thousand_bytes(self):

@@ -20,7 +20,9 @@ import looking  # noqa: E402
 from looking import EXAMPLES, TOOLS, TOP, UPPER, Case, Hunting, call, environment, heed_interrupts, sources  # noqa: E402
 from look_at_answers import Answer, Facts, Folders, Hangs, Mutants, Numbers, Oracles, Sections, Signals, Smaller, Ways  # noqa: E402,F401: their cases are among those that are looked at
 from look_at_farms import Farm  # noqa: E402,F401
+from look_at_lists import Listed, Retold, Without  # noqa: E402,F401
 from look_at_pages import Page, Pages, Sarif, Style, sound  # noqa: E402,F401
+from look_at_screens import Screens  # noqa: E402,F401
 from look_at_texts import Lines, Ported  # noqa: E402,F401
 
 sys.path.insert(0, TOOLS)
@@ -46,7 +48,7 @@ class Scripts(Case):
         if not shutil.which("mypy"):
             self.skipTest("there is no mypy here")
         modules = [os.path.relpath(name, TOOLS) for name in sources() if name.endswith(".py") and "cbi_port" not in name]
-        done = subprocess.run(["mypy", "--config-file", "mypy.ini", "--cache-dir", self.path("cache"), *modules], cwd=TOOLS, stdout=subprocess.PIPE, stderr=subprocess.STDOUT, check=False)
+        done = subprocess.run(["mypy", "--config-file", "mypy.ini", "--cache-dir", self.path("cache"), "--scripts-are-modules", "try-cbi", *modules], cwd=TOOLS, stdout=subprocess.PIPE, stderr=subprocess.STDOUT, check=False)
         self.assertEqual(done.returncode, 0, done.stdout.decode())
 
     def test_no_module_is_long(self):
@@ -224,9 +226,9 @@ ranked: 20 runs, of which 10 failed and 10 succeeded
      first failing run: 1
      1 | int main(void){int a=getchar();if(a);return 0;}
 
-Each row is about the runs that no row above it explains. A bar is the longer the more runs it is about: # is how
-often runs fail that come to the place, = what the predicate adds to that for sure (95 %), - what it may add, and
-. how often runs succeed in which it was true.
+Each row is about the runs that no row above it explains. A bar is the longer the more runs it is about: # is
+how often runs fail that come to the place, = what the predicate adds to that for sure (95 %), - what it may
+add, and . how often runs succeed in which it was true.
 """
 
 
@@ -366,22 +368,22 @@ class Show(Case):
 
 
 class Hunt(Hunting):
-    def report_by_hand(self, run, name, program):
+    def report_by_hand(self, run, name, program, rate=5):
         """The report of a run on an input, as the commands of `cbi` make it."""
-        self.write("bank", self.call("cbi", "bank", "--rate", "5", "--count", "256", "--seed", "1", "--stream", str(run))[0])
+        self.write("bank", self.call("cbi", "bank", "--rate", str(rate), "--count", "256", "--seed", "1", "--stream", str(run))[0])
         report = self.path(f"report {run}")
         self.call("cbi", "run", "--bank", "bank", "--input", os.path.join("in puts", name), "--expect", os.path.join("due", name), "--run", str(run), "--report", report, program)
         return report
 
-    def runs_by_hand(self, count):
+    def runs_by_hand(self, count, rate=5):
         """The collection of so many runs as the commands of `cbi` make it, one after another."""
         self.write("plan.cbi", self.call("cbi", "transform", "--mode", "sampled", "upper.c")[0])
         names = sorted(os.listdir(self.path("in puts")))
-        reports = [self.report_by_hand(run, names[(run - 1) % len(names)], "plan.cbi") for run in range(1, count + 1)]
+        reports = [self.report_by_hand(run, names[(run - 1) % len(names)], "plan.cbi", rate) for run in range(1, count + 1)]
         return self.call("cbi", "collect", "--program", "plan.cbi", *reports)[0].encode()
 
     def test_its_runs_are_those_that_the_commands_make(self):
-        out = self.hunt("--inputs", "in puts", "--expect", "due", "--runs", "30", "--keep", "kept hunt")
+        out = self.hunt("--inputs", "in puts", "--expect", "due", "--runs", "30", "--rate", "5", "--keep", "kept hunt")
         self.assertEqual(self.read("kept hunt/runs"), self.runs_by_hand(30))
         for file, command in (("ranking", "rank"), ("cards", "cards")):
             self.assertEqual(self.read(f"kept hunt/{file}").decode(), self.call("cbi", command, "plan.cbi", "kept hunt/runs")[0])
@@ -390,8 +392,13 @@ class Hunt(Hunting):
         self.assertEqual(sorted(os.listdir(self.path("kept hunt"))), ["batches", "cards", "failing", "hunt.json", "hunt.lock", "page.html", "pairs", "plain", "program", "ranking",
                                                                           "runs", "source.c", "told.json"])
 
+    def test_at_rate_1_a_run_needs_no_bank(self):
+        """A made bank of rate 1 has ones alone, and without a bank each visit is observed: the reports are the same, counters and work."""
+        self.hunt("--inputs", "in puts", "--expect", "due", "--runs", "14", "--rate", "1", "--keep", "kept")
+        self.assertEqual(self.read("kept/runs"), self.runs_by_hand(14, 1))
+
     def test_runs_of_parts_are_those_that_the_commands_make(self):
-        self.hunt("--inputs", "in puts", "--expect", "due", "--runs", "27", "--parts", "3", "--keep", "kept")
+        self.hunt("--inputs", "in puts", "--expect", "due", "--runs", "27", "--rate", "5", "--parts", "3", "--keep", "kept")
         self.write("plan.cbi", self.call("cbi", "transform", "--mode", "sampled", "upper.c")[0])
         names = sorted(os.listdir(self.path("in puts")))
         # the twelve inputs come round twice, and three of them once more: each time an input has the next part
@@ -425,8 +432,8 @@ class Hunt(Hunting):
         self.assertEqual([link for link in page.links if link[1:] not in page.ids], [])
 
     def test_it_goes_on_where_it_stopped(self):
-        self.hunt("--inputs", "both", "--runs", "300", "--keep", "whole")
-        words = ["cbi-hunt", "upper.c", "--inputs", "both", "--runs", "300", "--jobs", "2", "--keep", "parts"]
+        self.hunt("--inputs", "both", "--runs", "20000", "--keep", "whole")
+        words = ["cbi-hunt", "upper.c", "--inputs", "both", "--runs", "20000", "--jobs", "2", "--keep", "parts"]
         begun = subprocess.Popen(words, cwd=self.room, env=environment(), stdout=subprocess.PIPE, stderr=subprocess.PIPE, start_new_session=True, preexec_fn=heed_interrupts)
         self.wait_for(lambda: os.path.isdir(self.path("parts/batches")) and os.listdir(self.path("parts/batches")))
         os.killpg(begun.pid, signal.SIGINT)
@@ -435,14 +442,14 @@ class Hunt(Hunting):
         self.assertIn(b"interrupted, so this is what there is", out)
         made = re.search(rb"^(\d+) runs on", out, re.MULTILINE)
         assert made, out
-        self.assertLess(int(made[1]), 300)
-        self.hunt("--inputs", "both", "--runs", "200", "--keep", "parts")
-        self.hunt("--inputs", "both", "--runs", "300", "--keep", "parts")
+        self.assertLess(int(made[1]), 20000)
+        self.hunt("--inputs", "both", "--runs", "12000", "--keep", "parts")
+        self.hunt("--inputs", "both", "--runs", "20000", "--keep", "parts")
         self.assertEqual(self.read("parts/runs"), self.read("whole/runs"))
         self.assertEqual([name for name in os.listdir(self.path("parts")) if "worker" in name or "merge" in name], [])
 
     def test_a_hunt_that_is_ended_by_force_leaves_its_folder_free(self):
-        begun = subprocess.Popen(["cbi-hunt", "upper.c", "--inputs", "both", "--runs", "3000", "--jobs", "2", "--keep", "kept"], cwd=self.room, env=environment())
+        begun = subprocess.Popen(["cbi-hunt", "upper.c", "--inputs", "both", "--runs", "1000000", "--jobs", "2", "--keep", "kept"], cwd=self.room, env=environment())
         self.wait_for(lambda: os.path.isdir(self.path("kept")) and [name for name in os.listdir(self.path("kept")) if name.startswith("worker-")])
         _, err = self.call("cbi-hunt", "upper.c", "--inputs", "both", "--runs", "12", "--keep", "kept", due=2)
         self.assertIn("another hunt is at work", err)
@@ -459,7 +466,7 @@ class Hunt(Hunting):
 
     def test_a_kept_hunt_is_not_mixed_with_another(self):
         self.hunt("--inputs", "both", "--keep", "kept")
-        for words, said in ((["--rate", "6"], "another rate (5, and not 6)"), (["--seed", "2"], "another seed"), (["--turns", "5"], "another turns")):
+        for words, said in ((["--rate", "6"], "another rate (1, and not 6)"), (["--seed", "2"], "another seed"), (["--turns", "5"], "another turns")):
             self.assertIn(said, self.hunt("--inputs", "both", "--keep", "kept", *words, due=2))
         self.write("both/00.expected", "other")
         self.assertIn("other inputs or expected outputs", self.hunt("--inputs", "both", "--keep", "kept", due=2))
@@ -644,11 +651,12 @@ class Manual(Case):
         return set(self.call("bash", "-c", script)[0].split())
 
     def test_bash_offers_what_fits(self):
-        self.assertEqual(self.completed("cbi", ""), {"transform", "run", "bank", "collect", "rank", "pairs", "cards", "session", "widen", "study"})
+        self.assertEqual(self.completed("cbi", ""), {"transform", "run", "bank", "collect", "runs", "rank", "pairs", "cards", "session", "widen", "study"})
         self.assertEqual(self.completed("cbi", "transform", "--mode", ""), {"plain", "full", "sampled"})
         self.assertEqual(self.completed("cbi", "rank", "--p"), {"--policy"})
         self.assertEqual(self.completed("cbi", "session", "--p"), {"--program", "--policy"})
         self.assertEqual(self.completed("cbi", "widen", "--"), {"--whole", "--part"})
+        self.assertEqual(self.completed("cbi", "runs", "--"), {"--inputs", "--expect", "--rate", "--seed", "--first", "--turns"})
         self.assertEqual(self.completed("cbi-show", "--format", "s"), {"sarif"})
         if shutil.which("zsh"):
             self.call("zsh", "-n", os.path.join(TOOLS, "completions", "_cbi"))
@@ -656,7 +664,7 @@ class Manual(Case):
     def test_fish_offers_what_fits(self):
         if not shutil.which("fish"):
             self.skipTest("there is no fish here")
-        for line, due in (("cbi ru", {"run"}), ("cbi transform --mode ", {"plain", "full", "sampled"}), ("cbi-hunt --hangs ", {"neither", "fail"}), ("cbi-show --format s", {"sarif"})):
+        for line, due in (("cbi ru", {"run", "runs"}), ("cbi runs --f", {"--first"}), ("cbi transform --mode ", {"plain", "full", "sampled"}), ("cbi-hunt --hangs ", {"neither", "fail"}), ("cbi-show --format s", {"sarif"})):
             out, _ = self.call("fish", "--no-config", "-c", f"source {TOOLS}/completions/cbi.fish; complete -C '{line}'")
             self.assertEqual({found.split("\t")[0] for found in out.split("\n") if found}, due, line)
 

@@ -31,7 +31,7 @@ def call(*words, given=b"", folder=None, **more):
 def sources():
     """The scripts and their modules."""
     for folder, _, names in os.walk(TOOLS):
-        yield from (os.path.join(folder, name) for name in names if name.endswith(".py") or name in ("cbi-hunt", "cbi-show", "cbi-explain"))
+        yield from (os.path.join(folder, name) for name in names if name.endswith(".py") or name in ("cbi-hunt", "cbi-show", "cbi-explain", "try-cbi"))
 
 
 class Case(unittest.TestCase):
@@ -61,6 +61,12 @@ class Case(unittest.TestCase):
             self.assertEqual(status, due, f"{words}: {out}{err}")
         self.assertNotIn("Traceback", err)
         return out, err
+
+    def wait_for(self, come):
+        """Waits until it is there, a minute at most."""
+        limit = time.monotonic() + 60
+        while time.monotonic() < limit and not come():
+            time.sleep(0.01)
 
     def transform(self, text, mode="full", schemes="branches,returns,pairs"):
         """Compiles a text, as the file prog.cbi."""
@@ -114,9 +120,3 @@ class Hunting(Case):
         """A hunt, whose status is looked at unless it may be any; what it says, or where it is to fail what it is refused for."""
         out, err = self.call("cbi-hunt", "upper.c", "--jobs", "1", *words, due=due)
         return err if due == 2 else out
-
-    def wait_for(self, come):
-        """Waits until it is there, a minute at most."""
-        limit = time.monotonic() + 60
-        while time.monotonic() < limit and not come():
-            time.sleep(0.01)

@@ -8,7 +8,6 @@ import os
 import re
 import subprocess
 import sys
-import tempfile
 from typing import Iterator, List, Match, NamedTuple, Optional, Tuple
 
 import cbi_dialect
@@ -48,7 +47,8 @@ REFUSALS = {
     "NotPart": "PARTPROG hasn't that part of the sites of WHOLE. Both are compiled of one text with the same --schemes, and --part is that with which PARTPROG was compiled.",
     "BadEdits": "EDITS is no text of edits from this line on: cbi-edits 1, then lines `add run ..` with their `site` lines, `remove R`, `relabel R fail` (or pass, or none) and `rank`, at most 1,000 of these, and last `end`.",
     "Absent": "A `remove` or a `relabel` names a run that isn't held at that line: it was never added, or it was removed before.",
-    "InputTooLarge": "An input has at most 16,777,216 bytes.",
+    "InputTooLarge": "An input has at most 16,777,216 bytes. Of runs by a list the line is that of the list, counted from 1.",
+    "BadList": "The list goes wrong at this line: file 1 is that of --inputs, file 2 that of --expect. A list has a name on each line, of 1 to 4,095 bytes of UTF-8, 1 to 100,000 of them, and a newline behind the last; and both lists have as many lines.",
 }
 KINDS = {
     1: "A name, a member or a tag isn't known here, or a parameter has no name. It may be a function of the library that the dialect hasn't, or a name that is declared further below.",
@@ -279,7 +279,7 @@ OF_WATCHERS = re.compile(r"(first|hottest|last) none")
 def explain_call(words: List[str], program: Optional[str]) -> Iterator[str]:
     """Runs a command, and explains what it was refused for, or how its run ended. Its input and output are those of this process."""
     runs = os.path.basename(words[0]) == "cbi" and words[1:2] == ["run"]
-    with tempfile.TemporaryDirectory(prefix="cbi-explain-") as folder:
+    with cbi_files.folder_for_a_while("cbi-explain-") as folder:
         report = named_report(words) if runs else None
         if runs and report is None:
             report = os.path.join(folder, "report")

@@ -8,7 +8,9 @@ import csv
 import hashlib
 import os
 import re
+import signal
 import sys
+import tempfile
 from typing import Any, Callable, Dict, IO, Iterator, List, NamedTuple, NoReturn, Optional, Tuple
 
 VERSION = "0.5.0"
@@ -50,7 +52,7 @@ ENDINGS = {
     "trapped 6": "an index or a pointer past the ends of its object", "trapped 7": "an object that is used after free, or after its function returned",
     "trapped 8": "a null pointer that is used", "trapped 9": "a write to a string constant", "trapped 10": "a free of what malloc didn't give",
     "trapped 11": "pointers into two objects, compared or subtracted", "trapped 12": "too many calls within one another", "trapped 13": "an assert that is false",
-    "trapped 14": "a call of abort", "trapped 99": "a damaged program file", "ended": "other output", "cut turns": "no end within its turns", "cut output": "too much output",
+    "trapped 14": "a call of abort", "trapped 99": "a damaged program file", "ended": "other output", "cut turns": "going back more often than --turns allows", "cut output": "writing too much",
 }
 
 # The six relations of a returned value or a pair, with the counters (less, equal, greater) that each sums up.
@@ -78,7 +80,10 @@ class Words(argparse.ArgumentParser):
 
 
 def call_main(name: str, main: Callable[[], int]) -> None:
-    """Ends the process with the status of `main`; faults become a line, and a closed pipe ends quietly."""
+    """Ends the process with the status of `main`; faults become a line, and a closed pipe ends quietly. A signal that ends it does so as ^C does, so that no file for a while stays."""
+    for number in (signal.SIGTERM, getattr(signal, "SIGHUP", signal.SIGTERM)):
+        if signal.getsignal(number) == signal.SIG_DFL:
+            signal.signal(number, signal.default_int_handler)
     for stream in (sys.stdout, sys.stderr):
         if hasattr(stream, "reconfigure"):
             stream.reconfigure(errors="backslashreplace")
@@ -98,6 +103,15 @@ def call_main(name: str, main: Callable[[], int]) -> None:
         print(f"{name}: {error.filename + ': ' if error.filename else ''}{error.strerror}", file=sys.stderr)
         status = TROUBLE
     sys.exit(status)
+
+
+def folder_for_a_while(prefix: str) -> "tempfile.TemporaryDirectory[str]":
+    """A folder that goes with its object. A signal waits until there is one, or it would come between the folder and what removes it."""
+    before = signal.pthread_sigmask(signal.SIG_BLOCK, {signal.SIGINT, signal.SIGTERM, signal.SIGHUP})
+    try:
+        return tempfile.TemporaryDirectory(prefix=prefix)
+    finally:
+        signal.pthread_sigmask(signal.SIG_SETMASK, before)
 
 
 def read_bytes(name: str) -> bytes:

@@ -10,7 +10,7 @@ from cbi_files import Fault
 
 
 class Example(NamedTuple):
-    """A failing run to look at: its input, what it wrote beside what was due, and how it is made again."""
+    """A failing run to look at: its input, what it wrote beside what was due, and how it is made again. Where `of_row`, a smaller input fails in which the fact of the first row wasn't seen."""
     name: str
     run: int
     input: bytes
@@ -22,6 +22,7 @@ class Example(NamedTuple):
     again: str
     made_from: Optional[int] = None
     steps: int = 0
+    of_row: bool = False
 
 
 class Hunted(NamedTuple):

@@ -5,6 +5,9 @@ Bands of a bar differ in how light they are and in their pattern, so that they a
 each has its share in words. All is reached by links and folds, so that a keyboard is enough: no part of the page
 scrolls by itself, and long words are broken, so that the page scrolls up and down alone.
 """
+import itertools
+import os
+import re
 from typing import Dict, Iterable, Iterator, List, Optional, Set
 
 import cbi_told
@@ -36,8 +39,11 @@ def code(text: object) -> str:
     return f"<code>{escaped(text)}</code>"
 
 
-def fact(said: Fact) -> str:
-    return code(said.code) + (f" {escaped(said.says)}" if said.says else "")
+def fact(said: Fact, past: bool = False) -> str:
+    """A fact with the pieces of the text in its letters: `c == 97 after c = getchar()` has two of them."""
+    says = said.past()[len(said.code):].strip() if past else said.says
+    before, after, statement = says.partition("after ")
+    return code(said.code) + (f" after {code(statement)}" if after and not before else f" {escaped(says)}" if says else "")
 
 
 def capital(text: str) -> str:
@@ -51,26 +57,48 @@ def card(view: View) -> Iterator[str]:
     first, said = view.first(), cbi_told.sentences(view)
     yield '<header class="card" id="answer">'
     if first:
-        yield f"<h1>{code(first.fact.code)} {escaped(first.fact.past()[len(first.fact.code):].strip())} at {escaped(first.spot.file)}:{first.spot.line} in {code(first.row.function)}</h1>"
+        yield f"<h1>{cbi_told.perhaps(first)}{fact(first.fact, True)} at {escaped(first.spot.file)}:{first.spot.line} in {code(first.row.function)}</h1>"
         yield f"<p>{escaped(' '.join(said[1:]))}</p>"
     else:
         yield f"<h1>{code(view.where.main)}: no fact stands out</h1>"
-        yield from (f"<p>{escaped(line)}</p>" for line in said)
+        yield from advised(said)
     hanging = cbi_told.hanging_line(view)
     if hanging:
         yield f"<p>{escaped(hanging)}</p>"
     lines = cbi_told.excerpt(view)
     if lines and first:
-        coloured = highlighted(view.where.files[first.spot.file])
+        coloured, before = highlighted(view.where.files[first.spot.file]), shared_blank([text for _, text, _ in lines])
         yield f'<div class="lines" style="counter-reset:line {lines[0][0] - 1}">'
-        yield from (source_line("", coloured[number - 1], first.row.importance if marked else None, "") for number, _, marked in lines)
+        yield from (source_line("", without_blank(coloured[number - 1], before), first.row.importance if marked else None, "") for number, _, marked in lines)
         yield "</div>"
     if view.hunted and view.hunted.example:
-        yield "<dl>"
+        yield '<dl class="run">'
         for what, value in cbi_told.example_of(view.hunted.example):
             yield f"<dt>{escaped(capital(what))}</dt><dd>{code(value)}</dd>"
         yield "</dl>"
     yield "</header>"
+
+
+def advised(said: List[str]) -> Iterator[str]:
+    """What is told where there is no fact; what may help is a list."""
+    for listed, lines in itertools.groupby(said, lambda line: line.startswith("- ")):
+        if listed:
+            yield "<ul>" + "".join(f"<li>{escaped(line[2:])}</li>" for line in lines) + "</ul>"
+        else:
+            yield from (f"<p>{escaped(line)}</p>" for line in lines)
+
+
+def shared_blank(lines: List[str]) -> str:
+    """The blanks that all of these lines begin with, so that the few lines of the card have room on a phone too."""
+    full = [line for line in lines if line.strip()]
+    return os.path.commonprefix([line[:len(line) - len(line.lstrip(" \t"))] for line in full])
+
+
+def without_blank(coloured: str, before: str) -> str:
+    """A line as HTML without the blanks that it begins with, be they within an element or before it."""
+    tag = re.match(r"(?:<[biu]>)?", coloured)
+    start = tag.end() if tag else 0
+    return coloured[:start] + (coloured[start + len(before):] if coloured.startswith(before, start) else coloured[start:])
 
 
 def endings(view: View) -> Iterator[str]:
@@ -80,7 +108,7 @@ def endings(view: View) -> Iterator[str]:
     most = max(view.seen.endings.values(), default=0)
     yield '<section id="endings"><h2>How runs ended</h2>'
     for note in view.hunted.notes if view.hunted else []:
-        yield f"<p>{escaped(note)}</p>"
+        yield f"<p>{escaped(capital(note))}</p>"
     yield '<table class="ends"><tbody>'
     for (label, outcome), count in sorted(view.seen.endings.items(), key=lambda item: (item[0][0] != "fail", -item[1])):
         how = {"pass": "as it should", "fail": ENDINGS[outcome], "none": f"{ENDINGS[outcome]}, left out" if outcome != "ended" else "left out"}[label]
@@ -104,6 +132,11 @@ def bar(bands: Bands) -> str:
 
 
 # Rows
+
+def keys() -> str:
+    """What the bands of a bar are, in a line."""
+    return '<p class="quiet">In the bars: ' + "; ".join(f'<span class="key {name}"></span>{escaped(meaning)}' for name, meaning in BANDS) + ". A bar is the longer the more runs it is about.</p>"
+
 
 def anchor(spot: Spot, where: Where) -> str:
     """The name of a line: `L41`, and in the second file `F2L41`."""
@@ -159,6 +192,7 @@ def sections(view: View, here: Set[Spot]) -> Iterator[str]:
         yield '<section id="rows"><h2>Facts that go with failures</h2>'
         yield '<p class="quiet">Each is about the runs that no fact above it explains.</p>'
         yield from groups_of(view.together, view, every, here)
+        yield keys()
         yield "</section>"
     for name, title, rows in (("unrelated", UNRELATED, view.unrelated), ("unimportant", UNIMPORTANT, view.unimportant)):
         if rows:
@@ -187,7 +221,7 @@ def sections(view: View, here: Set[Spot]) -> Iterator[str]:
 
 def source_line(name: str, coloured: str, importance: Optional[int], end: str) -> str:
     """A line of the source, the darker the more its best row says. Its number is counted by the style."""
-    shade = "" if importance is None else f' class="marked" style="background:rgb(var(--hot) / {0.08 + 0.27 * importance / 1000000:.2f})"'
+    shade = "" if importance is None else f' class="marked" style="background:rgb(var(--hot) / {0.12 + 0.23 * importance / 1000000:.2f})"'
     named = f' id="{name}"' if name else ""
     return f"<p{named}{shade}><code>{coloured}</code>{f'<span>{end}</span>' if end else ''}</p>"
 
@@ -247,8 +281,7 @@ def reading() -> Iterator[str]:
     yield "<p>A row names a fact that was seen at a line in some runs. It is listed because runs fail more often where it was true than where its line was merely"
     yield "reached, beyond chance. Each row is about the runs that no row above it explains, so the first row often is the bug, and a later one may be another bug."
     yield "A fact shows where a bug can be seen; why it is one, the line says.</p>"
-    yield "<p>The bar of a row is the longer the more runs it is about (by the logarithm of the runs in which the fact was true). Its bands:</p>"
-    yield '<ul class="keys">' + "".join(f'<li><span class="key {name}"></span>{escaped(meaning)}</li>' for name, meaning in BANDS) + "</ul>"
+    yield "<p>How long the bar of a row is goes by the logarithm of the runs in which the fact was true.</p>"
     yield "<dl>" + "".join(f"<dt>{word}</dt><dd>{escaped(meaning)}</dd>" for word, meaning in WORDS) + "</dl></details>"
     yield '<p class="quiet">The ranking is that of <code>cbi rank</code>, which is proved to be the elimination of the collected runs; this page is not proved.</p></section>'
 
@@ -279,7 +312,7 @@ def fewer_near(view: View, most: int) -> View:
 
 def page_with(view: View, here: Set[Spot]) -> Iterator[str]:
     first = view.first()
-    title = f"{first.fact.past()} at {first.spot.file}:{first.spot.line}" if first else f"{view.where.main}: no fact stands out"
+    title = f"{cbi_told.perhaps(first)}{first.fact.past()} at {first.spot.file}:{first.spot.line}" if first else f"{view.where.main}: no fact stands out"
     yield '<!DOCTYPE html>\n<html lang="en">\n<head>\n<meta charset="utf-8">'
     yield '<meta name="viewport" content="width=device-width, initial-scale=1">'
     yield f"<title>{escaped(title)}</title>\n<style>{STYLE}</style>\n</head>\n<body>"

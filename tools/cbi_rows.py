@@ -203,6 +203,11 @@ class Wording:
         site = self.site(predicate)
         return self.of_site(site, text) if site else plain_fact(scheme, text)
 
+    def statement(self, site: Site) -> str:
+        """The condition, call or assignment that a site stands at."""
+        said = self.of_site(site, site.predicates()[0][0])
+        return said.says[len("after "):] if said.says.startswith("after ") else said.code
+
     def of_site(self, site: Site, text: str) -> Fact:
         place = self.source.place_of(site) if self.source else None
         if self.source is None or place is None:
@@ -255,8 +260,14 @@ def totals_of(ranking: Ranking, seen: Optional[Seen]) -> Optional[Totals]:
 
 
 def pair_of(pair: Optional[Pair], ranking: Ranking, wording: Wording) -> Optional[PairShown]:
-    """The best pair, where it says clearly more than the first row, and more than chance alone would make one of so many pairs say."""
+    """The best pair, where it says clearly more than the first row, and more than chance alone would make one of so many pairs say.
+
+    One of the first row with another fact that leaves none of its runs out says no more than the row itself.
+    """
     if pair is None or not ranking.rows or pair.importance < ranking.rows[0].importance + PAIR_ABOVE:
+        return None
+    first = ranking.rows[0]
+    if first.predicate in (pair.left.predicate, pair.right.predicate) and (pair.failing, pair.successful) == (first.f, first.s):
         return None
     if pair.tried * by_chance(pair.failing, pair.successful, pair.known_failing, pair.known_successful) >= 1:
         return None

@@ -88,6 +88,11 @@ def oracle_name(plan: Plan) -> str:
     return words[2] if words[:2] == SHELL else words[0]
 
 
+def input_name(plan: Plan, path: str) -> str:
+    """What a person calls an input, whose file may be one that goes with the hunt."""
+    return plan.names[plan.inputs.index(path)] if path in plan.inputs else "an input that was made"
+
+
 def judged(plan: Plan, name: str, output: str) -> str:
     return asked(plan, name, output).label
 
@@ -102,7 +107,7 @@ def asked(plan: Plan, name: str, output: str) -> Answer:
     try:
         _, err = begun.communicate(timeout=plan.patience)
     except subprocess.TimeoutExpired:
-        raise Fault(f"the oracle {oracle_name(plan)} took more than {plan.patience} s on {name}: --oracle-timeout allows it more")
+        raise Fault(f"the oracle {oracle_name(plan)} took more than {plan.patience} s on {input_name(plan, name)}: --oracle-timeout allows it more")
     finally:
         if begun.poll() is None:
             os.killpg(begun.pid, signal.SIGKILL)
@@ -110,7 +115,7 @@ def asked(plan: Plan, name: str, output: str) -> Answer:
     status, said = begun.returncode, err.decode(errors="replace")
     if not 0 <= status <= ORACLE_UNKNOWN:
         last = f"; it wrote {said.strip().splitlines()[-1]}" if said.strip() else ""
-        raise Fault(f"the oracle {oracle_name(plan)} ended with status {status} on {name}: 0 says right, 1 to 124 wrong, and 125 neither{last}")
+        raise Fault(f"the oracle {oracle_name(plan)} ended with status {status} on {input_name(plan, name)}: 0 says right, 1 to 124 wrong, and 125 neither{last}")
     return Answer("pass" if status == 0 else "none" if status == ORACLE_UNKNOWN else "fail", said)
 
 
@@ -125,14 +130,16 @@ class Runner:
         self.judged: Dict[int, str] = {}
 
     def make(self, run: int) -> str:
-        """Makes a run; answers the name of its report."""
+        """Makes a run; answers the name of its report. At rate 1 each visit is observed, as by a run without a bank."""
         plan, place = self.plan, self.plan.input_of(run)
         report = os.path.join(self.folder, f"report{run}")
-        words = [plan.cbi, "run", f"--bank={self.bank}", f"--input={plan.inputs[place]}", f"--turns={plan.turns}", f"--run={run}", f"--report={report}"]
+        banked = [f"--bank={self.bank}"] if plan.rate > 1 else []
+        words = [plan.cbi, "run", *banked, f"--input={plan.inputs[place]}", f"--turns={plan.turns}", f"--run={run}", f"--report={report}"]
         words += ([f"--expect={plan.expected[place]}"] if plan.expected else []) + ["--", plan.program_of(run)]
         try:
-            with open(self.bank, "wb") as out:
-                call([plan.cbi, "bank", f"--rate={plan.rate}", f"--count={BANK_NUMBERS}", f"--seed={plan.seed}", f"--stream={run}"], out)
+            if banked:
+                with open(self.bank, "wb") as out:
+                    call([plan.cbi, "bank", f"--rate={plan.rate}", f"--count={BANK_NUMBERS}", f"--seed={plan.seed}", f"--stream={run}"], out)
             with open(self.output if plan.oracle else os.devnull, "wb") as out:
                 call(words, out)
         except Fault as fault:
@@ -192,12 +199,13 @@ class Runner:
 # Batches that are sent to other hosts
 
 HERE = os.path.dirname(os.path.realpath(__file__))
-MODULES = ("cbi_files.py", "cbi_runs.py")
+MODULES = ("cbi_files.py", "cbi_runs.py", "cbi_lists.py")
 BEGIN = """\
 import sys
 import cbi_files
+import cbi_lists
 import cbi_runs
-cbi_files.call_main("cbi-hunt", lambda: cbi_runs.make_packed(sys.path[0]))
+cbi_files.call_main("cbi-hunt", lambda: cbi_runs.make_packed(sys.path[0], cbi_lists.runner_of))
 """
 
 
@@ -236,13 +244,13 @@ def unpack(path: str, folder: str) -> Tuple[Plan, Batch]:
     return plan, Batch(about["first"], about["last"])
 
 
-def make_packed(path: str) -> int:
+def make_packed(path: str, runner_of: Callable[[Plan, str, Callable[[], bool]], Runner]) -> int:
     """Makes the batch of a packed file, on whatever host this is; its collection stands beside it, as PATH.runs. A fault has
     the name of the host, by which it is known where."""
     try:
         with tempfile.TemporaryDirectory(prefix="cbi-hunt-") as folder:
             plan, batch = unpack(path, folder)
-            Runner(plan, folder, lambda: False).make_batch(batch, lambda made: path + ".runs")
+            runner_of(plan, folder, lambda: False).make_batch(batch, lambda made: path + ".runs")
     except Fault as fault:
         raise Fault(f"on {platform.node()}: {fault}")
     return FOUND

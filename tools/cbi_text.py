@@ -18,8 +18,8 @@ def clip(line: str, width: int) -> str:
     return line if len(line) <= width else line[:max(0, width - 2)] + ".."
 
 
-def wrapped(said: str, width: int) -> List[str]:
-    return textwrap.wrap(harmless(said), min(SENTENCE, width), break_long_words=False, break_on_hyphens=False)
+def wrapped(said: str, width: int, most: int = SENTENCE) -> List[str]:
+    return textwrap.wrap(harmless(said), min(most, width), break_long_words=False, break_on_hyphens=False)
 
 
 def bar(bands: Bands) -> str:
@@ -101,7 +101,7 @@ def whole_text(view: View, width: int, every: bool) -> Iterator[str]:
         yield ""
     yield from rows_of(view, every)
     if view.weak and not every:
-        yield cbi_told.weak_line(view) + " (--all shows them)."
+        yield from wrapped(cbi_told.weak_line(view) + " (--all shows them).", width, width)
         yield ""
     if view.added and not every:
         yield cbi_told.added_line(view) + (" isn't shown (--all shows it)." if len(view.added) == 1 else " aren't shown (--all shows them).")
@@ -116,14 +116,16 @@ def whole_text(view: View, width: int, every: bool) -> Iterator[str]:
         yield from (f"     {cbi_told.place_line(place, view.totals, view.where)}" for place in places)
         yield from wrapped(cbi_told.PLACES_SAID, width)
         yield ""
-    yield from legend(view)
+    yield from legend(view, width)
 
 
-def legend(view: View) -> Iterator[str]:
+LEGEND = ("Each row is about the runs that no row above it explains. A bar is the longer the more runs it is about: # is how often runs fail that come to the place, "
+          "= what the predicate adds to that for sure (95 %), - what it may add, and . how often runs succeed in which it was true.")
+
+
+def legend(view: View, width: int) -> Iterator[str]:
     if view.every():
-        yield "Each row is about the runs that no row above it explains. A bar is the longer the more runs it is about: # is how"
-        yield "often runs fail that come to the place, = what the predicate adds to that for sure (95 %), - what it may add, and"
-        yield ". how often runs succeed in which it was true."
+        yield from wrapped(LEGEND, width)
     elif not view.hunted:
         yield cbi_told.NO_ROWS
     if view.carded and any(len(group) > 1 for group in view.together):

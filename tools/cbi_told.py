@@ -1,4 +1,5 @@
 """The answer of a hunt in words: what broke, where, how often, and one failing run. Text and page have it from here. Not proved."""
+import re
 from typing import Dict, Iterator, List, Optional, Tuple
 
 from cbi_files import ENDINGS, count_of, share, visible
@@ -36,10 +37,15 @@ def sentences(view: View) -> List[str]:
     true, others, failing = row.f + row.s, row.fobs + row.sobs - row.f - row.s, row.fobs - row.f
     saw = {1: "The one run that saw it failed", 2: "Both runs that saw it failed"}.get(true, f"All {true} runs that saw it failed") if not row.s else f"{row.f} of the {true} runs that saw it failed"
     rest = f"; of the {count_of(others, 'other')} that looked there {one_in(failing, others)}" if others else ""
-    said = [f"{first.fact.past()} at {first.spot.file}:{first.spot.line} in {row.function}.", f"{saw}{rest}.", *ended(view)]
+    said = [f"{perhaps(first)}{first.fact.past()} at {first.spot.file}:{first.spot.line} in {row.function}.", f"{saw}{rest}.", *ended(view)]
     if first.weak() and first.by_chance is not None and view.seen:
-        said.append(f"This may be chance: of the {view.seen.observed} facts that were looked at chance alone would make {first.by_chance:.1f} look as strong.")
+        said.append(f"Of the {view.seen.observed} facts that were looked at chance alone would make {first.by_chance:.1f} look as strong.")
     return said
+
+
+def perhaps(first: Shown) -> str:
+    """What stands before a fact that chance alone would make look as strong."""
+    return "Perhaps by chance, " if first.weak() else ""
 
 
 def ended(view: View) -> List[str]:
@@ -52,6 +58,11 @@ def ended(view: View) -> List[str]:
         whose = {1: "The one failing run", 2: "Both failing runs"}.get(count, f"All {count} failing runs")
         return [f"{whose} ended by {ENDINGS[outcome]}{trap_of(outcome)}."]
     return [f"Failing runs ended by {ended_by(endings)}."]
+
+
+def short_name(name: str) -> str:
+    """The name of an input where several stand together: of those of AFL++, which tell how they were made, what tells them apart."""
+    return re.sub(r"(^|/)(id:\d+),[^/]*$", r"\1\2", name)
 
 
 def trap_of(outcome: str) -> str:
@@ -81,10 +92,11 @@ def excerpt(view: View) -> List[Tuple[int, str, bool]]:
 
 def example_of(example: Example) -> Iterator[Tuple[str, str]]:
     """A failing run as pairs of what is told and what it is."""
+    whose = "smallest failing input of the first row" if example.of_row else "smallest failing input"
     if example.made_from is not None:
-        what = f"smallest failing input, made from {example.name} of {count_of(example.made_from, 'byte')} in {count_of(example.steps, 'run')}"
+        what = f"{whose}, made from {example.name} of {count_of(example.made_from, 'byte')} in {count_of(example.steps, 'run')}"
     else:
-        what = f"smallest failing input, {example.name}"
+        what = f"{whose}, {example.name}"
     yield f"{what} ({count_of(example.size, 'byte')})", visible(example.input, 240) if example.input else "nothing"
     yield from wrote_of(example)
     yield "the run again", example.again
@@ -141,7 +153,7 @@ def ended_of_row(shown: Shown) -> Optional[str]:
 
 
 def inputs_of_row(shown: Shown, view: View) -> Optional[str]:
-    names = view.hunted.names_of(shown.truth.runs) if view.hunted and shown.truth else []
+    names = list(map(short_name, view.hunted.names_of(shown.truth.runs))) if view.hunted and shown.truth else []
     if not names:
         return None
     rest = f" and {len(names) - MOST_NAMES} more" if len(names) > MOST_NAMES else ""
@@ -178,7 +190,7 @@ def hanging_line(view: View) -> Optional[str]:
         return None
     looked = sum(count for _, count in view.hunted.hanging)
     where = ", ".join(f"{text} ({count})" for text, count in view.hunted.hanging)
-    return f"{count_of(looked, 'run')} that had no end {'was' if looked == 1 else 'were'} made again, and last seen at {where}."
+    return f"{count_of(looked, 'run')} that went on without end {'was' if looked == 1 else 'were'} made again, and last seen at {where}."
 
 
 def added_line(view: View) -> str:

@@ -8,6 +8,7 @@ from typing import Dict, List, NamedTuple, Optional, Tuple
 import cbi_files
 from cbi_files import Fault, Program
 from cbi_hunt.kept import Kept
+from cbi_hunt.signals import heed_now
 from cbi_runs import Plan, call_to
 
 
@@ -44,6 +45,7 @@ class Repeater:
         self.report, self.output = os.path.join(folder, f"{name}.report"), os.path.join(folder, f"{name}.output")
 
     def run(self, program: str, path: str) -> Again:
+        heed_now()
         words = [self.plan.cbi, "run", f"--input={path}", f"--turns={self.plan.turns}", f"--report={self.report}", "--", program]
         with open(self.output, "wb") as out:
             done = subprocess.run(words, stdin=subprocess.DEVNULL, stdout=out, stderr=subprocess.PIPE, check=False)

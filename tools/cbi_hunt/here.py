@@ -10,7 +10,9 @@ from typing import Any, List, Optional
 
 from cbi_files import TROUBLE, Fault
 from cbi_hunt.counts import Progress
-from cbi_hunt.kept import SIGNALS, Kept
+from cbi_hunt.kept import Kept
+from cbi_hunt.signals import SIGNALS, heed_now, heeded
+from cbi_lists import runner_of
 from cbi_runs import Batch, Plan, Runner
 
 
@@ -41,7 +43,7 @@ def begin_worker(plan: Plan, batches: str, lock: int, stop: Any) -> None:
             os._exit(TROUBLE)
         return bool(stop.is_set())
 
-    RUNNER = Runner(plan, tempfile.mkdtemp(prefix="worker-", dir=os.path.dirname(batches)), stopped)
+    RUNNER = runner_of(plan, tempfile.mkdtemp(prefix="worker-", dir=os.path.dirname(batches)), stopped)
     KEPT = batches
 
 
@@ -61,8 +63,10 @@ def make_here(plan: Plan, kept: Kept, batches: List[Batch], jobs: int, progress:
             futures += [pool.submit(work, batch) for batch in batches]
             for future in concurrent.futures.as_completed(futures):
                 taken(future, kept, progress)
+                heed_now()
             return True
         except KeyboardInterrupt:
+            heeded()
             return False
         except concurrent.futures.process.BrokenProcessPool:
             raise Fault("a worker was ended from outside; a hunt with --keep goes on where it stopped")

@@ -4,7 +4,7 @@ import os
 import shlex
 import shutil
 import sys
-from typing import Any, List, Optional, Tuple
+from typing import List, Optional, Tuple
 
 import cbi_files
 from cbi_files import FOUND, INTERRUPTED, NOTHING, Fault
@@ -13,17 +13,20 @@ from cbi_hunt.counts import Count, Progress, counted
 from cbi_hunt.farm import make_on_farm
 from cbi_hunt.here import make_here
 from cbi_hunt.inputs import Inputs, inputs_of
-from cbi_hunt.kept import Kept, folder_of, heed, missing_batches
+from cbi_hunt.kept import Kept, folder_of, missing_batches
 from cbi_hunt.looks import TOOLS, Hunt, newline_note
 from cbi_hunt.mutants import add_mutants
 from cbi_hunt.oracles import oracle_of
 from cbi_hunt.showing import show
+from cbi_hunt.signals import heed, heed_now, interrupted
 from cbi_hunt.texts import text_of, transform
 from cbi_hunt.told import keep_failing, notes
 from cbi_hunt.words import arguments
 from cbi_runs import Plan
 
-LEAST_BATCH, MOST_BATCH, FARM_BATCH = 25, 200, 500
+LEAST_BATCH, MOST_BATCH = 25, 10000
+# The rate at which each visit is looked at.
+EVERY = 1
 
 
 def processors() -> int:
@@ -38,6 +41,7 @@ def plan_of(chosen: argparse.Namespace, kept: Kept, inputs: Inputs, cbi: str) ->
         os.makedirs(kept.path("parts"), exist_ok=True)
         parts = [transform(chosen, cbi, kept.path("source.c"), kept.path("parts", str(part)), part) for part in range(chosen.parts)]
     oracle = oracle_of(chosen)
+    chosen.rate = chosen.rate or kept.begun_rate() or EVERY
     plan = Plan(cbi, program, chosen.rate, chosen.seed, chosen.turns, oracle, [], [], None, parts, chosen.oracle_timeout, chosen.hangs == "fail")
     if chosen.mutate:
         told.append(add_mutants(chosen, plan, kept, inputs, chosen.jobs or processors()))
@@ -52,8 +56,7 @@ def make_runs(chosen: argparse.Namespace, plan: Plan, kept: Kept, runs: int) -> 
     """Makes the runs that aren't there yet; answers how they went, and whether all were made."""
     made, count = kept.made(), counted(plan, kept)
     jobs = chosen.jobs or processors()
-    most = FARM_BATCH if chosen.farm else MOST_BATCH
-    size = max(LEAST_BATCH, min(most, runs // (8 * jobs)))
+    size = max(LEAST_BATCH, min(MOST_BATCH, runs // (8 * jobs)))
     batches = missing_batches(made, runs, size)
     progress = Progress(max(runs, count.runs()), count)
     if not batches:
@@ -70,6 +73,7 @@ def hunt(chosen: argparse.Namespace, cbi: str, folder: str) -> int:
     kept = Kept(folder)
     inputs = inputs_of(chosen, folder)
     plan, told = plan_of(chosen, kept, inputs, cbi)
+    heed_now()
     count, whole = make_runs(chosen, plan, kept, chosen.runs or len(inputs.names))
     if not count.runs():
         print("No run was made.")
@@ -92,10 +96,6 @@ def executable(name: str) -> str:
     if os.path.dirname(name):
         raise Fault(f"--cbi {name}: " + ("it isn't executable" if os.path.exists(name) else "there is no such file"))
     raise Fault(f"{name} isn't on the path: ./build FOLDER leaves it there, or name it by --cbi")
-
-
-def interrupted(number: int, frame: Any) -> None:
-    raise KeyboardInterrupt
 
 
 def check_page(path: Optional[str]) -> None:

@@ -7,11 +7,12 @@ from typing import Dict, List, Optional, Sequence, Tuple
 import cbi_files
 from cbi_files import Fault, count_of
 
-# What AFL++ leaves in a folder of its own: of these three the files are inputs, and the last is no input of anyone.
-OF_FUZZERS = ("queue", "crashes", "hangs", ".state")
+# What AFL++ leaves in a folder of its own: of the first three the files are inputs, and the rest are no inputs of anyone.
+OF_FUZZERS = ("queue", "crashes", "hangs", ".state", ".synced", ".cur_input")
 
 class Inputs:
-    """The inputs of a hunt: their names, their files, and the files of what is expected, or none. `lines` names the file whose lines they are."""
+    """The inputs of a hunt: their names, their files, and the files of what is expected, or none. `lines` names the file whose lines they are, or `folder` the folder that they are in."""
+    folder: Optional[str] = None
 
     def __init__(self, names: List[str], paths: List[str], expected: Optional[List[str]], lines: Optional[str] = None, hidden: Sequence[str] = ()):
         self.names, self.paths, self.expected, self.lines, self.hidden = names, paths, expected, lines, list(hidden)
@@ -110,5 +111,7 @@ def write_lines(folder: str, names: List[str], lines: List[bytes]) -> List[str]:
 
 def inputs_of(chosen: argparse.Namespace, folder: str) -> Inputs:
     if os.path.isdir(chosen.inputs):
-        return inputs_of_folder(chosen.inputs, chosen.expect)
+        inputs = inputs_of_folder(chosen.inputs, chosen.expect)
+        inputs.folder = chosen.inputs
+        return inputs
     return inputs_of_lines(chosen.inputs, chosen.expect, folder)

@@ -7,10 +7,10 @@ import os
 import re
 import shutil
 import signal
-import tempfile
-from typing import Any, Dict, Iterator, List
+from typing import Dict, Iterator, List, Optional
 
-from cbi_files import Fault
+from cbi_files import Fault, folder_for_a_while
+from cbi_hunt.signals import heed
 from cbi_runs import Batch
 
 # How it is told that what a hunt was begun with isn't what it is to go on with, where the values themselves say nothing.
@@ -51,6 +51,14 @@ class Kept:
         found = [re.fullmatch(r"([1-9][0-9]*)-([1-9][0-9]*)", name) for name in os.listdir(self.batches)]
         return sorted(Batch(int(name[1]), int(name[2])) for name in found if name)
 
+    def begun_rate(self) -> Optional[int]:
+        """The rate of the hunt that is kept here, where there is one: a hunt that goes on without a word keeps it."""
+        try:
+            with open(self.path("hunt.json"), encoding="utf-8") as file:
+                return int(json.load(file)["rate"])
+        except FileNotFoundError:
+            return None
+
     def settle(self, settings: Dict[str, object]) -> None:
         """A hunt goes on only with what it was begun with, since a run's number says how it was made."""
         path = self.path("hunt.json")
@@ -79,21 +87,11 @@ def folder_of(chosen: argparse.Namespace) -> Iterator[str]:
             raise Fault(f"--keep {chosen.keep} has other files: take a folder that is new, or that an earlier hunt kept")
         yield os.path.abspath(chosen.keep)
     else:
-        with tempfile.TemporaryDirectory(prefix="cbi-hunt-") as folder:
+        with folder_for_a_while("cbi-hunt-") as folder:
             try:
                 yield folder
             finally:
                 heed(signal.SIG_IGN)
-
-
-SIGNALS = [number for name in ("SIGINT", "SIGTERM", "SIGHUP") for number in [getattr(signal, name, None)] if number is not None]
-
-
-def heed(handler: Any) -> None:
-    """What is done at a signal that ends a hunt. What whoever began it has it ignore, as `nohup` does, and a shell for `&`, stays ignored."""
-    for number in SIGNALS:
-        if signal.getsignal(number) != signal.SIG_IGN:
-            signal.signal(number, handler)
 
 
 def missing_batches(made: List[Batch], runs: int, size: int) -> List[Batch]:

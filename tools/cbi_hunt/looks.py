@@ -112,6 +112,7 @@ def example_of(hunt: Hunt, first: Optional[Shown], program: Program) -> Optional
         return None
     place = min(places, key=lambda place: (os.path.getsize(inputs.paths[place]), inputs.names[place]))
     name, path, run = inputs.names[place], inputs.paths[place], places[place]
+    of_row = any(os.path.getsize(inputs.paths[other]) < os.path.getsize(path) for other in hunt.count.failing_runs)
     data = cbi_files.read_bytes(path)
     plain, repeater = program_for(hunt.chosen, plan.cbi, hunt.kept, "plain"), Repeater(plan, hunt.kept.folder)
     outcome = ending_of(repeater.run(plain, path).outcome)
@@ -128,7 +129,7 @@ def example_of(hunt: Hunt, first: Optional[Shown], program: Program) -> Optional
     shown = data if fewer is None else fewer
     again = command_for(hunt, name, path, shown, fewer is not None)
     return Example(name, run, shown[:4096], len(shown), outcome, ours[:4096] if line else last_line(wrote)[:4096], theirs[:4096] if line else None, line, again,
-                   len(data) if fewer is not None else None, steps)
+                   len(data) if fewer is not None else None, steps, of_row)
 
 
 def made_smaller(hunt: Hunt, first: Optional[Shown], program: Program, data: bytes, outcome: str) -> Tuple[Optional[bytes], int]:
@@ -193,6 +194,6 @@ def hanging_places(hunt: Hunt, program: Program, wording: Wording) -> List[Tuple
         last = repeater.run(full, hunt.inputs.paths[place]).last
         if last is not None:
             site = program.sites[last]
-            found[f"{wording.where.at(site.line, site.function)}: {wording.of_site(site, site.predicates()[0][0]).code}"] += 1
+            found[f"{wording.where.at(site.line, site.function)}: {wording.statement(site)}"] += 1
     repeater.close()
     return found.most_common()

@@ -9,6 +9,7 @@ from cbi_hunt.collecting import MOST_MARKS, MOST_RUNS
 from cbi_hunt.counts import Count
 from cbi_hunt.inputs import Inputs
 from cbi_hunt.looks import Hunt, oracle_note
+from cbi_told import short_name
 
 NO_FAILURE = """\
 No run failed, so there is nothing that a failure could be told apart from. What may help:
@@ -42,7 +43,7 @@ def keep_failing(hunt: Hunt) -> None:
 
 def failing_line(hunt: Hunt) -> Optional[str]:
     """Names the inputs that failed."""
-    names = [hunt.inputs.names[place] for place in sorted(hunt.count.failing_inputs)]
+    names = [short_name(hunt.inputs.names[place]) for place in sorted(hunt.count.failing_inputs)]
     if not names:
         return None
     shown = ", ".join(names[:5]) + (f" and {len(names) - 5} more" if len(names) > 5 else "")
@@ -72,12 +73,20 @@ def notes(hunt: Hunt, whole: bool, told: List[str], newline: Optional[str], samp
             yield line
 
 
+def beside(inputs: Inputs, given: str, other: str, what: str) -> str:
+    """Where a folder of AFL++ was given by itself, that the folder above it has the rest."""
+    if inputs.folder is None or os.path.basename(os.path.normpath(inputs.folder)) != given:
+        return ""
+    above = os.path.dirname(os.path.abspath(inputs.folder))
+    return f"\n- Name the folder above ({os.path.relpath(above)}): its {other} has {what}." if os.path.isdir(os.path.join(above, other)) else ""
+
+
 def advice(hunt: Hunt, newline: Optional[str]) -> str:
     """What to do where there is no row."""
     count, inputs = hunt.count, hunt.inputs
     if not count.failed:
         cut = f"\n- {count_of(count.cut, 'run was', 'runs were')} cut: allow more turns (--turns), or count them as failed (--hangs fail)." if count.cut else ""
-        return NO_FAILURE.format(cut=cut)
+        return NO_FAILURE.format(cut=cut + beside(inputs, "queue", "crashes", "inputs that AFL++ saw crash"))
     if count.succeeded:
         return NO_RANKING
     more: List[str] = []
@@ -88,4 +97,4 @@ def advice(hunt: Hunt, newline: Optional[str]) -> str:
     said = oracle_note(hunt)
     if said:
         more.append(said)
-    return ONLY_FAILURES.format(more="".join(f"\n- {line}" for line in more))
+    return ONLY_FAILURES.format(more="".join(f"\n- {line}" for line in more) + beside(inputs, "crashes", "queue", "inputs that AFL++ saw end"))

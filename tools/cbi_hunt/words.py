@@ -29,6 +29,7 @@ examples:
   cbi-hunt prog.c --inputs tests --hangs fail --turns 10000 --mutate 100
   cbi-hunt prog.c --inputs tests --runs 50000 --keep hunt --farm hosts
   cbi-hunt prog.c --inputs tests --runs 50000 --keep hunt --farm hosts --parts 4
+  SBATCH_PARTITION=tests cbi-hunt prog.c --inputs tests --runs 50000 --keep hunt --farm slurm
 
 It ends with 0 where predicates are shown, with 1 where there are none (it says why, and what to do), with 2 where
 what it was given is wrong, and with 130 after ^C, when it has shown what it had by then.
@@ -64,7 +65,7 @@ def arguments(words: List[str]) -> argparse.Namespace:
     parser.add_argument("--hangs", choices=["neither", "fail"], default="neither", help="what a run counts as that goes back too often (neither)")
     parser.add_argument("--minimize", action="store_true", help="makes the smallest failing input smaller, by lines and then by bytes, as long as it fails alike")
     parser.add_argument("--mutate", metavar="N", type=number_between(1, 1000000), help="makes N inputs more from those given, each of which sees something new")
-    parser.add_argument("--rate", metavar="D", type=number_between(1, 65536), default=5, help="one visit in D is looked at, on average (5)")
+    parser.add_argument("--rate", metavar="D", type=number_between(1, 65536), help="one visit in D is looked at, on average (1: each)")
     parser.add_argument("--runs", metavar="N", type=number_between(1, MOST_NUMBER), help="how many runs; inputs are taken in turn (one run an input)")
     parser.add_argument("--seed", metavar="S", type=number_between(0, 2 ** 64 - 1), default=1, help="which countdowns the runs have (1)")
     parser.add_argument("--turns", metavar="T", type=number_between(0, 100000000), default=TURNS, help="how often a run may go back before it is cut (1000000)")
@@ -74,7 +75,7 @@ def arguments(words: List[str]) -> argparse.Namespace:
     parser.add_argument("--keep", metavar="DIR", help="keeps everything in this folder, which a later call goes on with")
     parser.add_argument("--all", action="store_true", help="shows weak rows too")
     parser.add_argument("--html", metavar="FILE", help="writes the page of cbi-show there as well")
-    parser.add_argument("--farm", metavar="FILE", help="shares the runs out over the hosts of this file, by GNU parallel's --sshloginfile; each has cbi and python3 on its path")
+    parser.add_argument("--farm", metavar="FILE", help="shares the runs out over the hosts of this file, by GNU parallel's --sshloginfile, or as arrays of jobs where it is slurm; each has cbi and python3 on its path")
     parser.add_argument("--parts", metavar="N", type=number_between(1, 65536), default=1, help="shares the sites out over N programs, so that each run looks at a part of them (1)")
     parser.add_argument("--cbi", metavar="PATH", default="cbi", help="the executable (cbi, from the path)")
     chosen = parser.parse_args(own)

@@ -19,7 +19,7 @@ _cbi_value() {
     --hangs) value='neither fail' ;;
     --format) value='text html sarif quickfix' ;;
     --rate) value='1 2 5 10 20 50 100 1000' ;;
-    --part | --parts | --turns | --run | --runs | --count | --seed | --stream | --jobs | --oracle | --oracle-shell | --oracle-timeout | --mutate | --args) value=' ' ;;
+    --part | --parts | --turns | --run | --runs | --first | --count | --seed | --stream | --jobs | --oracle | --oracle-shell | --oracle-timeout | --mutate | --args) value=' ' ;;
     --bank | --input | --expect | --report | --program | --whole | --inputs | --keep | --hunt | --html | --farm | --cbi | --source | --lines | --cards | --pairs | --reports | --output | --sites) ;;
     *) return 1 ;;
     esac
@@ -39,7 +39,7 @@ _cbi_options() {
 
 _cbi() {
     if [ "$COMP_CWORD" -eq 1 ]; then
-        _cbi_offer 'transform run bank collect rank pairs cards session widen study'
+        _cbi_offer 'transform run bank collect runs rank pairs cards session widen study'
         return
     fi
     case ${COMP_WORDS[1]} in
@@ -47,6 +47,7 @@ _cbi() {
     run) _cbi_options '--bank --input --expect --turns --run --report' ;;
     bank) _cbi_options '--rate --count --seed --stream' ;;
     collect) _cbi_options '--program' ;;
+    runs) _cbi_options '--inputs --expect --rate --seed --first --turns' ;;
     rank) _cbi_options '--policy' ;;
     pairs | cards) _cbi_options '' ;;
     session) _cbi_options '--program --policy' ;;

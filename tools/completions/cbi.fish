@@ -9,7 +9,7 @@ function __cbi_first
     test (count (commandline -opc)) -eq 1
 end
 
-for command in transform run bank collect rank pairs cards session widen study
+for command in transform run bank collect runs rank pairs cards session widen study
     complete -c cbi -n __cbi_first -f -a $command
 end
 complete -c cbi -n '__cbi_command transform' -l mode -x -a 'plain full sampled'
@@ -17,15 +17,17 @@ complete -c cbi -n '__cbi_command transform' -l schemes -x -a 'branches returns 
 complete -c cbi -n '__cbi_command transform widen' -l part -x
 complete -c cbi -n '__cbi_command run' -l bank -r
 complete -c cbi -n '__cbi_command run' -l input -r
-complete -c cbi -n '__cbi_command run' -l expect -r
-complete -c cbi -n '__cbi_command run study' -l turns -x
+complete -c cbi -n '__cbi_command run runs' -l expect -r
+complete -c cbi -n '__cbi_command run runs study' -l turns -x
 complete -c cbi -n '__cbi_command run' -l run -x
 complete -c cbi -n '__cbi_command run' -l report -r
-complete -c cbi -n '__cbi_command bank study' -l rate -x -a '1 2 5 10 20 50 100 1000'
+complete -c cbi -n '__cbi_command bank runs study' -l rate -x -a '1 2 5 10 20 50 100 1000'
 complete -c cbi -n '__cbi_command bank' -l count -x
-complete -c cbi -n '__cbi_command bank study' -l seed -x
+complete -c cbi -n '__cbi_command bank runs study' -l seed -x
 complete -c cbi -n '__cbi_command bank' -l stream -x
 complete -c cbi -n '__cbi_command collect session' -l program -r
+complete -c cbi -n '__cbi_command runs' -l inputs -r
+complete -c cbi -n '__cbi_command runs' -l first -x
 complete -c cbi -n '__cbi_command rank session study' -l policy -x -a 'all failing relabel'
 complete -c cbi -n '__cbi_command widen' -l whole -r
 complete -c cbi -n '__cbi_command study' -l runs -x
@@ -50,7 +52,7 @@ complete -c cbi-hunt -l policy -x -a 'all failing relabel' -d 'what is done with
 complete -c cbi-hunt -l keep -r -d 'keeps everything here, and goes on with it'
 complete -c cbi-hunt -l all -d 'shows weak rows too'
 complete -c cbi-hunt -l html -r -d 'writes the page as well'
-complete -c cbi-hunt -l farm -r -d 'hosts for GNU parallel'
+complete -c cbi-hunt -l farm -r -d 'hosts for GNU parallel, or slurm'
 complete -c cbi-hunt -l parts -x -d 'how many programs share the sites'
 complete -c cbi-hunt -l cbi -r -d 'the executable'
 

@@ -1,0 +1,37 @@
+"""The signals that end a hunt. Not proved.
+
+Their handler raises, so that a hunt ends wherever it is. But what is raised in code that Python runs by itself, as behind a fork or where an object goes,
+is told and lost. So it is noted as well that the end was asked for, and a hunt looks at that note wherever it goes on to the next thing.
+"""
+import signal
+from typing import Any
+
+SIGNALS = [number for name in ("SIGINT", "SIGTERM", "SIGHUP") for number in [getattr(signal, name, None)] if number is not None]
+
+
+class Asked:
+    """Whether the end was asked for and hasn't been heeded yet."""
+    now = False
+
+
+def heed(handler: Any) -> None:
+    """What is done at a signal that ends a hunt. What whoever began it has it ignore, as `nohup` does, and a shell for `&`, stays ignored."""
+    for number in SIGNALS:
+        if signal.getsignal(number) != signal.SIG_IGN:
+            signal.signal(number, handler)
+
+
+def interrupted(number: int, frame: Any) -> None:
+    Asked.now = True
+    raise KeyboardInterrupt
+
+
+def heed_now() -> None:
+    """Ends here what was asked to end and went on."""
+    if Asked.now:
+        raise KeyboardInterrupt
+
+
+def heeded() -> None:
+    """What was asked for is done; a hunt may go on to tell what it has."""
+    Asked.now = False
