@@ -1,5 +1,6 @@
 #!/usr/bin/env python3
-"""Looks at the scripts of the house, in a small house that is made for each case: checks/house, tools/above, tools/map and tools/reading.
+"""Looks at the scripts of the house, in a small house that is made for each case: checks/house, tools/above, tools/map and tools/reading; and at what
+editors read of it: tags by Universal Ctags, colours by Vim.
 
     checks/look_at_house.py [CASE..]
 """
@@ -166,6 +167,32 @@ class House(unittest.TestCase):
     def test_reading_says_that_a_function_isnt_there(self) -> None:
         ran = self.call("tools/reading", "top::nothing")
         self.assertEqual((ran.returncode, ran.stderr), (1, "tools/reading: no function top::nothing\n"))
+
+    def test_tags_lead_to_definitions_and_functions(self) -> None:
+        said = subprocess.run(["ctags", "--version"], stdout=subprocess.PIPE, text=True).stdout if shutil.which("ctags") else ""
+        if "Universal Ctags" not in said:
+            self.skipTest("there is no Universal Ctags (universal-ctags)")
+        shutil.copytree(os.path.join(ROOT, ".ctags.d"), os.path.join(self.room, ".ctags.d"))
+        subprocess.run(["ctags", "-R", "crates"], cwd=self.room, check=True)
+        with open(os.path.join(self.room, "tags"), encoding="utf-8") as it:
+            found = {tuple(row.split("\t")[i] for i in (0, 1)) for row in it if not row.startswith("!")}
+        self.assertEqual(found, {("IsDeep", "crates/low/specs/Low.antt"), ("IsKept", "crates/low/specs/Low.antt"), ("kept", "crates/low/specs/Low.antt"),
+                                 ("much", "crates/low/specs/Low.antt"), ("IsWhole", "crates/top/specs/Top.antt"), ("whole", "crates/top/src/lib.rt")})
+
+    def test_colours_tell_definitions_from_comments_and_clauses_from_code(self) -> None:
+        said = subprocess.run(["vim", "--version"], stdout=subprocess.PIPE, text=True).stdout if shutil.which("vim") else ""
+        if "+syntax" not in said:
+            self.skipTest("there is no Vim with syntax (vim)")
+        for page, words in (("crates/low/specs/Low.antt", {(1, "What"): "anttComment", (2, "use"): "anttImport", (5, "abbrev"): "anttModifier", (6, "Unit"): "anttSort",
+                                                           (9, "record"): "anttKeyword", (9, "IsDeep"): "anttConstructor", (10, "kept"): "anttDefined"}),
+                            ("crates/top/src/lib.rt", {(2, "ghost"): "rattleGhost", (5, "pub"): "rustKeyword", (6, "ensures"): "rattleClause"})):
+            asked = [f"call writefile([synIDattr(synID({line}, stridx(getline({line}), '{word}') + 1, 1), 'name')], 'said', 'a')" for line, word in words]
+            self.write("ask.vim", "\n".join(["set nocompatible encoding=utf-8", f"set runtimepath^={ROOT}/tools/vim", "filetype plugin on", "syntax on", f"edit {page}",
+                                             *asked, "qall!"]) + "\n")
+            subprocess.run(["vim", "-es", "-u", "NONE", "-i", "NONE", "-S", "ask.vim"], cwd=self.room, stdin=subprocess.DEVNULL, check=True)
+            with open(os.path.join(self.room, "said"), encoding="utf-8") as it:
+                self.assertEqual(it.read().splitlines(), list(words.values()))
+            os.remove(os.path.join(self.room, "said"))
 
 
 if __name__ == "__main__":
