@@ -18,6 +18,7 @@ sys.path.insert(0, TOOLS)
 sys.setrecursionlimit(20000)
 import cbi_port  # noqa: E402
 from cbi_port import check  # noqa: E402
+from cbi_port.files import too_large  # noqa: E402
 
 TABLE = os.path.join(TOP, "checks", "ports_table")
 TURNS = 100000000
@@ -190,6 +191,14 @@ class Files(Case):
         with self.assertRaises(cbi_port.Refused) as caught:
             cbi_port.port([self.write("b.c", "int f(void) { return 0; }\n")])
         self.assertEqual(caught.exception.problems[0].construct, "no `main`")
+
+
+    def test_what_is_too_large_is_told(self):
+        """`cbi` takes 100,000 tokens and 1,048,576 bytes: the first text has as many tokens, the next one two more, the last two as many bytes and one more."""
+        texts = (b"1," * 50000, b"1," * 50001, b" " * 1048576, b" " * 1048577)
+        told = [[it.construct for it in too_large(cbi_port.Ported(text, [], [], [], {}), [])] for text in texts]
+        what = ["a program whose text is too large (more than 100,000 tokens, or 1,048,576 bytes)"]
+        self.assertEqual(told, [[], what, [], what])
 
 
 class Command(Case):

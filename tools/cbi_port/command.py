@@ -4,14 +4,15 @@ import shlex
 import sys
 from typing import List, Optional
 
+from cbi_files import NOT_PROVED, TROUBLE, Words
 from cbi_port import Missing, Refused, port
 
 ABOUT = """Writes one text of the dialect of cbi that does what the C files do, on their lines; docs/PORTING.md says what it takes.
-This script is not proved. What can't be kept is refused: a line for each on err, with file, line, the construct, and what to write in its place."""
+What can't be kept is refused: a line for each on err, with file, line, the construct, and what to write in its place."""
 
 
 def words(arguments: List[str]) -> argparse.Namespace:
-    parser = argparse.ArgumentParser(prog="cbi-port", description=ABOUT)
+    parser = Words(prog="cbi-port", description=ABOUT, epilog=NOT_PROVED)
     parser.add_argument("files", nargs="+", metavar="FILE.c")
     parser.add_argument("-I", action="append", default=[], metavar="DIR", help="a folder of headers")
     parser.add_argument("-D", action="append", default=[], metavar="NAME[=V]", help="a name that is defined")
@@ -28,8 +29,8 @@ def words(arguments: List[str]) -> argparse.Namespace:
     return parser.parse_args(arguments)
 
 
-def main(arguments: List[str]) -> int:
-    said = words(arguments)
+def main() -> int:
+    said = words(sys.argv[1:])
     options = [f"-I{it}" for it in said.I] + [f"-D{it}" for it in said.D] + [f"-U{it}" for it in said.U]
     args: Optional[object] = said.args
     if said.args is not None and said.args != "first-line":
@@ -43,10 +44,7 @@ def main(arguments: List[str]) -> int:
         return 1
     except Missing as missing:
         print(f"cbi-port: {missing}", file=sys.stderr)
-        return 2
-    except OSError as error:
-        print(f"cbi-port: {error.filename}: {error.strerror}", file=sys.stderr)
-        return 2
+        return TROUBLE
     if said.o:
         with open(said.o, "wb") as out:
             out.write(ported.text)

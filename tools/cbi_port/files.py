@@ -57,7 +57,7 @@ def run(program: Program) -> Ported:
 
 def too_large(ported: Ported, tokens: Sequence[Token]) -> List[Refusal]:
     """A text that `cbi` would refuse for its size."""
-    if len(ported.text) <= 1048576 and (len(ported.text) < 200000 or len(pieces(ported.text.decode("latin-1"), "")) <= 100000):
+    if len(ported.text) <= 1048576 and (len(ported.text) <= 100000 or len(pieces(ported.text.decode("latin-1"), "")) <= 100000):
         return []
     return [Refusal(len(tokens) - 1, "a program whose text is too large (more than 100,000 tokens, or 1,048,576 bytes)", "parts of it")]
 

@@ -358,7 +358,8 @@ class Program(Jumps, Library):
     def begin_main(self) -> None:
         symbol = self.externals.get("main")
         if symbol is None or not symbol.defined:
-            self.problems.append(Refusal(len(self.tokens) - 1, "no `main`", "a definition of `int main(void)`"))
+            last = max(place for place, token in enumerate(self.tokens) if token.file)
+            self.problems.append(Refusal(last, "no `main`", "a definition of `int main(void)`"))
             return
         again = sum(1 for token in self.tokens if token.text == "main" and token.kind == "name" and any(token.file == unit.file for unit in self.units)) > 1
         if symbol.type.parameters or again or self.exit_functions or not isinstance(symbol.type.result, Int) or symbol.type.result.size != 4 or not symbol.type.result.signed:
