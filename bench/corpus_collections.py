@@ -23,6 +23,19 @@ class Tallies(NamedTuple):
     successes: int
 
 
+class Renamed(Dict[bytes, bytes]):
+    """The line of each site line with the site's other number, or nothing where it has none. The same lines come in many runs."""
+
+    def __init__(self, sites: Dict[int, int]):
+        super().__init__()
+        self.names = {b"%d" % old: b"site %d " % new for old, new in sites.items()}
+
+    def __missing__(self, line: bytes) -> bytes:
+        _, site, counters = line.split(b" ", 2)
+        self[line] = self.names[site] + counters if site in self.names else b""
+        return self[line]
+
+
 class Collection(NamedTuple):
     """The lines before the first run, and of each run its first line and those of its sites, without `run ` and the last newline."""
     head: bytes
@@ -47,16 +60,11 @@ class Collection(NamedTuple):
 
     def narrowed(self, identity: str, sites: Dict[int, int]) -> "Collection":
         """The same runs of the same program with some of its sites: the others are left out, and these are numbered anew."""
-        names = {b"%d" % old: b"site %d " % new for old, new in sites.items()}
+        renamed = Renamed(sites)
         runs = []
         for run in self.runs:
             first, *lines = run.split(b"\n")
-            kept = [first]
-            for line in lines:
-                _, site, counters = line.split(b" ", 2)
-                if site in names:
-                    kept.append(names[site] + counters)
-            runs.append(b"\n".join(kept))
+            runs.append(b"\n".join([first, *filter(None, map(renamed.__getitem__, lines))]))
         return Collection(self.head.split(b"\n", 1)[0] + b"\nprogram " + identity.encode("ascii") + b"\n", runs)
 
     def site_lines(self) -> int:

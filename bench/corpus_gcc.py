@@ -1,111 +1,21 @@
 """What gcc makes of a program: its outputs, and which lines each run came to, by gcov.
 
 A driver runs the program's `main` in a child for each input. Where the child is ended by a signal (also by one that says that it takes
-too long), a handler on a stack of its own writes the coverage first, so that a crash has one as well.
+too long), a handler on a stack of its own writes the coverage first, so that a crash has one as well, and gcov reads it. Of a run that came
+to its end the driver itself reckons the lines from gcc's counters, as `corpus_notes.py` has it from gcc's notes, since a file and a call of gcov
+for each run take ten times as long. The first runs of each program are read by gcov, too: where it says anything else, or the notes aren't
+read, gcov reads all runs.
 """
 import json
 import os
 import subprocess
-from typing import Dict, FrozenSet, List, NamedTuple, Set
+from typing import Dict, FrozenSet, List, NamedTuple, Optional, Sequence, Set, Tuple
 
-DRIVER = r"""
-#include <fcntl.h>
-#include <signal.h>
-#include <stdio.h>
-#include <stdlib.h>
-#include <string.h>
-#include <sys/mman.h>
-#include <sys/resource.h>
-#include <sys/time.h>
-#include <sys/wait.h>
-#include <unistd.h>
-int program_main(void);
-void __gcov_dump(void);
-void *__libc_malloc(size_t);
-void *__libc_calloc(size_t, size_t);
-void *__libc_realloc(void *, size_t);
-void __libc_free(void *);
-static char aside[65536];
-static char room[1 << 20];
-static size_t taken;
-static int has_crashed;
-/* What a crash needs has a room of its own, since the heap may be broken by then. */
-static void *taken_aside(size_t size)
-{
-    void *found = room + taken;
-    taken += (size + 15) / 16 * 16;
-    return taken <= sizeof room ? found : NULL;
-}
-void *malloc(size_t size)
-{
-    return has_crashed ? taken_aside(size) : __libc_malloc(size);
-}
-void *calloc(size_t count, size_t size)
-{
-    return has_crashed ? taken_aside(count * size) : __libc_calloc(count, size);
-}
-void *realloc(void *old, size_t size)
-{
-    return has_crashed ? NULL : __libc_realloc(old, size);
-}
-void free(void *old)
-{
-    if (!has_crashed)
-        __libc_free(old);
-}
-static void ended(int signal)
-{
-    has_crashed = 1;
-#ifdef COVERED
-    __gcov_dump();
-#endif
-    _exit(128 + signal);
-}
-static void child(const char *given, const char *out, const char *coverage)
-{
-    static const int signals[] = { SIGSEGV, SIGBUS, SIGFPE, SIGILL, SIGABRT, SIGVTALRM };
-    struct rlimit room = { 1 << 26, 1 << 26 };
-    struct itimerval span = { { 0, 0 }, { 0, 50000 } };
-    stack_t stack;
-    struct sigaction action;
-    size_t i;
-    memset(&stack, 0, sizeof stack);
-    stack.ss_sp = aside;
-    stack.ss_size = sizeof aside;
-    sigaltstack(&stack, NULL);
-    memset(&action, 0, sizeof action);
-    action.sa_handler = ended;
-    action.sa_flags = SA_ONSTACK;
-    for (i = 0; i < sizeof signals / sizeof *signals; i++)
-        sigaction(signals[i], &action, NULL);
-    setrlimit(RLIMIT_FSIZE, &room);
-    setenv("GCOV_PREFIX", coverage, 1);
-    setenv("GCOV_PREFIX_STRIP", "99", 1);
-    if (!freopen(given, "r", stdin) || !freopen(out, "w", stdout) || !freopen("/dev/null", "w", stderr))
-        _exit(99);
-    setitimer(ITIMER_VIRTUAL, &span, NULL);
-    exit(program_main());
-}
-int main(void)
-{
-    char line[4096];
-    while (fgets(line, sizeof line, stdin)) {
-        char *given = strtok(line, " \n"), *out = strtok(NULL, " \n"), *coverage = strtok(NULL, " \n");
-        int status = 0;
-        pid_t pid;
-        fflush(stdout);
-        pid = fork();
-        if (pid == 0)
-            child(given, out, coverage ? coverage : "/nowhere");
-        waitpid(pid, &status, 0);
-        printf("%d\n", WIFEXITED(status) ? WEXITSTATUS(status) : 128 + WTERMSIG(status));
-    }
-    return 0;
-}
-"""
+from corpus_notes import Counting, NotesError, counting, read_notes
 
-
+DRIVER = os.path.join(os.path.dirname(os.path.abspath(__file__)), "corpus_driver.c")
 A_CALL = 200  # runs between two calls of gcov
+SURE = 20  # runs of which it is looked whether gcov has the lines that are reckoned
 
 
 class CoverageError(Exception):
@@ -119,6 +29,12 @@ class Covered(NamedTuple):
     runs: List[FrozenSet[int]]
 
 
+class Driven(NamedTuple):
+    """How a run ended, and where that is known a 1 for each line with code that it came to."""
+    status: int
+    marks: str
+
+
 def write(path: str, text: str) -> str:
     with open(path, "w", encoding="ascii") as file:
         file.write(text)
@@ -129,46 +45,89 @@ def build(folder: str, name: str, text: str, coverage: bool) -> str:
     """The program with the driver, in a folder of its own."""
     home = os.path.join(folder, name)
     os.makedirs(home, exist_ok=True)
-    driver = write(os.path.join(home, "driver.c"), DRIVER)
     source = write(os.path.join(home, "program.c"), text)
     common = ["gcc", "-std=gnu99", "-w", "-O0", "-g", "-c"]
-    subprocess.run(common + (["-DCOVERED"] if coverage else []) + ["-o", "driver.o", driver], cwd=home, check=True)
+    subprocess.run(common + (["-DCOVERED"] if coverage else []) + ["-o", "driver.o", DRIVER], cwd=home, check=True)
     subprocess.run(common + (["--coverage"] if coverage else []) + ["-Dmain=program_main", "-o", "program.o", source], cwd=home, check=True)
     subprocess.run(["gcc", "-o", "program", "driver.o", "program.o"] + (["--coverage"] if coverage else []), cwd=home, check=True)
     return home
 
 
-def drive(home: str, lines: List[str]) -> List[int]:
-    done = subprocess.run([os.path.join(home, "program")], input="".join(line + "\n" for line in lines), stdout=subprocess.PIPE, cwd=home,
+def drive(home: str, lines: List[str], table: Sequence[str] = ()) -> List[Driven]:
+    done = subprocess.run([os.path.join(home, "program"), *table], input="".join(line + "\n" for line in lines), stdout=subprocess.PIPE, cwd=home,
                           universal_newlines=True, check=True)
-    return [int(word) for word in done.stdout.split()]
+    return [Driven(int(status), marks) for status, _, marks in (line.partition(" ") for line in done.stdout.split("\n")[:-1])]
 
 
-def outputs(folder: str, name: str, text: str, given: List[str], target: List[str]) -> List[int]:
-    """Writes what the program writes on each input; answers its statuses."""
-    home = build(folder, name, text, False)
-    return drive(home, [f"{one} {out}" for one, out in zip(given, target)])
+def outputs(home: str, given: List[str], target: List[str]) -> List[int]:
+    """Writes what a program that is built writes on each input; answers its statuses."""
+    return [run.status for run in drive(home, [f"{one} {out}" for one, out in zip(given, target)])]
 
 
-def coverage(folder: str, name: str, text: str, given: List[str], target: List[str]) -> Covered:
-    """Runs the program on each input, and reads by gcov which lines it came to. `target` are the files for what it writes.
+def table_of(home: str) -> Optional[Tuple[str, Counting]]:
+    """Writes the table by which the driver reckons lines, where gcc's notes are read."""
+    try:
+        with open(os.path.join(home, "program.gcno"), "rb") as file:
+            counts = counting(read_notes(file.read(), os.path.join(home, "program.c")))
+        named = subprocess.run(["nm", os.path.join(home, "program")], stdout=subprocess.PIPE, universal_newlines=True, check=True).stdout
+        places = {words[-1]: int(words[0], 16) for words in map(str.split, named.split("\n")) if len(words) == 3}
+        offsets = [places[f"__gcov0.{name}"] - places["main"] + 8 * number for name, count in counts.counters for number in range(count)]
+    except (NotesError, OSError, KeyError, subprocess.CalledProcessError):
+        return None
+    numbers = [len(offsets), *offsets, len(counts.lines)]
+    for forms in counts.lines.values():
+        numbers.append(len(forms))
+        for form in forms:
+            numbers.append(len(form))
+            numbers.extend(number for term in form.items() for number in term)
+    return write(os.path.join(home, "table"), " ".join(map(str, [len(numbers), *numbers]))), counts
 
-    Each run's counters stand in a folder of their own, and gcov is called once for many of them.
-    """
-    home = build(folder, name, text, True)
-    places = [os.path.join(home, f"c{number}") for number in range(min(A_CALL, len(given)))]
-    for place in places:
-        os.mkdir(place)
-        os.symlink(os.path.join(home, "program.gcno"), os.path.join(place, "program.gcno"))
+
+class Coverage:
+    """A program with coverage that is run on inputs."""
+
+    def __init__(self, home: str, sure: bool):
+        """`sure` asks that gcov reads each run."""
+        self.home, self.table = home, None if sure else table_of(home)
+        self.every: Set[int] = set()
+        self.known: Dict[str, FrozenSet[int]] = {}
+        self.places = [os.path.join(home, f"c{number}") for number in range(A_CALL)]
+        for place in self.places:
+            if not os.path.isdir(place):
+                os.mkdir(place)
+                os.symlink(os.path.join(home, "program.gcno"), os.path.join(place, "program.gcno"))
+
+    def reckoned(self, marks: str) -> FrozenSet[int]:
+        if marks not in self.known:
+            lines = self.table[1].lines if self.table else ()
+            self.known[marks] = frozenset(line for line, mark in zip(lines, marks) if mark == "1")
+        return self.known[marks]
+
+    def some(self, given: List[str], target: List[str], sure: int) -> Tuple[List[int], List[FrozenSet[int]]]:
+        """Runs on some inputs, the first of which gcov reads in any case: their statuses and lines."""
+        words = [" ".join(names) + (" sure" if number < sure else "") for number, names in enumerate(zip(given, target, self.places))]
+        runs = drive(self.home, words, [self.table[0]] if self.table else [])
+        read = counted(self.home, [os.path.join(place, "program.gcda") for place, _ in zip(self.places, runs)], self.every)
+        lines = []
+        for number, (run, seen) in enumerate(zip(runs, read)):
+            lines.append(self.reckoned(run.marks) if run.marks else seen)
+            if run.marks and number < sure and lines[-1] != seen:
+                raise NotesError(f"gcov has other lines: {sorted(lines[-1] ^ seen)}")
+        return [run.status for run in runs], lines
+
+
+def coverage(folder: str, name: str, text: str, given: List[str], target: List[str], sure: bool = False) -> Covered:
+    """Runs the program on each input, and reads which lines it came to. `target` are the files for what it writes."""
+    cover = Coverage(build(folder, name, text, True), sure)
     found = Covered([], [], [])
-    every: Set[int] = set()
-    known: Dict[FrozenSet[int], FrozenSet[int]] = {}
-    for start in range(0, len(given), A_CALL):
-        some = list(zip(given[start:start + A_CALL], target[start:start + A_CALL], places))
-        found.statuses.extend(drive(home, [" ".join(words) for words in some]))
-        read = counted(home, [os.path.join(place, "program.gcda") for _, _, place in some], every)
-        found.runs.extend(known.setdefault(lines, lines) for lines in read)
-    return Covered(found.statuses, sorted(every), found.runs)
+    try:
+        for start in range(0, len(given), A_CALL):
+            statuses, lines = cover.some(given[start:start + A_CALL], target[start:start + A_CALL], 0 if start else SURE)
+            found.statuses.extend(statuses)
+            found.runs.extend(lines)
+    except NotesError:
+        return coverage(folder, name, text, given, target, True)
+    return Covered(found.statuses, sorted(cover.every.union(cover.table[1].lines if cover.table else ())), found.runs)
 
 
 def counted(home: str, files: List[str], every: Set[int]) -> List[FrozenSet[int]]:

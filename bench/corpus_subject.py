@@ -8,7 +8,7 @@ from functools import lru_cache
 from typing import Dict, List, NamedTuple, Optional, Sequence, Tuple
 
 from corpus_files import Subject, functions
-from corpus_gcc import Covered, coverage, outputs, write
+from corpus_gcc import Covered, build, coverage, outputs, write
 from corpus_collections import Collection, Counters
 from corpus_runs import CallError, Inputs, Runs, processor_seconds, text_of
 from corpus_scores import Place
@@ -60,7 +60,7 @@ class Bench:
             self.inputs.due.append(os.path.join(self.folder, f"due{place}"))
             with open(self.inputs.given[-1], "wb") as file:
                 file.write(data)
-        outputs(self.folder, "right", subject.text(), self.inputs.given, self.inputs.due)
+        outputs(build(self.folder, "right", subject.text(), False), self.inputs.given, self.inputs.due)
 
     def some(self, count: int, times: int = 1) -> Inputs:
         """The inputs of so many runs, where each input has so many."""

@@ -1,10 +1,14 @@
 """Sentences of docs/EVIDENCE.md and README that have numbers in them, of what was measured."""
 import re
+from math import comb
 from statistics import median
 from typing import Any, List, Optional, Sequence, Tuple
 
 Faults = Sequence[Any]
 FEW = 5  # failing runs
+SURE = 0.05
+LATE = (("truth", "lines by a predicate's truth"), ("turns", "rows and lines by reach in turn"), ("reach", "lines by reach"), ("shown", "rows as `cbi-hunt` shows them"))
+JUDGED = "truth"
 
 
 def capped(value: Optional[float]) -> float:
@@ -107,18 +111,38 @@ def kinds_unseen(faults: Faults, runs: int) -> str:
             f"By lines of a predicate's truth: {', '.join(worst('truth')) or 'none'}.")
 
 
+def by_chance(ahead: int, behind: int) -> float:
+    """How likely a coin that is thrown for each of them shows at least so many ahead: the sign test to one side."""
+    both = ahead + behind
+    return float(sum(comb(both, count) for count in range(ahead, both + 1)) / 2 ** both)
+
+
+def apart_by(faults: Faults, way: str, other: str) -> Tuple[int, int]:
+    """How many faults one way has near in five and the other hasn't, and the other way round."""
+    found = [(near([fault], way), near([fault], other)) for fault in faults]
+    return sum(one > two for one, two in found), sum(one < two for one, two in found)
+
+
+def beside(faults: Faults, runs: int, way: str) -> str:
+    """A way beside rows and Ochiai, fault by fault."""
+    said = [f"near in five for {near(faults, f'{way} 1 {runs}')} of {len(faults)}"]
+    for other, name in ((f"rows 1 {runs}", "rows"), (f"Ochiai {runs}", "Ochiai")):
+        ahead, behind = apart_by(faults, f"{way} 1 {runs}", other)
+        said.append(f"{name} for {near(faults, other)} (alone {ahead}, {name} alone {behind}, by chance {by_chance(ahead, behind):.2g})")
+    return ", ".join(said)
+
+
 def decided(kept: Faults, opened: Faults, runs: int) -> str:
-    """What the faults that were kept back say of the two ways that were added late."""
+    """What the faults that were kept back say of the ways that were added late, and of the one that is judged."""
     if not has(kept, f"turns 1 {runs}"):
         return "The faults that are kept back aren't measured yet."
-    lines = []
-    for way, name in (("turns", "rows and lines by reach in turn"), ("truth", "lines by a predicate's truth")):
-        counts = [(near(some, f"{way} 1 {runs}"), near(some, f"rows 1 {runs}"), near(some, f"Ochiai {runs}"), len(some)) for some in (opened, kept)]
-        gains = counts[1][0] > counts[1][1] and counts[1][0] > counts[1][2]
-        lines.append(f"- {name}: near in five for {counts[0][0]} of {counts[0][3]} faults that were open (rows {counts[0][1]}, Ochiai {counts[0][2]}), and for "
-                     f"{counts[1][0]} of {counts[1][3]} that were kept back (rows {counts[1][1]}, Ochiai {counts[1][2]}): "
-                     + ("it gains on these too." if gains else "on these it isn't ahead of both."))
-    return "\n".join(lines)
+    lines = [f"- {name}: {beside(opened, runs, way)}; of those that were kept back {beside(kept, runs, way)}." for way, name in LATE if has(kept, f"{way} 1 {runs}")]
+    counts = [near(kept, way) for way in (f"{JUDGED} 1 {runs}", f"rows 1 {runs}", f"Ochiai {runs}")]
+    chances = [by_chance(*apart_by(kept, f"{JUDGED} 1 {runs}", other)) for other in (f"rows 1 {runs}", f"Ochiai {runs}")]
+    ahead = counts[0] > max(counts[1:])
+    verdict = "is ahead of both, and more than chance makes of so few" if ahead and max(chances) <= SURE else \
+        "is ahead of both, but chance would make that of so few too" if ahead else "isn't ahead of both"
+    return "\n".join([*lines, "", f"Judged is {dict(LATE)[JUDGED]}: on the faults that were kept back it {verdict}."])
 
 
 def is_pair(text: str) -> bool:

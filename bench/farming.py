@@ -19,7 +19,7 @@ from typing import Dict, Iterator, List, Tuple
 
 from corpus_collections import END
 from corpus_files import Fault, Subject, read_subject
-from corpus_gcc import outputs, write
+from corpus_gcc import build, outputs, write
 from corpus_scores import NEAR
 from corpus_subject import read
 
@@ -35,10 +35,11 @@ def find_inputs(subject: Subject, fault: Fault, folder: str, count: int, one_in:
     os.makedirs(scratch, exist_ok=True)
     wanted = {True: count // one_in, False: count - count // one_in}
     kept: List[Tuple[bytes, bytes]] = []
+    homes = build(scratch, "right", subject.text(), False), build(scratch, "faulty", subject.text((fault,)), False)
     seed = 0
     while any(wanted.values()):
         seed += 1
-        for data, expected, fails in judged_inputs(subject, fault, scratch, seed):
+        for data, expected, fails in judged_inputs(subject, homes, scratch, seed):
             if wanted[fails]:
                 wanted[fails] -= 1
                 kept.append((data, expected))
@@ -49,15 +50,15 @@ def find_inputs(subject: Subject, fault: Fault, folder: str, count: int, one_in:
                 file.write(text)
 
 
-def judged_inputs(subject: Subject, fault: Fault, scratch: str, seed: int) -> Iterator[Tuple[bytes, bytes, bool]]:
-    """Some inputs of the generator, with what is due on each, and whether it fails."""
+def judged_inputs(subject: Subject, homes: Tuple[str, str], scratch: str, seed: int) -> Iterator[Tuple[bytes, bytes, bool]]:
+    """Some inputs of the generator, with what is due on each, and whether it fails; `homes` are the right version and the one with the fault, built."""
     given, due, out = ([os.path.join(scratch, f"{what}{place}") for place in range(AT_ONCE)] for what in ("given", "due", "out"))
     made = subject.inputs(AT_ONCE, seed)
     for path, data in zip(given, made):
         with open(path, "wb") as file:
             file.write(data)
-    outputs(scratch, "right", subject.text(), given, due)
-    statuses = outputs(scratch, "faulty", subject.text((fault,)), given, out)
+    outputs(homes[0], given, due)
+    statuses = outputs(homes[1], given, out)
     for data, right, other, status in zip(made, due, out, statuses):
         expected = read(right)
         yield data, expected, status > 127 or read(other) != expected
