@@ -1,23 +1,22 @@
 """Looks at the answer that a hunt gives, as look_at_tools does at the rest: what broke, where, how often, and one failing run."""
-import os
-import random
+import collections
 import re
-import shutil
-import signal
 import subprocess
 import sys
-import tempfile
 
 import looking
-from looking import Case, Hunting, environment, heed_interrupts
+from look_at_pages import sound
+from looking import Case, Hunting, environment, on_terminal
 
 sys.path.insert(0, looking.TOOLS)
 import cbi_files  # noqa: E402
 import cbi_seen  # noqa: E402
+import cbi_show  # noqa: E402
 import cbi_source  # noqa: E402
 import cbi_text  # noqa: E402
 import cbi_told  # noqa: E402
-from cbi_hunt import looks, mutants, oracles, smaller  # noqa: E402
+import cbi_where  # noqa: E402
+from cbi_hunt import looks  # noqa: E402
 
 FACTS = """\
 #include <stdlib.h>
@@ -109,6 +108,13 @@ class Numbers(Case):
         self.assertAlmostEqual(cbi_seen.by_chance(3, 0, 3, 9), 1 / 220, places=12)
         self.assertGreater(cbi_seen.by_chance(40000, 10000, 50000, 50000), -1e-12)
 
+    def test_lines_that_failing_runs_come_to_are_in_their_order(self):
+        """Of 100 failing runs and 100 others 90 and 10 come to line 5, 50 and 10 to lines 7 and 3, and 12 and 10 to line 9, which is within chance."""
+        spots = {line: ("main", cbi_where.Spot("a.c", line)) for line in (9, 7, 3, 5)}
+        failing = collections.Counter({spots[9]: 12, spots[7]: 50, spots[3]: 50, spots[5]: 90})
+        found = cbi_seen.places_of(failing, collections.Counter({spot: 10 for spot in spots.values()}), cbi_seen.Totals(200, 100, 100, 0))
+        self.assertEqual([(place.spot.line, place.failing, place.successful) for place in found], [(5, 90, 10), (3, 50, 10), (7, 50, 10)])
+
     def test_shares_in_words(self):
         for part, whole, due in ((0, 5, "none did"), (5, 5, "all did"), (45, 540, "1 in 12 did"), (1, 3, "1 in 3 did"), (2, 5, "40 % did"), (3, 4, "75 % did")):
             self.assertEqual(cbi_told.one_in(part, whole), due)
@@ -147,8 +153,12 @@ class Sections(Case):
         text = self.show(runs)
         self.assertIn("\nTwo facts that say more together:\n     line 2, main: if (a) is true\n     line 3, main: if (b) is true\n"
                       "     both true in 9 failing runs and no successful runs; importance 0.800, and so at least 0.1 above that of the first row\n", text)
+        page = sound(self, self.show(runs, "--format", "html"))
+        self.assertIn([2, "Two facts that say more together"], page.headings)
+        self.assertIn("both true in 9 failing runs and no successful runs; importance 0.800", page.text)
         runs = [self.run_of(number, number <= 9, number <= 9, number > 9) for number in range(1, 28)]
         self.assertNotIn("Two facts", self.show(runs))
+        self.assertNotIn("Two facts", self.show(runs, "--format", "html"))
 
     def test_a_pair_that_leaves_no_run_of_the_first_row_out_is_not_shown(self):
         """`b` is true wherever `a` is; since it was looked at in more runs, the pair's importance is greater: Context is 9/39 where that of `a` is 9/18."""
@@ -170,6 +180,11 @@ class Sections(Case):
         rows = re.findall(r"^ +\d+\. .*$", text, re.MULTILINE)
         self.assertEqual(rows, ["  1. line 2, main: if (a) is true"])
         self.assertIn("\n1 weak row: of the 4 facts that were looked at, chance alone would make one or more look as strong (--all shows them).\n", text)
+        page = sound(self, self.show(first + second, "--format", "html"))
+        self.assertIn([2, "Weak rows"], page.headings)
+        self.assertIn("1 weak row: of the 4 facts that were looked at, chance alone would make one or more look as strong.", page.text)
+        told = "looked at in 1 failing and 2 successful"
+        self.assertEqual((told in page.text.split("The source")[0], told in page.folded), (False, True))
         rows = re.findall(r"^ +\d+\. .*$", self.show(first + second, "--all"), re.MULTILINE)
         self.assertEqual(rows, ["  1. line 2, main: if (a) is true", "  2. line 3, main: if (b) is true"])
 
@@ -182,6 +197,11 @@ class Sections(Case):
                                         "The one failing run ended by a call of abort (trap 14). Of the 4 facts that were looked at chance alone would make 1.3 look as strong."), text)
         self.assertIn("<h1>Perhaps by chance, <code>if (b)</code> was true at prog.c:3 in <code>main</code></h1>", self.show(runs, "--format", "html"))
 
+    def test_one_other_run_is_told_as_one(self):
+        self.transform(TWO, "full", "branches")
+        text = self.show([self.run_of(number, number <= 9, number <= 9, None) for number in range(1, 11)])
+        self.assertIn("All 9 runs that saw it failed; the one other that looked there did not. All 9 failing runs ended by", text.replace("\n", " "))
+
     def test_how_failing_runs_ended_and_where_they_go(self):
         self.transform(TWO, "full", "branches")
         runs = [self.run_of(number, True, True, True if number <= 8 else None, outcome="trapped 8" if number <= 7 else "ended 0" if number <= 9 else "cut turns") for number in range(1, 11)]
@@ -190,7 +210,13 @@ class Sections(Case):
         self.assertIn("Failing runs ended by a null pointer that is used (trap 8, 7 runs), by other output (2) and by going back more often than --turns allows (1).",
                       text.replace("\n", " "))
         self.assertIn("     its failing runs ended by a null pointer that is used (trap 8, 7 runs), by other output (2) and by going back more often than --turns allows (1)\n", text)
-        self.assertIn("\nWhere failing runs go:\n     line 3, main: 80 % of the failing runs, 10 % of the others\nLines that failing runs are seen at more often than others", text)
+        said = "line 3, main: 80 % of the failing runs, 10 % of the others"
+        self.assertIn(f"\nWhere failing runs go:\n     {said}\nLines that failing runs are seen at more often than others", text)
+        self.assertIn("To come to a line is no fact of the\nranking, which is told apart.\n", text)
+        page = sound(self, self.show(runs, "--format", "html"))
+        self.assertIn([2, "Where failing runs go"], page.headings)
+        self.assertIn(said, page.text)
+        self.assertIn("To come to a line is no fact of the ranking, which is told apart.", page.text)
 
 
 class Answer(Hunting):
@@ -245,6 +271,15 @@ failing inputs: 02 abc, 04 zza, 08 caa, in kept/failing
         self.assertIn("\nthe run again: sed -n 2p 'lines of it' >input; cbi transform", out)
         self.assertIn("It trapped: 14 Abort", self.again(out))
 
+    def test_a_long_input_is_clipped_and_the_command_has_all_of_it(self):
+        """The page shows 240 of its 301 bytes, and the text as many as a line has room for."""
+        self.write("in puts/13 !", "a\tb" * 100 + "!")
+        out = self.hunt("--inputs", "in puts", "--runs", "26", "--html", "page.html")
+        line = "smallest failing input, 13 ! (301 bytes): " + "a\\tb" * 80 + ".."
+        self.assertIn(line[:cbi_show.WIDEST - 2] + "..\n", out)
+        self.assertIn("<dd><code>" + "a\\tb" * 80 + "..</code></dd>", self.read("page.html").decode())
+        self.assertIn("It trapped: 14 Abort", self.again(out))
+
     def test_no_control_byte_comes_to_a_terminal(self):
         self.write("in puts/\x1b[2J!", "\x1b[2J!")
         self.write("upper.c", looking.UPPER.replace("    int c;\n", "    int c;\t/* \x1b[31m\x07 */\n"))
@@ -264,6 +299,18 @@ failing inputs: 02 abc, 04 zza, 08 caa, in kept/failing
         self.assertIn("      5 |     int c; /* wide wide wide wide wide wide wide..", lines)
         legend = " ".join(lines[next(place for place, line in enumerate(lines) if line.startswith("Each row is about the runs")):])
         self.assertEqual(legend.strip(), cbi_text.LEGEND)
+        _, said = on_terminal(["cbi-hunt", "upper.c", "--inputs", "both"], self.room, 60, out=True)
+        self.assertEqual(said.decode().replace("\r\n", "\n").split("\x1b[K")[-1].split("\n"), lines)
+
+    def test_what_to_do_is_told_in_full_on_a_narrow_terminal(self):
+        for words, due in ((["--turns", "0"], ["they are left out, and --hangs fail counts them as failed No run failed,", "- Where the bug shows in what the program writes, say what it should write: NAME.expected, --expect or --oracle. - Give",
+                                               "- 12 runs were cut: allow more turns (--turns), or count them as failed (--hangs fail)."]),
+                           (["--oracle", "false"], ["All runs that count failed, so there is nothing that a failure could be told apart from. What may help:"])):
+            done = subprocess.run(["cbi-hunt", "upper.c", "--inputs", "in puts", *words], cwd=self.room, env=dict(environment(), COLUMNS="50"), stdout=subprocess.PIPE, check=False)
+            lines = done.stdout.decode().split("\n")
+            self.assertEqual([line for line in lines if len(line) > 50 and not line.startswith("the run again: ")], [])
+            for said in due:
+                self.assertIn(said, " ".join(" ".join(lines).split()))
 
     def test_of_which_row_an_input_is_the_smallest_is_told(self):
         """The first row is about three inputs of three bytes, and `!` is a smaller input that fails."""
@@ -301,319 +348,3 @@ class Hangs(Hunting):
         self.write("digits/end", "")
         out, _ = self.call("cbi-hunt", "half.c", "--inputs", "digits", "--turns", "1000", "--rate", "1", "--jobs", "1", "--runs", "30", "--hangs", "fail", due=None)
         self.assertIn("5 runs that went on without end were made again, and last seen at line 6, main: low = (low + high) / 2 (5).", out.replace("\n", " "))
-
-
-class Oracles(Hunting):
-    def test_one_that_takes_too_long_is_ended(self):
-        self.write("slow.sh", "sleep 30 &\nsleep 30\n")
-        self.assertIn("the oracle sh took more than 1 s on 00 bcd: --oracle-timeout allows it more", self.hunt("--inputs", "in puts", "--oracle", "sh slow.sh", "--oracle-timeout", "1", due=2))
-
-    def test_one_that_a_shell_reads(self):
-        self.write("keep", "")
-        out = self.hunt("--inputs", "in puts", "--oracle-shell", 'tr a-z A-Z <"$1" | cmp -s - "$2"', "--rate", "1")
-        self.assertIn("12 runs on 12 inputs: 3 failed, 9 succeeded\nfailing inputs: 02 abc, 04 zza, 08 caa\n", out)
-
-    def test_signs_of_a_shell_are_told(self):
-        for words, sign in (("a | b", "|"), ("a; b", ";"), ("a $1", "$"), ("a '|' \"$x\"", "$"), ("a `b`", "`"), ("a >b", ">"), ("a && b", "&"),
-                            ("a '|;$'", None), ('a "|;"', None), ("a \\| b", None), ("python3 judge.py", None)):
-            self.assertEqual(oracles.asks_for_shell(words), sign, words)
-        self.assertIn("--oracle has |, which a shell alone heeds: say --oracle-shell", self.hunt("--inputs", "in puts", "--oracle", "cat | wc", due=2))
-
-    def test_one_that_is_ended_by_a_signal_is_told_with_the_name_of_the_input(self):
-        self.write("killed.sh", "echo no table >&2\nkill -SEGV $$\n")
-        said = self.hunt("--inputs", "lines", "--oracle", "sh killed.sh", due=2)
-        self.assertIn("cbi-hunt: the oracle sh ended with status -11 on line01: 0 says right, 1 to 124 wrong, and 125 neither; it wrote no table\n", said)
-
-    def test_one_that_crashes_is_told_with_what_it_wrote(self):
-        self.write("broken.py", "import no_such_module_here\n")
-        out = self.hunt("--inputs", "in puts", "--oracle", "python3 broken.py", due=1)
-        self.assertIn("\n- The oracle python3 calls all of them wrong, and wrote to err: ModuleNotFoundError: No module named 'no_such_module_here'\n", out)
-
-    def test_expected_files_that_differ_in_the_last_newline_are_told(self):
-        for name in os.listdir(self.path("due")):
-            self.write("newlines/" + name, self.read("due/" + name) + b"\n")
-        out = self.hunt("--inputs", "in puts", "--expect", "newlines", due=1)
-        self.assertIn("- 9 of 12 failing inputs that were looked at differ in the last newline alone: on 00 bcd one more is expected than the program writes.\n", out)
-
-
-class Smaller(Hunting):
-    def test_as_few_pieces_as_still_fail(self):
-        asked = []
-
-        def fails(data):
-            asked.append(data)
-            return b"x" in data and b"y" in data
-        self.assertEqual(smaller.smallest([bytes([byte]) for byte in b"abxcdefyg"], fails), [b"x", b"y"])
-        self.assertEqual(smaller.smallest([b"a", b"b"], lambda data: True), [])
-        self.assertEqual(smaller.smallest([b"a", b"b"], lambda data: False), [b"a", b"b"])
-        self.assertLess(len(asked), 60)
-
-    def test_a_trap_is_made_smaller(self):
-        self.write("in puts/13 !", "first line\nlet us see! what this does\nlast\n")
-        out = self.hunt("--inputs", "in puts", "--rate", "1", "--runs", "26", "--minimize")
-        self.assertRegex(out, r"\nsmallest failing input, made from 13 ! of 43 bytes in \d+ runs \(1 byte\): !\nits output: nothing\nthe run again: printf '!' >input; ")
-        out = self.hunt("--inputs", "in puts", "--rate", "1", "--runs", "26", "--minimize", "--keep", "kept")
-        self.assertEqual(self.read("kept/smallest"), b"!")
-        self.assertIn("\nthe run again: cbi-explain -- cbi run --input kept/smallest kept/plain\n", out)
-
-    def test_what_an_oracle_calls_wrong_is_made_smaller(self):
-        self.write("in puts/02 abc", "one and\ntwo abc\n")
-        self.write("in puts/04 zza", "one and\ntwo zza\n")
-        self.write("in puts/08 caa", "one and\ntwo caa\n")
-        out = self.hunt("--inputs", "in puts", "--oracle", "python3 judge.py", "--rate", "1", "--minimize")
-        self.assertRegex(out, r"\nsmallest failing input, made from 02 abc of 16 bytes in \d+ runs \(1 byte\): a\nits output ended with: a\n")
-
-    def test_it_asks_for_an_oracle_where_nothing_says_what_is_due(self):
-        out, err = self.call("cbi-hunt", "upper.c", "--inputs", "in puts", "--expect", "due", "--rate", "1", "--minimize")
-        self.assertIn("cbi-hunt: --minimize asks for an oracle where runs end by other output", err)
-        self.assertIn("smallest failing input, 02 abc (3 bytes): abc\n", out)
-
-
-class Mutants(Hunting):
-    def test_each_sees_something_new(self):
-        self.write("few/1", "b\n")
-        self.write("few/2", "q")
-        words = ["--inputs", "few", "--oracle", "python3 judge.py", "--rate", "1", "--mutate", "6"]
-        out = self.hunt(*words, "--keep", "kept", due=None)
-        self.assertRegex(out, r"\n6 inputs more made from 2, in \d+ tries\n")
-        names = [f"made{number}" for number in range(1, 7)]
-        self.assertEqual(sorted(os.listdir(self.path("kept/made"))), ["made.json", *names])
-        self.write("full", self.call("cbi", "transform", "--mode", "full", "upper.c")[0])
-        seen = set()
-        for name in ["few/1", "few/2"] + [f"kept/made/{name}" for name in names]:
-            self.call("bash", "-c", f"cbi run --input {name} --report report full >output")
-            sites = cbi_files.parse_report("report", self.read("report").decode()).run.sites
-            seen.add(frozenset((site, tuple(count > 0 for count in counters)) for site, counters in sites.items()))
-        self.assertEqual(len(seen), 8)
-        before = [self.read(f"kept/made/{name}") for name in names]
-        self.assertIn("6 inputs more made from 2, as an earlier call made them\n", self.hunt(*words, "--keep", "kept", due=None))
-        self.hunt(*words, "--keep", "anew", "--jobs", "3", due=None)
-        self.assertEqual([self.read(f"anew/made/{name}") for name in names], before)
-
-    def test_nothing_says_what_is_due_for_them(self):
-        self.assertIn("--mutate asks for an oracle, or for runs that trap", self.hunt("--inputs", "both", "--mutate", "5", due=2))
-
-    def test_what_sees_nothing_new_is_told(self):
-        self.write("no.c", "int main(void) { return 0; }\n")
-        self.write("few/1", "b")
-        out, _ = self.call("cbi-hunt", "no.c", "--inputs", "few", "--mutate", "3", due=1)
-        self.assertIn("no inputs more made from 1, in 128 tries; 3 were asked for, and no more saw anything new\n", out)
-
-    def test_changes_are_by_lines_and_bytes(self):
-        chance, found = random.Random(1), set()
-        for _ in range(300):
-            found.add(mutants.changed(b"one\ntwo\n", b"three\n", chance))
-        for data in (b"two\n", b"one\n", b"one\none\ntwo\n", b"two\none\n", b"one\nthree\ntwo\n"):
-            self.assertIn(data, found)
-        self.assertTrue(any(data.count(b"\n") == 2 and len(data) == 7 for data in found))
-        self.assertLessEqual(max(map(len, found)), mutants.MOST_BYTES)
-
-
-class Folders(Hunting):
-    def test_folders_of_a_fuzzer_are_taken_as_they_are(self):
-        for name, text in (("queue/id:000000,time:0,orig:a", "b"), ("queue/id:000001,src:000000", "q"), ("queue/.state/deterministic_done/x", ""), ("crashes/id:000000,sig:06", "!"),
-                           ("crashes/README.txt", "Command line used"), ("fuzzer_stats", "start_time"), ("plot_data", "1"), ("cmdline", "a"), (".synced/other", "")):
-            self.write("out/default/" + name, text)
-        out = self.hunt("--inputs", "out", "--rate", "1", "--runs", "12", "--keep", "kept")
-        self.assertIn("12 runs on 3 inputs: 4 failed, 8 succeeded\nfailing inputs: default/crashes/id:000000, in kept/failing\n\n", out)
-        self.assertEqual(self.read("kept/failing/default/crashes/id:000000,sig:06"), b"!")
-        self.assertIn("smallest failing input, default/crashes/id:000000,sig:06 (1 byte): !\n", out)
-        out = self.hunt("--inputs", "out/default/queue", due=1)
-        self.assertIn("2 runs on 2 inputs: 0 failed, 2 succeeded\nNo run failed", out)
-        self.assertIn("\n- Name the folder above (out/default): its crashes has inputs that AFL++ saw crash.\n", out)
-        out = self.hunt("--inputs", "out/default/crashes", due=1)
-        self.assertIn("1 run on 1 input: 1 failed, 0 succeeded\n", out)
-        self.assertIn("\n- Name the folder above (out/default): its queue has inputs that AFL++ saw end.\n", out)
-
-    def test_names_of_a_fuzzer_are_short_where_several_stand_together(self):
-        for name, due in (("default/crashes/id:000005,sig:11,src:000000,time:207", "default/crashes/id:000005"), ("id:000005,orig:a", "id:000005"), ("grid:1,2", "grid:1,2"), ("id:7", "id:7"), ("a/b", "a/b")):
-            self.assertEqual(cbi_told.short_name(name), due)
-
-    def test_subfolders_are_taken_and_hidden_files_told(self):
-        for number, word in enumerate(("bcd", "abc", "q")):
-            self.write(f"deep/{number}/one", word)
-            self.write(f"deep/{number}/one.expected", word.upper())
-        self.write("deep/.hidden", "!")
-        self.write("deep/0/.DS_Store", "!")
-        out = self.hunt("--inputs", "deep", "--rate", "1", "--runs", "12")
-        self.assertIn("12 runs on 3 inputs: 4 failed, 8 succeeded\nfailing inputs: 1/one\nnot taken, since hidden: .hidden, 0/.DS_Store\n", out)
-
-
-STAND_IN_FOR_RT = """\
-#!{python}
-import os, signal, subprocess, sys, tempfile
-signal.signal(signal.SIGTERM, lambda *_: sys.exit(143))
-folder = sys.argv[sys.argv.index("--cases") + 1]
-for name in sorted(name for name in os.listdir(folder) if not name.endswith(".args")):
-    with open(os.path.join(folder, name + ".args")) as file:
-        words = file.read().split("\\n")[:-1]
-    with open(os.path.join(folder, name), "rb") as given, tempfile.TemporaryDirectory() as room:
-        done = subprocess.run([{cbi!r}, *words], stdin=given, stdout=subprocess.PIPE, stderr=subprocess.PIPE, cwd=room)
-    sys.stdout.buffer.write(f"== {{name}}\\n".encode() + done.stdout)
-    sys.stdout.flush()
-    sys.stderr.buffer.write(done.stderr + f"case={{name}} run=ended status={{done.returncode}} runners=1 proved=no\\n".encode())
-    sys.stderr.flush()
-"""
-
-
-class Ways(Case):
-    """The commands for a fresh clone."""
-
-    def test_words_that_are_wrong_are_told(self):
-        for words, said in ((["build"], "usage: ./build FOLDER [--man FOLDER] [--gate]\n"), (["build", "--what", "a"], "usage: ./build"), (["build", "a", "b"], "usage: ./build")):
-            _, err = self.call(os.path.join(looking.TOP, words[0]), *words[1:], due=2)
-            self.assertTrue(err.startswith(said), err)
-
-    def test_they_say_what_they_need(self):
-        self.write("bin/dirname", "#!/bin/sh\nexec /usr/bin/dirname \"$@\"\n")
-        os.chmod(self.path("bin/dirname"), 0o755)
-        for name, words in (("build", ["here"]), ("check", [])):
-            done = subprocess.run(["/bin/bash", os.path.join(looking.TOP, name), *words], env={"PATH": self.path("bin")}, stdout=subprocess.PIPE, stderr=subprocess.PIPE, cwd=self.room, check=False)
-            self.assertEqual(done.returncode, 2)
-            self.assertTrue(done.stderr.decode().startswith(f"./{name}: there is no rt on the path"), done.stderr)
-        self.assertFalse(os.path.exists(self.path("here")))
-
-    def test_rows_that_are_met_and_rows_that_are_not(self):
-        """What stands in for rt writes what each program of cases is to write, or another last line."""
-        for body, status, said in (("cat stdout", 0, "29 ok, 0 not\n"), ("sed '$s/.*/28 ok, 1 not/' stdout", 1, "28 ok, 1 not\n")):
-            self.write("bin/rt", f"#!/bin/sh\n{body}\n")
-            os.chmod(self.path("bin/rt"), 0o755)
-            out, _ = self.call("env", f"PATH={self.path('bin')}:{os.environ['PATH']}", os.path.join(looking.TOP, "check"), "cases_pairs", due=status)
-            self.assertTrue(out.endswith(said), out)
-        _, err = self.call("env", f"PATH={self.path('bin')}:{os.environ['PATH']}", os.path.join(looking.TOP, "check"), "nowhere", due=2)
-        self.assertEqual(err, "./check: nowhere is no program of cases\n")
-
-    def test_the_demo_ends_in_the_answer_and_leaves_the_page(self):
-        out, _ = self.call(os.path.join(looking.TOP, "demo"), "page.html")
-        self.assertTrue(out.startswith("find(name) returned NULL at examples/lookup/lookup.c:41 in main. All 164 runs that saw it failed; of the 828"), out)
-        self.assertTrue(out.endswith(f"page: {self.path('page.html')}\n"), out)
-        self.assertIn(b"<h1><code>find(name)</code> returned NULL at examples/lookup/lookup.c:41", self.read("page.html"))
-
-    def test_without_an_executable_the_demo_ends_in_the_same_words(self):
-        """What stands in for rt runs what it is given as cases, one after another, each in a folder of its own; no cbi is on the path."""
-        self.write("bin/rt", STAND_IN_FOR_RT.format(python=sys.executable, cbi=os.path.abspath(looking.CBI)))
-        os.chmod(self.path("bin/rt"), 0o755)
-        os.makedirs(self.path("top/crates/cbi"))
-        shutil.copy(os.path.join(looking.TOP, "demo"), self.path("top/demo"))
-        for name in ("tools", "examples"):
-            os.symlink(os.path.join(looking.TOP, name), self.path("top", name))
-        path = os.pathsep.join([self.path("bin"), os.path.dirname(sys.executable), "/usr/local/bin", "/usr/bin", "/bin"])
-        os.mkdir(self.path("tmp"))
-        done = subprocess.run([self.path("top/demo"), "page.html"], cwd=self.room, env=dict(environment(), PATH=path, TMPDIR=self.path("tmp")), stdout=subprocess.PIPE, stderr=subprocess.PIPE, check=False)
-        self.assertEqual(os.listdir(self.path("tmp")), [])
-        self.wait_for(lambda: not self.at_work_in(self.path("tmp")))
-        self.assertEqual(self.at_work_in(self.path("tmp")), [])
-        out = done.stdout.decode()
-        self.assertEqual(done.returncode, 0, done.stderr)
-        self.assertTrue(out.startswith("find(name) returned NULL at examples/lookup/lookup.c:41 in main. All 12 runs that saw it failed; of the 87\n"
-                                       "others that looked there none did. All 12 failing runs ended by a null pointer that is used (trap 8).\n"), out)
-        self.assertIn("\nthe run again: printf 'd=6 d? d? d? c? d? d?\\n' >input; cbi transform --mode plain examples/lookup/lookup.c | ", out)
-        self.assertTrue(out.endswith(f"page: {self.path('page.html')}\n"), out)
-        self.assertIn(b"./demo: builds cbi without its proofs", done.stderr)
-        self.assertIn(b"<h1><code>find(name)</code> returned NULL at examples/lookup/lookup.c:41", self.read("page.html"))
-
-    def at_work_in(self, folder):
-        """The processes that have a file of a folder among their words."""
-        found = []
-        for number in filter(str.isdigit, os.listdir("/proc")):
-            try:
-                with open(f"/proc/{number}/cmdline", "rb") as file:
-                    found += [number] if folder.encode() in file.read() else []
-            except OSError:
-                pass
-        return found
-
-    def test_where_nothing_can_be_built_it_says_why(self):
-        self.write("bin/rt", "#!/bin/sh\necho 'error: no such crate' >&2\nexit 2\n")
-        os.chmod(self.path("bin/rt"), 0o755)
-        _, err = self.call("env", f"PATH={self.path('bin')}:{os.environ['PATH']}", os.path.join(looking.TOOLS, "try-cbi"), "cbi", "bank", "--rate", "1", "--count", "1", "--seed", "1", due=2)
-        self.assertIn("tools/try-cbi: error: no such crate\n", err)
-
-    def test_the_text_in_the_documents_is_what_the_hunt_writes(self):
-        shutil.copytree(os.path.join(looking.EXAMPLES, "lookup"), self.path("lookup"))
-        out, _ = self.call("cbi-hunt", "lookup/lookup.c", "--inputs", "lookup/inputs", "--runs", "1000", "--html", "page.html")
-        with open(os.path.join(looking.TOP, "docs", "hunt.txt"), encoding="utf-8") as file:
-            self.assertEqual(out, file.read())
-
-    def test_the_first_screen_is_short_and_says_when_to_take_something_else(self):
-        with open(os.path.join(looking.TOP, "README.md"), encoding="utf-8") as file:
-            first = file.read().split("\n## What is proved\n")[0]
-        self.assertLess(len(first.split()), 900)
-        table = first.split("\n## When to take something else\n")[1].strip().split("\n\n")[0]
-        self.assertEqual([line.split("|")[1].strip() for line in table.split("\n")[2:]], ["a debugger, `rr`", "AFL++", "coverage-based ranking (Ochiai)", "sanitizers", "sampler-cc"])
-        self.assertTrue(all(len(line.split("|")) == 5 and all(cell.strip() for cell in line.split("|")[1:4]) for line in table.split("\n")[2:]), table)
-
-
-class Signals(Hunting):
-    def begun(self, *more, **kinds):
-        self.room_of_files = tempfile.mkdtemp(prefix="cbi tmp ")
-        self.addCleanup(shutil.rmtree, self.room_of_files, True)
-        words = ["cbi-hunt", "upper.c", "--inputs", "both", "--runs", "1000000", "--jobs", "2", *more]
-        return subprocess.Popen(words, cwd=self.room, env=dict(environment(), TMPDIR=self.room_of_files), stdout=subprocess.PIPE, stderr=subprocess.PIPE, start_new_session=True, **kinds)
-
-    def at_work(self):
-        """Whether a batch is there."""
-        return any(os.path.isdir(path) and os.listdir(path) for path in (os.path.join(self.room_of_files, name, "batches") for name in os.listdir(self.room_of_files)))
-
-    def test_nothing_is_left_after_a_signal(self):
-        for number, whole in ((signal.SIGTERM, False), (signal.SIGTERM, True), (signal.SIGHUP, True), (signal.SIGINT, True)):
-            begun = self.begun(preexec_fn=heed_interrupts)
-            self.wait_for(self.at_work)
-            (os.killpg if whole else os.kill)(begun.pid, number)
-            out, err = begun.communicate()
-            self.assertEqual((begun.returncode, err), (130, b""), (number, whole))
-            self.assertIn(b"interrupted, so this is what there is", out)
-            self.assertEqual(os.listdir(self.room_of_files), [])
-
-    def test_one_that_a_shell_begins_in_the_background_stops_by_term_alone(self):
-        begun = self.begun(preexec_fn=lambda: signal.signal(signal.SIGINT, signal.SIG_IGN))
-        self.wait_for(self.at_work)
-        os.killpg(begun.pid, signal.SIGINT)
-        self.assertRaises(subprocess.TimeoutExpired, begun.wait, 1)
-        os.kill(begun.pid, signal.SIGTERM)
-        begun.communicate()
-        self.assertEqual((begun.returncode, os.listdir(self.room_of_files)), (130, []))
-
-    def test_an_explained_command_leaves_nothing_either(self):
-        self.write("turns.c", "int main(void) { int i; for (i = 0; i < 2000000000; i++); return 0; }\n")
-        self.write("turns", self.call("cbi", "transform", "--mode", "plain", "turns.c")[0])
-        folder = tempfile.mkdtemp(prefix="cbi tmp ")
-        self.addCleanup(shutil.rmtree, folder, True)
-        for number in (signal.SIGTERM, signal.SIGHUP, signal.SIGINT):
-            begun = subprocess.Popen(["cbi-explain", "--", "cbi", "run", "--turns", "100000000", "turns"], cwd=self.room, env=dict(environment(), TMPDIR=folder), stdout=subprocess.PIPE, stderr=subprocess.PIPE,
-                                     preexec_fn=heed_interrupts)
-            self.wait_for(lambda: os.listdir(folder))
-            begun.send_signal(number)
-            self.assertEqual(begun.communicate(), (b"", b"cbi-explain: interrupted\n"))
-            self.assertEqual((begun.returncode, os.listdir(folder)), (130, []))
-
-    def test_a_signal_that_python_swallowed_is_heeded_all_the_same(self):
-        """What a handler raises behind a fork is told and lost. Here it is lost in an object that goes, before the first batch is there."""
-        self.write("lose.py", f"""\
-import os, signal, sys, threading
-sys.path.insert(0, {looking.TOOLS!r})
-from cbi_hunt import here, hunting
-sys.unraisablehook = lambda lost: None
-class Going:
-    def __del__(self):
-        os.kill(os.getpid(), signal.SIGTERM)
-        for _ in range(1000):
-            pass
-before = here.taken
-def taken(*words):
-    before(*words)
-    Going()
-here.taken = taken
-sys.argv = ["cbi-hunt", "upper.c", "--inputs", "both", "--runs", "1000000", "--jobs", "1"]
-sys.exit(hunting.main())
-""")
-        out, _ = self.call(sys.executable, "lose.py", due=130)
-        made = re.search(r"^(\d+) runs on 12 inputs: .*; interrupted, so this is what there is$", out, re.MULTILINE)
-        self.assertLess(int(made[1]), 1000000)
-
-    def test_nothing_is_left_behind_a_pipe_that_closes(self):
-        folder = tempfile.mkdtemp(prefix="cbi tmp ")
-        self.addCleanup(shutil.rmtree, folder, True)
-        done = subprocess.run(["bash", "-c", "cbi-hunt upper.c --inputs both --runs 24 | head -n 1; echo ${PIPESTATUS[0]}"], cwd=self.room, env=dict(environment(), TMPDIR=folder),
-                              stdout=subprocess.PIPE, stderr=subprocess.PIPE, check=False)
-        self.assertEqual((done.stderr, os.listdir(folder)), (b"", []))

@@ -1,4 +1,5 @@
 """Looks at the page of a hunt and at its SARIF, as look_at_tools does at the rest."""
+import datetime
 import html.parser
 import json
 import os
@@ -170,8 +171,30 @@ class Pages(Hunting):
         page = sound(self, self.read("a b/page.html").decode())
         program = cbi_files.read_program(self.path("a b", "program")).identity
         source = subprocess.run(["sha256sum", "upper.c"], cwd=self.room, stdout=subprocess.PIPE, check=True).stdout.decode().split()[0]
-        for said in ("cbi-hunt upper.c --inputs both --rate 1 --seed 7 --keep 'a b' --runs 24", "1970-01-02", cbi_files.VERSION, program, source):
-            self.assertIn(said, page.text)
+        made = self.made_by(self.read("a b/page.html").decode())
+        self.assertEqual(made, {"Command": "cbi-hunt upper.c --inputs both --rate 1 --seed 7 --keep &#x27;a b&#x27; --runs 24", "Version": cbi_files.VERSION, "Date": "1970-01-02", "Runs": "24", "Seed": "7",
+                                "Rate": "1", "Turns": "1000000", "Policy": "all", "SHA-256 of the text": source, "SHA-256 of the program": program})
+        self.assertIn("What made this page", page.text)
+
+    def made_by(self, text):
+        return dict(re.findall(r"<dt>([^<]*)</dt><dd><code>([^<]*)</code></dd>", text.split('<section id="made">')[1].split("</section>")[0]))
+
+    def test_the_date_is_today_where_nothing_else_is_said(self):
+        days = [datetime.datetime.now(datetime.timezone.utc).strftime("%Y-%m-%d")]
+        given = {name: value for name, value in environment().items() if name != "SOURCE_DATE_EPOCH"}
+        subprocess.run(["cbi-hunt", "upper.c", "--inputs", "both", "--html", "page.html"], cwd=self.room, env=given, stdout=subprocess.PIPE, check=True)
+        days.append(datetime.datetime.now(datetime.timezone.utc).strftime("%Y-%m-%d"))
+        self.assertIn(self.made_by(self.read("page.html").decode())["Date"], days)
+
+    def test_its_words_are_those_of_the_glossary(self):
+        with open(os.path.join(looking.TOP, "docs", "GLOSSARY.md"), encoding="utf-8") as file:
+            glossary = {row.split(" | ")[0][2:]: row.split(" | ")[1] for row in file if row.startswith("| ")}
+        for word, meaning in cbi_page.WORDS:
+            self.assertIn(glossary[word][len(meaning):][:1], ("", ":"), word)
+            self.assertTrue(glossary[word].startswith(meaning), word)
+        page, _ = self.page("--inputs", "in puts", due=1)
+        for word in ("predicate", "trap", "elimination", "weak row"):
+            self.assertIn(dict(cbi_page.WORDS)[word].replace("`", ""), page.folded)
 
     def test_lines_are_the_darker_the_more_they_say(self):
         _, text = self.page("--inputs", "in puts", "--expect", "due", "--rate", "1")

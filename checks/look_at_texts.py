@@ -1,12 +1,13 @@
 """Looks at hunts of texts that are ported first, as look_at_tools does at the rest: files and lines are a person's."""
 import json
 import os
+import random
 import re
 import shutil
 import sys
 
 import looking
-from looking import Case, Hunting, call
+from looking import EXAMPLES, Case, Hunting, call
 from look_at_pages import sound
 
 sys.path.insert(0, looking.TOOLS)
@@ -99,6 +100,14 @@ class Ported(Hunting):
         _, err = self.hunted(due=2)
         self.assertRegex(err, r"^check\.c:7: ")
 
+    def test_a_refusal_has_a_place_and_no_control_byte(self):
+        """A text without `main` is refused at its last line, or at its first where it has none."""
+        for text, due in (("", "odd.c:1: no `main`"), ("int f(void)\n{\n    return 1;\n}\n", "odd.c:4: no `main`"), ("int main(void)\n{\n    \x1b return 0;\n}\n", "odd.c:3: the byte `\\033`")):
+            self.write("odd.c", text)
+            _, err = self.call("cbi-hunt", "odd.c", "--inputs", "in puts", due=2)
+            self.assertTrue(err.startswith(due + ": "), err)
+            self.assertEqual(err.count("\n"), 1, err)
+
     def test_without_the_porter_a_text_is_refused_as_cbi_refuses_it(self):
         self.write("none/pycparser.py", "raise ImportError('not here')\n")
         self.write("bad.c", "int main(void)\n{\n    long n;\n}\n")
@@ -132,3 +141,33 @@ class Lines(Case):
         self.assertIn("\n  1. what the port added, cbi_strlen: if is true\n", whole)
         self.write("map", LINES.replace("lines 4", "lines 9"))
         self.assertRaisesRegex(cbi_files.Fault, "map: no map of lines", cbi_where.ported, "out.c", "map")
+
+
+class Port(Case):
+    """The worked port of docs/PORTING.md: both programs write the same and end the same, on made inputs."""
+
+    def commands(self, chance):
+        things = ["nuts", "bolts", "washers", "screws", "abcdefghijkl", "abcdefghijklm", "n2"]
+        for _ in range(chance.randrange(1, 25)):
+            word = chance.choice(["in"] * 5 + ["out"] * 4 + ["show", "sum"] * 2 + (["away"] if chance.random() < 0.2 else []))
+            yield word if word in ("show", "sum", "away") else f"{word} {chance.choice(things[:5] * 4 + things)} {chance.randrange(2000)}"
+
+    def test_it_does_what_the_program_did(self):
+        compiler = shutil.which("cc") or shutil.which("gcc")
+        if not compiler:
+            self.skipTest("there is no C compiler here")
+        ported = os.path.join(EXAMPLES, "ported")
+        self.call(compiler, "-w", "-o", "stock", os.path.join(ported, "stock.c"))
+        self.write("prog.cbi", self.call("cbi", "transform", "--mode", "plain", os.path.join(ported, "stock_ported.c"))[0])
+        _, err = self.call("cbi", "transform", "--mode", "plain", os.path.join(ported, "stock.c"), due=5)
+        self.assertEqual(err, "cbi: refusal 11 BadToken line 3\n")
+        chance, statuses = random.Random(5), set()
+        for _ in range(40):
+            few, text = chance.randrange(1000), "".join(line + "\n" for line in self.commands(chance))
+            status, due, _ = call("./stock", str(few), given=text.encode(), folder=self.room)
+            self.write("input", f"{few}\n{text}")
+            out, _ = self.call("cbi", "run", "--input", "input", "--report", "report", "prog.cbi")
+            self.assertEqual(out, due, text)
+            self.assertIn(f"outcome ended {status}\n".encode(), self.read("report"))
+            statuses.add(status)
+        self.assertEqual(statuses, {0, 1})

@@ -1,10 +1,14 @@
 """What the looks at the scripts of tools/ share: calls of them as processes, and folders to call them in."""
+import fcntl
 import os
+import pty
 import shutil
 import signal
+import struct
 import subprocess
 import sys
 import tempfile
+import termios
 import time
 import unittest
 
@@ -28,10 +32,30 @@ def call(*words, given=b"", folder=None, **more):
     return done.returncode, done.stdout.decode(), done.stderr.decode()
 
 
+def on_terminal(words, folder, columns=80, out=False):
+    """A call whose err is a terminal so wide, and out as well where it is said: status, and what comes to the terminal."""
+    ours, theirs = pty.openpty()
+    fcntl.ioctl(theirs, termios.TIOCSWINSZ, struct.pack("HHHH", 24, columns, 0, 0))
+    given = {name: value for name, value in environment().items() if name != "COLUMNS"}
+    begun = subprocess.Popen(words, cwd=folder, env=given, stdin=subprocess.DEVNULL, stdout=theirs if out else subprocess.DEVNULL, stderr=theirs)
+    os.close(theirs)
+    said = b""
+    while True:
+        try:
+            piece = os.read(ours, 1000)
+        except OSError:
+            break
+        if not piece:
+            break
+        said += piece
+    os.close(ours)
+    return begun.wait(), said
+
+
 def sources():
     """The scripts and their modules."""
     for folder, _, names in os.walk(TOOLS):
-        yield from (os.path.join(folder, name) for name in names if name.endswith(".py") or name in ("cbi-hunt", "cbi-show", "cbi-explain", "try-cbi"))
+        yield from (os.path.join(folder, name) for name in names if name.endswith(".py") or name in ("cbi-hunt", "cbi-show", "cbi-explain", "cbi-port", "try-cbi"))
 
 
 class Case(unittest.TestCase):
@@ -62,9 +86,9 @@ class Case(unittest.TestCase):
         self.assertNotIn("Traceback", err)
         return out, err
 
-    def wait_for(self, come):
-        """Waits until it is there, a minute at most."""
-        limit = time.monotonic() + 60
+    def wait_for(self, come, seconds=60):
+        """Waits until it is there, so long at most."""
+        limit = time.monotonic() + seconds
         while time.monotonic() < limit and not come():
             time.sleep(0.01)
 

@@ -12,7 +12,7 @@ from typing import Iterator, List, Match, NamedTuple, Optional, Tuple
 
 import cbi_dialect
 import cbi_files
-from cbi_files import FOUND, NOTHING, TRAPS, Fault, Program, Run, count_of
+from cbi_files import FOUND, NOTHING, TRAPS, Fault, Program, Run, count_of, harmless
 
 EXAMPLES = """\
 examples:
@@ -226,13 +226,16 @@ def explain_outcome(outcome: str) -> str:
 LABELS = {"fail": "It counts as failing.", "pass": "It counts as successful.", "none": "It counts as neither failing nor successful."}
 
 
-def explain_report(name: str, text: str, program: Optional[str]) -> Iterator[str]:
+def explain_report(name: str, text: str, program: Optional[str], judged: bool = True) -> Iterator[str]:
+    """What a report says of its run; `judged` where something said what the run should write."""
     report = cbi_files.parse_report(name, text)
     run, (fast, slow, tests) = report.run, report.work
     yield f"Run {run.number} of the program {report.program[:12]}.."
     yield explain_outcome(run.outcome)
     if run.label == "fail" and run.outcome.startswith("ended"):
         yield "It counts as failing: its output wasn't the expected one."
+    elif run.label == "pass" and not judged:
+        yield "It counts as successful, since no --expect says what it should write."
     else:
         yield LABELS.get(run.label, "Its label isn't known.")
     yield (f"It was seen at {count_of(len(run.sites), 'site')}. Of its regions {fast} went by unlooked at and {slow} were looked at, visit by visit, "
@@ -278,9 +281,9 @@ OF_WATCHERS = re.compile(r"(first|hottest|last) none")
 
 def explain_call(words: List[str], program: Optional[str]) -> Iterator[str]:
     """Runs a command, and explains what it was refused for, or how its run ended. Its input and output are those of this process."""
-    runs = os.path.basename(words[0]) == "cbi" and words[1:2] == ["run"]
+    runs = os.path.basename(words[0]).startswith("cbi") and words[1:2] == ["run"]
     with cbi_files.folder_for_a_while("cbi-explain-") as folder:
-        report = named_report(words) if runs else None
+        report = value_of("--report", words) if runs else None
         if runs and report is None:
             report = os.path.join(folder, "report")
             words = [*words[:2], f"--report={report}", *words[2:]]
@@ -295,16 +298,16 @@ def explain_call(words: List[str], program: Optional[str]) -> Iterator[str]:
             return
         for line in said.splitlines():
             if not OF_WATCHERS.fullmatch(line):
-                print(line, file=sys.stderr)
+                cbi_files.tell(line)
         if report and report != "-" and os.path.exists(report):
-            yield from explain_report(report, cbi_files.decoded(cbi_files.read_bytes(report)), program)
+            yield from explain_report(report, cbi_files.decoded(cbi_files.read_bytes(report)), program, value_of("--expect", words) is not None)
 
 
-def named_report(words: List[str]) -> Optional[str]:
-    """The report that a command names."""
+def value_of(option: str, words: List[str]) -> Optional[str]:
+    """What a command has an option take."""
     for word, following in zip(words, words[1:] + [""]):
-        if word == "--report" or word.startswith("--report="):
-            return following if word == "--report" else word[len("--report="):]
+        if word == option or word.startswith(option + "="):
+            return following if word == option else word[len(option) + 1:]
     return None
 
 
@@ -331,7 +334,7 @@ def main() -> int:
     lines = explain_call(called, chosen.program) if called else explain_all(chosen.file) if chosen.all else explain(chosen)
     told = False
     for line in lines:
-        print(line)
+        print(harmless(line))
         told = True
     if not told:
         print("cbi-explain: " + ("nothing is seen that the dialect leaves out; cbi transform decides" if chosen.all

@@ -1,4 +1,4 @@
-"""What cbi-hunt, cbi-show and cbi-explain share: the files of `cbi`, and how a script ends.
+"""What cbi-hunt, cbi-show, cbi-explain and cbi-port share: the files of `cbi`, and how a script ends.
 
 Not proved: no promise of `cbi` speaks of these scripts. They read the files that `cbi` writes by their
 forms (docs/FORMATS.md), and call `cbi` for everything that is promised.
@@ -91,7 +91,7 @@ def call_main(name: str, main: Callable[[], int]) -> None:
         status = main()
         sys.stdout.flush()
     except Fault as fault:
-        print(fault if isinstance(fault, Refused) else f"{name}: {fault}", file=sys.stderr)
+        tell(str(fault) if isinstance(fault, Refused) else f"{name}: {fault}")
         status = TROUBLE
     except BrokenPipeError:
         os.dup2(os.open(os.devnull, os.O_WRONLY), sys.stdout.fileno())
@@ -100,9 +100,15 @@ def call_main(name: str, main: Callable[[], int]) -> None:
         print(f"{name}: interrupted", file=sys.stderr)
         status = INTERRUPTED
     except OSError as error:
-        print(f"{name}: {error.filename + ': ' if error.filename else ''}{error.strerror}", file=sys.stderr)
+        tell(f"{name}: {error.filename + ': ' if error.filename else ''}{error.strerror}")
         status = TROUBLE
     sys.exit(status)
+
+
+def tell(said: str) -> None:
+    """Tells something on err, which may be a terminal; what a name or a text has of control bytes is seen as such."""
+    for line in said.split("\n"):
+        print(harmless(line), file=sys.stderr)
 
 
 def folder_for_a_while(prefix: str) -> "tempfile.TemporaryDirectory[str]":

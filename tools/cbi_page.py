@@ -26,13 +26,19 @@ BANDS = (("context", "how often runs fail that come to the place"),
          ("sure", "what the fact adds to that for sure (95 %)"),
          ("unsure", "what it may add beyond that"),
          ("successful", "how often runs succeed in which it was true"))
-WORDS = (("predicate", "a fact at a place of the program that is true or not; a row of this page is one"),
+# The words of docs/GLOSSARY.md that the page has, as they stand there.
+WORDS = (("site", "a place of a program at which runs are observed"),
+         ("predicate", "a fact at a site that is true or not"),
          ("failure", "the share of failing runs among those in which a predicate was true"),
          ("context", "the share of failing runs among those that came to a predicate's place and looked"),
          ("increase", "failure less context: how much more likely a failure is where the predicate was true than where its place was merely reached"),
          ("importance", "how much a predicate says, and of how many failing runs, in one number from 0 to 1"),
          ("elimination", "the leader is listed, the runs that it explains are set aside, and the rest are counted again, until no predicate passes"),
-         ("rate", "the mean distance of sampled visits: at rate 5 one visit in five is looked at"))
+         ("weak row", "a row as strong as chance alone would make at least one of so many predicates look"),
+         ("trap", "the end of a run at what C leaves undefined, at a false `assert`, or at `abort`"),
+         ("rate", "the mean distance of sampled visits: at rate 5 one visit in five is looked at"),
+         ("turn", "a step back in a loop, or a call; a run may spend as many as `--turns` says"),
+         ("policy", "which runs are set aside behind a leader: `all`, `failing` or `relabel`"))
 
 
 def code(text: object) -> str:
@@ -44,6 +50,11 @@ def fact(said: Fact, past: bool = False) -> str:
     says = said.past()[len(said.code):].strip() if past else said.says
     before, after, statement = says.partition("after ")
     return code(said.code) + (f" after {code(statement)}" if after and not before else f" {escaped(says)}" if says else "")
+
+
+def marked(text: str) -> str:
+    """A text with what stands between backquotes in the letters of a program."""
+    return re.sub("`([^`]*)`", r"<code>\1</code>", escaped(text))
 
 
 def capital(text: str) -> str:
@@ -278,11 +289,11 @@ def made_by(view: View) -> Iterator[str]:
 
 def reading() -> Iterator[str]:
     yield '<section id="reading"><h2>How to read this page</h2><details><summary>Rows, bars and words</summary>'
-    yield "<p>A row names a fact that was seen at a line in some runs. It is listed because runs fail more often where it was true than where its line was merely"
+    yield "<p>A row names a fact, a predicate, that was seen at a line in some runs. It is listed because runs fail more often where it was true than where its line was merely"
     yield "reached, beyond chance. Each row is about the runs that no row above it explains, so the first row often is the bug, and a later one may be another bug."
     yield "A fact shows where a bug can be seen; why it is one, the line says.</p>"
     yield "<p>How long the bar of a row is goes by the logarithm of the runs in which the fact was true.</p>"
-    yield "<dl>" + "".join(f"<dt>{word}</dt><dd>{escaped(meaning)}</dd>" for word, meaning in WORDS) + "</dl></details>"
+    yield "<dl>" + "".join(f"<dt>{word}</dt><dd>{marked(meaning)}</dd>" for word, meaning in WORDS) + "</dl></details>"
     yield '<p class="quiet">The ranking is that of <code>cbi rank</code>, which is proved to be the elimination of the collected runs; this page is not proved.</p></section>'
 
 

@@ -22,6 +22,13 @@ def wrapped(said: str, width: int, most: int = SENTENCE) -> List[str]:
     return textwrap.wrap(harmless(said), min(most, width), break_long_words=False, break_on_hyphens=False)
 
 
+def prose(said: str, width: int) -> List[str]:
+    """A line of words, in as many as it takes, since its end may say what to do."""
+    line = harmless(said)
+    behind = "  " if line.startswith("- ") else ""
+    return [line] if len(line) <= width else textwrap.wrap(line, width, subsequent_indent=behind, break_long_words=False, break_on_hyphens=False)
+
+
 def bar(bands: Bands) -> str:
     """A thermometer of letters. A band that is less than half a letter isn't seen."""
     length = max(1, round(BAR * bands.length))
@@ -54,7 +61,7 @@ def text_of_row(shown: Shown, view: View, indent: str = "") -> Iterator[str]:
 def answer(view: View, width: int) -> Iterator[str]:
     """What broke, where, how often, and one failing run."""
     if not view.every():
-        yield from cbi_told.sentences(view)
+        yield from (line for said in cbi_told.sentences(view) for line in prose(said, width))
     for said in (" ".join(cbi_told.sentences(view)) if view.every() else None, cbi_told.hanging_line(view)):
         yield from wrapped(said, width) if said else ()
     if view.every() or view.hunted and view.hunted.example:
@@ -94,7 +101,7 @@ def whole_text(view: View, width: int, every: bool) -> Iterator[str]:
     totals = view.hunted.notes if view.hunted else [cbi_told.totals_line(view.totals)] if view.totals else []
     if view.every():
         yield from answer(view, width)
-    yield from totals
+    yield from (line for said in totals for line in prose(said, width))
     if not view.every() and view.hunted:
         yield from answer(view, width)
     elif totals:

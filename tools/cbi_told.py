@@ -36,7 +36,7 @@ def sentences(view: View) -> List[str]:
     row = first.row
     true, others, failing = row.f + row.s, row.fobs + row.sobs - row.f - row.s, row.fobs - row.f
     saw = {1: "The one run that saw it failed", 2: "Both runs that saw it failed"}.get(true, f"All {true} runs that saw it failed") if not row.s else f"{row.f} of the {true} runs that saw it failed"
-    rest = f"; of the {count_of(others, 'other')} that looked there {one_in(failing, others)}" if others else ""
+    rest = f"; of the {others} others that looked there {one_in(failing, others)}" if others > 1 else f"; the one other that looked there {'failed too' if failing else 'did not'}" if others else ""
     said = [f"{perhaps(first)}{first.fact.past()} at {first.spot.file}:{first.spot.line} in {row.function}.", f"{saw}{rest}.", *ended(view)]
     if first.weak() and first.by_chance is not None and view.seen:
         said.append(f"Of the {view.seen.observed} facts that were looked at chance alone would make {first.by_chance:.1f} look as strong.")

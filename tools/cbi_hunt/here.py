@@ -11,7 +11,7 @@ from typing import Any, List, Optional
 from cbi_files import TROUBLE, Fault
 from cbi_hunt.counts import Progress
 from cbi_hunt.kept import Kept
-from cbi_hunt.signals import SIGNALS, heed_now, heeded
+from cbi_hunt.signals import SIGNALS, heed, heed_now, heeded, noted
 from cbi_lists import runner_of
 from cbi_runs import Batch, Plan, Runner
 
@@ -58,22 +58,26 @@ def make_here(plan: Plan, kept: Kept, batches: List[Batch], jobs: int, progress:
     context = multiprocessing.get_context("fork")
     stop = context.Event()
     futures: List["concurrent.futures.Future[Optional[Batch]]"] = []
-    with concurrent.futures.ProcessPoolExecutor(jobs, context, begin_worker, (plan, kept.batches, kept.lock.fileno(), stop)) as pool:
+    pool = concurrent.futures.ProcessPoolExecutor(jobs, context, begin_worker, (plan, kept.batches, kept.lock.fileno(), stop))
+    try:
         try:
             futures += [pool.submit(work, batch) for batch in batches]
             for future in concurrent.futures.as_completed(futures):
                 taken(future, kept, progress)
                 heed_now()
-            return True
-        except KeyboardInterrupt:
-            heeded()
-            return False
-        except concurrent.futures.process.BrokenProcessPool:
-            raise Fault("a worker was ended from outside; a hunt with --keep goes on where it stopped")
         finally:
-            stop.set()
-            for future in futures:
-                future.cancel()
+            heed(noted)
+        return True
+    except KeyboardInterrupt:
+        return False
+    except concurrent.futures.process.BrokenProcessPool:
+        raise Fault("a worker was ended from outside; a hunt with --keep goes on where it stopped")
+    finally:
+        stop.set()
+        for future in futures:
+            future.cancel()
+        pool.shutdown()
+        heeded()
 
 
 def taken(future: "concurrent.futures.Future[Optional[Batch]]", kept: Kept, progress: Progress) -> None:

@@ -75,6 +75,7 @@ def hunt(chosen: argparse.Namespace, cbi: str, folder: str) -> int:
     plan, told = plan_of(chosen, kept, inputs, cbi)
     heed_now()
     count, whole = make_runs(chosen, plan, kept, chosen.runs or len(inputs.names))
+    heed_now()
     if not count.runs():
         print("No run was made.")
         return INTERRUPTED

@@ -62,11 +62,12 @@ def show(hunt: Hunt, notes: List[str], newline: Optional[str]) -> bool:
     hunted = hunted._replace(example=example_of(hunt, view.first(), program), hanging=hanging_places(hunt, program, cbi_rows.Wording(source, program, where)))
     write_hunted(kept.path("told.json"), hunted)
     view = view._replace(hunted=hunted)
-    for line in cbi_show.formatted(view, "text", hunt.chosen.all):
-        print(line)
+    # The pages come first, since whoever reads the text may close the pipe behind its first lines.
     pages = [page for page in (hunt.chosen.html, os.path.join(hunt.chosen.keep, "page.html") if hunt.chosen.keep else None) if page]
     for page in pages:
         cbi_show.write(cbi_show.formatted(view, "html"), page)
+    for line in cbi_show.formatted(view, "text", hunt.chosen.all):
+        print(line)
     if pages:
         print(f"page: {pages[0]}")
     sys.stdout.flush()

@@ -2,6 +2,8 @@
 
 Their handler raises, so that a hunt ends wherever it is. But what is raised in code that Python runs by itself, as behind a fork or where an object goes,
 is told and lost. So it is noted as well that the end was asked for, and a hunt looks at that note wherever it goes on to the next thing.
+What comes until that is heeded is noted alone, and so is what comes while a hunt waits for its processes to end: where that is interrupted,
+Python takes a thread for ended that isn't, and waits for good in the end for what nobody ends.
 """
 import signal
 from typing import Any
@@ -10,8 +12,9 @@ SIGNALS = [number for name in ("SIGINT", "SIGTERM", "SIGHUP") for number in [get
 
 
 class Asked:
-    """Whether the end was asked for and hasn't been heeded yet."""
+    """Whether the end was asked for and hasn't been heeded yet, and whether it was asked for again since."""
     now = False
+    again = False
 
 
 def heed(handler: Any) -> None:
@@ -23,7 +26,12 @@ def heed(handler: Any) -> None:
 
 def interrupted(number: int, frame: Any) -> None:
     Asked.now = True
+    heed(noted)
     raise KeyboardInterrupt
+
+
+def noted(number: int, frame: Any) -> None:
+    Asked.again = True
 
 
 def heed_now() -> None:
@@ -33,5 +41,6 @@ def heed_now() -> None:
 
 
 def heeded() -> None:
-    """What was asked for is done; a hunt may go on to tell what it has."""
-    Asked.now = False
+    """What was asked for is done; a hunt may go on to tell what it has, unless it was asked for again."""
+    Asked.now, Asked.again = Asked.again, False
+    heed(interrupted)

@@ -2,6 +2,7 @@
 import os
 from typing import Callable, Dict, List, NamedTuple, Optional, Sequence, Tuple
 
+from cbi_files import count_of
 from cbi_hunt.again import Repeater
 from cbi_hunt.counts import Told
 from cbi_runs import Plan, judged
@@ -61,7 +62,7 @@ class Smaller:
             self.known[data] = self.fails_now(data)
             if self.known[data]:
                 self.best = data
-            self.told.show(f"smaller: {len(self.best)} bytes after {self.steps} runs")
+            self.told.show(f"smaller: {count_of(len(self.best), 'byte')} after {count_of(self.steps, 'run')}")
         return self.known[data]
 
     def fails_now(self, data: bytes) -> bool:

@@ -16,12 +16,9 @@ No run failed, so there is nothing that a failure could be told apart from. What
 - Where the bug shows in what the program writes, say what it should write: NAME.expected, --expect or --oracle.
 - Give inputs on which it fails.{cut}"""
 ONLY_FAILURES = """\
-All runs that count failed, so there is nothing that a failure could be told apart from. What may help:
-- Give inputs on which the program does as it should.{more}"""
-NO_RANKING = """\
-No predicate passes the test: by these runs, none makes a failure more likely beyond chance. What may help:
-- More runs (--runs), of which each has other countdowns.
-- A smaller rate (--rate 1 looks at every visit)."""
+All runs that count failed, so there is nothing that a failure could be told apart from. What may help:{more}
+- Give inputs on which the program does as it should.{beside}"""
+NO_RANKING = "No predicate passes the test: by these runs, none makes a failure more likely beyond chance. What may help:"
 MOST_HIDDEN = 3
 
 
@@ -65,10 +62,10 @@ def hidden_line(inputs: Inputs) -> Optional[str]:
 
 
 def notes(hunt: Hunt, whole: bool, told: List[str], newline: Optional[str], sample: Optional[int]) -> Iterator[str]:
-    """The lines that sum up a hunt."""
+    """The lines that sum up a hunt. Where no run succeeded, what is told of the last newline is among the advice."""
     yield summary(hunt.count, hunt.inputs) + ("" if whole else "; interrupted, so this is what there is")
     sampled = sample is not None and f"a collection holds {MOST_RUNS} runs with {MOST_MARKS} site lines: ranked is a uniform sample of {sample} runs, by the seed {hunt.chosen.seed}"
-    for line in (failing_line(hunt), *map(harmless, told), hidden_line(hunt.inputs), cut_line(hunt.count, hunt.chosen), newline, sampled):
+    for line in (failing_line(hunt), *map(harmless, told), hidden_line(hunt.inputs), cut_line(hunt.count, hunt.chosen), newline if hunt.count.succeeded else None, sampled):
         if line:
             yield line
 
@@ -81,6 +78,18 @@ def beside(inputs: Inputs, given: str, other: str, what: str) -> str:
     return f"\n- Name the folder above ({os.path.relpath(above)}): its {other} has {what}." if os.path.isdir(os.path.join(above, other)) else ""
 
 
+def without_rows(hunt: Hunt) -> str:
+    """What to do where some runs failed and others didn't. At rate 1 another run on an input is the same run again."""
+    chosen, more = hunt.chosen, []
+    if chosen.rate > 1:
+        more += ["More runs (--runs), of which each has other countdowns.", "A smaller rate (--rate 1 looks at every visit)."]
+    else:
+        more.append("More inputs that differ, also in little" + ("." if hunt.inputs.expected else " (--mutate N makes them)."))
+    if chosen.schemes:
+        more.append("All kinds of sites: leave --schemes out.")
+    return "\n- ".join([NO_RANKING, *more])
+
+
 def advice(hunt: Hunt, newline: Optional[str]) -> str:
     """What to do where there is no row."""
     count, inputs = hunt.count, hunt.inputs
@@ -88,7 +97,7 @@ def advice(hunt: Hunt, newline: Optional[str]) -> str:
         cut = f"\n- {count_of(count.cut, 'run was', 'runs were')} cut: allow more turns (--turns), or count them as failed (--hangs fail)." if count.cut else ""
         return NO_FAILURE.format(cut=cut + beside(inputs, "queue", "crashes", "inputs that AFL++ saw crash"))
     if count.succeeded:
-        return NO_RANKING
+        return without_rows(hunt)
     more: List[str] = []
     if inputs.has_carriage_returns():
         more.append("The expected outputs have carriage returns, and the program writes none: take them out (tr -d '\\r').")
@@ -97,4 +106,4 @@ def advice(hunt: Hunt, newline: Optional[str]) -> str:
     said = oracle_note(hunt)
     if said:
         more.append(said)
-    return ONLY_FAILURES.format(more="".join(f"\n- {line}" for line in more) + beside(inputs, "crashes", "queue", "inputs that AFL++ saw end"))
+    return ONLY_FAILURES.format(more="".join(f"\n- {line}" for line in more), beside=beside(inputs, "crashes", "queue", "inputs that AFL++ saw end"))

@@ -1,4 +1,4 @@
-# What bash offers behind cbi, cbi-hunt, cbi-show and cbi-explain. To have it: . cbi.bash, in ~/.bashrc.
+# What bash offers behind cbi, cbi-hunt, cbi-show, cbi-explain and cbi-port. To have it: . cbi.bash, in ~/.bashrc.
 
 # _cbi_offer WORDS: those of the words that begin as the word at the cursor; files too, where there are no words.
 _cbi_offer() {
@@ -18,9 +18,10 @@ _cbi_value() {
     --policy) value='all failing relabel' ;;
     --hangs) value='neither fail' ;;
     --format) value='text html sarif quickfix' ;;
+    --memory) value='auto cells bytes' ;;
     --rate) value='1 2 5 10 20 50 100 1000' ;;
-    --part | --parts | --turns | --run | --runs | --first | --count | --seed | --stream | --jobs | --oracle | --oracle-shell | --oracle-timeout | --mutate | --args) value=' ' ;;
-    --bank | --input | --expect | --report | --program | --whole | --inputs | --keep | --hunt | --html | --farm | --cbi | --source | --lines | --cards | --pairs | --reports | --output | --sites) ;;
+    --part | --parts | --turns | --run | --runs | --first | --count | --seed | --stream | --jobs | --oracle | --oracle-shell | --oracle-timeout | --mutate | --args | -D | -U) value=' ' ;;
+    --bank | --input | --expect | --report | --program | --whole | --inputs | --keep | --hunt | --html | --farm | --cbi | --source | --lines | --cards | --pairs | --reports | --output | --sites | --tool | -I | -o) ;;
     *) return 1 ;;
     esac
 }
@@ -68,7 +69,12 @@ _cbi_explain() {
     _cbi_options '--program --table --all --version --help'
 }
 
+_cbi_port() {
+    _cbi_options '-I -D -U -o --args --stderr --memory --quiet --check --inputs --tool --turns --version --help'
+}
+
 complete -o filenames -F _cbi cbi
 complete -o filenames -F _cbi_hunt cbi-hunt
 complete -o filenames -F _cbi_show cbi-show
 complete -o filenames -F _cbi_explain cbi-explain
+complete -o filenames -F _cbi_port cbi-port

@@ -1,4 +1,4 @@
-# What fish offers behind cbi, cbi-hunt, cbi-show and cbi-explain. To have it: put this file into ~/.config/fish/completions, also as cbi-hunt.fish and so on.
+# What fish offers behind cbi, cbi-hunt, cbi-show, cbi-explain and cbi-port. To have it: put this file into ~/.config/fish/completions, also as cbi-hunt.fish and so on.
 
 function __cbi_command
     set -l words (commandline -opc)
@@ -72,7 +72,20 @@ complete -c cbi-explain -l program -r -d 'the program of a report'
 complete -c cbi-explain -l table -d 'what the dialect leaves out'
 complete -c cbi-explain -l all -d 'names all places of a text that the dialect leaves out'
 
-for script in cbi-hunt cbi-show cbi-explain
+complete -c cbi-port -s I -r -d 'a folder of headers'
+complete -c cbi-port -s D -x -d 'a name that is defined'
+complete -c cbi-port -s U -x -d 'a name that is not'
+complete -c cbi-port -s o -r -d 'where the text goes'
+complete -c cbi-port -l args -x -a first-line -d 'the arguments of main'
+complete -c cbi-port -l stderr -d 'what goes to stderr goes to out'
+complete -c cbi-port -l memory -x -a 'auto cells bytes' -d 'how memory is kept'
+complete -c cbi-port -l quiet -d 'tells nothing but refusals'
+complete -c cbi-port -l check -d 'compares the text with the files as gcc builds them'
+complete -c cbi-port -l inputs -r -d 'the inputs of --check'
+complete -c cbi-port -l tool -r -d 'the executable of --check'
+complete -c cbi-port -l turns -x -d 'how often a run of --check may go back'
+
+for script in cbi-hunt cbi-show cbi-explain cbi-port
     complete -c $script -l version -d 'says which version this is'
     complete -c $script -l help -d 'says how it is used'
 end

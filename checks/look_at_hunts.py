@@ -1,0 +1,229 @@
+"""Looks at the runs of a hunt, as look_at_tools does at the rest: that they are those that the commands of `cbi` make, and that a hunt goes on where it stopped."""
+import os
+import re
+import signal
+import subprocess
+import sys
+
+import looking
+from look_at_pages import Page
+from looking import UPPER, Case, Hunting, environment, heed_interrupts, on_terminal
+
+sys.path.insert(0, looking.TOOLS)
+from cbi_hunt import collecting  # noqa: E402
+from cbi_hunt.kept import missing_batches  # noqa: E402
+from cbi_runs import Batch  # noqa: E402
+
+
+class Hunt(Hunting):
+    def report_by_hand(self, run, name, program, rate=5):
+        """The report of a run on an input, as the commands of `cbi` make it."""
+        self.write("bank", self.call("cbi", "bank", "--rate", str(rate), "--count", "256", "--seed", "1", "--stream", str(run))[0])
+        report = self.path(f"report {run}")
+        self.call("cbi", "run", "--bank", "bank", "--input", os.path.join("in puts", name), "--expect", os.path.join("due", name), "--run", str(run), "--report", report, program)
+        return report
+
+    def runs_by_hand(self, count, rate=5):
+        """The collection of so many runs as the commands of `cbi` make it, one after another."""
+        self.write("plan.cbi", self.call("cbi", "transform", "--mode", "sampled", "upper.c")[0])
+        names = sorted(os.listdir(self.path("in puts")))
+        reports = [self.report_by_hand(run, names[(run - 1) % len(names)], "plan.cbi", rate) for run in range(1, count + 1)]
+        return self.call("cbi", "collect", "--program", "plan.cbi", *reports)[0].encode()
+
+    def test_its_runs_are_those_that_the_commands_make(self):
+        out = self.hunt("--inputs", "in puts", "--expect", "due", "--runs", "30", "--rate", "5", "--keep", "kept hunt")
+        self.assertEqual(self.read("kept hunt/runs"), self.runs_by_hand(30))
+        for file, command in (("ranking", "rank"), ("cards", "cards")):
+            self.assertEqual(self.read(f"kept hunt/{file}").decode(), self.call("cbi", command, "plan.cbi", "kept hunt/runs")[0])
+        self.assertIn("\n\n30 runs on 12 inputs: 8 failed, 22 succeeded\nfailing inputs: 02 abc, 04 zza, 08 caa, in kept hunt/failing\n\n", out)
+        self.assertEqual(sorted(os.listdir(self.path("kept hunt/failing"))), ["02 abc", "04 zza", "08 caa"])
+        self.assertEqual(sorted(os.listdir(self.path("kept hunt"))), ["batches", "cards", "failing", "hunt.json", "hunt.lock", "page.html", "pairs", "plain", "program", "ranking",
+                                                                          "runs", "source.c", "told.json"])
+
+    def test_at_rate_1_a_run_needs_no_bank(self):
+        """A made bank of rate 1 has ones alone, and without a bank each visit is observed: the reports are the same, counters and work."""
+        self.hunt("--inputs", "in puts", "--expect", "due", "--runs", "14", "--rate", "1", "--keep", "kept")
+        self.assertEqual(self.read("kept/runs"), self.runs_by_hand(14, 1))
+
+    def test_runs_of_parts_are_those_that_the_commands_make(self):
+        self.hunt("--inputs", "in puts", "--expect", "due", "--runs", "27", "--rate", "5", "--parts", "3", "--keep", "kept")
+        self.write("plan.cbi", self.call("cbi", "transform", "--mode", "sampled", "upper.c")[0])
+        names = sorted(os.listdir(self.path("in puts")))
+        # the twelve inputs come round twice, and three of them once more: each time an input has the next part
+        runs_of = {0: [1, 4, 7, 10, 15, 18, 21, 24, 26], 1: [2, 5, 8, 11, 13, 16, 19, 22, 27], 2: [3, 6, 9, 12, 14, 17, 20, 23, 25]}
+        for part, runs in runs_of.items():
+            self.write(f"part{part}.cbi", self.call("cbi", "transform", "--mode", "sampled", "--part", f"{part}/3", "upper.c")[0])
+            reports = [self.report_by_hand(run, names[(run - 1) % 12], f"part{part}.cbi") for run in runs]
+            self.write("narrow", self.call("cbi", "collect", "--program", f"part{part}.cbi", *reports)[0])
+            self.write(f"wide{part}", self.call("cbi", "widen", "--whole", "plan.cbi", "--part", f"{part}/3", f"part{part}.cbi", "narrow")[0])
+        out, err = self.call("cbi", "collect", "--program", "plan.cbi", "wide0", "wide1", "wide2")
+        self.assertEqual(err, "added 27 repeated 0\n")
+        self.assertEqual(self.read("kept/runs").decode(), out)
+        self.assertEqual(self.read("kept/ranking").decode(), self.call("cbi", "rank", "plan.cbi", "kept/runs")[0])
+        self.assertIn("another number of parts", self.hunt("--inputs", "in puts", "--expect", "due", "--keep", "kept", due=2))
+
+    def test_each_way_to_say_what_is_right_ranks_the_same(self):
+        rankings = set()
+        for words in (["--inputs", "in puts", "--expect", "due"], ["--inputs", "both"], ["--inputs", "in puts", "--oracle", "python3 judge.py"],
+                      ["--inputs", "lines", "--expect", "due lines"], ["--inputs", "lines", "--oracle", f"{sys.executable} judge.py"]):
+            folder = f"kept {len(os.listdir(self.room))}"
+            self.hunt(*words, "--runs", "120", "--keep", folder)
+            self.assertNotIn(b"label none", self.read(folder + "/runs"))
+            rankings.add((words[1] == "lines", self.read(folder + "/ranking")))
+        self.assertEqual(len(rankings), 2)
+
+    def test_the_bug_is_in_the_first_row_and_the_page_is_sound(self):
+        out = self.hunt("--inputs", "both", "--runs", "200", "--rate", "2", "--html", "a page.html")
+        first = next(line for line in out.split("\n") if line.startswith("  1. "))
+        self.assertIn(first, ("  1. line 9, main: c > 'a' (left of &&) is false", "  1. line 6, main: c == 97 'a' after c = getchar()"))
+        page = Page(self.read("a page.html").decode())
+        self.assertEqual([link for link in page.links if link[1:] not in page.ids], [])
+
+    def test_it_goes_on_where_it_stopped(self):
+        self.hunt("--inputs", "both", "--runs", "20000", "--keep", "whole")
+        words = ["cbi-hunt", "upper.c", "--inputs", "both", "--runs", "20000", "--jobs", "2", "--keep", "parts"]
+        begun = subprocess.Popen(words, cwd=self.room, env=environment(), stdout=subprocess.PIPE, stderr=subprocess.PIPE, start_new_session=True, preexec_fn=heed_interrupts)
+        self.wait_for(lambda: os.path.isdir(self.path("parts/batches")) and os.listdir(self.path("parts/batches")))
+        os.killpg(begun.pid, signal.SIGINT)
+        out, err = begun.communicate()
+        self.assertEqual((begun.returncode, err), (130, b""))
+        self.assertIn(b"interrupted, so this is what there is", out)
+        made = re.search(rb"^(\d+) runs on", out, re.MULTILINE)
+        assert made, out
+        self.assertLess(int(made[1]), 20000)
+        self.hunt("--inputs", "both", "--runs", "12000", "--keep", "parts")
+        self.hunt("--inputs", "both", "--runs", "20000", "--keep", "parts")
+        self.assertEqual(self.read("parts/runs"), self.read("whole/runs"))
+        self.assertEqual([name for name in os.listdir(self.path("parts")) if "worker" in name or "merge" in name], [])
+
+    def test_a_hunt_that_is_ended_by_force_leaves_its_folder_free(self):
+        begun = subprocess.Popen(["cbi-hunt", "upper.c", "--inputs", "both", "--runs", "1000000", "--jobs", "2", "--keep", "kept"], cwd=self.room, env=environment())
+        self.wait_for(lambda: os.path.isdir(self.path("kept")) and [name for name in os.listdir(self.path("kept")) if name.startswith("worker-")])
+        _, err = self.call("cbi-hunt", "upper.c", "--inputs", "both", "--runs", "12", "--keep", "kept", due=2)
+        self.assertIn("another hunt is at work", err)
+        workers = [int(number) for number in open(f"/proc/{begun.pid}/task/{begun.pid}/children", encoding="ascii").read().split()]
+        begun.kill()
+        begun.wait()
+        self.assertTrue(workers)
+        self.wait_for(lambda: not any(os.path.exists(f"/proc/{worker}") for worker in workers))
+        self.assertEqual([worker for worker in workers if os.path.exists(f"/proc/{worker}")], [])
+        self.hunt("--inputs", "both", "--runs", "12", "--keep", "kept")
+        self.hunt("--inputs", "both", "--runs", "12", "--keep", "anew")
+        if os.listdir(self.path("kept/batches")) == os.listdir(self.path("anew/batches")):
+            self.assertEqual(self.read("kept/runs"), self.read("anew/runs"))
+
+    def test_a_kept_hunt_is_not_mixed_with_another(self):
+        self.hunt("--inputs", "both", "--keep", "kept")
+        for words, said in ((["--rate", "6"], "another rate (1, and not 6)"), (["--seed", "2"], "another seed"), (["--turns", "5"], "another turns")):
+            self.assertIn(said, self.hunt("--inputs", "both", "--keep", "kept", *words, due=2))
+        self.write("both/00.expected", "other")
+        self.assertIn("other inputs or expected outputs", self.hunt("--inputs", "both", "--keep", "kept", due=2))
+        self.write("upper.c", UPPER.replace("32", "30 + 2"))
+        self.assertIn("another program", self.hunt("--inputs", "both", "--keep", "kept", due=2))
+
+    def test_nothing_of_the_progress_is_in_a_pipe(self):
+        _, err = self.call("cbi-hunt", "upper.c", "--inputs", "both", "--runs", "50")
+        self.assertEqual(err, "")
+
+    def test_progress_is_on_a_terminal(self):
+        status, said = on_terminal(["cbi-hunt", "upper.c", "--inputs", "both", "--runs", "60"], self.room)
+        self.assertEqual(status, 0)
+        self.assertRegex(said.decode(), r"\d+ of 60 runs, \d+ failed, 0 cut, 0:\d\d left")
+        self.assertTrue(said.endswith(b"\r\x1b[K"))
+
+    def test_where_no_run_failed_it_says_what_to_do(self):
+        out = self.hunt("--inputs", "in puts", due=1)
+        self.assertTrue(out.startswith("12 runs on 12 inputs: 0 failed, 12 succeeded\nNo run failed"), out)
+        self.assertIn("--expect or --oracle", out)
+        out = self.hunt("--inputs", "in puts", "--turns", "0", due=1)
+        self.assertIn("12 neither (12 cut)", out)
+        self.assertIn("12 runs were cut: allow more turns (--turns), or count them as failed (--hangs fail).", out)
+
+    def test_where_all_runs_failed_it_says_what_to_do(self):
+        for name in os.listdir(self.path("due")):
+            self.write("crlf/" + name, self.read("due/" + name) + b"\r\n")
+        out = self.hunt("--inputs", "in puts", "--expect", "crlf", due=1)
+        self.assertIn("All runs that count failed", out)
+        self.assertIn("The expected outputs have carriage returns", out)
+
+    def test_where_no_row_passes_it_says_what_to_do(self):
+        """The program does the same with both inputs, and one is called wrong. At rate 1 each visit is looked at, and each run on an input is the same."""
+        for name, text in (("few/1", "b"), ("few/2", "c"), ("wanted/1", "X"), ("wanted/2", "C"), ("not_b.py", "import sys\nsys.exit(open(sys.argv[1]).read() == 'b')\n")):
+            self.write(name, text)
+        for words, due in ((["--oracle", "python3 not_b.py"], ["More inputs that differ, also in little (--mutate N makes them)."]),
+                           (["--expect", "wanted"], ["More inputs that differ, also in little."]),
+                           (["--expect", "wanted", "--rate", "1000", "--schemes", "returns"],
+                            ["More runs (--runs), of which each has other countdowns.", "A smaller rate (--rate 1 looks at every visit).", "All kinds of sites: leave --schemes out."])):
+            out = self.hunt("--inputs", "few", *words, due=1)
+            told = out.split("none makes a failure more likely beyond chance. What may help:\n")[1]
+            self.assertEqual([line[2:] for line in told.split("\n") if line.startswith("- ")], due)
+
+    def test_crashes_fail_by_themselves(self):
+        self.write("in puts/13 !", "a!")
+        out = self.hunt("--inputs", "in puts", "--rate", "1", "--runs", "65")
+        self.assertIn("failing inputs: 13 !\n", out)
+        self.assertIn("  1. line 6, main: c == 33 '!' after c = getchar()\n", out)
+
+    def test_an_oracle_that_cannot_tell_and_one_that_is_none(self):
+        self.write("unsure.py", "import sys\nsys.exit(125)\n")
+        self.assertIn("0 failed, 0 succeeded, 12 neither", self.hunt("--inputs", "in puts", "--oracle", "python3 unsure.py", due=1))
+        self.assertIn("the oracle no-such-command doesn't start", self.hunt("--inputs", "in puts", "--oracle", "no-such-command", due=2))
+        self.write("dead.py", "import os\nos.kill(os.getpid(), 9)\n")
+        self.assertIn("ended with status -9", self.hunt("--inputs", "in puts", "--oracle", "python3 dead.py", due=2))
+
+    def test_bad_input_has_a_line_and_status_2(self):
+        os.makedirs(self.path("none"))
+        self.write("short", "A\n")
+        os.remove(self.path("both/03.expected"))
+        for words, said in ((["upper.c", "--inputs", "missing"], "missing: there is no such file or folder"), (["no.c", "--inputs", "both"], "no.c: there is no such file or folder"),
+                            (["upper.c", "--inputs", "none"], "none has no files"), (["upper.c", "--inputs", "both"], "nothing says what the input 03 should give: there is no both/03.expected"),
+                            (["upper.c", "--inputs", "in puts", "--expect", "none"], "nothing says what the input 00 bcd should give: there is no none/00 bcd, and 11 more inputs have none"),
+                            (["upper.c", "--inputs", "lines", "--expect", "short"], "lines has 12 lines and short 1 line"), (["upper.c", "--inputs", "lines", "--expect", "due"], "--expect due is a folder"),
+                            (["upper.c", "--inputs", "in puts", "--keep", "lines"], "--keep lines: File exists"), (["upper.c", "--inputs", "in puts", "--keep", "due"], "--keep due has other files"), (["upper.c", "--inputs", "in puts", "--cbi", "no-cbi"], "no-cbi isn't on the path"),
+                            (["upper.c", "--inputs", "in puts", "--cbi", "./no-cbi"], "--cbi ./no-cbi: there is no such file"), (["upper.c", "--inputs", "in puts", "--cbi", "./judge.py"], "--cbi ./judge.py: it isn't executable"),
+                            (["upper.c", "--inputs", "in puts", "--html", "no/page.html"], "--html no/page.html: there is no such folder"), (["upper.c", "--inputs", "in puts", "--html", "due"], "--html due: it is a folder")):
+            out, err = self.call("cbi-hunt", *words, due=2)
+            self.assertEqual(out, "")
+            self.assertTrue(err.startswith("cbi-hunt: " + said), err)
+            self.assertEqual(err.count("\n"), 1, err)
+        _, err = self.call("cbi-hunt", "upper.c", "--inputs", "in puts", "--schemes", "all", due=2)
+        self.assertTrue(err.startswith("upper.c: bad value of --schemes\n"), err)
+        _, err = self.call("cbi-hunt", "upper.c", "--inputs", "both", "--expect", "due", "--oracle", "true", due=2)
+        self.assertIn("not allowed with", err)
+
+
+class Sample(Case):
+    """More runs than a collection holds: with a smaller limit, in this process."""
+
+    def test_it_is_a_sample_only_where_it_must_be(self):
+        self.assertIsNone(collecting.sample_of([(run, 5) for run in range(1, 100001)], 1))
+        sample = collecting.sample_of([(run, 5) for run in range(1, 100002)], 1)
+        self.assertEqual(len(sample), 100000)
+        self.assertIsNone(collecting.sample_of([(1, 16777215), (2, 1)], 1))
+        self.assertEqual(len(collecting.sample_of([(1, 16777215), (2, 2)], 1)), 1)
+
+    def test_it_is_uniform_and_stays_the_same(self):
+        self.addCleanup(setattr, collecting, "MOST_RUNS", collecting.MOST_RUNS)
+        collecting.MOST_RUNS = 1000
+        marks = [(run, 0) for run in range(1, 10001)]
+        sample = collecting.sample_of(marks, 7)
+        self.assertEqual(sample, collecting.sample_of(marks[::-1], 7))
+        self.assertNotEqual(sample, collecting.sample_of(marks, 8))
+        tenths = [sum(1 for run in sample if (run - 1) // 1000 == part) for part in range(10)]
+        self.assertEqual(sum(tenths), 1000)
+        self.assertTrue(all(60 <= count <= 140 for count in tenths), tenths)  # 100 expected, and more than four deviations off
+        fewer = collecting.sample_of(marks[:5000], 7)
+        self.assertTrue({run for run in sample if run <= 5000} <= fewer)
+
+    def test_batches_are_what_is_missing(self):
+        batch, missing = Batch, missing_batches
+        self.assertEqual(missing([], 5, 2), [batch(1, 2), batch(3, 4), batch(5, 5)])
+        self.assertEqual(missing([batch(1, 2), batch(4, 4)], 7, 2), [batch(3, 3), batch(5, 6), batch(7, 7)])
+        self.assertEqual(missing([batch(1, 9)], 5, 2), [])
+        self.assertEqual(missing([batch(3, 9)], 5, 2), [batch(1, 2)])
+
+    def test_a_collection_of_the_sample(self):
+        text = "cbi-collection 2\nprogram " + "0" * 64 + "\n" + "".join(f"run {run} ended 0 label pass work 0 0 0\nsite 0 1 0 0\n" for run in (2, 5, 9)) + "end\n"
+        self.write("runs", text)
+        self.assertEqual(collecting.sampled_copy(self.path("runs"), self.path("some"), {2, 9, 11}), 2)
+        self.assertEqual(self.read("some").decode(), text.replace("run 5 ended 0 label pass work 0 0 0\nsite 0 1 0 0\n", ""))
