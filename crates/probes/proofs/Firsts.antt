@@ -1,8 +1,8 @@
 -- The distinct sites of a list, one site after another.
-use Rattle.std.proofs.Common.{◌≡◌, ℕ, ◌+◌, ◌<◌, ◌≤◌, inl, inr, Bool, true, false, not, ◌||◌, ◌==◌, nat_eq, cond, List, [], ◌∷◌, ◌++◌, length, take, drop, get_or, filter, refl, sym, ap, ◌∙◌, arith, append_assoc, length-append}
+use Rattle.std.proofs.Common.{◌≡◌, ℕ, ◌+◌, ◌≤◌, inl, inr, Bool, true, false, not, ◌||◌, ◌==◌, nat_eq, cond, List, [], ◌∷◌, ◌++◌, length, take, filter, refl, sym, ap, ◌∙◌, arith, append_assoc, length-append}
 use Rattle.std.specs.List.{list_any}
 use Rattle.std.proofs.lemmas.Bool.{cases_eq, eq-eqb, ne_eqb}
-use Rattle.std.proofs.lemmas.List.{append-nil, take-append-le, take_all, take_more, map-append, take-append-drop}
+use Rattle.std.proofs.lemmas.List.{append-nil, take-append-le, take_all, map-append}
 use Rattle.std.proofs.lemmas.List.Elements.{filter-append}
 use Rattle.indexmap.specs.IndexSet.{insert_key}
 use Rattle.cbi_base.specs.declared.observation.Observation.{Observation}
@@ -89,18 +89,14 @@ firsts_of-full xs ys full =
     ap (take most_sites) more.1 ∙ take-append-le most_sites (firsts_of xs) more.0 room ∙ take_all most_sites (firsts_of xs) (omega arith)
 
 -- the sites of one more observation
-pub sites_seen-next : (xs : List Observation) (i : ℕ) (d : Observation) → i < length xs → sites_seen (take (i + 1) xs) ≡ sites_seen (take i xs) ++ (get_or xs i d).site ∷ []
-sites_seen-next xs i d inside = ap sites_seen (take_more xs i d inside) ∙ map-append (λ (o : Observation). o.site) (take i xs) (get_or xs i d ∷ [])
-
-pub firsts_of-next : (xs : List Observation) (i : ℕ) (d : Observation) → i < length xs
-    → firsts_of (sites_seen (take (i + 1) xs)) ≡ insert_key nat_eq (firsts_of (sites_seen (take i xs))) (get_or xs i d).site
-firsts_of-next xs i d inside = ap firsts_of (sites_seen-next xs i d inside) ∙ firsts_of-push (sites_seen (take i xs)) (get_or xs i d).site
+pub firsts_of-next : (xs : List Observation) (o : Observation) → firsts_of (sites_seen (xs ++ o ∷ [])) ≡ insert_key nat_eq (firsts_of (sites_seen xs)) o.site
+firsts_of-next xs o = ap firsts_of (map-append (λ (x : Observation). x.site) xs (o ∷ [])) ∙ firsts_of-push (sites_seen xs) o.site
 
 -- the observations so far have the first sites already, where these are as many as the line has
-pub firsts_of-enough : (xs : List Observation) (i : ℕ) → length (firsts_of (sites_seen (take i xs))) ≡ most_sites → take most_sites (firsts_of (sites_seen xs)) ≡ firsts_of (sites_seen (take i xs))
-firsts_of-enough xs i full =
-    let whole : sites_seen xs ≡ sites_seen (take i xs) ++ sites_seen (drop i xs) = ap sites_seen (sym (take-append-drop i xs)) ∙ map-append (λ (o : Observation). o.site) (take i xs) (drop i xs) in
-    ap (λ l. take most_sites (firsts_of l)) whole ∙ firsts_of-full (sites_seen (take i xs)) (sites_seen (drop i xs)) full
+pub firsts_of-enough : (xs more seen : List Observation) → xs ++ more ≡ seen → length (firsts_of (sites_seen xs)) ≡ most_sites → take most_sites (firsts_of (sites_seen seen)) ≡ firsts_of (sites_seen xs)
+firsts_of-enough xs more seen is full =
+    let whole : sites_seen seen ≡ sites_seen xs ++ sites_seen more = ap sites_seen (sym is) ∙ map-append (λ (x : Observation). x.site) xs more in
+    ap (λ l. take most_sites (firsts_of l)) whole ∙ firsts_of-full (sites_seen xs) (sites_seen more) full
 
 -- a key that is added to a list that isn't full leaves it within its bound
 length-added : (there : Bool) (ks : List ℕ) (y : ℕ) → length (added there ks y) ≤ length ks + 1

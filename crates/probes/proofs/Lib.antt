@@ -3,3 +3,4 @@ pub mod Firsts
 pub mod Members
 pub mod Leading
 pub mod FirstLaws
+pub mod Packing

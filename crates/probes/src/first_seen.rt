@@ -39,11 +39,11 @@ impl FirstSeen {
 }
 
 /// The first distinct sites of these observations.
-fn first_sites(alloc: Global, observations: &[Observation]) -> Result<IndexSet<u32>, Memory>
-    ensures { IfOk result (λ sites. sites.keys ≡ take most_sites (firsts_of (sites_seen observations.now))) }
+fn first_sites(alloc: Global, history: &History) -> Result<IndexSet<u32>, Memory>
+    ensures { IfOk result (λ sites. sites.keys ≡ take most_sites (firsts_of (sites_seen history.now))) }
 {
     let mut sites = IndexSet::new(alloc);
-    for observation in observations {
+    for observation in history.iter() {
         if sites.len() == MOST_SITES {
             return Ok(sites);
         }
@@ -63,7 +63,7 @@ impl Probe for FirstSeen {
 
     fn line(&self, text: &mut Vec<u8>) -> Result<(), Memory> {
         let alloc = *text.allocator();
-        let sites = first_sites(alloc, self.history.as_slice())?;
+        let sites = first_sites(alloc, &self.history)?;
         let line = sites_line(alloc, b"first".as_slice(), sites.as_slice())?;
         text.extend_from_slice(line.as_slice())?;
         Ok(())

@@ -1,24 +1,165 @@
-ghost use Rattle.std.specs.Prelude.{◌≡◌, [], ◌∷◌, ◌++◌, OnOk, OnErr};
+ghost use Rattle.std.specs.Prelude.{◌≡◌, ℕ, List, [], ◌∷◌, ◌++◌, ◌+◌, ◌*◌, ◌^◌, ◌<◌, ◌≤◌, max, All, length, vec_len, vec_capacity, MatchOption, OnOk, OnErr};
+ghost use Rattle.cbi_base.specs.declared.observation.Observation.{Observation};
+ghost use Rattle.probes.specs.History.{truth_bits, truth_with, step_code, observation_of, with_digit, leading, digit_bytes, packed, unpacked, FitsSite};
 
-use cbi_base::{Memory, Observation};
+use cbi_base::{Memory, Observation, Seen};
 use std::alloc::Global;
 use std::marker::Model;
 
-/// The observations that a watcher was told, in order. It grows by half, so that they take at most twelve bytes each.
+/// How many bytes an observation takes at most.
+const MOST_BYTES: usize = 5;
+
+/// The observations that a watcher was told, in order, from one to five bytes each. It grows by half, so that they take at most seven and a half each.
 #[derive(Debug, Drop)]
 pub struct History {
-    observations: Vec<Observation>,
+    bytes: Vec<u8>,
+    site: u32,
 }
 
 impl Model for History {
-    ghost use Rattle.std.specs.Prelude.{◌*◌, ◌≤◌, List, vec_len, vec_capacity};
+    ghost use Rattle.std.specs.Prelude.{List, vec_capacity};
     ghost use Rattle.cbi_base.specs.declared.observation.Observation.{Observation};
+    ghost use Rattle.probes.specs.History.{unpacked, IsPacked};
 
     ghost Value = { List Observation };
 
-    ghost view = { λ h. h.observations.items };
+    ghost view = { λ h. unpacked 0 0 h.bytes.items };
 
-    ghost invariant = { λ h. 2 * vec_capacity h.observations ≤ 3 * vec_len h.observations };
+    ghost invariant = { λ h. IsPacked (unpacked 0 0 h.bytes.items) h.bytes.items h.site (vec_capacity h.bytes) };
+}
+
+fn truth_bits(seen: Seen) -> u64
+    ensures { result ≡ truth_bits seen }
+{
+    match seen {
+        Seen::First => 0,
+        Seen::Second => 1,
+        Seen::Third => 2,
+        Seen::Nothing => 3,
+    }
+}
+
+fn truth_with(bits: u64) -> Seen
+    ensures { result ≡ truth_with bits }
+{
+    match bits {
+        0 => Seen::First,
+        1 => Seen::Second,
+        2 => Seen::Third,
+        _ => Seen::Nothing,
+    }
+}
+
+/// The number of an observation, after this site.
+#[inline]
+fn step_code(before: u32, observation: Observation) -> u64
+    ensures value { result ≡ step_code before observation }
+    ensures within { result < 2 ^ 35 }
+{
+    let step = if observation.site < before {
+        8 * u64::from(before - observation.site) + 4
+    } else {
+        8 * u64::from(observation.site - before)
+    };
+    step + truth_bits(observation.seen)
+}
+
+/// The observation with this number, after this site.
+fn observation_of(before: u32, number: u64) -> Observation
+    requires { number < 2 ^ 35 }
+    ensures { result ≡ observation_of before number }
+{
+    let step = (number / 8) as u32;
+    let site = if number % 8 < 4 {
+        before.wrapping_add(step)
+    } else {
+        before.saturating_sub(step)
+    };
+    Observation {
+        site,
+        seen: truth_with(number % 4),
+    }
+}
+
+/// Appends the last digit of what stands before others, where something does.
+fn push_leading(bytes: &mut Vec<u8>, number: u64)
+    requires { vec_len bytes.old < vec_capacity bytes.old }
+    ensures items { bytes.new.items ≡ bytes.old.items ++ leading number }
+    ensures len { vec_len bytes.new ≤ vec_len bytes.old + 1 }
+    ensures capacity { vec_capacity bytes.new ≡ vec_capacity bytes.old }
+{
+    if number != 0 {
+        bytes.push_reserved((128 + number % 128) as u8);
+    }
+}
+
+/// Appends the digits of a number, one after another.
+#[inline(never)]
+#[tactic(auto, unfolding(crate::specs::History::digit_bytes))]
+fn push_long(bytes: &mut Vec<u8>, number: u64)
+    requires { vec_len bytes.old + MOST_BYTES ≤ vec_capacity bytes.old }
+    ensures items { bytes.new.items ≡ bytes.old.items ++ digit_bytes number }
+    ensures capacity { vec_capacity bytes.new ≡ vec_capacity bytes.old }
+{
+    let before_last = number / 128;
+    push_leading(bytes, before_last / 128 / 128 / 128);
+    push_leading(bytes, before_last / 128 / 128);
+    push_leading(bytes, before_last / 128);
+    push_leading(bytes, before_last);
+    bytes.push_reserved((number % 128) as u8);
+}
+
+/// Appends the digits of a number.
+#[inline]
+#[tactic(auto, using(crate::proofs::Packing::one_digit))]
+fn push_digits(bytes: &mut Vec<u8>, number: u64)
+    requires { vec_len bytes.old + MOST_BYTES ≤ vec_capacity bytes.old }
+    ensures items { bytes.new.items ≡ bytes.old.items ++ digit_bytes number }
+    ensures capacity { vec_capacity bytes.new ≡ vec_capacity bytes.old }
+{
+    if number < 128 {
+        bytes.push_reserved(number as u8);
+    } else {
+        push_long(bytes, number);
+    }
+}
+
+/// Leaves room for one more observation, by half of what is there.
+#[inline]
+fn make_room(bytes: &mut Vec<u8>) -> Result<(), Memory>
+    ensures items { bytes.new.items ≡ bytes.old.items }
+    ensures room { OnOk result (vec_len bytes.new + MOST_BYTES ≤ vec_capacity bytes.new) }
+    ensures small { OnOk result (2 * vec_capacity bytes.new ≤ max (2 * vec_capacity bytes.old) (3 * vec_len bytes.old + 2 * MOST_BYTES)) }
+    ensures memory { OnErr result (vec_capacity bytes.new ≡ vec_capacity bytes.old) }
+{
+    let len = bytes.len();
+    if bytes.capacity() - len < MOST_BYTES {
+        bytes.reserve_exact(len / 2 + MOST_BYTES)?;
+    }
+    Ok(())
+}
+
+/// The first observation of these bytes, after this site, and the bytes behind it.
+fn read_one(before: u32, bytes: &[u8]) -> Option<(Observation, &[u8])>
+    ensures { MatchOption result (unpacked before 0 bytes.now ≡ []) (λ found. unpacked before 0 bytes.now ≡ found.0 ∷ unpacked found.0.site 0 found.1.now) }
+{
+    let mut number = 0;
+    for (i, byte) in bytes.iter().enumerate() {
+        if *byte < 128 {
+            let number = (128 * number + u64::from(*byte)) % (1 << 35);
+            return Some((observation_of(before, number), &bytes[i + 1..]));
+        }
+        number = (128 * number + u64::from(*byte - 128)) % (1 << 35);
+    }
+    None
+}
+
+/// How many observations these bytes have.
+#[tactic(auto, using(crate::proofs::Packing::length_unpacked))]
+fn count_of(bytes: &[u8]) -> usize
+    ensures { result ≡ length (unpacked 0 0 bytes.now) }
+{
+    bytes.iter().filter(|byte| **byte < 128).count()
 }
 
 impl History {
@@ -26,26 +167,77 @@ impl History {
         ensures { result ≡ [] }
     {
         History {
-            observations: Vec::new(alloc),
+            bytes: Vec::new(alloc),
+            site: 0,
         }
     }
 
     /// Adds one at the end. After `Memory` they are as before.
+    #[inline]
     pub fn push(&mut self, observation: Observation) -> Result<(), Memory>
         ensures ok { OnOk result (self.new ≡ self.old ++ observation ∷ []) }
         ensures memory { OnErr result (self.new ≡ self.old) }
     {
-        let len = self.observations.len();
-        if len == self.observations.capacity() {
-            self.observations.reserve_exact(len / 2 + 1)?;
-        }
-        self.observations.push_reserved(observation);
+        make_room(&mut self.bytes)?;
+        let number = step_code(self.site, observation);
+        push_digits(&mut self.bytes, number);
+        self.site = observation.site;
         Ok(())
     }
 
-    pub fn as_slice(&self) -> &[Observation]
-        ensures { result.now ≡ self.now }
+    pub fn len(&self) -> usize
+        ensures { result ≡ length self.now }
     {
-        self.observations.as_slice()
+        count_of(self.bytes.as_slice())
+    }
+
+    pub fn iter(&self) -> Observations<'_>
+        ensures value { result ≡ self.now }
+        ensures few { length self.now < 2 ^ 63 }
+    {
+        Observations {
+            bytes: self.bytes.as_slice(),
+            before: 0,
+        }
     }
 }
+
+/// What is left of the observations of a history.
+#[derive(Debug, Drop)]
+pub struct Observations<'a> {
+    bytes: &'a [u8],
+    before: u32,
+}
+
+impl<'a> Model for Observations<'a> {
+    ghost use Rattle.std.specs.Prelude.{List};
+    ghost use Rattle.cbi_base.specs.declared.observation.Observation.{Observation};
+    ghost use Rattle.probes.specs.History.{unpacked};
+
+    ghost Value = { List Observation };
+
+    ghost view = { λ o. unpacked o.before 0 o.bytes.now };
+}
+
+impl<'a> Iterator for Observations<'a> {
+    ghost use Rattle.std.specs.Iterator.{YieldsFirst, item_count};
+
+    type Item = Observation;
+
+    ghost next_gives = { YieldsFirst (λ left. left) };
+
+    ghost remaining = { item_count (λ left. left) };
+
+    fn next(&mut self) -> Option<Observation> {
+        let (observation, bytes) = read_one(self.before, self.bytes)?;
+        self.bytes = bytes;
+        self.before = observation.site;
+        Some(observation)
+    }
+}
+
+/// A law: what the bytes of observations are read as is those observations, and they take at most five bytes each.
+pub fn packed_observations_are_read()
+    ensures read { (seen : List Observation) → All FitsSite seen → unpacked 0 0 (packed 0 seen) ≡ seen }
+    ensures short { (seen : List Observation) → length (packed 0 seen) ≤ 5 * length seen }
+{}

@@ -39,12 +39,12 @@ impl Hottest {
 }
 
 /// How often each site was observed.
-fn times(alloc: Global, observations: &[Observation]) -> Result<IndexMap<u32, u64>, Memory>
-    ensures value { IfOk result (λ counts. (site : ℕ) → unwrap_or (get nat_eq counts site) 0 ≡ times_of (sites_seen observations.now) site) }
+fn times(alloc: Global, history: &History) -> Result<IndexMap<u32, u64>, Memory>
+    ensures value { IfOk result (λ counts. (site : ℕ) → unwrap_or (get nat_eq counts site) 0 ≡ times_of (sites_seen history.now) site) }
     ensures positive { IfOk result (λ counts. (site : ℕ) → IfSome (get nat_eq counts site) (λ count. 0 < count)) }
 {
     let mut counts = IndexMap::new(alloc);
-    for observation in observations {
+    for observation in history.iter() {
         let count = counts.get(&observation.site).copied().unwrap_or(0);
         counts.insert(observation.site, count + 1)?;
     }
@@ -86,11 +86,11 @@ fn count_line(alloc: Global, best: Option<(u32, u64)>) -> Result<Vec<u8>, Memory
     Ok(line)
 }
 
-/// The line of these observations.
-fn line_of(alloc: Global, observations: &[Observation]) -> Result<Vec<u8>, Memory>
-    ensures { IfOk result (λ line. line.items ≡ hottest_line observations.now) }
+/// The line of this history.
+fn line_of(alloc: Global, history: &History) -> Result<Vec<u8>, Memory>
+    ensures { IfOk result (λ line. line.items ≡ hottest_line history.now) }
 {
-    let counts = times(alloc, observations)?;
+    let counts = times(alloc, history)?;
     let line = count_line(alloc, hottest_site(&counts))?;
     Ok(line)
 }
@@ -105,7 +105,7 @@ impl Probe for Hottest {
     }
 
     fn line(&self, text: &mut Vec<u8>) -> Result<(), Memory> {
-        let line = line_of(*text.allocator(), self.history.as_slice())?;
+        let line = line_of(*text.allocator(), &self.history)?;
         text.extend_from_slice(line.as_slice())?;
         Ok(())
     }

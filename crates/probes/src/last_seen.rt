@@ -36,12 +36,12 @@ impl LastSeen {
     }
 }
 
-/// The sites of the last of these observations, oldest first.
-fn last_sites(alloc: Global, observations: &[Observation]) -> Result<Vec<u32>, Memory>
-    ensures { IfOk result (λ sites. sites.items ≡ last_of most_sites (sites_seen observations.now)) }
+/// The sites of the last observations, oldest first.
+fn last_sites(alloc: Global, history: &History) -> Result<Vec<u32>, Memory>
+    ensures { IfOk result (λ sites. sites.items ≡ last_of most_sites (sites_seen history.now)) }
 {
-    let from = observations.len().saturating_sub(MOST_SITES);
-    let sites = observations[from..].iter().map(|o| o.site).collect(alloc)?;
+    let from = history.len().saturating_sub(MOST_SITES);
+    let sites = history.iter().skip(from).map(|o| o.site).collect(alloc)?;
     Ok(sites)
 }
 
@@ -56,7 +56,7 @@ impl Probe for LastSeen {
 
     fn line(&self, text: &mut Vec<u8>) -> Result<(), Memory> {
         let alloc = *text.allocator();
-        let sites = last_sites(alloc, self.history.as_slice())?;
+        let sites = last_sites(alloc, &self.history)?;
         let line = sites_line(alloc, b"last".as_slice(), sites.as_slice())?;
         text.extend_from_slice(line.as_slice())?;
         Ok(())

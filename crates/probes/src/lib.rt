@@ -10,6 +10,7 @@ mod sites;
 mod told;
 
 pub use first_seen::{FirstSeen, first_sites_in_order};
+pub use history::packed_observations_are_read;
 pub use hottest::{Hottest, hottest_leads};
 pub use last_seen::LastSeen;
 pub use probe::Probe;

@@ -13,7 +13,7 @@ pub returns : goal.returns
 returns c =
     let counts = c.in_ok-counts.counts in
     let iff = λ (site n : ℕ). hash_map_get_iff nat_eq_equiv eqb-true counts c.hottest_site.ensures.unique site n in
-    let best = fold-hottest counts.entries (sites_seen c.args.observations.now) (get nat_eq counts) c.in_ok-counts.ensures.value c.in_ok-counts.ensures.positive
+    let best = fold-hottest counts.entries (sites_seen c.args.history.now) (get nat_eq counts) c.in_ok-counts.ensures.value c.in_ok-counts.ensures.positive
     (λ site n is. IsIn-from_Contains counts.entries (site, n) ((iff site n).0 is))
     (λ site n i. (iff site n).1 (Contains-from_IsIn counts.entries (site, n) i)) in
     c.in_ok-line.ensures ∙ ap count_line (c.hottest_site.ensures.value ∙ best)

@@ -1,0 +1,69 @@
+-- Observations in bytes: each is a number that says the step from the site before it and its truth, in digits to the base 128.
+use Rattle.std.specs.Prelude.{◌≡◌, ℕ, ◌+◌, ◌-◌, ◌*◌, ◌/◌, ◌%◌, ◌^◌, ◌<◌, ◌≤◌, ◌==◌, nat_lt, if◌then◌else◌, List, [], ◌∷◌, ◌++◌, length, All}
+use Rattle.cbi_base.specs.declared.observation.Observation.{Observation}
+use Rattle.cbi_base.specs.declared.observation.Seen.{Seen}
+use Rattle.cbi_base.specs.declared.observation.Seen.TheVariants.{First, Second, Third, Nothing}
+
+-- the two low bits of a number, by the truth
+abbrev pub truth_bits : Seen → ℕ
+truth_bits First = 0
+truth_bits Second = 1
+truth_bits Third = 2
+truth_bits Nothing = 3
+
+-- the truth with these two bits
+abbrev pub truth_with : ℕ → Seen
+truth_with bits = if bits == 0 then First else if bits == 1 then Second else if bits == 2 then Third else Nothing
+
+-- the number of an observation after this site: eight times the step, 4 more where it goes back, and the truth's bits
+abbrev pub step_code : ℕ → Observation → ℕ
+step_code before o = (if nat_lt o.site before then 8 * (before - o.site) + 4 else 8 * (o.site - before)) + truth_bits o.seen
+
+-- the observation with this number, after this site
+abbrev pub observation_of : ℕ → ℕ → Observation
+observation_of before number = record {
+  site = if nat_lt (number % 8) 4 then (before + number / 8) % 2 ^ 32 else before - number / 8;
+  seen = truth_with (number % 4);
+}
+
+-- a number with one more digit behind it, within 35 bits
+abbrev pub with_digit : ℕ → ℕ → ℕ
+with_digit number digit = (128 * number + digit) % 2 ^ 35
+
+-- the last digit of what stands before others, with 128 added; none where nothing does
+abbrev pub leading : ℕ → List ℕ
+leading number = if number == 0 then [] else (128 + number % 128) ∷ []
+
+-- the digits of a number below 2 ^ 35, the last as it is and those before it with 128 added
+unfoldable pub digit_bytes : ℕ → List ℕ
+digit_bytes n = leading (n / 128 / 128 / 128 / 128) ++ leading (n / 128 / 128 / 128) ++ leading (n / 128 / 128) ++ leading (n / 128) ++ n % 128 ∷ []
+
+-- the bytes of observations, after this site
+abbrev pub packed : ℕ → List Observation → List ℕ
+packed before [] = []
+packed before (o ∷ os) = digit_bytes (step_code before o) ++ packed o.site os
+
+-- the observations of bytes, after this site and these first digits of a number
+unfoldable pub unpacked : ℕ → ℕ → List ℕ → List Observation
+unpacked before number [] = []
+unpacked before number (byte ∷ bytes) =
+    if nat_lt byte 128 then
+    (let o = observation_of before (with_digit number byte) in o ∷ unpacked o.site 0 bytes)
+    else
+    unpacked before (with_digit number (byte - 128)) bytes
+
+-- the last site of a list, or the one before it
+abbrev pub last_site : ℕ → List Observation → ℕ
+last_site before [] = before
+last_site before (o ∷ os) = last_site o.site os
+
+-- the site is a number of 32 bits
+abbrev pub FitsSite : Observation → Type 0
+FitsSite o = o.site < 2 ^ 32
+
+-- the bytes are those of these observations, this is the last site, and they take at most seven and a half bytes each
+pub record IsPacked (seen : List Observation) (bytes : List ℕ) (site capacity : ℕ) : Type 0 where
+  pub is : bytes ≡ packed 0 seen
+  pub last : site ≡ last_site 0 seen
+  pub fits : All FitsSite seen
+  pub small : 2 * capacity ≤ 15 * length seen
