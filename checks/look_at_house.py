@@ -44,6 +44,27 @@ pub fn whole(xs: &[u8])
     ensures deep { IsWhole xs.now }
 {}
 """
+WORK_SOURCE = """\
+//! The work of the house.
+
+/// Does the work.
+pub fn do_work<W: Work>(work: &W)
+    ensures took { W.due work.now }
+    ensures other { W.other work.now }
+{}
+"""
+WORDS_SOURCE = """\
+ghost use Rattle.low.specs.Low.{IsKept};
+ghost use Rattle.top.specs.Top.{IsWhole};
+
+impl Work for TopWords {
+    ghost due = { λ w. IsWhole w.xs };
+
+    ghost other = { λ w. IsKept w.xs };
+
+    fn make(&self) {}
+}
+"""
 
 
 class House(unittest.TestCase):
@@ -163,6 +184,17 @@ class House(unittest.TestCase):
             "     2 top/specs/Top.antt: IsWhole",
             "     1 the clauses themselves",
             "     8 lines in 2 files of 2 crates"], ran.stderr)
+
+    def test_reading_follows_what_words_say_of_their_work(self) -> None:
+        # the clause names one member of the two
+        self.write("crates/command_base/src/work.rt", WORK_SOURCE)
+        self.write("crates/top/src/words.rt", WORDS_SOURCE)
+        ran = self.call("tools/reading", "--files", "top::TopWords.took")
+        self.assertEqual(ran.stdout.splitlines(), [
+            "     5 low/specs/Low.antt: IsDeep, IsKept",
+            "     2 top/specs/Top.antt: IsWhole",
+            "     2 the clauses themselves",
+            "     9 lines in 2 files of 2 crates"], ran.stderr)
 
     def test_reading_says_that_a_function_isnt_there(self) -> None:
         ran = self.call("tools/reading", "top::nothing")

@@ -3,7 +3,7 @@ use Rattle.std.proofs.Common.{◌⊎◌, inl, inr, ℕ, List, Err}
 use Rattle.cbi_base.specs.declared.refusal.Refusal.{Refusal}
 use Rattle.command_base.specs.declared.fault.Fault.{Fault}
 use Rattle.command_base.specs.declared.fault.Fault.TheVariants.{Read, Write, Refused, Memory}
-use Rattle.command_base.specs.Faults.{Caused, LeftBy, OfMemory, OfRefusal, Passed}
+use Rattle.command_base.specs.Faults.{Caused, LeftBy, OfRefusal, Passed}
 
 -- a fault of a look at the bytes is a fault of the command
 pub caused-as : (e : Fault) (read : List ℕ → Type 0) (write : Type 0) (P Q : Refusal → Type 0) → Caused e (λ n. ⊥) ⊥ P → ((r : Refusal) → P r → Q r) → Caused e read write Q
@@ -11,13 +11,6 @@ caused-as (Read name) read write P Q h k = absurd h
 caused-as Write read write P Q h k = absurd h
 caused-as (Refused refusal) read write P Q h k = k refusal h
 caused-as Memory read write P Q h k = tt
-
--- what a fault of a put leaves
-pub put-left : (e : Fault) (write part same : Type 0) → Caused e (λ n. ⊥) write (λ r. ⊥) → part → OfMemory e same → LeftBy e same part (λ r. same) ⊥
-put-left (Read name) write part same cause p s = absurd cause
-put-left Write write part same cause p s = p
-put-left (Refused refusal) write part same cause p s = absurd cause
-put-left Memory write part same cause p s = inl s
 
 -- a fault of publishing is of a write or of memory
 pub published-part : (e : Fault) (write unmoved stopped broke : Type 0) (refused : Refusal → Type 0) → Caused e (λ n. ⊥) write (λ r. ⊥) → stopped → LeftBy e unmoved stopped refused (broke ⊎ stopped)

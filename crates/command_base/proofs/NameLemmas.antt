@@ -1,10 +1,19 @@
--- Names that are held, and the first that isn't, in a list and one after it.
+-- One of the names, names that are held, and the first that isn't, in a list and one after it.
 use Rattle.std.proofs.Common.{inl, inr, ℕ, List, [], ◌∷◌, ◌++◌, Option}
 use Rattle.cbi_base.specs.Store.{Held}
 use Rattle.command_base.specs.declared.fault.Fault.{Fault}
 use Rattle.command_base.specs.declared.fault.Fault.TheVariants.{Read, Write, Refused, Memory}
 use Rattle.command_base.specs.Faults.{OfRead}
-use Rattle.command_base.specs.Names.{AreHeld, IsFirstMissing}
+use Rattle.command_base.specs.Names.{AreHeld, IsFirstMissing, IsOneOf}
+
+pub one-in-first : (xs ys : List (List ℕ)) (name : List ℕ) → IsOneOf xs name → IsOneOf (xs ++ ys) name
+one-in-first [] ys name h = absurd h
+one-in-first (x ∷ xs) ys name (inl h) = inl h
+one-in-first (x ∷ xs) ys name (inr h) = inr (one-in-first xs ys name h)
+
+pub one-in-rest : (xs ys : List (List ℕ)) (name : List ℕ) → IsOneOf ys name → IsOneOf (xs ++ ys) name
+one-in-rest [] ys name h = h
+one-in-rest (x ∷ xs) ys name h = inr (one-in-rest xs ys name h)
 
 pub missing-in-first : (held : Option Held) (xs ys : List (List ℕ)) (name : List ℕ) → IsFirstMissing held xs name → IsFirstMissing held (xs ++ ys) name
 missing-in-first held [] ys name h = absurd h

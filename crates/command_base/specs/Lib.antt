@@ -2,3 +2,4 @@ pub mod Outside
 pub mod Names
 pub mod Faults
 pub mod Limits
+pub mod Reading

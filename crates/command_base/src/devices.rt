@@ -1,8 +1,9 @@
-ghost use Rattle.std.specs.Prelude.{◌≡◌, ◌≤◌, IfOk, OnOk, OnErr, IfErr};
+ghost use Rattle.std.specs.Prelude.{◌≡◌, ◌≤◌, ◌∷◌, [], IfOk, OnOk, OnErr, IfErr};
 ghost use Rattle.cbi_base.specs.Faults.{Rose};
 ghost use Rattle.cbi_base.specs.Sink.{Takes, TakesPrefix};
-ghost use Rattle.cbi_base.specs.Store.{IsHeld, IsReadOf, MayReplace, OthersStay, Replaces};
-ghost use Rattle.command_base.specs.Faults.{Caused, OfMemory, OfRead};
+ghost use Rattle.cbi_base.specs.Store.{IsReadOf, MayReplace, OthersStay, Replaces};
+ghost use Rattle.command_base.specs.Faults.{Caused, OfMemory};
+ghost use Rattle.command_base.specs.Reading.{HasRead};
 
 use crate::fault::Fault;
 use cbi_base::{Seq, Sink, SinkError, Store, StoreError};
@@ -17,14 +18,7 @@ pub fn read_file<S: Store>(
     max: u64,
 ) -> Result<Seq<u8>, Fault>
     ensures bytes { IfOk result (λ v. IsReadOf (S.holds store.old) name.now max v) }
-    ensures was_held { OnOk result (IsHeld (S.holds store.old) name.now) }
-    ensures fault { IfErr result (λ e. Caused e (λ n. (n ≡ name.now) × Rose (S.read_faults store.old) (S.read_faults store.new)) ⊥ (λ r. ⊥)) }
-    ensures missing { S.is_sound store.old → IfErr result (λ e. OfRead e (λ n. (n ≡ name.now) × (¬ IsHeld (S.holds store.old) name.now))) }
-    ensures held { S.holds store.new ≡ S.holds store.old }
-    ensures writes { S.write_faults store.new ≡ S.write_faults store.old }
-    ensures never_falls { S.read_faults store.old ≤ S.read_faults store.new }
-    ensures sound { S.is_sound store.old → S.is_sound store.new }
-    ensures sound_count { S.is_sound store.old → IsHeld (S.holds store.old) name.now → S.read_faults store.new ≡ S.read_faults store.old }
+    ensures read { HasRead S.holds S.read_faults S.write_faults S.is_sound store.old store.new (name.now ∷ []) (λ r. ⊥) result }
 {
     match store.read(alloc, name.as_str(), max) {
         Ok(bytes) => Ok(Seq::from_vec(bytes)),

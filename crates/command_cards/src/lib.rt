@@ -4,5 +4,4 @@
 mod command;
 mod words;
 
-pub use command::deal_cards;
 pub use words::CardsWords;

@@ -4,7 +4,6 @@ use Rattle.sha2.specs.Sha256.{sha256}
 use Rattle.cbi_base.specs.declared.identity.ProgramId.{ProgramId}
 use Rattle.cbi_base.specs.declared.refusal.Refusal.{Refusal}
 use Rattle.cbi_base.specs.declared.refusal.Refusal.TheVariants.{BadByte, BadToken, Syntax, BadType, TooLarge, TooManySites, BadProgram, BadBank, BadReport, Foreign, Conflict, TooManyReports, TooManyMarks, BadCollection, InputTooLarge, NoSite, BadEdits, Absent, NotPart, BadList, LargeInput}
-use Rattle.cbi_base.specs.Sink.{TakesPrefix}
 use Rattle.cbi_base.specs.Store.{Held}
 use Rattle.flow.specs.declared.program.ProgramParts.{ProgramParts}
 use Rattle.flow.specs.declared.site.Site.{Site}
@@ -15,7 +14,6 @@ use Rattle.collector.specs.Collecting.{IsCollection}
 use Rattle.collector.specs.Sites.{branches_of}
 use Rattle.collector.specs.Spelling.{collection_text}
 use Rattle.command_base.specs.declared.done.Done.TheVariants.{Added}
-use Rattle.command_base.specs.Outside.{TookWithin}
 use Rattle.command_inputs.specs.Programs.{IsSpelled}
 use Rattle.command_collect.specs.declared.gather.Gathered.{Gathered}
 use Rattle.command_collect.specs.declared.reports.CollectTexts.{CollectTexts}
@@ -83,14 +81,10 @@ said-fits texts g h =
     subst (λ n. length g.collection.reports ≤ n) (sym h.count)
     (subst (λ (c : Collected). length c.reports ≤ length h.reports) (sym h.gathered.holds) (length-map h.reports))
 
--- a prefix of the text of what was gathered
-pub collected-part : (held : Option Held) (words : CollectWords) (texts : CollectTexts) (g : Gathered) (text piece : List ℕ) (before after : Option (List ℕ)) → AreTexts held words texts → HasGathered texts g
-    → text ≡ collection_text g.collection → piece ≡ text → TakesPrefix before after piece → TookWithin (IsCollectedText held words) before after
-collected-part held words texts g text piece before after are h text_is same took = record {
-  text = piece;
-  is_due = record {
-    said = Added (length g.collection.reports) (length h.reports - length g.collection.reports);
-    is = record { texts = texts; collection = g.collection; reports = h.reports; are_texts = are; gathered = h.gathered; text_is = same ∙ text_is; said_is = refl };
-  };
-  took = took;
+-- the text of what was gathered is due
+pub collected-text : (held : Option Held) (words : CollectWords) (texts : CollectTexts) (g : Gathered) (text : List ℕ) → AreTexts held words texts → HasGathered texts g
+    → text ≡ collection_text g.collection → IsCollectedText held words text
+collected-text held words texts g text are h text_is = record {
+  said = Added (length g.collection.reports) (length h.reports - length g.collection.reports);
+  is = record { texts = texts; collection = g.collection; reports = h.reports; are_texts = are; gathered = h.gathered; text_is = text_is; said_is = refl };
 }

@@ -6,5 +6,4 @@ mod gather;
 mod reports;
 mod words;
 
-pub use command::collect_files;
 pub use words::CollectWords;

@@ -1,10 +1,9 @@
-ghost use Rattle.std.specs.Prelude.{◌≡◌, ◌≤◌, ◌∷◌, [], true, false, List, IfOk, OnOk, IfErr};
-ghost use Rattle.cbi_base.specs.Faults.{Rose};
+ghost use Rattle.std.specs.Prelude.{◌≡◌, ◌∷◌, [], true, false, List, IfOk, IfErr};
 ghost use Rattle.report_file.specs.Report.{IsReport};
 ghost use Rattle.collector.specs.Merging.{IsBundle};
 ghost use Rattle.collector.specs.declared.collection.Bundle.{Bundle};
-ghost use Rattle.command_base.specs.Faults.{Caused, OfRead};
-ghost use Rattle.command_base.specs.Names.{IsOneOf, IsFirstMissing, AreHeld};
+ghost use Rattle.command_base.specs.Faults.{Caused};
+ghost use Rattle.command_base.specs.Reading.{HasRead};
 ghost use Rattle.command_collect.specs.Collect.{AreBundles, AreReadOf, AreSpelled, AreTexts, RefusesFile, RefusesFiles, SpellsFile, collect_names, is_collection};
 
 use crate::words::CollectWords;
@@ -26,15 +25,7 @@ pub struct CollectTexts {
 /// The bytes of the files with these names, in their order.
 fn read_each<S: Store>(alloc: Global, store: &mut S, names: &[Word]) -> Result<Seq<Seq<u8>>, Fault>
     ensures texts { IfOk result (AreReadOf (S.holds store.old) names.now) }
-    ensures was_held { OnOk result (AreHeld (S.holds store.old) names.now) }
-    ensures fault { IfErr result (λ e. Caused e
-        (λ n. IsOneOf names.now n × Rose (S.read_faults store.old) (S.read_faults store.new)) ⊥ (λ r. ⊥)) }
-    ensures missing { S.is_sound store.old → IfErr result (λ e. OfRead e (IsFirstMissing (S.holds store.old) names.now)) }
-    ensures held { S.holds store.new ≡ S.holds store.old }
-    ensures writes { S.write_faults store.new ≡ S.write_faults store.old }
-    ensures never_falls { S.read_faults store.old ≤ S.read_faults store.new }
-    ensures sound { S.is_sound store.old → S.is_sound store.new }
-    ensures sound_count { S.is_sound store.old → AreHeld (S.holds store.old) names.now → S.read_faults store.new ≡ S.read_faults store.old }
+    ensures read { HasRead S.holds S.read_faults S.write_faults S.is_sound store.old store.new names.now (λ r. ⊥) result }
 {
     let mut texts = Seq::new(alloc);
     let mut rest = names;
@@ -53,15 +44,7 @@ pub fn read_texts<S: Store>(
     words: &CollectWords,
 ) -> Result<CollectTexts, Fault>
     ensures texts { IfOk result (AreTexts (S.holds store.old) words.now) }
-    ensures was_held { OnOk result (AreHeld (S.holds store.old) (collect_names words.now)) }
-    ensures fault { IfErr result (λ e. Caused e
-        (λ n. IsOneOf (collect_names words.now) n × Rose (S.read_faults store.old) (S.read_faults store.new)) ⊥ (λ r. ⊥)) }
-    ensures missing { S.is_sound store.old → IfErr result (λ e. OfRead e (IsFirstMissing (S.holds store.old) (collect_names words.now))) }
-    ensures held { S.holds store.new ≡ S.holds store.old }
-    ensures writes { S.write_faults store.new ≡ S.write_faults store.old }
-    ensures never_falls { S.read_faults store.old ≤ S.read_faults store.new }
-    ensures sound { S.is_sound store.old → S.is_sound store.new }
-    ensures sound_count { S.is_sound store.old → AreHeld (S.holds store.old) (collect_names words.now) → S.read_faults store.new ≡ S.read_faults store.old }
+    ensures read { HasRead S.holds S.read_faults S.write_faults S.is_sound store.old store.new (collect_names words.now) (λ r. ⊥) result }
 {
     let program = read_file(alloc, store, &words.program, PROGRAM_LIMIT)?;
     let files = read_each(alloc, store, words.files.as_slice())?;

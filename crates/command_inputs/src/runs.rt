@@ -1,7 +1,6 @@
-ghost use Rattle.std.specs.Prelude.{◌≡◌, ◌≤◌, IfOk, OnOk, IfErr, IsErrAnd, IsSome};
-ghost use Rattle.cbi_base.specs.Faults.{Rose};
-ghost use Rattle.command_base.specs.Faults.{Caused, OfRead, OfRefusal, Passed, Precedes};
-ghost use Rattle.command_base.specs.Names.{IsOneOf, IsFirstMissing, AreHeld};
+ghost use Rattle.std.specs.Prelude.{IfOk, IfErr, IsErrAnd, IsSome};
+ghost use Rattle.command_base.specs.Faults.{Caused, OfRefusal, Precedes};
+ghost use Rattle.command_base.specs.Reading.{HasRead};
 ghost use Rattle.command_inputs.specs.Runs.{AreRefusedRuns, AreRunsOf, AreRunsTexts, HoldsRuns, RefusesRuns, RunsRefused, RunsRefusedBy, runs_names};
 
 use crate::collections::{FILE_LIMIT, fault_of, load_collection};
@@ -29,17 +28,8 @@ fn read_runs_texts<S: Store>(
     collection: &Word,
 ) -> Result<RunsTexts, Fault>
     ensures texts { IfOk result (AreRunsTexts (S.holds store.old) program.now collection.now) }
-    ensures was_held { OnOk result (AreHeld (S.holds store.old) (runs_names program.now collection.now)) }
-    ensures fault { IfErr result (λ e. Caused e
-        (λ n. IsOneOf (runs_names program.now collection.now) n × Rose (S.read_faults store.old) (S.read_faults store.new)) ⊥ (λ r. ⊥)) }
-    ensures missing { S.is_sound store.old →
-        IfErr result (λ e. OfRead e (IsFirstMissing (S.holds store.old) (runs_names program.now collection.now))) }
-    ensures held { S.holds store.new ≡ S.holds store.old }
-    ensures writes { S.write_faults store.new ≡ S.write_faults store.old }
-    ensures never_falls { S.read_faults store.old ≤ S.read_faults store.new }
-    ensures sound { S.is_sound store.old → S.is_sound store.new }
-    ensures sound_count { S.is_sound store.old → AreHeld (S.holds store.old) (runs_names program.now collection.now)
-        → S.read_faults store.new ≡ S.read_faults store.old }
+    ensures read { HasRead S.holds S.read_faults S.write_faults S.is_sound store.old store.new
+        (runs_names program.now collection.now) (λ r. ⊥) result }
 {
     let program = read_file(alloc, store, program, PROGRAM_LIMIT)?;
     let collection = read_file(alloc, store, collection, FILE_LIMIT)?;
@@ -81,20 +71,10 @@ pub fn read_runs<S: Store>(
     collection: &Word,
 ) -> Result<(Program, Collection), Fault>
     ensures runs { IfOk result (λ (parts, held). AreRunsOf (S.holds store.old) program.now collection.now parts held) }
-    ensures fault { IfErr result (λ e. Caused e
-        (λ n. IsOneOf (runs_names program.now collection.now) n × Rose (S.read_faults store.old) (S.read_faults store.new)) ⊥
-        (RunsRefusedBy (S.holds store.old) program.now collection.now)) }
     ensures was_refused { IfErr result (λ e. OfRefusal e (RunsRefused (S.holds store.old) program.now collection.now)) }
     ensures refused { RunsRefused (S.holds store.old) program.now collection.now → IsSome (S.holds store.old) → IsErrAnd result Precedes }
-    ensures was_held { Passed result (AreHeld (S.holds store.old) (runs_names program.now collection.now)) }
-    ensures missing { S.is_sound store.old →
-        IfErr result (λ e. OfRead e (IsFirstMissing (S.holds store.old) (runs_names program.now collection.now))) }
-    ensures held { S.holds store.new ≡ S.holds store.old }
-    ensures writes { S.write_faults store.new ≡ S.write_faults store.old }
-    ensures never_falls { S.read_faults store.old ≤ S.read_faults store.new }
-    ensures sound { S.is_sound store.old → S.is_sound store.new }
-    ensures sound_count { S.is_sound store.old → AreHeld (S.holds store.old) (runs_names program.now collection.now)
-        → S.read_faults store.new ≡ S.read_faults store.old }
+    ensures read { HasRead S.holds S.read_faults S.write_faults S.is_sound store.old store.new
+        (runs_names program.now collection.now) (RunsRefusedBy (S.holds store.old) program.now collection.now) result }
 {
     let texts = match read_runs_texts(alloc, store, program, collection) {
         Ok(texts) => texts,

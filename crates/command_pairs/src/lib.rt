@@ -4,5 +4,4 @@
 mod command;
 mod words;
 
-pub use command::find_pairs;
 pub use words::PairsWords;

@@ -4,5 +4,4 @@
 mod command;
 mod words;
 
-pub use command::rank_runs;
 pub use words::RankWords;

@@ -1,9 +1,8 @@
-ghost use Rattle.std.specs.Prelude.{◌≡◌, ◌≤◌, [], length, IfOk, OnOk, IfErr, IsErrAnd};
+ghost use Rattle.std.specs.Prelude.{◌≤◌, length, IfOk, OnOk, IfErr, IsErrAnd};
 ghost use Rattle.std.specs.Option.{option_to_list};
-ghost use Rattle.cbi_base.specs.Faults.{Rose};
 ghost use Rattle.flow.specs.Spelling.{SpellsProgram};
-ghost use Rattle.command_base.specs.Faults.{Caused, OfRead, Precedes};
-ghost use Rattle.command_base.specs.Names.{IsOneOf, IsFirstMissing, AreHeld};
+ghost use Rattle.command_base.specs.Faults.{Caused, Precedes};
+ghost use Rattle.command_base.specs.Reading.{HasRead};
 ghost use Rattle.command_run.specs.Files.{AreFiles, IsReadOr, IsReadWhere, run_names};
 ghost use Rattle.command_run.specs.Run.{IsBankOf, AreRefused, RefusesBytes};
 
@@ -45,15 +44,7 @@ fn read_or<S: Store>(
     otherwise: &[u8],
 ) -> Result<Seq<u8>, Fault>
     ensures bytes { IfOk result (IsReadOr otherwise.now (S.holds store.old) name.now max) }
-    ensures was_held { OnOk result (AreHeld (S.holds store.old) (option_to_list name.now)) }
-    ensures fault { IfErr result (λ e. Caused e
-        (λ n. IsOneOf (option_to_list name.now) n × Rose (S.read_faults store.old) (S.read_faults store.new)) ⊥ (λ r. ⊥)) }
-    ensures missing { S.is_sound store.old → IfErr result (λ e. OfRead e (IsFirstMissing (S.holds store.old) (option_to_list name.now))) }
-    ensures held { S.holds store.new ≡ S.holds store.old }
-    ensures writes { S.write_faults store.new ≡ S.write_faults store.old }
-    ensures never_falls { S.read_faults store.old ≤ S.read_faults store.new }
-    ensures sound { S.is_sound store.old → S.is_sound store.new }
-    ensures sound_count { S.is_sound store.old → AreHeld (S.holds store.old) (option_to_list name.now) → S.read_faults store.new ≡ S.read_faults store.old }
+    ensures read { HasRead S.holds S.read_faults S.write_faults S.is_sound store.old store.new (option_to_list name.now) (λ r. ⊥) result }
 {
     match name {
         None => match Vec::from_slice(alloc, otherwise) {
@@ -72,15 +63,7 @@ pub fn read_where<S: Store>(
     max: u64,
 ) -> Result<Option<Seq<u8>>, Fault>
     ensures bytes { IfOk result (IsReadWhere (S.holds store.old) name.now max) }
-    ensures was_held { OnOk result (AreHeld (S.holds store.old) (option_to_list name.now)) }
-    ensures fault { IfErr result (λ e. Caused e
-        (λ n. IsOneOf (option_to_list name.now) n × Rose (S.read_faults store.old) (S.read_faults store.new)) ⊥ (λ r. ⊥)) }
-    ensures missing { S.is_sound store.old → IfErr result (λ e. OfRead e (IsFirstMissing (S.holds store.old) (option_to_list name.now))) }
-    ensures held { S.holds store.new ≡ S.holds store.old }
-    ensures writes { S.write_faults store.new ≡ S.write_faults store.old }
-    ensures never_falls { S.read_faults store.old ≤ S.read_faults store.new }
-    ensures sound { S.is_sound store.old → S.is_sound store.new }
-    ensures sound_count { S.is_sound store.old → AreHeld (S.holds store.old) (option_to_list name.now) → S.read_faults store.new ≡ S.read_faults store.old }
+    ensures read { HasRead S.holds S.read_faults S.write_faults S.is_sound store.old store.new (option_to_list name.now) (λ r. ⊥) result }
 {
     match name {
         None => Ok(None),
@@ -98,15 +81,7 @@ pub fn read_files<S: Store>(
     words: &RunWords,
 ) -> Result<RunFiles, Fault>
     ensures files { IfOk result (AreFiles (S.holds store.old) words.now) }
-    ensures was_held { OnOk result (AreHeld (S.holds store.old) (run_names words.now)) }
-    ensures fault { IfErr result (λ e. Caused e
-        (λ n. IsOneOf (run_names words.now) n × Rose (S.read_faults store.old) (S.read_faults store.new)) ⊥ (λ r. ⊥)) }
-    ensures missing { S.is_sound store.old → IfErr result (λ e. OfRead e (IsFirstMissing (S.holds store.old) (run_names words.now))) }
-    ensures held { S.holds store.new ≡ S.holds store.old }
-    ensures writes { S.write_faults store.new ≡ S.write_faults store.old }
-    ensures never_falls { S.read_faults store.old ≤ S.read_faults store.new }
-    ensures sound { S.is_sound store.old → S.is_sound store.new }
-    ensures sound_count { S.is_sound store.old → AreHeld (S.holds store.old) (run_names words.now) → S.read_faults store.new ≡ S.read_faults store.old }
+    ensures read { HasRead S.holds S.read_faults S.write_faults S.is_sound store.old store.new (run_names words.now) (λ r. ⊥) result }
 {
     let program = read_file(alloc, store, &words.program, PROGRAM_LIMIT)?;
     let bank = read_or(alloc, store, &words.bank, BANK_LIMIT, TEXT_OF_ONE)?;

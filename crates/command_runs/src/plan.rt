@@ -1,8 +1,6 @@
-ghost use Rattle.std.specs.Prelude.{◌≡◌, ◌<◌, ◌≤◌, ◌∷◌, IfOk, IfSome, OnOk, IfErr, length};
+ghost use Rattle.std.specs.Prelude.{◌<◌, ◌≤◌, ◌∷◌, IfOk, IfSome, length};
 ghost use Rattle.std.specs.Option.{option_to_list};
-ghost use Rattle.cbi_base.specs.Faults.{Rose};
-ghost use Rattle.command_base.specs.Faults.{Caused, OfRead};
-ghost use Rattle.command_base.specs.Names.{IsOneOf, IsFirstMissing, AreHeld};
+ghost use Rattle.command_base.specs.Reading.{HasRead};
 ghost use Rattle.countdown_bank.specs.MadeBank.{IsMadeBank};
 ghost use Rattle.command_bank.specs.MadeBank.{generator};
 ghost use Rattle.expected.specs.Expected.{expect_limit};
@@ -63,16 +61,8 @@ fn read_fellow<S: Store>(
 ) -> Result<Option<Seq<u8>>, Fault>
     requires { IfSome expects.now (λ names. place < length names) }
     ensures bytes { IfOk result (IsReadWhere (S.holds store.old) (fellow_at expects.now place) expect_limit) }
-    ensures was_held { OnOk result (AreHeld (S.holds store.old) (option_to_list (fellow_at expects.now place))) }
-    ensures fault { IfErr result (λ e. Caused e
-        (λ n. IsOneOf (option_to_list (fellow_at expects.now place)) n × Rose (S.read_faults store.old) (S.read_faults store.new)) ⊥ (λ r. ⊥)) }
-    ensures missing { S.is_sound store.old → IfErr result (λ e. OfRead e (IsFirstMissing (S.holds store.old) (option_to_list (fellow_at expects.now place)))) }
-    ensures held { S.holds store.new ≡ S.holds store.old }
-    ensures writes { S.write_faults store.new ≡ S.write_faults store.old }
-    ensures never_falls { S.read_faults store.old ≤ S.read_faults store.new }
-    ensures sound { S.is_sound store.old → S.is_sound store.new }
-    ensures sound_count { S.is_sound store.old → AreHeld (S.holds store.old) (option_to_list (fellow_at expects.now place))
-        → S.read_faults store.new ≡ S.read_faults store.old }
+    ensures read { HasRead S.holds S.read_faults S.write_faults S.is_sound store.old store.new
+        (option_to_list (fellow_at expects.now place)) (λ r. ⊥) result }
 {
     match expects {
         None => Ok(None),
@@ -93,17 +83,8 @@ fn read_line<S: Store>(
 ) -> Result<LineBytes, Fault>
     requires { IfSome expects.now (λ names. place < length names) }
     ensures bytes { IfOk result (AreLineBytes (S.holds store.old) input.now (fellow_at expects.now place)) }
-    ensures was_held { OnOk result (AreHeld (S.holds store.old) (input.now ∷ option_to_list (fellow_at expects.now place))) }
-    ensures fault { IfErr result (λ e. Caused e
-        (λ n. IsOneOf (input.now ∷ option_to_list (fellow_at expects.now place)) n × Rose (S.read_faults store.old) (S.read_faults store.new)) ⊥ (λ r. ⊥)) }
-    ensures missing { S.is_sound store.old →
-        IfErr result (λ e. OfRead e (IsFirstMissing (S.holds store.old) (input.now ∷ option_to_list (fellow_at expects.now place)))) }
-    ensures held { S.holds store.new ≡ S.holds store.old }
-    ensures writes { S.write_faults store.new ≡ S.write_faults store.old }
-    ensures never_falls { S.read_faults store.old ≤ S.read_faults store.new }
-    ensures sound { S.is_sound store.old → S.is_sound store.new }
-    ensures sound_count { S.is_sound store.old → AreHeld (S.holds store.old) (input.now ∷ option_to_list (fellow_at expects.now place))
-        → S.read_faults store.new ≡ S.read_faults store.old }
+    ensures read { HasRead S.holds S.read_faults S.write_faults S.is_sound store.old store.new
+        (input.now ∷ option_to_list (fellow_at expects.now place)) (λ r. ⊥) result }
 {
     let input = read_file(alloc, store, input, INPUT_LIMIT)?;
     let expect = match read_fellow(alloc, store, expects, place) {

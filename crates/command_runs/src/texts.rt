@@ -1,7 +1,5 @@
-ghost use Rattle.std.specs.Prelude.{◌≡◌, ◌≤◌, IfOk, OnOk, IfErr};
-ghost use Rattle.cbi_base.specs.Faults.{Rose};
-ghost use Rattle.command_base.specs.Faults.{Caused, OfRead};
-ghost use Rattle.command_base.specs.Names.{IsOneOf, IsFirstMissing, AreHeld};
+ghost use Rattle.std.specs.Prelude.{IfOk};
+ghost use Rattle.command_base.specs.Reading.{HasRead};
 ghost use Rattle.command_runs.specs.Lists.{AreListTexts, first_names};
 
 use crate::words::RunsWords;
@@ -29,15 +27,7 @@ pub fn read_texts<S: Store>(
     words: &RunsWords,
 ) -> Result<ListTexts, Fault>
     ensures texts { IfOk result (AreListTexts (S.holds store.old) words.now) }
-    ensures was_held { OnOk result (AreHeld (S.holds store.old) (first_names words.now)) }
-    ensures fault { IfErr result (λ e. Caused e
-        (λ n. IsOneOf (first_names words.now) n × Rose (S.read_faults store.old) (S.read_faults store.new)) ⊥ (λ r. ⊥)) }
-    ensures missing { S.is_sound store.old → IfErr result (λ e. OfRead e (IsFirstMissing (S.holds store.old) (first_names words.now))) }
-    ensures held { S.holds store.new ≡ S.holds store.old }
-    ensures writes { S.write_faults store.new ≡ S.write_faults store.old }
-    ensures never_falls { S.read_faults store.old ≤ S.read_faults store.new }
-    ensures sound { S.is_sound store.old → S.is_sound store.new }
-    ensures sound_count { S.is_sound store.old → AreHeld (S.holds store.old) (first_names words.now) → S.read_faults store.new ≡ S.read_faults store.old }
+    ensures read { HasRead S.holds S.read_faults S.write_faults S.is_sound store.old store.new (first_names words.now) (λ r. ⊥) result }
 {
     let program = read_file(alloc, store, &words.program, PROGRAM_LIMIT)?;
     let inputs = read_file(alloc, store, &words.inputs, LIST_LIMIT)?;

@@ -1,7 +1,6 @@
 -- What is refused of the texts of a program and of edits, and what they print.
 use Rattle.std.proofs.Common.{◌≡◌, inl, inr, ℕ, List, [], Option, IsSome, ap, sym, subst, ◌∙◌}
 use Rattle.sha2.specs.Sha256.{sha256}
-use Rattle.cbi_base.specs.Sink.{TakesPrefix}
 use Rattle.cbi_base.specs.Store.{Held}
 use Rattle.cbi_base.specs.declared.identity.ProgramId.{ProgramId}
 use Rattle.cbi_base.specs.declared.policy.Policy.{Policy}
@@ -13,7 +12,6 @@ use Rattle.flow.specs.Program.{table_of}
 use Rattle.flow.specs.Spelling.{SpellsProgram}
 use Rattle.collector.specs.declared.collection.Held.{Held as Collected}
 use Rattle.command_base.specs.Limits.{program_limit}
-use Rattle.command_base.specs.Outside.{TookWithin}
 use Rattle.command_base.proofs.ReadLemmas.{read-once}
 use Rattle.command_inputs.specs.Programs.{IsBadProgram}
 use Rattle.command_inputs.specs.Collections.{file_limit}
@@ -25,7 +23,7 @@ use Rattle.session_laws.proofs.Taken.{none-faulty}
 use Rattle.session_replay.specs.declared.fault.EditFault.{EditFault}
 use Rattle.session_replay.specs.declared.fault.EditFault.TheVariants as fault
 use Rattle.session_replay.specs.Replay.{AreAccepted, AreRankings, FaultsAt, IsStoppedBy, StopsAt, no_runs}
-use Rattle.command_session.specs.Session.{AreRefusedTexts, AreSessionTexts, AreTextsReplayed, IsBadEdits, IsReplayed, IsTold, IsToldOf, RefusesTexts, SpellBoth, TellsOf, id_of}
+use Rattle.command_session.specs.Session.{AreRefusedTexts, AreSessionTexts, AreTextsReplayed, IsBadEdits, IsTold, IsToldOf, RefusesTexts, SpellBoth, TellsOf, id_of}
 use Rattle.command_session.specs.declared.replayed.SessionTexts.{SessionTexts}
 use Rattle.command_session.specs.declared.words.SessionWords.{SessionWords}
 use Rattle.command_session.proofs.Told.{told-refuses}
@@ -158,6 +156,3 @@ replayed texts parts id table list policy text l rankings = record {
   spell = l.spell;
   rankings = subst (λ t. AreRankings t policy [] list text) l.table_is rankings;
 }
-
-pub due-part : (held : Option Held) (s : SessionWords) (text piece : List ℕ) (before after : Option (List ℕ)) → IsReplayed held s text → piece ≡ text → TakesPrefix before after piece → TookWithin (IsReplayed held s) before after
-due-part held s text piece before after due same took = record { text = piece; is_due = subst (IsReplayed held s) (sym same) due; took = took }

@@ -5,6 +5,5 @@ mod command;
 mod replayed;
 mod words;
 
-pub use command::replay_edits;
 pub use replayed::SessionTexts;
 pub use words::SessionWords;

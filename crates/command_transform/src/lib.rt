@@ -4,5 +4,4 @@
 mod command;
 mod words;
 
-pub use command::transform_text;
 pub use words::TransformWords;

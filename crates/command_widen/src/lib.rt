@@ -8,7 +8,6 @@ mod texts;
 mod wide;
 mod words;
 
-pub use command::widen_runs;
 pub use loaded::Loaded;
 pub use texts::WidenTexts;
 pub use words::WidenWords;

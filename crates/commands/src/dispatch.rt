@@ -9,17 +9,17 @@ ghost use Rattle.commands.specs.Commands.{names_of, written_by, AreReadHeld, Did
 use cbi_base::{Sink, Store};
 use cbi_words::Command;
 use command_bank::{BankWords, make_bank};
-use command_base::{Done, Fault};
-use command_cards::{CardsWords, deal_cards};
-use command_collect::{CollectWords, collect_files};
-use command_pairs::{PairsWords, find_pairs};
-use command_rank::{RankWords, rank_runs};
+use command_base::{Done, Fault, do_work};
+use command_cards::CardsWords;
+use command_collect::CollectWords;
+use command_pairs::PairsWords;
+use command_rank::RankWords;
 use command_run::{RunWords, run_file};
 use command_runs::{RunsWords, make_runs};
-use command_session::{SessionWords, replay_edits};
+use command_session::SessionWords;
 use command_study::{StudyWords, study_text};
-use command_transform::{TransformWords, transform_text};
-use command_widen::{WidenWords, widen_runs};
+use command_transform::TransformWords;
+use command_widen::WidenWords;
 use probes::Probe;
 use std::alloc::Global;
 use study_runs::StudyPlan;
@@ -75,7 +75,7 @@ pub fn obey<S: Store, O: Sink>(
                 part,
                 text,
             };
-            transform_text(alloc, &words, store, out)
+            do_work(alloc, &words, store, out)
         }
         Command::Run {
             bank,
@@ -113,7 +113,7 @@ pub fn obey<S: Store, O: Sink>(
         }
         Command::Collect { program, files } => {
             let words = CollectWords { program, files };
-            collect_files(alloc, &words, store, out)
+            do_work(alloc, &words, store, out)
         }
         Command::Rank {
             policy,
@@ -125,7 +125,7 @@ pub fn obey<S: Store, O: Sink>(
                 program,
                 collection,
             };
-            rank_runs(alloc, &words, store, out)
+            do_work(alloc, &words, store, out)
         }
         Command::Study {
             runs,
@@ -155,7 +155,7 @@ pub fn obey<S: Store, O: Sink>(
                 policy,
                 edits,
             };
-            replay_edits(alloc, &words, store, out)
+            do_work(alloc, &words, store, out)
         }
         Command::Widen {
             whole,
@@ -169,7 +169,7 @@ pub fn obey<S: Store, O: Sink>(
                 program,
                 collection,
             };
-            widen_runs(alloc, &words, store, out)
+            do_work(alloc, &words, store, out)
         }
         Command::Cards {
             program,
@@ -179,7 +179,7 @@ pub fn obey<S: Store, O: Sink>(
                 program,
                 collection,
             };
-            deal_cards(alloc, &words, store, out)
+            do_work(alloc, &words, store, out)
         }
         Command::Pairs {
             program,
@@ -189,7 +189,7 @@ pub fn obey<S: Store, O: Sink>(
                 program,
                 collection,
             };
-            find_pairs(alloc, &words, store, out)
+            do_work(alloc, &words, store, out)
         }
         Command::Runs {
             inputs,

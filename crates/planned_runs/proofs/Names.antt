@@ -1,8 +1,8 @@
 -- The names that are read for one number stand among those of all.
-use Rattle.std.proofs.Common.{◌≡◌, ◌<◌, ◌+◌, ◌-◌, inl, inr, ℕ, zero, suc, List, [], ◌∷◌, ◌++◌, Option, ap, ap₂, sym, subst, ◌∙◌, arith, append_assoc}
+use Rattle.std.proofs.Common.{◌≡◌, ◌<◌, ◌+◌, ◌-◌, ℕ, zero, suc, List, [], ◌++◌, Option, ap, ap₂, sym, subst, ◌∙◌, arith, append_assoc}
 use Rattle.cbi_base.specs.Store.{Held}
 use Rattle.command_base.specs.Names.{AreHeld, IsFirstMissing, IsOneOf}
-use Rattle.command_base.proofs.NameLemmas.{held-both, held-first, held-rest, missing-in-first, missing-in-rest}
+use Rattle.command_base.proofs.NameLemmas.{held-both, held-first, held-rest, missing-in-first, missing-in-rest, one-in-first, one-in-rest}
 use Rattle.planned_runs.specs.Runs.{names_from}
 
 -- the names of some first numbers, and those of the others
@@ -22,15 +22,6 @@ pub names_around : (names : ℕ → List (List ℕ)) (first done count : ℕ) �
 names_around names first done count more =
     let all : count ≡ done + suc (count - suc done) = omega arith in
     ap (names_from names first) all ∙ names_split names first done (suc (count - suc done))
-
-one-in-first : (xs ys : List (List ℕ)) (name : List ℕ) → IsOneOf xs name → IsOneOf (xs ++ ys) name
-one-in-first [] ys name h = absurd h
-one-in-first (x ∷ xs) ys name (inl h) = inl h
-one-in-first (x ∷ xs) ys name (inr h) = inr (one-in-first xs ys name h)
-
-one-in-rest : (xs ys : List (List ℕ)) (name : List ℕ) → IsOneOf ys name → IsOneOf (xs ++ ys) name
-one-in-rest [] ys name h = h
-one-in-rest (x ∷ xs) ys name h = inr (one-in-rest xs ys name h)
 
 module _ (names : ℕ → List (List ℕ)) (first done count : ℕ) (more : done < count) where
   pub one-of-all : (name : List ℕ) → IsOneOf (names (first + done)) name → IsOneOf (names_from names first count) name

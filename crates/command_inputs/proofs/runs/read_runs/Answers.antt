@@ -1,10 +1,11 @@
-use Rattle.command_base.proofs.FaultLemmas.{caused-as, refused-as}
+use Rattle.command_base.proofs.FaultLemmas.{refused-as}
+use Rattle.command_base.proofs.ReadingLemmas.{looked-at}
 use Rattle.command_inputs.proofs.RunsLemmas.{refuses-runs, same-refused-runs}
 use Rattle.command_inputs.proofs.runs.read_runs.Goals as goal
 
-pub returns-clause-fault : goal.returns-clause-fault
-returns-clause-fault g c =
-    caused-as c.in-Err-load_runs.fault _ _ _ _ c.in-Err-load_runs.ensures.fault (λ refusal h. record { texts = c.in-Ok.texts; are_texts = c.in-Ok.ensures.texts; refused = h })
+pub returns-clause-read : goal.returns-clause-read
+returns-clause-read g c =
+    looked-at _ c.in-Err-load_runs.fault _ _ c.in-Ok.ensures.read c.in-Err-load_runs.ensures.fault (λ refusal h. record { texts = c.in-Ok.texts; are_texts = c.in-Ok.ensures.texts; refused = h })
 
 pub returns-clause-was_refused : goal.returns-clause-was_refused
 returns-clause-was_refused g c =

@@ -18,15 +18,15 @@ returns-in-Err-look-clause-refused g c = λ refused tells.
     c.in-Err-look.ensures.refused (same-refused (g.S.Store.holds c.args.store.now) c.args.words.now c.in-Ok.files tells c.in-Ok.ensures.files refused)
 
 pub returns-in-Err-look-clause-held : goal.returns-in-Err-look-clause-held
-returns-in-Err-look-clause-held g c = all-stay _ _ _ c.read_files.ensures.held
+returns-in-Err-look-clause-held g c = all-stay _ _ _ c.read_files.ensures.read.held
 
 pub returns-in-Err-run-clause-held : goal.returns-in-Err-run-clause-held
-returns-in-Err-run-clause-held g c = all-stay _ _ _ c.read_files.ensures.held
+returns-in-Err-run-clause-held g c = all-stay _ _ _ c.read_files.ensures.read.held
 
 pub returns-in-Err-run-clause-left : goal.returns-in-Err-run-clause-left
 returns-in-Err-run-clause-left g c =
     let l = loaded _ _ c.in-Ok.files _ _ c.in-Ok.ensures.files c.in-Ok-look.ensures.found c.in-Ok-look.ensures.bank c.in-Ok-look.ensures.fits in
-    inr (inl (broke _ _ _ _ _ _ _ _ _ c.as_slice-input.ensures l refl c.read_files.ensures.held c.in-Err-run.ensures.wanting))
+    inr (inl (broke _ _ _ _ _ _ _ _ _ c.as_slice-input.ensures l refl c.read_files.ensures.read.held c.in-Err-run.ensures.wanting))
 
 pub publish-requires-clause-few : goal.publish-requires-clause-few
 publish-requires-clause-few g c = few-counts _ _ _ _ _ _ _ _ _ _ c.in-Ok-look.ensures.found c.in-Ok-run.ensures.ran
@@ -34,7 +34,7 @@ publish-requires-clause-few g c = few-counts _ _ _ _ _ _ _ _ _ _ c.in-Ok-look.en
 pub returns-in-Ok-publish-clause-ran : goal.returns-in-Ok-publish-clause-ran
 returns-in-Ok-publish-clause-ran g c =
     let l = loaded _ _ c.in-Ok.files _ _ c.in-Ok.ensures.files c.in-Ok-look.ensures.found c.in-Ok-look.ensures.bank c.in-Ok-look.ensures.fits in
-    ran-whole _ _ _ _ _ _ _ _ _ _ _ c.as_slice-input.ensures c.read_files.ensures.held l c.in-Ok-run.ensures.ran c.in-Ok-publish.ensures.took c.in-Ok-publish.ensures.reported
+    ran-whole _ _ _ _ _ _ _ _ _ _ _ c.as_slice-input.ensures c.read_files.ensures.read.held l c.in-Ok-run.ensures.ran c.in-Ok-publish.ensures.took c.in-Ok-publish.ensures.reported
 
 pub returns-in-Ok-publish-clause-refused : goal.returns-in-Ok-publish-clause-refused
 returns-in-Ok-publish-clause-refused g c = λ refused tells.
@@ -50,4 +50,4 @@ pub returns-clause-left : goal.returns-clause-left
 returns-clause-left g c =
     let l = loaded _ _ c.in-Ok.files _ _ c.in-Ok.ensures.files c.in-Ok-look.ensures.found c.in-Ok-look.ensures.bank c.in-Ok-look.ensures.fits in
     published-part c.in-Err-publish.fault _ _ _ _ _ c.in-Err-publish.ensures.fault
-    (stopped _ _ _ _ _ _ _ _ _ _ _ c.as_slice-input.ensures c.read_files.ensures.held l c.in-Ok-run.ensures.ran c.in-Err-publish.ensures.part)
+    (stopped _ _ _ _ _ _ _ _ _ _ _ c.as_slice-input.ensures c.read_files.ensures.read.held l c.in-Ok-run.ensures.ran c.in-Err-publish.ensures.part)

@@ -13,21 +13,21 @@ returns-in-Err-Refused-clause-was_refused g c =
 
 pub returns-in-Err-Refused-clause-left : goal.returns-in-Err-Refused-clause-left
 returns-in-Err-Refused-clause-left g c =
-    study-left _ _ _ _ c.in-Ok.text c.as_slice.result.now c.in-Err-Refused.field-0 _ c.in-Ok.ensures.bytes c.as_slice.ensures c.in-Err-Refused.field-0-is refl c.read_file.ensures.held
+    study-left _ _ _ _ c.in-Ok.text c.as_slice.result.now c.in-Err-Refused.field-0 _ c.in-Ok.ensures.bytes c.as_slice.ensures c.in-Err-Refused.field-0-is refl c.read_file.ensures.read.held
     c.in-Err-Refused.ensures.left
 
 pub returns-in-Err-text_of-clause-left : goal.returns-in-Err-text_of-clause-left
 returns-in-Err-text_of-clause-left g c =
     inr (inr (study-taken _ _ _ _ _
     (is-study _ _ _ _ c.in-Ok.text c.as_slice.result.now _ c.in-Ok-study.studied c.in-Ok.ensures.bytes c.as_slice.ensures c.in-Ok-study.ensures.studied refl)
-    (took-nothing _ _ _ refl) c.read_file.ensures.held))
+    (took-nothing _ _ _ refl) c.read_file.ensures.read.held))
 
 pub returns-in-Ok-put-clause-done : goal.returns-in-Ok-put-clause-done
 returns-in-Ok-put-clause-done g c =
     study-done _ _ _ _ _
     (is-study _ _ _ _ c.in-Ok.text c.as_slice.result.now _ c.in-Ok-study.studied c.in-Ok.ensures.bytes c.as_slice.ensures c.in-Ok-study.ensures.studied
     (c.as_slice-2.ensures.value ∙ c.in-Ok-text_of.ensures))
-    c.in-Ok-put.ensures.whole c.read_file.ensures.held
+    c.in-Ok-put.ensures.whole c.read_file.ensures.read.held
 
 pub returns-in-Ok-put-clause-refused : goal.returns-in-Ok-put-clause-refused
 returns-in-Ok-put-clause-refused g c = λ refused tells.
@@ -45,4 +45,4 @@ returns-clause-left g c =
     (study-taken _ _ _ _ _
     (is-study _ _ _ _ c.in-Ok.text c.as_slice.result.now _ c.in-Ok-study.studied c.in-Ok.ensures.bytes c.as_slice.ensures c.in-Ok-study.ensures.studied
     (c.as_slice-2.ensures.value ∙ c.in-Ok-text_of.ensures))
-    c.in-Err-put.ensures.part c.read_file.ensures.held)
+    c.in-Err-put.ensures.part c.read_file.ensures.read.held)
