@@ -1,6 +1,6 @@
 -- Cards of leaders, written one behind another.
 use Rattle.std.proofs.Common.{◌≡◌, ℕ, suc, ◌+◌, ◌≤◌, Bool, List, [], ◌∷◌, ◌++◌, length, refl, sym, ap, subst, ◌∙◌, append_assoc, arith}
-use Rattle.std.specs.Prelude.{All, codes, map}
+use Rattle.std.specs.Prelude.{All, map}
 use Rattle.std.proofs.lemmas.List.{append-nil}
 use Rattle.std.proofs.lemmas.List.Elements.{All-cons, All-nil}
 use Rattle.cbi_base.specs.Text.{ended, spaced, text_of}
@@ -8,15 +8,15 @@ use Rattle.cbi_base.specs.declared.policy.Policy.TheVariants.{All as Every}
 use Rattle.collector.specs.Sites.{branches_of}
 use Rattle.report_file.specs.declared.report.Report.{Report}
 use Rattle.flow.specs.declared.site.TableParts.{TableParts}
-use Rattle.tallies.specs.declared.labelled.LabelledRun.{LabelledRun}
-use Rattle.tallies.specs.declared.listed.Listed.{Listed}
-use Rattle.tallies.specs.Recount.{recount}
+use Rattle.elimination_tallies.specs.declared.labelled.LabelledRun.{LabelledRun}
+use Rattle.elimination_tallies.specs.declared.listed.Listed.{Listed}
+use Rattle.elimination_tallies.specs.Recount.{recount}
 use Rattle.elimination.specs.Elimination.{IsElimination, after}
 use Rattle.elimination.proofs.EliminationLemmas.{passes-positive}
 use Rattle.elimination.proofs.UniqueLemmas.{true-falls}
 use Rattle.affinity.specs.declared.dealing.Card.{Card}
 use Rattle.affinity.specs.Cards.{AreCards, IsCard}
-use Rattle.affinity.specs.Dealing.{HaveCards, IsDealt, IsListed}
+use Rattle.affinity.specs.Dealing.{IsCardDealt, IsListed}
 use Rattle.affinity.specs.Text.{card_rows, cards_rows}
 
 -- each leader was true in a failing run
@@ -34,15 +34,6 @@ are-listed branches runs rows is = listed-within branches runs runs rows (λ p. 
 pub lines-append : (xs ys : List (List (List ℕ))) → text_of (map spaced (xs ++ ys)) ≡ text_of (map spaced xs) ++ text_of (map spaced ys)
 lines-append [] ys = refl
 lines-append (x ∷ xs) ys = ap (λ t. ended (spaced x) ++ t) (lines-append xs ys) ∙ sym (append_assoc (ended (spaced x)) (text_of (map spaced xs)) (text_of (map spaced ys)))
-
-pub line-text : (x : List (List ℕ)) → text_of (map spaced (x ∷ [])) ≡ ended (spaced x)
-line-text x = append-nil (ended (spaced x))
-
--- one more line
-pub line-more : (before mid new : List ℕ) (xs : List (List (List ℕ))) (x : List (List ℕ)) → mid ≡ before ++ text_of (map spaced xs) → new ≡ mid ++ ended (spaced x) → new ≡ before ++ text_of (map spaced (xs ++ x ∷ []))
-line-more before mid new xs x is made =
-    made ∙ ap (λ t. t ++ ended (spaced x)) is ∙ append_assoc before (text_of (map spaced xs)) (ended (spaced x))
-    ∙ ap (λ t. before ++ t) (ap (λ t. text_of (map spaced xs) ++ t) (sym (line-text x)) ∙ sym (lines-append xs (x ∷ [])))
 
 rows-more : (table : TableParts) (place : ℕ) (cards : List Card) (c : Card) (last : ℕ) → last ≡ place + length cards → cards_rows table place (cards ++ c ∷ []) ≡ cards_rows table place cards ++ card_rows table last c
 rows-more table place [] c last is = append-nil (card_rows table place c) ∙ ap (λ n. card_rows table n c) (omega (arith, is))
@@ -68,10 +59,7 @@ pub record DealtSoFar (table : TableParts) (reports : List Report) (rows : List 
   pub are : AreCards (branches_of table.sites) reports rows cards
   pub text_is : text ≡ text_of (map spaced (cards_rows table 1 cards))
 
-pub dealt-none : (table : TableParts) (reports : List Report) (text : List ℕ) → text ≡ [] → DealtSoFar table reports [] text
-dealt-none table reports text none = record { cards = []; are = tt; text_is = none }
-
-pub dealt-more : (table : TableParts) (reports : List Report) (rows more : List Listed) (row : Listed) (place : ℕ) (text new : List ℕ) → more ≡ rows ++ row ∷ [] → place ≡ length rows + 1 → DealtSoFar table reports rows text → IsDealt table reports place row.predicate text new
+pub dealt-more : (table : TableParts) (reports : List Report) (rows more : List Listed) (row : Listed) (place : ℕ) (text new : List ℕ) → more ≡ rows ++ row ∷ [] → place ≡ length rows + 1 → DealtSoFar table reports rows text → IsCardDealt table reports place row.predicate text new
     → DealtSoFar table reports more new
 dealt-more table reports rows more row place text new all last so_far dealt =
     let bs = branches_of table.sites in
@@ -83,12 +71,3 @@ dealt-more table reports rows more row place text new all last so_far dealt =
       text_is = dealt.text_is ∙ ap (λ t. t ++ text_of (map spaced (card_rows table place c))) so_far.text_is ∙ sym (lines-append now (card_rows table place c))
           ∙ ap (λ (ls : List (List (List ℕ))). text_of (map spaced ls)) (sym (rows-more table 1 so_far.cards c place (omega (arith, last, cards-many bs reports rows so_far.cards so_far.are))));
     })
-
-pub dealt-end : (table : TableParts) (reports : List Report) (rows : List Listed) (text new : List ℕ) → DealtSoFar table reports rows text → new ≡ text ++ ended (codes "end") → HaveCards table reports rows new
-dealt-end table reports rows text new so_far made =
-    let now = cards_rows table 1 so_far.cards in
-    let end : List (List ℕ) = codes "end" ∷ [] in record {
-      cards = so_far.cards;
-      are = so_far.are;
-      text_is = made ∙ ap (λ t. t ++ ended (codes "end")) so_far.text_is ∙ ap (λ t. text_of (map spaced now) ++ t) (sym (line-text end)) ∙ sym (lines-append now (end ∷ []));
-    }

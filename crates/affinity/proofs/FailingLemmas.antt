@@ -5,9 +5,9 @@ use Rattle.std.proofs.lemmas.Bool.{cases_lt, false≢true, le-ltb}
 use Rattle.std.proofs.lemmas.List.Elements.{All-cons, All-filter, All-map, All-nil, Contains-append_left, Contains-push}
 use Rattle.std.proofs.lemmas.List.Sums.{sum_by-cons}
 use Rattle.report_file.specs.declared.report.Report.{Report}
-use Rattle.tallies.specs.declared.labelled.LabelledRun.{LabelledRun}
-use Rattle.tallies.specs.Recount.{fails, is_true, labelled, recount, runs_of}
-use Rattle.tallies.specs.Runs.{reports_after}
+use Rattle.elimination_tallies.specs.declared.labelled.LabelledRun.{LabelledRun}
+use Rattle.elimination_tallies.specs.Recount.{fails, is_true, labelled, recount, runs_of}
+use Rattle.elimination_tallies.specs.Runs.{reports_after}
 use Rattle.affinity.specs.Cards.{IsLeastOf, failing_true, is_failing_true}
 
 abbrev run_numbers : List Report → List ℕ
@@ -38,10 +38,6 @@ is-later run other is = elim (cases_lt run other) [ inl less ↦ omega arith | i
 later-all : (run : ℕ) (reports : List Report) → All (λ (x : Report). run ≤ x.run) (reports_after run reports)
 later-all run [] = All-nil (λ (x : Report). run ≤ x.run)
 later-all run (r ∷ more) = later-by run r (reports_after run more) (nat_lt run r.run) (is-later run r.run) (later-all run more)
-
--- a report of another run is passed over
-pub failing-passed : (branches : List Bool) (p : ℕ) (r : Report) (rest : List Report) → is_failing_true branches p r ≡ false → failing_true branches (r ∷ rest) p ≡ failing_true branches rest p
-failing-passed branches p r rest is = ap (λ b. run_numbers (cond b (r ∷ filter (is_failing_true branches p) rest) (filter (is_failing_true branches p) rest))) is
 
 -- the first one is the least
 pub failing-found : (branches : List Bool) (p : ℕ) (r : Report) (reports : List Report) (all : List ℕ) → is_failing_true branches p r ≡ true → failing_true branches (r ∷ reports_after r.run reports) p ≡ all → IsLeastOf all r.run

@@ -7,13 +7,13 @@ use Rattle.cbi_base.specs.declared.policy.Policy.TheVariants.{All as Every}
 use Rattle.fractions.specs.declared.tally.Tally.{Tally}
 use Rattle.fractions.specs.Fraction.{millionths_of}
 use Rattle.fractions.specs.Tally.{Passes, importance_of}
-use Rattle.tallies.specs.declared.labelled.LabelledRun.{LabelledRun}
-use Rattle.tallies.specs.declared.listed.Listed.{Listed}
-use Rattle.tallies.specs.Leading.{IsLeader}
-use Rattle.tallies.specs.Predicates.{predicates_in}
-use Rattle.tallies.specs.Recount.{failing_runs, is_true}
-use Rattle.tallies.specs.Tallies.{AreRecounts, Tallies}
-use Rattle.tallies.proofs.RecountLemmas.{fails-most, recounts-numbers, recounts-scanned}
+use Rattle.elimination_tallies.specs.declared.labelled.LabelledRun.{LabelledRun}
+use Rattle.elimination_tallies.specs.declared.listed.Listed.{Listed}
+use Rattle.elimination_tallies.specs.Leading.{IsLeader}
+use Rattle.elimination_tallies.specs.Predicates.{predicates_in}
+use Rattle.elimination_tallies.specs.Recount.{failing_runs, is_true}
+use Rattle.elimination_tallies.specs.Tallies.{AreRecounts, Tallies}
+use Rattle.elimination_tallies.proofs.RecountLemmas.{fails-most, recounts-numbers, recounts-scanned}
 use Rattle.elimination.specs.Elimination.{IsElimination, after}
 use Rattle.affinity.specs.declared.neighbour.Neighbour.{Neighbour}
 use Rattle.affinity.specs.declared.remaining.Remaining.{Remaining}

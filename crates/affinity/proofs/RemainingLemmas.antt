@@ -1,17 +1,16 @@
 -- The numbers while the runs in which a predicate was true are taken out.
 use Rattle.std.proofs.Common.{◌≡◌, ℕ, ◌+◌, ◌≤◌, Bool, true, false, not, cond, List, [], ◌∷◌, ◌++◌, length, refl, sym, ap, subst, ◌∙◌, append_assoc, arith}
-use Rattle.std.proofs.lemmas.List.{append-nil, length-append}
+use Rattle.std.proofs.lemmas.List.{length-append}
 use Rattle.std.proofs.lemmas.List.Sums.{sum_by-append, sum_by-cons}
 use Rattle.cbi_base.specs.declared.policy.Policy.TheVariants.{All as Every}
-use Rattle.tallies.specs.declared.labelled.LabelledRun.{LabelledRun}
-use Rattle.tallies.specs.declared.numbers.Change.TheVariants.{TakeOut}
-use Rattle.tallies.specs.Recount.{failing_runs, fails, is_true}
-use Rattle.tallies.specs.Runs.{AreRunsOf}
-use Rattle.tallies.specs.Tallies.{AllowsEntries, AreRecounts, ChangedByAll, Tallies, counted_as, one_if}
-use Rattle.tallies.proofs.RecountLemmas.{fails-most}
-use Rattle.tallies.proofs.RunChanges.{take-out-allowed, take-out-recounts, well-without}
+use Rattle.elimination_tallies.specs.declared.labelled.LabelledRun.{LabelledRun}
+use Rattle.elimination_tallies.specs.declared.numbers.Change.TheVariants.{TakeOut}
+use Rattle.elimination_tallies.specs.Recount.{failing_runs, fails, is_true}
+use Rattle.elimination_tallies.specs.Runs.{AreRunsOf}
+use Rattle.elimination_tallies.specs.Tallies.{AllowsEntries, AreRecounts, ChangedByAll, Tallies, counted_as, one_if}
+use Rattle.elimination_tallies.proofs.RecountLemmas.{fails-most}
+use Rattle.elimination_tallies.proofs.RunChanges.{take-out-allowed, take-out-recounts, well-without}
 use Rattle.elimination.specs.Elimination.{after}
-use Rattle.affinity.specs.Kept.{IsWithout}
 use Rattle.affinity.proofs.NearLemmas.{left-few}
 
 -- so far: the runs kept, and those that are still to come
@@ -60,10 +59,6 @@ left-kept branches p r rest all numbers failing every so_far was =
       every_are = every-more every r rest all so_far.every_are;
     }
 
--- no number passes that of all runs
-pub every-small : (branches : List Bool) (p : ℕ) (r : LabelledRun) (rest all : List LabelledRun) (numbers : Tallies) (failing every : ℕ) → LeftSoFar branches p (r ∷ rest) all numbers failing every → every + one_if (fails r.label) ≤ length all
-every-small branches p r rest all numbers failing every so_far = omega (arith, every-more every r rest all so_far.every_are, fails-most all)
-
 one-small : (b : Bool) → one_if b ≤ 1
 one-small true = omega arith
 one-small false = omega arith
@@ -71,11 +66,3 @@ one-small false = omega arith
 pub failing-small : (branches : List Bool) (p : ℕ) (rest all : List LabelledRun) (numbers : Tallies) (failing every : ℕ) (l : Bool) → LeftSoFar branches p rest all numbers failing every → failing + one_if l ≤ length all + 1
 failing-small branches p rest all numbers failing every l so_far =
     omega (arith, so_far.failing_are, fails-most so_far.kept, ap length so_far.runs, length-append so_far.kept (after branches Every p rest), left-few branches p all, one-small l)
-
-pub left-end : (branches : List Bool) (p : ℕ) (all : List LabelledRun) (numbers : Tallies) (failing every : ℕ) → LeftSoFar branches p [] all numbers failing every → IsWithout branches all p (record { numbers = numbers; failing = failing; all = every })
-left-end branches p all numbers failing every so_far =
-    let runs : so_far.kept ≡ after branches Every p all = sym (append-nil so_far.kept) ∙ so_far.runs in record {
-      recounts = subst (λ (rs : List LabelledRun). AreRecounts branches rs numbers) so_far.runs so_far.recounts;
-      failing = so_far.failing_are ∙ ap failing_runs runs;
-      all = omega (arith, so_far.every_are);
-    }

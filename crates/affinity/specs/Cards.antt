@@ -1,8 +1,8 @@
 -- A card of each listed predicate: in how many runs it was true, the first failing one of them, and the predicates near it.
 use Rattle.std.specs.Prelude.{◌≡◌, ℕ, ◌≤◌, Bool, ◌&&◌, List, [], ◌∷◌, map, filter, All, Contains}
 use Rattle.report_file.specs.declared.report.Report.{Report}
-use Rattle.tallies.specs.declared.listed.Listed.{Listed}
-use Rattle.tallies.specs.Recount.{fails, is_true, labelled, recount, runs_of}
+use Rattle.elimination_tallies.specs.declared.listed.Listed.{Listed}
+use Rattle.elimination_tallies.specs.Recount.{fails, is_true, labelled, recount, runs_of}
 use Rattle.affinity.specs.declared.dealing.Card.{Card}
 use Rattle.affinity.specs.Near.{AreNear}
 

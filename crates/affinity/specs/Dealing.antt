@@ -4,10 +4,10 @@ use Rattle.cbi_base.specs.Text.{spaced, text_of}
 use Rattle.collector.specs.Sites.{branches_of}
 use Rattle.report_file.specs.declared.report.Report.{Report}
 use Rattle.flow.specs.declared.site.TableParts.{TableParts}
-use Rattle.tallies.specs.declared.labelled.LabelledRun.{LabelledRun}
-use Rattle.tallies.specs.declared.listed.Listed.{Listed}
-use Rattle.tallies.specs.Predicates.{predicates_in}
-use Rattle.tallies.specs.Recount.{recount}
+use Rattle.elimination_tallies.specs.declared.labelled.LabelledRun.{LabelledRun}
+use Rattle.elimination_tallies.specs.declared.listed.Listed.{Listed}
+use Rattle.elimination_tallies.specs.Predicates.{predicates_in}
+use Rattle.elimination_tallies.specs.Recount.{recount}
 use Rattle.affinity.specs.declared.dealing.Card.{Card}
 use Rattle.affinity.specs.Cards.{AreCards, IsCard}
 use Rattle.affinity.specs.Text.{card_rows, cards_text}
@@ -18,7 +18,7 @@ pub record IsListed (branches : List Bool) (runs : List LabelledRun) (p : ℕ) :
   pub some : 0 < (recount branches runs p).a
 
 -- its card was written behind a text
-pub record IsDealt (table : TableParts) (reports : List Report) (place p : ℕ) (before now : List ℕ) : Type 0 where
+pub record IsCardDealt (table : TableParts) (reports : List Report) (place p : ℕ) (before now : List ℕ) : Type 0 where
   pub card : Card
   pub is : IsCard (branches_of table.sites) reports p card
   pub text_is : now ≡ before ++ text_of (map spaced (card_rows table place card))

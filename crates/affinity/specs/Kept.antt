@@ -1,10 +1,10 @@
 -- Kept numbers over all runs and over those that are left.
 use Rattle.std.specs.Prelude.{◌≡◌, ℕ, ◌≤◌, Bool, List}
 use Rattle.cbi_base.specs.declared.policy.Policy.TheVariants.{All as Every}
-use Rattle.tallies.specs.declared.labelled.LabelledRun.{LabelledRun}
-use Rattle.tallies.specs.Recount.{failing_runs}
-use Rattle.tallies.specs.Scanning.{AreScanned, tally_at}
-use Rattle.tallies.specs.Tallies.{AreRecounts, Tallies}
+use Rattle.elimination_tallies.specs.declared.labelled.LabelledRun.{LabelledRun}
+use Rattle.elimination_tallies.specs.Recount.{failing_runs}
+use Rattle.elimination_tallies.specs.Scanning.{AreScanned, tally_at}
+use Rattle.elimination_tallies.specs.Tallies.{AreRecounts, Tallies}
 use Rattle.elimination.specs.Elimination.{after}
 use Rattle.affinity.specs.declared.remaining.Remaining.{Remaining}
 use Rattle.affinity.specs.Falls.{Scores}

@@ -1,8 +1,8 @@
 -- The predicates near another one: the first five whose importance falls.
 use Rattle.std.specs.Prelude.{◌≡◌, ℕ, ◌<◌, ◌≤◌, ◌⊎◌, Bool, List, [], ◌∷◌, length, All, Contains}
 use Rattle.cbi_base.specs.declared.policy.Policy.TheVariants.{All as Every}
-use Rattle.tallies.specs.declared.labelled.LabelledRun.{LabelledRun}
-use Rattle.tallies.specs.Predicates.{predicates_in}
+use Rattle.elimination_tallies.specs.declared.labelled.LabelledRun.{LabelledRun}
+use Rattle.elimination_tallies.specs.Predicates.{predicates_in}
 use Rattle.elimination.specs.Elimination.{after}
 use Rattle.affinity.specs.declared.neighbour.Neighbour.{Neighbour}
 use Rattle.affinity.specs.Falls.{IsFall, Scores, scores_over}

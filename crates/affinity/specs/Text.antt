@@ -7,8 +7,8 @@ use Rattle.report_file.specs.declared.report.Report.{Report}
 use Rattle.flow.specs.declared.site.Site.{Site}
 use Rattle.flow.specs.declared.site.TableParts.{TableParts}
 use Rattle.flow.specs.Predicates.{predicate_count, predicate_text, site_at}
-use Rattle.tallies.specs.declared.listed.Listed.{Listed}
-use Rattle.tallies.specs.Recount.{runs_of}
+use Rattle.elimination_tallies.specs.declared.listed.Listed.{Listed}
+use Rattle.elimination_tallies.specs.Recount.{runs_of}
 use Rattle.elimination.specs.Elimination.{IsElimination}
 use Rattle.affinity.specs.declared.dealing.Card.{Card}
 use Rattle.affinity.specs.declared.neighbour.Neighbour.{Neighbour}
@@ -19,8 +19,8 @@ abbrev pub place_fields : List (List ℕ) → Option Site → List ℕ → List 
 place_fields functions None text = []
 place_fields functions (Some site) text = slice_index_or functions site.function [] ∷ decimal site.line ∷ text ∷ []
 
-abbrev pub head_fields : TableParts → ℕ → ℕ → List (List ℕ)
-head_fields table place p = codes "card" ∷ decimal place ∷ decimal p ∷ place_fields table.functions (site_at table.sites p) (predicate_text table.sites p)
+abbrev pub card_head : TableParts → ℕ → ℕ → List (List ℕ)
+card_head table place p = codes "card" ∷ decimal place ∷ decimal p ∷ place_fields table.functions (site_at table.sites p) (predicate_text table.sites p)
 
 abbrev pub truth_fields : Card → List (List ℕ)
 truth_fields c = codes "truth" ∷ decimal c.failing ∷ decimal c.successful ∷ codes "first" ∷ decimal c.first ∷ []
@@ -29,7 +29,7 @@ abbrev pub near_fields : TableParts → Neighbour → List (List ℕ)
 near_fields table n = codes "near" ∷ decimal n.predicate ∷ decimal n.fall ∷ predicate_text table.sites n.predicate ∷ []
 
 abbrev pub card_rows : TableParts → ℕ → Card → List (List (List ℕ))
-card_rows table place c = head_fields table place c.predicate ∷ truth_fields c ∷ map (near_fields table) c.near
+card_rows table place c = card_head table place c.predicate ∷ truth_fields c ∷ map (near_fields table) c.near
 
 -- the cards in their order, the first of them with this place
 abbrev pub cards_rows : TableParts → ℕ → List Card → List (List (List ℕ))

@@ -1,7 +1,7 @@
 ghost use Rattle.std.specs.Prelude.{◌≡◌, ◌<◌, ◌≤◌, ℕ, IfOk, IfSome, IfNone};
 ghost use Rattle.fractions.specs.Tally.{Passes};
-ghost use Rattle.tallies.specs.Predicates.{predicates_in};
-ghost use Rattle.tallies.specs.Scanning.{AreScanned, tally_at};
+ghost use Rattle.elimination_tallies.specs.Predicates.{predicates_in};
+ghost use Rattle.elimination_tallies.specs.Scanning.{AreScanned, tally_at};
 ghost use Rattle.affinity.specs.Falls.{IsFall, IsWorth, share_of};
 ghost use Rattle.affinity.specs.Kept.{AreComparable, scores_by};
 ghost use Rattle.affinity.specs.Near.{AreNearBy, IsNeighbour};
@@ -10,9 +10,9 @@ use crate::listing::offer;
 use crate::neighbour::Neighbour;
 use crate::remaining::Remaining;
 use cbi_base::Memory;
+use elimination_tallies::Numbers;
 use fractions::{confident, importance, millionths};
 use std::alloc::Global;
-use tallies::Numbers;
 
 // The importance of a predicate in millionths, where so many runs fail; None exactly where it doesn't pass.
 fn share(numbers: &Numbers, failing: u32, predicate: u32) -> Option<u64>
@@ -48,8 +48,11 @@ fn neighbour(predicate: u32, other: u32, whole: &Numbers, rest: &Remaining) -> O
     requires other { other < predicates_in whole.now.branches }
     requires comparable { AreComparable whole.now rest.now }
     ensures other { IfSome result (λ n. n.predicate ≡ other) }
-    ensures some { IfSome result (IsNeighbour (predicates_in whole.now.branches) predicate (scores_by whole.now rest.now.all) (scores_by rest.now.numbers rest.now.failing)) }
-    ensures none { IfNone result ((fall : ℕ) → IsFall (predicates_in whole.now.branches) predicate (scores_by whole.now rest.now.all) (scores_by rest.now.numbers rest.now.failing) other fall → 0 < fall → ⊥) }
+    ensures some { IfSome result (IsNeighbour (predicates_in whole.now.branches) predicate (scores_by whole.now rest.now.all)
+        (scores_by rest.now.numbers rest.now.failing)) }
+    ensures none { IfNone result ((fall : ℕ)
+        → IsFall (predicates_in whole.now.branches) predicate (scores_by whole.now rest.now.all) (scores_by rest.now.numbers rest.now.failing)
+        other fall → 0 < fall → ⊥) }
 {
     if other == predicate {
         return None;
@@ -75,7 +78,8 @@ pub fn nearest(
     rest: &Remaining,
 ) -> Result<Vec<Neighbour>, Memory>
     requires { AreComparable whole.now rest.now }
-    ensures { IfOk result (λ rows. AreNearBy (predicates_in whole.now.branches) predicate (scores_by whole.now rest.now.all) (scores_by rest.now.numbers rest.now.failing) rows.items) }
+    ensures { IfOk result (λ rows. AreNearBy (predicates_in whole.now.branches) predicate (scores_by whole.now rest.now.all)
+        (scores_by rest.now.numbers rest.now.failing) rows.items) }
 {
     let mut rows = Vec::new(alloc);
     for other in 0..whole.predicates() {

@@ -1,12 +1,12 @@
 ghost use Rattle.std.specs.Prelude.{◌≡◌, ◌<◌, All, IfOk, OnOk};
 ghost use Rattle.cbi_base.specs.declared.policy.Policy.TheVariants.{All as Every};
 ghost use Rattle.collector.specs.Sites.{branches_of};
-ghost use Rattle.tallies.specs.Recount.{runs_of};
-ghost use Rattle.tallies.specs.Tallies.{AreRecounts};
+ghost use Rattle.elimination_tallies.specs.Recount.{runs_of};
+ghost use Rattle.elimination_tallies.specs.Tallies.{AreRecounts};
 ghost use Rattle.elimination.specs.Elimination.{IsElimination};
-ghost use Rattle.tallies.specs.declared.listed.Listed.{Listed};
+ghost use Rattle.elimination_tallies.specs.declared.listed.Listed.{Listed};
 ghost use Rattle.affinity.specs.Cards.{IsCard};
-ghost use Rattle.affinity.specs.Dealing.{HaveCards, IsDealt, IsListed};
+ghost use Rattle.affinity.specs.Dealing.{HaveCards, IsCardDealt, IsListed};
 ghost use Rattle.affinity.specs.Text.{AreCardsOf};
 
 use crate::first::first_failing;
@@ -16,9 +16,9 @@ use crate::text::push_card;
 use cbi_base::{Memory, Policy, Seq};
 use collector::Collection;
 use elimination::{elimination_from, predicates_are_those_of_the_table};
+use elimination_tallies::{Listed, Numbers};
 use flow::SiteTable;
 use std::alloc::Global;
-use tallies::{Listed, Numbers};
 
 /// A listed predicate: in how many failing and successful runs it was true, the least number of such a failing run, and the predicates near it.
 #[derive(Debug, Drop)]
@@ -66,7 +66,7 @@ fn push_dealt(
     requires table { collection.now.branches ≡ branches_of table.now.sites }
     requires recounts { AreRecounts collection.now.branches (runs_of collection.now.reports) whole.now }
     requires listed { IsListed collection.now.branches (runs_of collection.now.reports) row.now.predicate }
-    ensures { OnOk result (IsDealt table.now collection.now.reports place row.now.predicate out.old.items out.new.items) }
+    ensures { OnOk result (IsCardDealt table.now collection.now.reports place row.now.predicate out.old.items out.new.items) }
 {
     predicates_are_those_of_the_table();
     let card = deal(alloc, collection, whole, row)?;

@@ -1,9 +1,9 @@
 ghost use Rattle.std.specs.Prelude.{◌≡◌, ◌<◌};
-ghost use Rattle.tallies.specs.Recount.{recount, runs_of};
+ghost use Rattle.elimination_tallies.specs.Recount.{recount, runs_of};
 ghost use Rattle.affinity.specs.Cards.{IsLeastOf, failing_true};
 
 use collector::Collection;
-use tallies::{Numbers, fails, is_true, report_after};
+use elimination_tallies::{Numbers, fails, is_true, report_after};
 
 /// The least number of a failing run in which the predicate was true, where there is one. The numbers tell only which sites are branches.
 pub fn first_failing(collection: &Collection, numbers: &Numbers, predicate: u32) -> u32

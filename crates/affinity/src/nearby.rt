@@ -1,9 +1,9 @@
 ghost use Rattle.std.specs.Prelude.{◌≡◌, ◌<◌, IfOk};
 ghost use Rattle.collector.specs.Sites.{branches_of};
 ghost use Rattle.flow.specs.Predicates.{predicate_count};
-ghost use Rattle.tallies.specs.Predicates.{predicates_in};
-ghost use Rattle.tallies.specs.Recount.{runs_of};
-ghost use Rattle.tallies.specs.Tallies.{AreRecounts};
+ghost use Rattle.elimination_tallies.specs.Predicates.{predicates_in};
+ghost use Rattle.elimination_tallies.specs.Recount.{runs_of};
+ghost use Rattle.elimination_tallies.specs.Tallies.{AreRecounts};
 ghost use Rattle.affinity.specs.Near.{AreNear};
 
 use crate::comparing::nearest;
@@ -12,9 +12,9 @@ use crate::remaining::without;
 use cbi_base::Memory;
 use collector::Collection;
 use elimination::predicates_are_those_of_the_table;
+use elimination_tallies::Numbers;
 use flow::SiteTable;
 use std::alloc::Global;
-use tallies::Numbers;
 
 /// Those near a predicate, by the numbers over all runs of the collection.
 pub fn near_by(
@@ -32,7 +32,8 @@ pub fn near_by(
     Ok(rows)
 }
 
-/// The predicates near one of the table over the runs of the collection: at most five whose importance falls most without the runs in which it was true.
+/// The predicates near one of the table over the runs of the collection: at most five whose importance falls most without the runs in which it was true. Each
+/// of them passes; the one that falls most comes first, the smaller number first among equals.
 pub fn near(
     alloc: Global,
     collection: &Collection,

@@ -1,12 +1,12 @@
 ghost use Rattle.std.specs.Prelude.{◌≡◌, IfOk};
-ghost use Rattle.tallies.specs.Recount.{runs_of};
-ghost use Rattle.tallies.specs.Tallies.{AreRecounts};
+ghost use Rattle.elimination_tallies.specs.Recount.{runs_of};
+ghost use Rattle.elimination_tallies.specs.Tallies.{AreRecounts};
 ghost use Rattle.affinity.specs.Kept.{IsWithout};
 
 use cbi_base::Memory;
 use collector::Collection;
+use elimination_tallies::{Change, Numbers, counted_as, failures, is_true, report_after};
 use std::alloc::Global;
-use tallies::{Change, Numbers, counted_as, failures, is_true, report_after};
 
 /// The numbers over the runs in which a predicate wasn't true, how many of these fail, and how many of all runs.
 #[derive(Drop)]

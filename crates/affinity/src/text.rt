@@ -2,7 +2,7 @@ ghost use Rattle.std.specs.Prelude.{◌≡◌, ◌<◌, ◌++◌, ◌∷◌, dec
 ghost use Rattle.cbi_base.specs.Text.{ended, spaced, text_of};
 ghost use Rattle.flow.specs.Predicates.{predicate_count};
 ghost use Rattle.affinity.specs.declared.neighbour.Neighbour.{Neighbour};
-ghost use Rattle.affinity.specs.Text.{HasText, card_rows, head_fields, near_fields, truth_fields};
+ghost use Rattle.affinity.specs.Text.{HasText, card_head, card_rows, near_fields, truth_fields};
 
 use crate::dealing::Card;
 use crate::neighbour::Neighbour;
@@ -36,7 +36,7 @@ fn push_head(
     predicate: u32,
 ) -> Result<(), Memory>
     requires { predicate < predicate_count table.now.sites }
-    ensures { OnOk result (out.new.items ≡ out.old.items ++ ended (spaced (head_fields table.now place predicate))) }
+    ensures { OnOk result (out.new.items ≡ out.old.items ++ ended (spaced (card_head table.now place predicate))) }
 {
     let functions = table.functions();
     let site = predicate_site(table, predicate).0;

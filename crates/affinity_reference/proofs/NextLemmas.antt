@@ -6,8 +6,8 @@ use Rattle.std.proofs.lemmas.List.{length_push}
 use Rattle.std.proofs.lemmas.List.Elements.{All-head, All-nil, All-push, All-tail, Contains-append_left, Contains-push}
 use Rattle.affinity.specs.declared.neighbour.Neighbour.{Neighbour}
 use Rattle.cbi_base.specs.declared.policy.Policy.TheVariants.{All as Every}
-use Rattle.tallies.specs.declared.labelled.LabelledRun.{LabelledRun}
-use Rattle.tallies.specs.Predicates.{predicates_in}
+use Rattle.elimination_tallies.specs.declared.labelled.LabelledRun.{LabelledRun}
+use Rattle.elimination_tallies.specs.Predicates.{predicates_in}
 use Rattle.elimination.specs.Elimination.{after}
 use Rattle.affinity.specs.Falls.{IsFall, Scores, scores_over}
 use Rattle.affinity.specs.Near.{AreFirst, AreInOrder, AreNear, AreNearBy, IsNeighbour, StandsBefore}
@@ -116,9 +116,6 @@ seen-passed count p whole left k rows best none so_far =
           let same : m.predicate ≡ k = omega (arith, most, other.is.1) in
           absurd (none m.fall (subst (λ q. IsFall count p whole left q m.fall) same other.is.0.0) other.is.0.1)
     ]) so_far
-
-pub seen-start : (count p : ℕ) (whole left : Scores) (rows : List Neighbour) → IsNext (IsSeen count p whole left 0) rows None
-seen-start count p whole left rows = next-none (IsSeen count p whole left 0) rows (λ n seen. omega (arith, seen.1))
 
 pub seen-ended : (count p : ℕ) (whole left : Scores) (k : ℕ) (rows : List Neighbour) (best : Option Neighbour) → k ≡ count → IsNext (IsSeen count p whole left k) rows best → IsNext (IsNeighbour count p whole left) rows best
 seen-ended count p whole left k rows best all so_far =

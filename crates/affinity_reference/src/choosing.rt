@@ -1,6 +1,6 @@
 ghost use Rattle.std.specs.Prelude.{◌≡◌, ◌<◌, ◌≤◌, length, true, false, All};
 ghost use Rattle.affinity.specs.declared.neighbour.Neighbour.{Neighbour};
-ghost use Rattle.tallies.specs.Predicates.{predicates_in};
+ghost use Rattle.elimination_tallies.specs.Predicates.{predicates_in};
 ghost use Rattle.affinity.specs.Falls.{scores_over};
 ghost use Rattle.affinity.specs.Near.{IsNeighbour, StandsBefore};
 ghost use Rattle.affinity_reference.specs.Choosing.{IsNext, better_of};
@@ -8,7 +8,7 @@ ghost use Rattle.affinity_reference.specs.Choosing.{IsNext, better_of};
 use crate::falling::neighbour;
 use affinity::Neighbour;
 use elimination_reference::predicates_in;
-use tallies::LabelledRun;
+use elimination_tallies::LabelledRun;
 
 fn stands_before(first: Neighbour, second: Neighbour) -> bool
     ensures yes { result ≡ true → StandsBefore first second }
@@ -51,7 +51,8 @@ pub fn next_behind(
     requires sites { length branches.now ≤ 65536 }
     requires runs { length runs.now ≤ 100000 }
     requires left { length left.now ≤ 100000 }
-    ensures { IsNext (IsNeighbour (predicates_in branches.now) predicate (scores_over branches.now runs.now) (scores_over branches.now left.now)) rows.now result }
+    ensures { IsNext (IsNeighbour (predicates_in branches.now) predicate (scores_over branches.now runs.now) (scores_over branches.now left.now))
+        rows.now result }
 {
     let mut best = None;
     for other in 0..predicates_in(branches) {

@@ -1,14 +1,14 @@
 ghost use Rattle.std.specs.Prelude.{◌≡◌, ◌<◌, ◌≤◌, ℕ, length, IfSome, IfNone};
 ghost use Rattle.fractions.specs.Tally.{Passes};
-ghost use Rattle.tallies.specs.Predicates.{predicates_in};
-ghost use Rattle.tallies.specs.Recount.{recount};
+ghost use Rattle.elimination_tallies.specs.Predicates.{predicates_in};
+ghost use Rattle.elimination_tallies.specs.Recount.{recount};
 ghost use Rattle.affinity.specs.Falls.{IsFall, IsWorth, scores_over, share_of};
 ghost use Rattle.affinity.specs.Near.{IsNeighbour};
 
 use affinity::Neighbour;
 use elimination_reference::{failing_runs, recount};
+use elimination_tallies::LabelledRun;
 use fractions::{confident, importance, millionths};
-use tallies::LabelledRun;
 
 // The importance of a predicate over runs in millionths; None exactly where it doesn't pass.
 fn share(branches: &[bool], runs: &[LabelledRun], predicate: u32) -> Option<u64>
@@ -51,7 +51,8 @@ pub fn neighbour(
     requires other { other < predicates_in branches.now }
     ensures other { IfSome result (λ n. n.predicate ≡ other) }
     ensures some { IfSome result (IsNeighbour (predicates_in branches.now) predicate (scores_over branches.now runs.now) (scores_over branches.now left.now)) }
-    ensures none { IfNone result ((fall : ℕ) → IsFall (predicates_in branches.now) predicate (scores_over branches.now runs.now) (scores_over branches.now left.now) other fall → 0 < fall → ⊥) }
+    ensures none { IfNone result ((fall : ℕ)
+        → IsFall (predicates_in branches.now) predicate (scores_over branches.now runs.now) (scores_over branches.now left.now) other fall → 0 < fall → ⊥) }
 {
     if other == predicate {
         return None;

@@ -1,8 +1,8 @@
 ghost use Rattle.std.specs.Prelude.{◌≡◌, ◌<◌, ◌≤◌, length, IfOk};
 ghost use Rattle.collector.specs.Sites.{branches_of};
 ghost use Rattle.flow.specs.Predicates.{predicate_count};
-ghost use Rattle.tallies.specs.Predicates.{predicates_in};
-ghost use Rattle.tallies.specs.Recount.{runs_of};
+ghost use Rattle.elimination_tallies.specs.Predicates.{predicates_in};
+ghost use Rattle.elimination_tallies.specs.Recount.{runs_of};
 ghost use Rattle.affinity.specs.Falls.{scores_over};
 ghost use Rattle.affinity.specs.Near.{AreNear, AreNearBy};
 
@@ -11,9 +11,9 @@ use affinity::Neighbour;
 use cbi_base::{Memory, Policy};
 use collector::Collection;
 use elimination_reference::{branches_of, runs_of, step};
+use elimination_tallies::LabelledRun;
 use flow::SiteTable;
 use std::alloc::Global;
-use tallies::LabelledRun;
 
 // One after another the next of the neighbours, five at most.
 fn first_five(
@@ -26,7 +26,8 @@ fn first_five(
     requires sites { length branches.now ≤ 65536 }
     requires runs { length runs.now ≤ 100000 }
     requires left { length left.now ≤ 100000 }
-    ensures { IfOk result (λ rows. AreNearBy (predicates_in branches.now) predicate (scores_over branches.now runs.now) (scores_over branches.now left.now) rows.items) }
+    ensures { IfOk result (λ rows. AreNearBy (predicates_in branches.now) predicate (scores_over branches.now runs.now)
+        (scores_over branches.now left.now) rows.items) }
 {
     let mut rows = Vec::new(alloc);
     for _place in 0..5u32 {

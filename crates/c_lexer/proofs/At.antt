@@ -10,9 +10,9 @@ use Rattle.c_lexer.specs.declared.lexer.Lexer.{Lexer}
 use Rattle.c_lexer_pieces.specs.Cutting.{piece_at, is_fresh, fresh_from}
 use Rattle.c_lexer_pieces.specs.Found.{known_by}
 use Rattle.c_lexer_pieces.specs.Pieces.{Place}
-use Rattle.c_lexer.specs.Lexing.{IsLongest, NothingStands, Lexes, Stops, Taken, Cuts, past_piece, place_after, known_after, line_of, tokens_from, with_line, kind_at, start}
+use Rattle.c_lexer.specs.Lexing.{IsLongest, NothingStands, CutStops, Taken, Cuts, past_piece, place_after, known_after, line_of, tokens_from, with_line, kind_at, start}
 use Rattle.c_lexer_pieces.specs.Bytes.{newlines}
-use Rattle.c_lexer.specs.Refusals.{HasMany, ErrorSays, can_begin, refusal_for}
+use Rattle.c_lexer.specs.Refusals.{ErrorSays, can_begin, refusal_for}
 use Rattle.c_lexer.specs.State.{Advances, Refuses, kept_with, between}
 use Rattle.c_syntax.specs.Limits.{most_tokens}
 use Rattle.c_lexer_pieces.proofs.FreshLaws.{fresh_from-append}
@@ -102,37 +102,10 @@ at-stuck text l at h =
     let known : known_by l.defined ≡ place.known = λ i name. at.known name i in
     nothing-read place l.left.now ((λ i. piece_at (sym at.fresh i) (sym known i) l.left.now) ∙ h)
 
-pub at-start : (text : List ℕ) (l : Lexer) → l.left.now ≡ text → l.fresh ≡ true → l.line ≡ 1 → ((name : List ℕ) → known_by l.defined name ≡ None) → l.tokens ≡ [] → l.count ≡ 0 → IsAt text l
-at-start text l left fresh line known tokens count = record {
-  pieces = [];
-  cut = sym left;
-  fresh = fresh;
-  known = known;
-  line = line;
-  count = count;
-  tokens = λ few. tokens;
-}
-
--- at the end of the text all its tokens were found
-pub at-end : (text : List ℕ) (l : Lexer) (at : IsAt text l) → length l.left.now ≡ 0 → Cuts start text at.pieces []
-at-end text l at none = subst (Cuts start text at.pieces) (empty l.left.now none) at.cut
-
-pub says-tokens : (text : List ℕ) (l : Lexer) → IsAt text l → length l.left.now ≡ 0 → l.count ≤ most_tokens → Lexes text l.tokens × (length l.tokens ≤ most_tokens)
-says-tokens text l at none few =
-    let all = at.tokens few in
-    (record { pieces = at.pieces; cut = at-end text l at none; are = all }, omega (arith, ap length all, at.count))
-
-pub says-many : (text : List ℕ) (l : Lexer) → IsAt text l → length l.left.now ≡ 0 → most_tokens < l.count → HasMany text
-says-many text l at none many = record {
-  tokens = tokens_from start at.pieces;
-  lexes = record { pieces = at.pieces; cut = at-end text l at none; are = refl };
-  many = omega (arith, at.count);
-}
-
 stops-at : (text left : List ℕ) (pieces : List Taken) (line : ℕ) → 0 < length left → Cuts start text pieces left → NothingStands (place_after start pieces) left → line ≡ line_of (place_after start pieces) → ErrorSays text (refusal_for line (get_or left 0 0))
 stops-at text [] pieces line some cut stuck is = absurd (omega arith)
 stops-at text (b ∷ bs) pieces line some cut stuck is =
-    let stops : Stops text line b = record { pieces = pieces; rest = bs; cut = cut; stuck = stuck; line_is = is } in
+    let stops : CutStops text line b = record { pieces = pieces; rest = bs; cut = cut; stuck = stuck; line_is = is } in
     elim (can_begin b) as (λ v. can_begin b ≡ v → ErrorSays text (cond v (error.BadToken line) (error.BadByte line))) [
       | true ↦ λ e. record { byte = b; stops = stops; begins = e }
       | false ↦ λ e. record { byte = b; stops = stops; begins = e }

@@ -8,9 +8,9 @@ use Rattle.c_lexer.specs.declared.error.LexError.TheVariants as error
 use Rattle.c_lexer_pieces.specs.Cutting.{piece_at, is_fresh}
 use Rattle.c_lexer_pieces.specs.Piece.{Piece}
 use Rattle.c_lexer_pieces.specs.Pieces.{Place}
-use Rattle.c_lexer.specs.Lexing.{IsLongest, NothingStands, Taken, Cuts, past_piece, place_after, line_of, tokens_from, start, Lexes, Stops}
+use Rattle.c_lexer.specs.Lexing.{IsLongest, NothingStands, Taken, Cuts, past_piece, place_after, line_of, tokens_from, start, Lexes, CutStops}
 use Rattle.c_lexer.specs.Refusals.{Says, can_begin, lexed_answer, refusal_for}
-use Rattle.c_lexer.specs.Endings.{Ending, Whole, Stopped, Ends}
+use Rattle.c_lexer.specs.Endings.{Ending, Whole, Stopped, CutEnds}
 use Rattle.c_syntax.specs.Limits.{most_tokens}
 use Rattle.c_lexer.proofs.PieceLaws.{longest-is, nothing-at-end}
 
@@ -48,7 +48,7 @@ one-cutting place left (t ∷ ts) (u ∷ us) a b x y p q =
     let inner = one-cutting (past_piece place t) x.0 ts us a b x.3 there p stuck in
     record { pieces = λ i. same.taken i ∷ inner.pieces i; rest = inner.rest }
 
-pub one-ending : (text : List ℕ) (a b : Ending) → Ends text a → Ends text b → a ≡ b
+pub one-ending : (text : List ℕ) (a b : Ending) → CutEnds text a → CutEnds text b → a ≡ b
 one-ending text (Whole xs) (Whole ys) x y =
     let same = one-cutting start text x.pieces y.pieces [] [] x.cut y.cut (nothing-at-end (place_after start x.pieces)) (nothing-at-end (place_after start y.pieces)) in
     ap Whole (x.are ∙ ap (tokens_from start) same.pieces ∙ sym y.are)
@@ -84,11 +84,11 @@ says-lexed text (Err error.Memory) tokens says lexes = inr refl
 refused : (line byte : ℕ) (can : Bool) (e : LexError) → can_begin byte ≡ can → cond can (error.BadToken line) (error.BadByte line) ≡ e → ◌≡◌ {A = Result (List Token) LexError} (Err e) (Err (refusal_for line byte))
 refused line byte can e begins is = rw begins (ap Err (sym is))
 
-stopped-same : (text : List ℕ) (line byte line' byte' : ℕ) → Stops text line byte → Stops text line' byte' → Stopped line byte ≡ Stopped line' byte'
+stopped-same : (text : List ℕ) (line byte line' byte' : ℕ) → CutStops text line byte → CutStops text line' byte' → Stopped line byte ≡ Stopped line' byte'
 stopped-same text line byte line' byte' x y = one-ending text (Stopped line byte) (Stopped line' byte') x y
 
 -- What is said of a text, where its cutting stops.
-pub says-stopped : (text : List ℕ) (r : Result (List Token) LexError) (line byte : ℕ) → Says text r → Stops text line byte → (r ≡ Err (refusal_for line byte)) ⊎ (r ≡ Err error.Memory)
+pub says-stopped : (text : List ℕ) (r : Result (List Token) LexError) (line byte : ℕ) → Says text r → CutStops text line byte → (r ≡ Err (refusal_for line byte)) ⊎ (r ≡ Err error.Memory)
 says-stopped text (Ok ts) line byte says stops = absurd (let e = one-ending text (Whole ts) (Stopped line byte) says.0 stops in cc)
 says-stopped text (Err (error.BadByte l)) line byte says stops =
     let e = stopped-same text l says.byte line byte says.stops stops in

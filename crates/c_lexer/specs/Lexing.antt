@@ -87,7 +87,7 @@ abbrev pub NothingStands : Place → List ℕ → Type 0
 NothingStands place left = (bytes after : List ℕ) (piece : Piece) → left ≡ bytes ++ after → StandsAs place bytes after piece → ⊥
 
 -- The cutting stops at this byte of this line, since nothing stands there.
-pub record Stops (text : List ℕ) (line byte : ℕ) : Type 0 where
+pub record CutStops (text : List ℕ) (line byte : ℕ) : Type 0 where
   pub pieces : List Taken
   pub rest : List ℕ
   pub cut : Cuts start text pieces (byte ∷ rest)

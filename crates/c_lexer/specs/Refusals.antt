@@ -6,17 +6,17 @@ use Rattle.c_syntax.specs.declared.token.Token.{Token}
 use Rattle.c_lexer.specs.declared.error.LexError.{LexError}
 use Rattle.c_lexer.specs.declared.error.LexError.TheVariants as error
 use Rattle.c_lexer_pieces.specs.Bytes.{is_separator, is_digit}
-use Rattle.c_lexer_pieces.specs.Spellings.{sign_of}
-use Rattle.c_lexer.specs.Lexing.{Lexes, Stops}
+use Rattle.c_lexer_pieces.specs.Spellings.{sign_spelled}
+use Rattle.c_lexer.specs.Lexing.{CutStops, Lexes}
 
 -- a letter, digit, `_`, `#`, quote, separator or first byte of a punctuator
 abbrev pub can_begin : ℕ → Bool
-can_begin b = is_letter b || is_digit b || (b == 35) || (b == 39) || (b == 34) || is_separator b || is_some (sign_of (b ∷ []))
+can_begin b = is_letter b || is_digit b || (b == 35) || (b == 39) || (b == 34) || is_separator b || is_some (sign_spelled (b ∷ []))
 
 -- The cutting stops at this line, at a byte that can begin a piece, or at one that can't.
 pub record CuttingStops (text : List ℕ) (line : ℕ) (can : Bool) : Type 0 where
   pub byte : ℕ
-  pub stops : Stops text line byte
+  pub stops : CutStops text line byte
   pub begins : can_begin byte ≡ can
 
 -- what is answered where nothing stands at this byte of this line

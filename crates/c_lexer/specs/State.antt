@@ -1,5 +1,6 @@
 -- The lexer's state, and what one step makes of it.
-use Rattle.std.specs.Prelude.{◌≡◌, ℕ, ◌+◌, ◌-◌, ◌≤◌, ◌<◌, nat_lt, if◌then◌else◌, List, ◌++◌, length, take, sum_by, All, Option, Some, None, IfSome, ◌⊎◌, slice_index}
+use Rattle.std.specs.Prelude.{◌≡◌, ℕ, ◌+◌, ◌-◌, ◌≤◌, ◌<◌, nat_lt, if◌then◌else◌, List, ◌++◌, length, take, sum_by, All, Option, Some, None, IfSome, ◌⊎◌}
+use Rattle.std.specs.Prelude.{slice_index}
 use Rattle.c_syntax.specs.declared.token.Token.{Token}
 use Rattle.c_syntax.specs.declared.token.TokenKind.{TokenKind}
 use Rattle.c_syntax.specs.Limits.{most_bytes, most_tokens, greatest_line}

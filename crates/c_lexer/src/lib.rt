@@ -4,9 +4,9 @@
 ghost use Rattle.std.specs.Prelude.{◌≡◌, true, false, ◌≤◌, ◌<◌, ◌⊎◌, ℕ, List, length, IfOk};
 ghost use Rattle.c_syntax.specs.declared.token.Token.{Token};
 ghost use Rattle.c_syntax.specs.Limits.{most_bytes};
-ghost use Rattle.c_lexer.specs.Lexing.{Lexes, Stops};
+ghost use Rattle.c_lexer.specs.Lexing.{CutStops, Lexes};
 ghost use Rattle.c_lexer.specs.Refusals.{Says, CuttingStops, IsTooLarge, lexed_answer, refusal_for};
-ghost use Rattle.c_lexer.specs.Endings.{Ending, Ends};
+ghost use Rattle.c_lexer.specs.Endings.{CutEnds, Ending};
 
 mod error;
 mod lexer;
@@ -34,7 +34,8 @@ fn lex_all(alloc: Global, text: &[u8]) -> Result<Tokens, LexError>
     Ok(lexer.tokens)
 }
 
-/// The tokens of a text. Want of memory is free.
+/// The tokens of a text. It is too large where it has more than 1,048,576 bytes or more than 100,000 tokens, and else refused at the line where no piece
+/// can be cut. Want of memory is free.
 pub fn lex(alloc: Global, text: &[u8]) -> Result<Tokens, LexError>
     ensures tokens { IfOk result (λ ts. Lexes text.now ts) }
 
@@ -47,7 +48,7 @@ pub fn lex(alloc: Global, text: &[u8]) -> Result<Tokens, LexError>
     ensures long { most_bytes < length text.now → result ≡ Err LexError.TooLarge }
     ensures lexed { length text.now ≤ most_bytes → (ts : List Token) → Lexes text.now ts →
         (result ≡ lexed_answer ts) ⊎ (result ≡ Err LexError.Memory) }
-    ensures stopped { length text.now ≤ most_bytes → (line byte : ℕ) → Stops text.now line byte →
+    ensures stopped { length text.now ≤ most_bytes → (line byte : ℕ) → CutStops text.now line byte →
         (result ≡ Err (refusal_for line byte)) ⊎ (result ≡ Err LexError.Memory) }
 {
     if text.len() > LONGEST_TEXT {
@@ -58,5 +59,5 @@ pub fn lex(alloc: Global, text: &[u8]) -> Result<Tokens, LexError>
 
 /// A text is cut in one way: to its end with one list of tokens, or up to one byte.
 pub fn one_cutting()
-    ensures { (text : List ℕ) (a b : Ending) → Ends text a → Ends text b → a ≡ b }
+    ensures { (text : List ℕ) (a b : Ending) → CutEnds text a → CutEnds text b → a ≡ b }
 {}

@@ -10,7 +10,7 @@ use Rattle.c_syntax.specs.declared.parts.Constant.{Constant}
 use Rattle.c_lexer_pieces.specs.declared.bytes.Class.TheVariants as class
 use Rattle.c_lexer_pieces.specs.Bytes.{has, run, past, begins, begins_with}
 use Rattle.c_lexer_pieces.specs.Spellings.{word_of}
-use Rattle.c_lexer_pieces.specs.Reading.{first_of, strip, strip_text, blanks_at, constant_at, number_at, character_at, name_at, comment_at, trailing_at, trails_within, trails, header_at, header_line, is_include, defined_name_at, define_in}
+use Rattle.c_lexer_pieces.specs.Reading.{first_some, strip, strip_text, blanks_at, constant_at, number_at, character_at, name_at, comment_at, trailing_at, trails_within, trails, header_at, header_line, is_include, defined_name_at, define_in}
 use Rattle.c_lexer_pieces.specs.Pieces.{AllOf, IsConstant, IsTrailing, blank, return, comment, EndsLine, IsHeader, standard_io, standard_library, assert, IsInclude, IsDefine}
 use Rattle.c_lexer_pieces.proofs.RunLaws.{run-past, run-AllOf}
 use Rattle.c_lexer_pieces.proofs.CommentLaws.{comment-splits}
@@ -73,12 +73,12 @@ header-found : (bytes rest : List ℕ) → header_at bytes ≡ Some rest → Hea
 header-found bytes rest h =
     ⊎_elim
     (λ (w : strip_text (codes "<stdio.h>") bytes ≡ Some rest). record { header = codes "<stdio.h>"; is = strip_text-some (codes "<stdio.h>") bytes rest w; is_header = standard_io refl })
-    (λ (v : first_of (strip_text (codes "<stdlib.h>") bytes) (strip_text (codes "<assert.h>") bytes) ≡ Some rest).
+    (λ (v : first_some (strip_text (codes "<stdlib.h>") bytes) (strip_text (codes "<assert.h>") bytes) ≡ Some rest).
     ⊎_elim
     (λ (w : strip_text (codes "<stdlib.h>") bytes ≡ Some rest). record { header = codes "<stdlib.h>"; is = strip_text-some (codes "<stdlib.h>") bytes rest w; is_header = standard_library refl })
     (λ (w : strip_text (codes "<assert.h>") bytes ≡ Some rest). record { header = codes "<assert.h>"; is = strip_text-some (codes "<assert.h>") bytes rest w; is_header = assert refl })
     (first_of-some (strip_text (codes "<stdlib.h>") bytes) (strip_text (codes "<assert.h>") bytes) rest v))
-    (first_of-some (strip_text (codes "<stdio.h>") bytes) (first_of (strip_text (codes "<stdlib.h>") bytes) (strip_text (codes "<assert.h>") bytes)) rest h)
+    (first_of-some (strip_text (codes "<stdio.h>") bytes) (first_some (strip_text (codes "<stdlib.h>") bytes) (strip_text (codes "<assert.h>") bytes)) rest h)
 
 map_or-true : (f : List ℕ → Bool) (o : Option (List ℕ)) → option_map_or f o false ≡ true → (rest : List ℕ) × (o ≡ Some rest) × (f rest ≡ true)
 map_or-true f None h = cc

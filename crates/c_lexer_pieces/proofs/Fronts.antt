@@ -9,10 +9,10 @@ use Rattle.c_lexer_pieces.specs.declared.constants.Radix.{Radix}
 use Rattle.c_lexer_pieces.specs.declared.bytes.Class.{Class}
 use Rattle.c_lexer_pieces.specs.declared.bytes.Class.TheVariants as class
 use Rattle.c_lexer_pieces.specs.Bytes.{has, run, past, begins, begins_with, is_separator, is_digit}
-use Rattle.c_lexer_pieces.specs.Spellings.{sign_of}
-use Rattle.c_lexer_pieces.specs.Reading.{first_of, strip, with_rest, hexadecimal_at, radix_from, radix_at, suffix_at, small_value, constant_from, number_at, byte_of, octal_at, hexadecimal_escape_at, escape_at, element_at, character_at, text_within, text_at, name_at, comment_at, is_include, define_in}
+use Rattle.c_lexer_pieces.specs.Spellings.{sign_spelled}
+use Rattle.c_lexer_pieces.specs.Reading.{first_some, strip, with_rest, hexadecimal_at, radix_from, radix_at, suffix_at, small_value, constant_from, number_at, byte_of, octal_at, hexadecimal_escape_at, escape_at, element_at, character_at, text_within, text_at, name_at, comment_at, is_include, define_in}
 use Rattle.c_lexer_pieces.specs.Values.{class_of, base_of, kind_of, simple_escape, signed_byte}
-use Rattle.c_lexer_pieces.specs.Cutting.{as_piece, sign_with, sign_at, comment_or_sign, plain_at, line_at, directive_at, unless_known, new_directive_at, piece_at}
+use Rattle.c_lexer_pieces.specs.Cutting.{as_piece, sign_with, sign_at, comment_or_sign, plain_at, line_piece, directive_at, unless_known, new_directive_at, piece_at}
 use Rattle.c_lexer_pieces.specs.Piece.{Piece, Nothing, Name, Constant', Text, Punctuator, Definition, Known}
 use Rattle.std.proofs.lemmas.Bool.{eqb-false}
 use Rattle.std.specs.List.{list_all}
@@ -102,10 +102,6 @@ element-splits quote (c ∷ rest) x h =
     let e : rest ≡ x.1 = ap (λ y. y.1) same in
     record { splits = splits-to _ _ _ front e; less = omega (arith, ap length e) })
     (chosen (eqb c 92) (escape_at rest) (Some (c, rest)) (Some x) w.1)
-
--- a constant that a reader made, of what it makes it of
-made-is : {A B : Type 0} (f : A → B) (a : A) (rest : List ℕ) (x : B × List ℕ) → Some (f a, rest) ≡ Some x → rest ≡ x.1
-made-is f a rest x h = let same : (f a, rest) ≡ x = cc in ap (λ y. y.1) same
 
 abbrev character_of : ℕ × List ℕ → Constant
 character_of e = record { kind = scalar.Int; value = signed_byte e.0 }
@@ -296,14 +292,14 @@ name-element b bs x letter h =
 
 pub sign_with-element : (n : ℕ) (bytes : List ℕ) (x : Sign × List ℕ) → 0 < n → sign_with n bytes ≡ Some x → Element bytes x.1
 sign_with-element n bytes x positive h =
-    let found = some_unless (ltb (length bytes) n) (option_and_then (λ s. Some (s, drop n bytes)) (sign_of (take n bytes))) x h in
-    let a = bound (sign_of (take n bytes)) (λ s. Some (s, drop n bytes)) x found.1 in
+    let found = some_unless (ltb (length bytes) n) (option_and_then (λ s. Some (s, drop n bytes)) (sign_spelled (take n bytes))) x h in
+    let a = bound (sign_spelled (take n bytes)) (λ s. Some (s, drop n bytes)) x found.1 in
     let same : (a.value, drop n bytes) ≡ x = let e : Some (a.value, drop n bytes) ≡ Some x = a.then in cc in
     let long : n ≤ length bytes = ltb-false (length bytes) n found.0 in
     let e : drop n bytes ≡ x.1 = ap (λ y. y.1) same in
     record { splits = splits-to _ _ _ (drop-splits n bytes) e; less = omega (arith, ap length e, length-drop n bytes) }
 
-pub first_of-some : {A : Type 0} (a b : Option A) (x : A) → first_of a b ≡ Some x → (a ≡ Some x) ⊎ (b ≡ Some x)
+pub first_of-some : {A : Type 0} (a b : Option A) (x : A) → first_some a b ≡ Some x → (a ≡ Some x) ⊎ (b ≡ Some x)
 first_of-some None b x h = inr h
 first_of-some (Some y) b x h = inl h
 
@@ -312,12 +308,12 @@ unfolding sign_at
 sign-element bytes x h =
     ⊎_elim
     (λ (w : sign_with 3 bytes ≡ Some x). sign_with-element 3 bytes x (lit< tt) w)
-    (λ (w : first_of (sign_with 2 bytes) (sign_with 1 bytes) ≡ Some x).
+    (λ (w : first_some (sign_with 2 bytes) (sign_with 1 bytes) ≡ Some x).
     ⊎_elim
     (λ (v : sign_with 2 bytes ≡ Some x). sign_with-element 2 bytes x (lit< tt) v)
     (λ (v : sign_with 1 bytes ≡ Some x). sign_with-element 1 bytes x (lit< tt) v)
     (first_of-some (sign_with 2 bytes) (sign_with 1 bytes) x w))
-    (first_of-some (sign_with 3 bytes) (first_of (sign_with 2 bytes) (sign_with 1 bytes)) x h)
+    (first_of-some (sign_with 3 bytes) (first_some (sign_with 2 bytes) (sign_with 1 bytes)) x h)
 
 -- how many bytes a piece's string has
 abbrev pub piece_len : Piece → ℕ
@@ -386,7 +382,7 @@ plain_at-piece (b ∷ bs) x h =
     (chosen (is_letter b) (as_piece Name (name_at (b ∷ bs))) two (Some x) w.1))
     (chosen (is_separator b) (Some (Nothing, bs)) one (Some x) h)
 
-line-rest : (text after : List ℕ) (x : Piece × List ℕ) → line_at text after ≡ Some x → (piece_len x.0 ≡ 0) × (after ≡ x.1) × IsNamed x.0
+line-rest : (text after : List ℕ) (x : Piece × List ℕ) → line_piece text after ≡ Some x → (piece_len x.0 ≡ 0) × (after ≡ x.1) × IsNamed x.0
 line-rest text after x h =
     ⊎_elim
     (λ (w : (is_include text ≡ true) × (Some (Nothing, after) ≡ Some x)). let same : (Nothing, after) ≡ x = let e : Some (Nothing, after) ≡ Some x = w.1 in cc in (sym (ap (λ z. piece_len z.0) same), ap (λ z. z.1) same, subst (λ (z : Piece × List ℕ). IsNamed z.0) same tt))
@@ -409,7 +405,7 @@ unfolding directive_at
 directive-piece bytes x h =
     let line = run class.Line bytes in
     let after = past class.Line bytes in
-    let a = bound (strip 35 line) (λ rest. line_at (past class.Blank rest) after) x h in
+    let a = bound (strip 35 line) (λ rest. line_piece (past class.Blank rest) after) x h in
     let r = line-rest (past class.Blank a.value) after x a.then in
     let splits = splits-to _ _ _ (past-splits class.Line bytes) r.1 in
     let line_is = strip-some 35 line a.value a.is in

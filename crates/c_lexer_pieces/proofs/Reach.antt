@@ -10,9 +10,9 @@ use Rattle.c_syntax.specs.declared.parts.Constant.{Constant}
 use Rattle.c_syntax.specs.declared.token.Sign.{Sign}
 use Rattle.c_lexer_pieces.specs.declared.bytes.Class.TheVariants as class
 use Rattle.c_lexer_pieces.specs.Bytes.{run, past, begins, is_separator, is_digit}
-use Rattle.c_lexer_pieces.specs.Spellings.{value_in, signs, sign_of}
-use Rattle.c_lexer_pieces.specs.Reading.{first_of, strip, comment_at, number_at, character_at, name_at}
-use Rattle.c_lexer_pieces.specs.Cutting.{as_piece, sign_with, sign_at, comment_or_sign, plain_at, line_at, directive_at, unless_known, new_directive_at, piece_at, is_fresh}
+use Rattle.c_lexer_pieces.specs.Spellings.{value_in, signs, sign_spelled}
+use Rattle.c_lexer_pieces.specs.Reading.{first_some, strip, comment_at, number_at, character_at, name_at}
+use Rattle.c_lexer_pieces.specs.Cutting.{as_piece, sign_with, sign_at, comment_or_sign, plain_at, line_piece, directive_at, unless_known, new_directive_at, piece_at, is_fresh}
 use Rattle.c_lexer_pieces.specs.Piece.{Piece, Nothing, Name, Constant', Text, Punctuator, Definition, Known}
 use Rattle.c_lexer_pieces.specs.Pieces.{Place, StandsAs, AllOf, RunEnds, IsComment, IsNumber, IsCharacter, IsText, IsInclude, IsDefine}
 use Rattle.c_lexer_pieces.specs.Pieces as piece
@@ -118,14 +118,14 @@ hash-read known fresh rest h = rw h refl
 opened-hash : (row body : List ℕ) → Opened row body → (rest : List ℕ) × (row ≡ 35 ∷ rest)
 opened-hash row body o = (o.rest, strip-some 35 row o.rest o.opens)
 
-directive-read : (row body after : List ℕ) → Opened row body → AllOf class.Line row → RunEnds class.Line after → directive_at (row ++ after) ≡ line_at body after
+directive-read : (row body after : List ℕ) → Opened row body → AllOf class.Line row → RunEnds class.Line after → directive_at (row ++ after) ≡ line_piece body after
 unfolding directive_at
 directive-read row body after o all stops =
     let row_is : run class.Line (row ++ after) ≡ row = run-append class.Line row after all stops in
     let after_is : past class.Line (row ++ after) ≡ after = past-append class.Line row after all stops in
-    (λ i. option_and_then (λ rest. line_at (past class.Blank rest) (after_is i)) (strip 35 (row_is i))) ∙ ap (λ z. option_and_then (λ rest. line_at (past class.Blank rest) after) z) o.opens ∙ ap (λ t. line_at t after) o.is
+    (λ i. option_and_then (λ rest. line_piece (past class.Blank rest) (after_is i)) (strip 35 (row_is i))) ∙ ap (λ z. option_and_then (λ rest. line_piece (past class.Blank rest) after) z) o.opens ∙ ap (λ t. line_piece t after) o.is
 
-directive-reach : (place : Place) (row body after : List ℕ) → is_fresh place.before ≡ true → Opened row body → AllOf class.Line row → RunEnds class.Line after → piece_at (is_fresh place.before) place.known (row ++ after) ≡ option_and_then (unless_known place.known) (line_at body after)
+directive-reach : (place : Place) (row body after : List ℕ) → is_fresh place.before ≡ true → Opened row body → AllOf class.Line row → RunEnds class.Line after → piece_at (is_fresh place.before) place.known (row ++ after) ≡ option_and_then (unless_known place.known) (line_piece body after)
 directive-reach place row body after fresh o all stops =
     let hash = opened-hash row body o in
     ap (λ xs. piece_at (is_fresh place.before) place.known (xs ++ after)) hash.1 ∙ hash-read place.known (is_fresh place.before) (hash.0 ++ after) fresh ∙ ap (λ xs. new_directive_at place.known (xs ++ after)) (sym hash.1) ∙ ap (option_and_then (unless_known place.known)) (directive-read row body after o all stops)
@@ -180,7 +180,7 @@ apart-parts (b ∷ bs) h =
     let two = and_true (not (is_separator b || is_letter b || is_digit b || eqb b 34 || eqb b 35 || eqb b 39)) (leb (length bs) 0 || not (eqb b 47 && (begins 47 bs || begins 42 bs))) one.1 in
     record { first = b; others = bs; is = refl; short = leb-true (length bs) 2 one.0; tests = not_true _ two.0; no_comment = two.1 }
 
-pub sign-apart : (bytes : List ℕ) (s : Sign) → sign_of bytes ≡ Some s → Apart bytes
+pub sign-apart : (bytes : List ℕ) (s : Sign) → sign_spelled bytes ≡ Some s → Apart bytes
 sign-apart bytes s h = apart-parts bytes (value-apart signs bytes s all_apart h)
 
 -- where such a byte begins, a comment or a punctuator is read
@@ -211,7 +211,7 @@ record SignReach (after : List ℕ) (s : Sign) (o : Option (Sign × List ℕ)) :
   same : length found.1 ≡ length after → found ≡ (s, after)
 
 -- these bytes are read as the punctuator of their length
-exact-read : (bytes after : List ℕ) (s : Sign) → sign_of bytes ≡ Some s → sign_with (length bytes) (bytes ++ after) ≡ Some (s, after)
+exact-read : (bytes after : List ℕ) (s : Sign) → sign_spelled bytes ≡ Some s → sign_with (length bytes) (bytes ++ after) ≡ Some (s, after)
 exact-read bytes after s h =
     let long : ltb (length (bytes ++ after)) (length bytes) ≡ false = le-ltb (length (bytes ++ after)) (length bytes) (omega (arith, length-append bytes after)) in
     let front : take (length bytes) (bytes ++ after) ≡ bytes = take-append_seam bytes after in
@@ -220,16 +220,16 @@ exact-read bytes after s h =
 
 sign_with-length : (n : ℕ) (left : List ℕ) (y : Sign × List ℕ) → sign_with n left ≡ Some y → length y.1 + n ≡ length left
 sign_with-length n left y h =
-    let found = some_unless (ltb (length left) n) (option_and_then (λ s. Some (s, drop n left)) (sign_of (take n left))) y h in
-    let a = bound (sign_of (take n left)) (λ s. Some (s, drop n left)) y found.1 in
+    let found = some_unless (ltb (length left) n) (option_and_then (λ s. Some (s, drop n left)) (sign_spelled (take n left))) y h in
+    let a = bound (sign_spelled (take n left)) (λ s. Some (s, drop n left)) y found.1 in
     let same : (a.value, drop n left) ≡ y = let e : Some (a.value, drop n left) ≡ Some y = a.then in cc in
     let long : n ≤ length left = ltb-false (length left) n found.0 in
     omega (arith, ap (λ z. length z.1) same, length-drop n left)
 
-try-next : (k : ℕ) (bytes after : List ℕ) (s : Sign) (o : Option (Sign × List ℕ)) → sign_of bytes ≡ Some s → length bytes ≤ k → (length bytes < k → SignReach after s o) → SignReach after s (first_of (sign_with k (bytes ++ after)) o)
+try-next : (k : ℕ) (bytes after : List ℕ) (s : Sign) (o : Option (Sign × List ℕ)) → sign_spelled bytes ≡ Some s → length bytes ≤ k → (length bytes < k → SignReach after s o) → SignReach after s (first_some (sign_with k (bytes ++ after)) o)
 try-next k bytes after s o h le next =
     let left = bytes ++ after in
-    elim (sign_with k left) as (λ v. sign_with k left ≡ v → SignReach after s (first_of v o)) [
+    elim (sign_with k left) as (λ v. sign_with k left ≡ v → SignReach after s (first_some v o)) [
       | None ↦ λ e.
           let other : length bytes ≡ k → ⊥ = λ n. let one = sym (exact-read bytes after s h) ∙ ap (λ m. sign_with m left) n ∙ e in cc in
           next (omega (arith, other))
@@ -247,7 +247,7 @@ try-next k bytes after s o h le next =
           }
     ] refl
 
-sign_at-reach : (bytes after : List ℕ) (s : Sign) → sign_of bytes ≡ Some s → 0 < length bytes → length bytes ≤ 3 → SignReach after s (sign_at (bytes ++ after))
+sign_at-reach : (bytes after : List ℕ) (s : Sign) → sign_spelled bytes ≡ Some s → 0 < length bytes → length bytes ≤ 3 → SignReach after s (sign_at (bytes ++ after))
 unfolding sign_at
 sign_at-reach bytes after s h some short =
     try-next 3 bytes after s _ h short (λ two. try-next 2 bytes after s _ h (omega arith) (λ one.
@@ -298,7 +298,7 @@ comment-first-reach place bytes after s a rest h read =
       same = λ e. absurd (omega (arith, ap length a.is, ap length start.is));
     }
 
-sign-reach : (place : Place) (bytes after : List ℕ) (s : Sign) → sign_of bytes ≡ Some s → Reaches place (bytes ++ after) after (Punctuator s)
+sign-reach : (place : Place) (bytes after : List ℕ) (s : Sign) → sign_spelled bytes ≡ Some s → Reaches place (bytes ++ after) after (Punctuator s)
 sign-reach place bytes after s h =
     let a = sign-apart bytes s h in
     let left = bytes ++ after in

@@ -33,12 +33,6 @@ byte-read base value digits some is small =
     let below : ltb v 256 ≡ true = lt-ltb v 256 (omega arith) in
     rw (none, small-read base digits (omega (arith)), below, is) refl
 
--- the front of a run with what follows cut off
-take-stops : (k : Class) (n : ℕ) (after : List ℕ) → RunEnds k after → RunEnds k (take n after)
-take-stops k zero after h = refl
-take-stops k (suc n) [] h = refl
-take-stops k (suc n) (a ∷ rest) h = h
-
 run-take : (k : Class) (n : ℕ) (digits after : List ℕ) → AllOf k digits → length digits ≤ n → (length digits < n → RunEnds k after) → run k (take n (digits ++ after)) ≡ digits
 run-take k zero [] after all short stops = refl
 run-take k zero (d ∷ ds) after all short stops = absurd (omega arith)

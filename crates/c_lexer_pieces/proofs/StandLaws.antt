@@ -5,9 +5,9 @@ use Rattle.cbi_base.specs.Name.{is_letter}
 use Rattle.c_syntax.specs.declared.token.Sign.{Sign}
 use Rattle.c_lexer_pieces.specs.declared.bytes.Class.TheVariants as class
 use Rattle.c_lexer_pieces.specs.Bytes.{run, past, begins, is_separator, is_digit}
-use Rattle.c_lexer_pieces.specs.Spellings.{sign_of}
-use Rattle.c_lexer_pieces.specs.Reading.{first_of, strip, comment_at, number_at, character_at, text_at, name_at, is_include, define_in}
-use Rattle.c_lexer_pieces.specs.Cutting.{as_piece, sign_with, sign_at, comment_or_sign, plain_at, line_at, directive_at, unless_known, new_directive_at, piece_at, is_fresh}
+use Rattle.c_lexer_pieces.specs.Spellings.{sign_spelled}
+use Rattle.c_lexer_pieces.specs.Reading.{first_some, strip, comment_at, number_at, character_at, text_at, name_at, is_include, define_in}
+use Rattle.c_lexer_pieces.specs.Cutting.{as_piece, sign_with, sign_at, comment_or_sign, plain_at, line_piece, directive_at, unless_known, new_directive_at, piece_at, is_fresh}
 use Rattle.c_lexer_pieces.specs.Piece.{Piece, Nothing, Name, Constant', Text, Punctuator, Definition}
 use Rattle.c_lexer_pieces.specs.Pieces.{Place, StandsAs, separator, comment, name, number, character, text, punctuator, include, define, RunEnds}
 use Rattle.c_lexer_pieces.proofs.FreshLaws.{fresh-is}
@@ -44,8 +44,8 @@ name-stands place left y h =
 
 sign_with-stands : (place : Place) (n : ℕ) (left : List ℕ) (y : Sign × List ℕ) → sign_with n left ≡ Some y → StandsFound place left (Punctuator y.0, y.1)
 sign_with-stands place n left y h =
-    let found = some_unless (ltb (length left) n) (option_and_then (λ s. Some (s, drop n left)) (sign_of (take n left))) y h in
-    let a = bound (sign_of (take n left)) (λ s. Some (s, drop n left)) y found.1 in
+    let found = some_unless (ltb (length left) n) (option_and_then (λ s. Some (s, drop n left)) (sign_spelled (take n left))) y h in
+    let a = bound (sign_spelled (take n left)) (λ s. Some (s, drop n left)) y found.1 in
     let same : (a.value, drop n left) ≡ y = let e : Some (a.value, drop n left) ≡ Some y = a.then in cc in
     moved-found place left (Punctuator a.value, drop n left) (Punctuator y.0, y.1) (ap (λ (z : Sign × List ℕ). (Punctuator z.0, z.1)) same) (record {
       bytes = take n left;
@@ -58,12 +58,12 @@ unfolding sign_at
 sign-stands place left y h =
     ⊎_elim
     (λ (w : sign_with 3 left ≡ Some y). sign_with-stands place 3 left y w)
-    (λ (w : first_of (sign_with 2 left) (sign_with 1 left) ≡ Some y).
+    (λ (w : first_some (sign_with 2 left) (sign_with 1 left) ≡ Some y).
     ⊎_elim
     (λ (v : sign_with 2 left ≡ Some y). sign_with-stands place 2 left y v)
     (λ (v : sign_with 1 left ≡ Some y). sign_with-stands place 1 left y v)
     (first_of-some (sign_with 2 left) (sign_with 1 left) y w))
-    (first_of-some (sign_with 3 left) (first_of (sign_with 2 left) (sign_with 1 left)) y h)
+    (first_of-some (sign_with 3 left) (first_some (sign_with 2 left) (sign_with 1 left)) y h)
 
 comment_or_sign-stands : (place : Place) (left : List ℕ) (x : Piece × List ℕ) → comment_or_sign (comment_at left) left ≡ Some x → StandsFound place left x
 comment_or_sign-stands place left x h =
@@ -122,7 +122,7 @@ directive-stands place left x fresh h =
     let after = past class.Line left in
     let whole : left ≡ line ++ after = sym (run-past class.Line left) in
     let a = bound (directive_at left) (unless_known place.known) x h in
-    let b = bound (strip 35 line) (λ rest. line_at (past class.Blank rest) after) a.value a.is in
+    let b = bound (strip 35 line) (λ rest. line_piece (past class.Blank rest) after) a.value a.is in
     let text = past class.Blank b.value in
     ⊎_elim
     (λ (w : (is_include text ≡ true) × (Some (Nothing, after) ≡ Some a.value)).

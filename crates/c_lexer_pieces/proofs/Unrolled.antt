@@ -1,18 +1,11 @@
 -- A bounded reading after some of its turns.
-use Rattle.std.proofs.Common.{◌≡◌, ◌+◌, ◌-◌, ◌≤◌, ◌<◌, ℕ, suc, length, List, ◌++◌, Option, Some, None, ap, sym, ◌∙◌, arith}
+use Rattle.std.proofs.Common.{◌≡◌, ◌+◌, ◌-◌, ◌≤◌, ◌<◌, ℕ, suc, length, List, ◌++◌, Option, Some, None, ap, ◌∙◌, arith}
 
 -- after some turns g goes on with rest, and h makes the answer for all the bytes out of that for rest
 pub record Unrolled {B : Type 0} (g : ℕ → List ℕ → B) (h : B → B) (bytes rest : List ℕ) : Type 0 where
   pub turns : ℕ
   pub within : turns + length rest ≤ length bytes
   pub same : (n : ℕ) → g (n + turns) bytes ≡ h (g n rest)
-
-pub unrolled-start : {B : Type 0} (g : ℕ → List ℕ → B) (h : B → B) (bytes : List ℕ) → ((y : B) → h y ≡ y) → Unrolled g h bytes bytes
-unrolled-start g h bytes is = record {
-  turns = 0;
-  within = omega arith;
-  same = λ n. let e : n + 0 ≡ n = omega arith in ap (λ k. g k bytes) e ∙ sym (is (g n bytes));
-}
 
 pub unrolled-turn : {B : Type 0} (g : ℕ → List ℕ → B) (h k : B → B) (bytes rest after : List ℕ) → Unrolled g h bytes rest → length after < length rest → ((n : ℕ) → h (g (suc n) rest) ≡ k (g n after)) → Unrolled g k bytes after
 unrolled-turn g h k bytes rest after u less turn = record {

@@ -5,19 +5,19 @@ use Rattle.cbi_base.specs.Name.{is_letter}
 use Rattle.c_lexer_pieces.specs.declared.bytes.Class.TheVariants as class
 use Rattle.c_lexer_pieces.specs.Piece.{Piece, Nothing, Name, Constant', Text, Punctuator, Definition, Known}
 use Rattle.c_lexer_pieces.specs.Bytes.{has, is_separator, is_digit, begins, run, past}
-use Rattle.c_lexer_pieces.specs.Spellings.{sign_of}
-use Rattle.c_lexer_pieces.specs.Reading.{◌>>=◌, first_of, strip, comment_at, number_at, character_at, text_at, name_at, is_include, define_in}
+use Rattle.c_lexer_pieces.specs.Spellings.{sign_spelled}
+use Rattle.c_lexer_pieces.specs.Reading.{◌>>=◌, first_some, strip, comment_at, number_at, character_at, text_at, name_at, is_include, define_in}
 
 abbrev pub as_piece : {A : Type 0} → (A → Piece) → Option (A × List ℕ) → Option (Piece × List ℕ)
 as_piece f None = None
 as_piece f (Some x) = Some (f x.0, x.1)
 
 abbrev pub sign_with : ℕ → List ℕ → Option (Sign × List ℕ)
-sign_with n bytes = if nat_lt (length bytes) n then None else (sign_of (take n bytes) >>= λ s. Some (s, drop n bytes))
+sign_with n bytes = if nat_lt (length bytes) n then None else (sign_spelled (take n bytes) >>= λ s. Some (s, drop n bytes))
 
 -- the longest punctuator
 unfoldable pub sign_at : List ℕ → Option (Sign × List ℕ)
-sign_at bytes = first_of (sign_with 3 bytes) (first_of (sign_with 2 bytes) (sign_with 1 bytes))
+sign_at bytes = first_some (sign_with 3 bytes) (first_some (sign_with 2 bytes) (sign_with 1 bytes))
 
 abbrev pub comment_or_sign : Option (List ℕ) → List ℕ → Option (Piece × List ℕ)
 comment_or_sign (Some rest) bytes = Some (Nothing, rest)
@@ -33,12 +33,12 @@ plain_at (b ∷ bs) =
     else (if b == 39 then as_piece Constant' (character_at (b ∷ bs))
     else comment_or_sign (comment_at (b ∷ bs)) (b ∷ bs))))
 
-abbrev pub line_at : List ℕ → List ℕ → Option (Piece × List ℕ)
-line_at text after = if is_include text then Some (Nothing, after) else (define_in text >>= λ d. Some (Definition d.0 d.1, after))
+abbrev pub line_piece : List ℕ → List ℕ → Option (Piece × List ℕ)
+line_piece text after = if is_include text then Some (Nothing, after) else (define_in text >>= λ d. Some (Definition d.0 d.1, after))
 
 -- a directive, which takes its whole line
 unfoldable pub directive_at : List ℕ → Option (Piece × List ℕ)
-directive_at bytes = strip 35 (run class.Line bytes) >>= λ rest. line_at (past class.Blank rest) (past class.Line bytes)
+directive_at bytes = strip 35 (run class.Line bytes) >>= λ rest. line_piece (past class.Blank rest) (past class.Line bytes)
 
 -- A name is defined once.
 abbrev pub unless_known : Known → Piece × List ℕ → Option (Piece × List ℕ)

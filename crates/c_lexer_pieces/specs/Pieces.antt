@@ -11,7 +11,7 @@ use Rattle.c_lexer_pieces.specs.declared.constants.Radix.{Radix}
 use Rattle.c_lexer_pieces.specs.declared.constants.Radix.TheVariants as radix
 use Rattle.c_lexer_pieces.specs.Bytes.{has, begins, begins_with, is_separator}
 use Rattle.c_lexer_pieces.specs.Values.{after_close, class_of, base_of, value_of, kind_of, simple_escape, signed_byte}
-use Rattle.c_lexer_pieces.specs.Spellings.{word_of, sign_of}
+use Rattle.c_lexer_pieces.specs.Spellings.{word_of, sign_spelled}
 use Rattle.c_lexer_pieces.specs.Piece.{Piece, Nothing, Name, Constant', Text, Punctuator, Definition, Known}
 
 -- all these bytes are of the class
@@ -153,7 +153,7 @@ pub data StandsAs (place : Place) (bytes after : List ℕ) (piece : Piece) : Typ
   number : (constant : Constant) → IsNumber bytes after constant → piece ≡ Constant' constant → StandsAs place bytes after piece
   character : (constant : Constant) → IsCharacter bytes after constant → piece ≡ Constant' constant → StandsAs place bytes after piece
   text : (values : List ℕ) → IsText bytes after values → piece ≡ Text values → StandsAs place bytes after piece
-  punctuator : (sign : Sign) → sign_of bytes ≡ Some sign → piece ≡ Punctuator sign → StandsAs place bytes after piece
+  punctuator : (sign : Sign) → sign_spelled bytes ≡ Some sign → piece ≡ Punctuator sign → StandsAs place bytes after piece
   include : IsFresh place.before → IsInclude bytes → AllOf class.Line bytes → RunEnds class.Line after → piece ≡ Nothing → StandsAs place bytes after piece
   define : (name : List ℕ) (constant : Constant) → IsFresh place.before → IsDefine bytes name constant → place.known name ≡ None →
       AllOf class.Line bytes → RunEnds class.Line after → piece ≡ Definition name constant → StandsAs place bytes after piece

@@ -1,5 +1,6 @@
 -- What is read at the front of some bytes, with the bytes after it.
-use Rattle.std.specs.Prelude.{ℕ, zero, suc, ◌+◌, ◌^◌, pos, Bool, true, false, ◌||◌, ◌&&◌, ◌==◌, nat_lt, if◌then◌else◌, List, [], ◌∷◌, length, take, drop, Option, Some, None, option_and_then, is_some, nat_le, nat_eq, codes}
+use Rattle.std.specs.Prelude.{ℕ, zero, suc, ◌+◌, ◌^◌, pos, Bool, true, false, ◌||◌, ◌&&◌, ◌==◌, nat_lt, if◌then◌else◌, List, [], ◌∷◌, length, take, drop}
+use Rattle.std.specs.Prelude.{Option, Some, None, option_and_then, is_some, nat_le, nat_eq, codes}
 use Rattle.std.specs.List.{starts_with}
 use Rattle.std.specs.Option.{option_map_or}
 use Rattle.cbi_base.specs.Name.{begins_name}
@@ -16,9 +17,9 @@ infixl 10 ◌>>=◌
 abbrev pub ◌>>=◌ : {A B : Type 0} → Option A → (A → Option B) → Option B
 o >>= f = option_and_then f o
 
-abbrev pub first_of : {A : Type 0} → Option A → Option A → Option A
-first_of None other = other
-first_of (Some x) other = Some x
+abbrev pub first_some : {A : Type 0} → Option A → Option A → Option A
+first_some None other = other
+first_some (Some x) other = Some x
 
 -- the bytes after this one
 abbrev pub strip : ℕ → List ℕ → Option (List ℕ)
@@ -133,7 +134,7 @@ unfoldable pub trails : List ℕ → Bool
 trails bytes = trails_within (length bytes + 1) bytes
 
 abbrev pub header_at : List ℕ → Option (List ℕ)
-header_at bytes = first_of (strip_text (codes "<stdio.h>") bytes) (first_of (strip_text (codes "<stdlib.h>") bytes) (strip_text (codes "<assert.h>") bytes))
+header_at bytes = first_some (strip_text (codes "<stdio.h>") bytes) (first_some (strip_text (codes "<stdlib.h>") bytes) (strip_text (codes "<assert.h>") bytes))
 
 abbrev pub header_line : List ℕ → Option (List ℕ)
 header_line bytes = strip_text (codes "include") bytes >>= λ rest. header_at (past class.Blank rest)

@@ -106,5 +106,5 @@ signs =
 abbrev pub word_of : List ℕ → Option Word
 word_of bytes = value_in words bytes
 
-abbrev pub sign_of : List ℕ → Option Sign
-sign_of bytes = value_in signs bytes
+abbrev pub sign_spelled : List ℕ → Option Sign
+sign_spelled bytes = value_in signs bytes

@@ -1,6 +1,7 @@
 ghost use Rattle.std.specs.Prelude.{◌≡◌, option_copied, option_map, IfSome};
 ghost use Rattle.c_lexer_pieces.specs.PieceFacts.{Fits};
-ghost use Rattle.c_lexer_pieces.specs.Reading.{name_at, strip_text, blanks_at, constant_at, trailing_at, trails, header_at, is_include, defined_name_at, define_in, header_line};
+ghost use Rattle.c_lexer_pieces.specs.Reading.{name_at, strip_text, blanks_at, constant_at, trailing_at, trails, header_at, is_include, defined_name_at};
+ghost use Rattle.c_lexer_pieces.specs.Reading.{define_in, header_line};
 
 use crate::bytes::{Class, begins, begins_with, split_run};
 use crate::comments::comment_at;

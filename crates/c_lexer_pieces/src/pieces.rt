@@ -1,5 +1,5 @@
 ghost use Rattle.std.specs.Prelude.{◌≡◌, option_map, IfSome};
-ghost use Rattle.c_lexer_pieces.specs.Cutting.{sign_with, sign_at, plain_at, line_at, directive_at};
+ghost use Rattle.c_lexer_pieces.specs.Cutting.{sign_with, sign_at, plain_at, line_piece, directive_at};
 ghost use Rattle.c_lexer_pieces.specs.Found.{piece_of};
 ghost use Rattle.c_lexer_pieces.specs.PieceFacts.{KnowsClosing, PieceFits};
 
@@ -80,7 +80,7 @@ pub(crate) fn plain_at(closes: bool, bytes: &[u8]) -> Option<(Found<'_>, &[u8])>
 }
 
 fn line_at<'a>(text: &'a [u8], after: &'a [u8]) -> Option<(Found<'a>, &'a [u8])>
-    ensures value { option_map (λ x. (piece_of x.0, x.1.now)) result ≡ line_at text.now after.now }
+    ensures value { option_map (λ x. (piece_of x.0, x.1.now)) result ≡ line_piece text.now after.now }
     ensures fits { IfSome result (λ x. PieceFits (piece_of x.0)) }
 {
     if is_include(text) {

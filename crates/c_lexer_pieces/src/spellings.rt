@@ -1,5 +1,5 @@
 ghost use Rattle.std.specs.Prelude.{◌≡◌, map};
-ghost use Rattle.c_lexer_pieces.specs.Spellings.{value_in, word_of, sign_of};
+ghost use Rattle.c_lexer_pieces.specs.Spellings.{value_in, word_of, sign_spelled};
 
 use c_syntax::{Sign, Word};
 
@@ -104,7 +104,7 @@ pub fn word_of(bytes: &[u8]) -> Option<Word>
 /// The punctuator that these bytes spell.
 #[tactic(auto, unfolding(crate::specs::Spellings::signs))]
 pub fn sign_of(bytes: &[u8]) -> Option<Sign>
-    ensures { result ≡ sign_of bytes.now }
+    ensures { result ≡ sign_spelled bytes.now }
 {
     value_in(&SIGNS, bytes)
 }

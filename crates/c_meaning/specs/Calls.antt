@@ -1,5 +1,6 @@
 -- Calls, of the functions of a text and of the library (C99 6.5.2.2, 7.2, 7.19, 7.20).
-use Rattle.std.specs.Prelude.{ℕ, zero, suc, ◌==◌, Bool, true, false, List, [], ◌∷◌, length, reverse, if◌then◌else◌, Option, Some, None, Result, Ok, Err, unsigned_abs}
+use Rattle.std.specs.Prelude.{ℕ, zero, suc, ◌==◌, Bool, true, false, List, [], ◌∷◌, length, reverse, if◌then◌else◌, Option, Some, None, Result, Ok, Err}
+use Rattle.std.specs.Prelude.{unsigned_abs}
 use Rattle.cbi_base.specs.declared.outcome.Outcome.TheVariants.{Trapped, Ended}
 use Rattle.cbi_base.specs.declared.scalar.Kind.TheVariants.{Int, Unsigned}
 use Rattle.cbi_base.specs.declared.scalar.Scalar.{Scalar}
@@ -7,8 +8,8 @@ use Rattle.cbi_base.specs.declared.scalar.Scalar.TheVariants.{Number, Undefined}
 use Rattle.cbi_base.specs.declared.trap.Trap.TheVariants as trap
 use Rattle.cbi_base.specs.Objects.{allocated, released}
 use Rattle.std.specs.List.{list_all}
-use Rattle.c_rules.specs.declared.library.Library.{Library}
-use Rattle.c_rules.specs.declared.library.Library.TheVariants as library
+use Rattle.c_types_rules.specs.declared.library.Library.{Library}
+use Rattle.c_types_rules.specs.declared.library.Library.TheVariants as library
 use Rattle.flow.specs.declared.program.Text.{Text}
 use Rattle.flow.specs.Now.{is_defined}
 use Rattle.flow.specs.Printing.{Piece, Byte, Conversion, pieces_of}
@@ -22,7 +23,7 @@ use Rattle.c_meaning.specs.Facts.{Setting, Signature}
 use Rattle.c_meaning.specs.Output.{next_byte, put_byte, put_format, put_string}
 use Rattle.c_meaning.specs.Trees.{has_value}
 use Rattle.c_meaning.specs.Visits.{listed, truth, visited}
-use Rattle.c_meaning.specs.World.{World, Out, Go, Stop, Done, bind, answered, choose, done, stuck}
+use Rattle.c_meaning.specs.World.{World, Out, Go, Stop, OutDone, bind, answered, choose, done, stuck}
 
 -- `malloc` (C99 7.20.3.3)
 abbrev pub allocate : Scalar → World → Out Scalar
@@ -32,21 +33,21 @@ allocate (Number Unsigned cells) w =
 allocate other w = stuck w
 
 -- `free` (C99 7.20.3.2)
-abbrev pub release : Scalar → World → Done
+abbrev pub release : Scalar → World → OutDone
 release p w = bind (answered (released p w.objects) w) (λ objects u. Go tt (record u { objects = objects }))
 
 -- `exit` (C99 7.20.4.3)
-abbrev pub exit : Scalar → World → Done
+abbrev pub exit : Scalar → World → OutDone
 exit Undefined w = Stop (Trapped trap.Undefined) w
 exit (Number Int status) w = Stop (Ended status) w
 exit other w = stuck w
 
 -- `abort` (C99 7.20.4.1)
-abbrev pub abort : World → Done
+abbrev pub abort : World → OutDone
 abort w = Stop (Trapped trap.Abort) w
 
 -- `assert` (C99 7.2.1.1)
-abbrev pub assert : Bool → World → Done
+abbrev pub assert : Bool → World → OutDone
 assert true w = Go tt w
 assert false w = Stop (Trapped trap.Assertion) w
 
@@ -80,7 +81,7 @@ as_type wanted own = Some wanted
 
 -- `printf` with a string of the text as its format, and so many other arguments: those that its conversions take, which become values as they
 -- take them
-abbrev pub print_by : Option Text → ℕ → Arguments → World → Done
+abbrev pub print_by : Option Text → ℕ → Arguments → World → OutDone
 print_by None n arguments w = stuck w
 print_by (Some format) n arguments w =
     choose (n == length (types_taken (pieces_of format.bytes)))
@@ -103,7 +104,7 @@ module _ (s : Setting) where
       with_result token (has_value f.result) (choose (n == length f.params) (λ w. bind (arguments f.params w) (s.call number)) stuck)
 
   -- a function of the library
-  abbrev pub call_library : ℕ → Library → ℕ → Argument → (World → Done) → Sense
+  abbrev pub call_library : ℕ → Library → ℕ → Argument → (World → OutDone) → Sense
   call_library token library.Getchar n argument print = returned token (choose (n == 0) (λ w. next_byte w.input w) stuck)
   call_library token library.Putchar n argument print = valued (λ w. bind (argument (as_type (type.Number Int)) w) put_byte)
   call_library token library.Puts n argument print = valued (λ w. bind (argument (as_type (type.Pointer 1)) w) put_string)
@@ -115,7 +116,7 @@ module _ (s : Setting) where
   call_library token library.Printf n argument print = effected print
 
   -- a call by what it calls, with so many arguments
-  abbrev pub call_sense : ℕ → Called → ℕ → Arguments → Argument → (World → Done) → Sense
+  abbrev pub call_sense : ℕ → Called → ℕ → Arguments → Argument → (World → OutDone) → Sense
   call_sense token (called.Function number) n arguments argument print = call_function token number (s.facts.signature number) n arguments
   call_sense token (called.Library function) n arguments argument print = call_library token function n argument print
   call_sense token called.Unknown n arguments argument print = valued stuck

@@ -24,10 +24,10 @@ abbrev pub as_used : Option ValueType → Option ValueType
 as_used (Some (type.Array size)) = Some (type.Pointer size)
 as_used of = of
 
-abbrev pub is_pointer : Option ValueType → Bool
-is_pointer (Some (type.Pointer size)) = true
-is_pointer (Some (type.Array size)) = true
-is_pointer of = false
+abbrev pub is_pointer_value : Option ValueType → Bool
+is_pointer_value (Some (type.Pointer size)) = true
+is_pointer_value (Some (type.Array size)) = true
+is_pointer_value of = false
 
 -- NULL, and a constant zero that isn't within parentheses (C99 6.3.2.3p3)
 abbrev pub is_null_constant : ExprTree → Bool
@@ -37,7 +37,7 @@ is_null_constant x = false
 
 -- a null constant, where a pointer is wanted
 abbrev pub is_null_as : Option ValueType → ExprTree → Bool
-is_null_as wanted x = is_pointer wanted && is_null_constant x
+is_null_as wanted x = is_pointer_value wanted && is_null_constant x
 
 -- a number of one kind where one of another kind is wanted: no conversion is needed between equal kinds
 abbrev pub between : Kind → Kind → Conversion
@@ -46,14 +46,14 @@ between Int Int = Keep
 between Unsigned Unsigned = Keep
 between have wanted = To wanted
 
-abbrev pub fitting : Option ValueType → Option ValueType → Conversion
-fitting (Some (type.Number have)) (Some (type.Number wanted)) = between have wanted
-fitting (Some (type.Pointer size)) (Some (type.Pointer other)) = Keep
-fitting have wanted = Misfit
+abbrev pub fitting_conversion : Option ValueType → Option ValueType → Conversion
+fitting_conversion (Some (type.Number have)) (Some (type.Number wanted)) = between have wanted
+fitting_conversion (Some (type.Pointer size)) (Some (type.Pointer other)) = Keep
+fitting_conversion have wanted = Misfit
 
 -- a value of one type where one of another type is wanted, as by assignment (C99 6.5.16.1)
 abbrev pub conversion : Option ValueType → Option ValueType → Conversion
-conversion have wanted = fitting (as_used have) wanted
+conversion have wanted = fitting_conversion (as_used have) wanted
 
 abbrev pub converts : Conversion → Scalar → Result Scalar Trap
 converts Keep v = Ok v

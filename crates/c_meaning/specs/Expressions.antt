@@ -15,35 +15,35 @@ use Rattle.c_meaning.specs.declared.value_type.ValueType.TheVariants as type
 use Rattle.c_meaning.specs.Conversions.{as_wanted, conversion, as_used, handed, load_at}
 use Rattle.c_meaning.specs.Facts.{Setting}
 use Rattle.c_meaning.specs.Operation.{flag_value, operation, operate}
-use Rattle.c_meaning.specs.Places.{assigned, changed, pointed, stepped}
+use Rattle.c_meaning.specs.Places.{assigned_at, changed, pointed_place, stepped_value}
 use Rattle.c_meaning.specs.Trees.{Assignment, Plain, By, Joint, Both, Either, Computes, Unjoined}
 use Rattle.c_meaning.specs.Visits.{decided, truth}
-use Rattle.c_meaning.specs.World.{World, Out, Go, Done, bind, answered, choose, done, nothing, stuck}
+use Rattle.c_meaning.specs.World.{World, Out, Go, OutDone, bind, answered, choose, done, nothing, stuck}
 
 -- what an expression means: its value, the place that it finds, and what it does where nothing takes its value
 pub record Sense : Type 0 where
   pub value : World → Out Scalar
   pub place : World → Out Scalar
-  pub effect : World → Done
+  pub effect : World → OutDone
 
 -- an expression that is no place
 abbrev pub valued : (World → Out Scalar) → Sense
 valued v = record { value = v; place = stuck; effect = λ w. done (v w) }
 
-abbrev pub is_struct : Option ValueType → Bool
-is_struct (Some type.Struct) = true
-is_struct of = false
+abbrev pub is_struct_value : Option ValueType → Bool
+is_struct_value (Some type.Struct) = true
+is_struct_value of = false
 
 -- a place of the type; of a struct nothing is read
 abbrev pub placed : Option ValueType → (World → Out Scalar) → Sense
 placed of p = record {
   value = λ w. bind (p w) (load_at of);
   place = p;
-  effect = λ w. bind (p w) (λ v. choose (is_struct of) nothing (λ u. done (load_at of v u)));
+  effect = λ w. bind (p w) (λ v. choose (is_struct_value of) nothing (λ u. done (load_at of v u)));
 }
 
 -- what is done for what it does alone
-abbrev pub effected : (World → Done) → Sense
+abbrev pub effected : (World → OutDone) → Sense
 effected act = record { value = stuck; place = stuck; effect = act }
 
 abbrev pub number : Kind → ℕ → Sense
@@ -74,7 +74,7 @@ arm_value true have want m w = Go Null w
 arm_value false have want m w = bind (m.value w) (arm_as (is_other_pointer (as_used have) want) have want)
 
 -- the same where nothing takes the value of the whole, which may be void
-abbrev pub arm_effect : Bool → Option ValueType → Option ValueType → Sense → World → Done
+abbrev pub arm_effect : Bool → Option ValueType → Option ValueType → Sense → World → OutDone
 arm_effect is_null have (Some type.Void) m w = m.effect w
 arm_effect is_null have want m w = done (arm_value is_null have want m w)
 
@@ -134,11 +134,11 @@ module _ (s : Setting) where
   -- an assignment finds its place, then its value, which is converted and stored; a compound one loads the old value after that (C99 6.5.16)
   abbrev pub assign : ℕ → Assignment → Bool → Option ValueType → Option ValueType → Sense → Sense → World → Out Scalar
   assign token Plain is_null left right goal m w =
-      bind (goal.place w) (λ p u. bind (wanted_value is_null right left m u) (assigned s token p))
+      bind (goal.place w) (λ p u. bind (wanted_value is_null right left m u) (assigned_at s token p))
   assign token (By o) is_null left right goal m w = bind (goal.place w) (λ p u. bind (m.value u) (changed s token left (operation o left right) p))
 
   -- `? :`, whose arms become values of its type (C99 6.5.15)
-  abbrev pub conditional : ℕ → Sense → (World → Out Scalar) → (World → Out Scalar) → (World → Done) → (World → Done) → Sense
+  abbrev pub conditional : ℕ → Sense → (World → Out Scalar) → (World → Out Scalar) → (World → OutDone) → (World → OutDone) → Sense
   conditional token c first second first_effect second_effect = record {
     value = λ w. bind (c.value w) (λ v u. bind (decided s token v u) (λ holds. choose holds first second));
     place = stuck;
@@ -146,13 +146,13 @@ module _ (s : Setting) where
   }
 
   -- the operators before an operand of the type `of` (C99 6.5.3)
-  abbrev pub prefixed : ℕ → PrefixOperator → Option ValueType → Option ℕ → Sense → Sense
-  prefixed token prefix.Increment of cells m = valued (λ w. bind (m.place w) (stepped s true token of))
-  prefixed token prefix.Decrement of cells m = valued (λ w. bind (m.place w) (stepped s false token of))
-  prefixed token prefix.Address of cells m = valued m.place
-  prefixed token prefix.Indirection of cells m = placed (s.facts.type_at token) (λ w. bind (m.value w) (λ v u. answered (pointed v) u))
-  prefixed token prefix.Plus of cells m = valued (λ w. bind (m.value w) (handed (s.facts.type_at token)))
-  prefixed token prefix.Minus of cells m = valued (λ w. bind (m.value w) (one_operand of (s.facts.type_at token) unary.Neg))
-  prefixed token prefix.Complement of cells m = valued (λ w. bind (m.value w) (one_operand of (s.facts.type_at token) unary.Com))
-  prefixed token prefix.Not of cells m = valued (λ w. bind (m.value w) (λ v u. answered (applied_to_one unary.Not v) u))
-  prefixed token prefix.SizeOf of cells m = size_value cells
+  abbrev pub prefixed_sense : ℕ → PrefixOperator → Option ValueType → Option ℕ → Sense → Sense
+  prefixed_sense token prefix.Increment of cells m = valued (λ w. bind (m.place w) (stepped_value s true token of))
+  prefixed_sense token prefix.Decrement of cells m = valued (λ w. bind (m.place w) (stepped_value s false token of))
+  prefixed_sense token prefix.Address of cells m = valued m.place
+  prefixed_sense token prefix.Indirection of cells m = placed (s.facts.type_at token) (λ w. bind (m.value w) (λ v u. answered (pointed_place v) u))
+  prefixed_sense token prefix.Plus of cells m = valued (λ w. bind (m.value w) (handed (s.facts.type_at token)))
+  prefixed_sense token prefix.Minus of cells m = valued (λ w. bind (m.value w) (one_operand of (s.facts.type_at token) unary.Neg))
+  prefixed_sense token prefix.Complement of cells m = valued (λ w. bind (m.value w) (one_operand of (s.facts.type_at token) unary.Com))
+  prefixed_sense token prefix.Not of cells m = valued (λ w. bind (m.value w) (λ v u. answered (applied_to_one unary.Not v) u))
+  prefixed_sense token prefix.SizeOf of cells m = size_value cells

@@ -13,10 +13,10 @@ use Rattle.c_syntax.specs.StatementTree as tree
 use Rattle.c_syntax.specs.StatementTree.{InitialTree, StartTree, DeclarationTree}
 use Rattle.c_syntax.specs.ItemTree as item
 use Rattle.c_syntax.specs.ItemTree.{ItemTree, SourceTree}
-use Rattle.c_rules.specs.declared.layout.Member.{Member}
-use Rattle.c_rules.specs.declared.layout.StructType.{StructType}
-use Rattle.c_rules.specs.TypeTree as t
-use Rattle.c_rules.specs.TypeTree.{TypeTree}
+use Rattle.c_types_rules.specs.declared.layout.Member.{Member}
+use Rattle.c_types_rules.specs.declared.layout.StructType.{StructType}
+use Rattle.c_types_rules.specs.TypeTree as t
+use Rattle.c_types_rules.specs.TypeTree.{TypeTree}
 use Rattle.c_types_expressions.specs.declared.walk.Walk.{Walk}
 use Rattle.c_types.specs.Answers.{declared_at}
 use Rattle.flow.specs.declared.program.Text.{Text}
@@ -27,9 +27,9 @@ use Rattle.c_meaning.specs.declared.value_type.ValueType.TheVariants as type
 use Rattle.c_meaning.specs.Conversions.{is_null_as}
 use Rattle.c_meaning.specs.Expressions.{wanted_value}
 use Rattle.c_meaning.specs.Facts.{Facts, Setting, Sites}
-use Rattle.c_meaning.specs.Known.{element_type, facts_of, value_type}
+use Rattle.c_meaning.specs.Known.{computed_type, element_type, facts_of}
 use Rattle.c_meaning.specs.Literals.{literals, texts_of}
-use Rattle.c_meaning.specs.Meaning.{expr, text_of}
+use Rattle.c_meaning.specs.Meaning.{expr, text_of_string}
 use Rattle.c_meaning.specs.Trees.{type_of}
 use Rattle.c_meaning.specs.World.{World, Out, Go, Stop, bind, stuck}
 
@@ -44,12 +44,12 @@ zero_cells structs (t.Array element size) = flat_map (λ cells. cells) (replicat
 zero_cells structs (t.Struct tag) = unwrap_or (slice_get structs tag) []
 
 -- those of each struct, which has members of earlier structs alone
-abbrev pub struct_cells : List StructType → List (List Scalar) → List (List Scalar)
-struct_cells [] before = before
-struct_cells (s ∷ structs) before = struct_cells structs (before ++ flat_map (λ m. zero_cells before m.ctype) s.members ∷ [])
+abbrev pub cells_of_structs : List StructType → List (List Scalar) → List (List Scalar)
+cells_of_structs [] before = before
+cells_of_structs (s ∷ structs) before = cells_of_structs structs (before ++ flat_map (λ m. zero_cells before m.ctype) s.members ∷ [])
 
 abbrev pub zeros_of : List StructType → TypeTree → List Scalar
-zeros_of structs of = zero_cells (struct_cells structs []) of
+zeros_of structs of = zero_cells (cells_of_structs structs []) of
 
 abbrev pub no_sites : Sites
 no_sites = record { branch_at = λ token. None; return_at = λ token. None; pairs_at = λ token. []; site = λ site. None }
@@ -84,7 +84,7 @@ spelled_cells (Some text) = Some (map char_of text.bytes)
 -- the cells that an initialiser gives to a global of the type, from its first one on
 abbrev pub given_to : Facts → ValueType → Option ValueType → Option InitialTree → Option (List Scalar)
 given_to facts of element None = Some []
-given_to facts (type.Array size) element (Some (tree.Value x)) = spelled_cells (text_of facts x)
+given_to facts (type.Array size) element (Some (tree.Value x)) = spelled_cells (text_of_string facts x)
 given_to facts of element (Some (tree.Value x)) = option_map (λ v. v ∷ []) (constant facts (Some of) x)
 given_to facts of element (Some (tree.Braced token items comma)) = constants facts element items
 
@@ -98,7 +98,7 @@ static_object cells = record { class = class.Static; cells = cells }
 abbrev pub object_with : Facts → Walk → StartTree → TypeTree → Option Object
 object_with facts w x of =
     option_map (λ given. static_object (filled_up (zeros_of w.structs of) given))
-    (given_to facts (value_type w.structs of) (element_type w.structs of) x.initial)
+    (given_to facts (computed_type w.structs of) (element_type w.structs of) x.initial)
 
 abbrev pub global_object : Facts → Walk → StartTree → Option Object
 global_object facts w x = option_and_then (object_with facts w x) (declared_at w x.declarator.name_token)

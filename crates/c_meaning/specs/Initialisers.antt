@@ -15,16 +15,16 @@ use Rattle.flow.specs.declared.program.Text.{Text}
 use Rattle.flow.specs.declared.site.Slot.{Slot}
 use Rattle.flow.specs.declared.site.Slot.TheVariants as slot
 use Rattle.flow.specs.Now.{local_at}
-use Rattle.flow.specs.Rows.{spelled, zero_of}
+use Rattle.flow.specs.Rows.{spelled, zero_value}
 use Rattle.c_meaning.specs.declared.value_type.ValueType.{ValueType}
 use Rattle.c_meaning.specs.declared.value_type.ValueType.TheVariants as type
 use Rattle.c_meaning.specs.Conversions.{is_null_as}
 use Rattle.c_meaning.specs.Expressions.{wanted_value}
 use Rattle.c_meaning.specs.Facts.{Setting}
-use Rattle.c_meaning.specs.Meaning.{expr, text_of}
-use Rattle.c_meaning.specs.Places.{assigned, member_place, store_at, variable}
+use Rattle.c_meaning.specs.Meaning.{expr, text_of_string}
+use Rattle.c_meaning.specs.Places.{assigned_at, member_place, store_at, variable}
 use Rattle.c_meaning.specs.Trees.{type_of}
-use Rattle.c_meaning.specs.World.{World, Out, Go, Done, bind, answered, done, stuck}
+use Rattle.c_meaning.specs.World.{World, Out, Go, OutDone, bind, answered, done, stuck}
 
 -- what an array's elements are, where it is set to zero
 abbrev pub want_of : Option ValueType → Option Want
@@ -37,20 +37,20 @@ abbrev pub equals_token : ℕ → ℕ
 equals_token name = name + 1
 
 -- the variable's object, with something done to it
-abbrev pub on_object : Option ℕ → (ℕ → World → Done) → World → Done
+abbrev pub on_object : Option ℕ → (ℕ → World → OutDone) → World → OutDone
 on_object None act w = stuck w
 on_object (Some number) act w = act number w
 
-abbrev pub clear : ℕ → World → Done
+abbrev pub clear : ℕ → World → OutDone
 clear number w = Go tt (record w { objects = cleared number w.objects })
 
 -- all cells of the object are zero, or null
-abbrev pub zeroed : Option Want → ℕ → World → Done
+abbrev pub zeroed : Option Want → ℕ → World → OutDone
 zeroed None number w = stuck w
-zeroed (Some wanted) number w = Go tt (record w { objects = filled number (zero_of wanted) w.objects })
+zeroed (Some wanted) number w = Go tt (record w { objects = filled number (zero_value wanted) w.objects })
 
 -- the bytes of a string are stored from the first cell on, without the closing zero
-abbrev pub spell : Option Text → ℕ → World → Done
+abbrev pub spell : Option Text → ℕ → World → OutDone
 spell None number w = stuck w
 spell (Some text) number w = bind (answered (spelled number 0 text.bytes w.objects) w) (λ objects u. Go tt (record u { objects = objects }))
 
@@ -60,47 +60,47 @@ module _ (s : Setting) where
   object_of other = None
 
   -- the local variable that the name at the token declares
-  abbrev pub on_local : ℕ → (ℕ → World → Done) → World → Done
+  abbrev pub on_local : ℕ → (ℕ → World → OutDone) → World → OutDone
   on_local token act w = on_object (object_of (s.facts.slot_at token)) act w
 
   -- a scalar is stored as by assignment, with the visits of the sites at the `=`
-  abbrev pub scalar_set : ℕ → ExprTree → World → Done
+  abbrev pub scalar_set : ℕ → ExprTree → World → OutDone
   scalar_set token value w =
       bind (variable s (s.facts.slot_at token) w) (λ p u.
       bind (wanted_value (is_null_as (s.facts.declared_at token) value) (type_of s.facts value) (s.facts.declared_at token) (expr s value) u) (λ x y.
-      done (assigned s (equals_token token) p x y)))
+      done (assigned_at s (equals_token token) p x y)))
 
   -- an element with this number is stored as by assignment
-  abbrev pub element_set : ℕ → ℕ → ExprTree → World → Done
+  abbrev pub element_set : ℕ → ℕ → ExprTree → World → OutDone
   element_set token index value w =
       bind (variable s (s.facts.slot_at token) w) (λ a u. bind (member_place (Some index) a u) (λ p y.
       bind (wanted_value (is_null_as (s.facts.element_at token) value) (type_of s.facts value) (s.facts.element_at token) (expr s value) y) (λ x z.
       done (store_at p x z))))
 
   -- the items of a list, the first of them for the element with this number
-  abbrev pub elements_set : ℕ → ℕ → ExprList → World → Done
+  abbrev pub elements_set : ℕ → ℕ → ExprList → World → OutDone
   elements_set token index e.no_exprs w = Go tt w
   elements_set token index (e.more_exprs value rest) w = bind (element_set token index value w) (λ _. elements_set token (suc index) rest)
 
   -- an array is zero in all cells before its list or its string is stored
-  abbrev pub value_set : ℕ → Option ValueType → ExprTree → World → Done
+  abbrev pub value_set : ℕ → Option ValueType → ExprTree → World → OutDone
   value_set token (Some (type.Array size)) value w =
-      bind (on_local token (zeroed (want_of (s.facts.element_at token))) w) (λ _. on_local token (spell (text_of s.facts value)))
+      bind (on_local token (zeroed (want_of (s.facts.element_at token))) w) (λ _. on_local token (spell (text_of_string s.facts value)))
   value_set token of value w = scalar_set token value w
 
-  abbrev pub initialised : ℕ → Option InitialTree → World → Done
+  abbrev pub initialised : ℕ → Option InitialTree → World → OutDone
   initialised token None w = Go tt w
   initialised token (Some (tree.Value value)) w = value_set token (s.facts.declared_at token) value w
   initialised token (Some (tree.Braced at items comma)) w =
       bind (on_local token (zeroed (want_of (s.facts.element_at token))) w) (λ _. elements_set token 0 items)
 
   -- a declaration makes its variable undefined, each time that it is reached, and then initialises it
-  abbrev pub started : StartTree → World → Done
+  abbrev pub started : StartTree → World → OutDone
   started x w = bind (on_local x.declarator.name_token clear w) (λ _. initialised x.declarator.name_token x.initial)
 
-  abbrev pub all_started : List StartTree → World → Done
+  abbrev pub all_started : List StartTree → World → OutDone
   all_started [] w = Go tt w
   all_started (x ∷ xs) w = bind (started x w) (λ _. all_started xs)
 
-  abbrev pub declares : DeclarationTree → World → Done
+  abbrev pub declares : DeclarationTree → World → OutDone
   declares d w = all_started d.starts w

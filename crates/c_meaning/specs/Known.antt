@@ -1,5 +1,6 @@
 -- What is known of a tree whose types were checked, as its meaning uses it.
-use Rattle.std.specs.Prelude.{ℕ, zero, suc, ◌+◌, ◌==◌, nat_le, Bool, true, false, ◌&&◌, List, [], ◌∷◌, ◌++◌, length, map, take, drop, if◌then◌else◌, Option, Some, None, slice_get}
+use Rattle.std.specs.Prelude.{ℕ, zero, suc, ◌+◌, ◌==◌, nat_le, Bool, true, false, ◌&&◌, List, [], ◌∷◌, ◌++◌, length, map, take, drop, if◌then◌else◌}
+use Rattle.std.specs.Prelude.{Option, Some, None, slice_get}
 use Rattle.std.specs.List.{flat_map}
 use Rattle.std.specs.Option.{option_map, option_and_then, unwrap_or}
 use Rattle.std.specs.Str.{bytes_eq}
@@ -9,10 +10,10 @@ use Rattle.c_syntax.specs.declared.parts.Base.TheVariants as base
 use Rattle.c_syntax.specs.ItemTree as item
 use Rattle.c_syntax.specs.ItemTree.{ItemTree, SourceTree}
 use Rattle.c_syntax.specs.StatementTree.{EntryList}
-use Rattle.c_rules.specs.declared.layout.StructType.{StructType}
-use Rattle.c_rules.specs.Sizes.{cells_of, is_object}
-use Rattle.c_rules.specs.TypeTree as t
-use Rattle.c_rules.specs.TypeTree.{TypeTree}
+use Rattle.c_types_rules.specs.declared.layout.StructType.{StructType}
+use Rattle.c_types_rules.specs.Sizes.{cells_of, is_object}
+use Rattle.c_types_rules.specs.TypeTree as t
+use Rattle.c_types_rules.specs.TypeTree.{TypeTree}
 use Rattle.c_types_expressions.specs.declared.walk.Definition.{Definition}
 use Rattle.c_types_expressions.specs.declared.walk.FunctionEntry.{FunctionEntry}
 use Rattle.c_types_expressions.specs.declared.walk.Variable.{Variable}
@@ -35,18 +36,18 @@ abbrev pub element_cells : List StructType → TypeTree → ℕ
 element_cells structs of = unwrap_or (object_cells structs of) 0
 
 -- what the type is where values are computed
-abbrev pub value_type : List StructType → TypeTree → ValueType
-value_type structs t.Void = type.Void
-value_type structs t.Char = type.Number Char
-value_type structs t.Int = type.Number Int
-value_type structs t.Unsigned = type.Number Unsigned
-value_type structs (t.Pointer to) = type.Pointer (element_cells structs to)
-value_type structs (t.Array element size) = type.Array (element_cells structs element)
-value_type structs (t.Struct tag) = type.Struct
+abbrev pub computed_type : List StructType → TypeTree → ValueType
+computed_type structs t.Void = type.Void
+computed_type structs t.Char = type.Number Char
+computed_type structs t.Int = type.Number Int
+computed_type structs t.Unsigned = type.Number Unsigned
+computed_type structs (t.Pointer to) = type.Pointer (element_cells structs to)
+computed_type structs (t.Array element size) = type.Array (element_cells structs element)
+computed_type structs (t.Struct tag) = type.Struct
 
 -- the type of an array's elements
 abbrev pub element_type : List StructType → TypeTree → Option ValueType
-element_type structs (t.Array element size) = Some (value_type structs element)
+element_type structs (t.Array element size) = Some (computed_type structs element)
 element_type structs of = None
 
 abbrev pub slot_of : Variable → Slot
@@ -77,8 +78,8 @@ sizes_of w d = map (cells_of w.structs) (take d.count (drop d.first w.declared_t
 abbrev pub signature_with : Walk → Definition → Option FunctionEntry → Option Signature
 signature_with w d None = None
 signature_with w d (Some f) = Some (record {
-  params = map (value_type w.structs) f.ctype.params;
-  result = value_type w.structs f.ctype.gives;
+  params = map (computed_type w.structs) f.ctype.params;
+  result = computed_type w.structs f.ctype.gives;
   locals = sizes_of w d;
 })
 
@@ -97,11 +98,11 @@ bodies tree = flat_map body_of_item tree.items
 -- what is known of the tokens of a tree, after the walk through its types
 abbrev pub facts_of : SourceTree → Walk → Facts
 facts_of tree w = record {
-  type_at = λ token. option_map (value_type w.structs) (type_at w token);
+  type_at = λ token. option_map (computed_type w.structs) (type_at w token);
   cells_at = λ token. option_and_then (object_cells w.structs) (type_at w token);
   named_cells = named_cells tree w.structs;
   slot_at = λ token. option_map slot_of (variable_at w token);
-  declared_at = λ token. option_map (value_type w.structs) (declared_at w token);
+  declared_at = λ token. option_map (computed_type w.structs) (declared_at w token);
   element_at = λ token. option_and_then (element_type w.structs) (declared_at w token);
   offset_at = offset_at w;
   function_at = function_at w;

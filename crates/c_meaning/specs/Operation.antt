@@ -13,7 +13,7 @@ use Rattle.cbi_base.specs.declared.trap.Trap.TheVariants.{Internal}
 use Rattle.cbi_base.specs.Arithmetic.{flag, kind_given}
 use Rattle.cbi_base.specs.Objects.{Objects, ◌>>=◌, compared, difference}
 use Rattle.cbi_base.specs.Scalars.{applied}
-use Rattle.c_rules.specs.Laws.{common_kind, promoted_kind}
+use Rattle.c_types_rules.specs.Laws.{common_kind, promoted_kind}
 use Rattle.flow.specs.Rows.{moved_by}
 use Rattle.c_meaning.specs.declared.operation.Operation.{Operation}
 use Rattle.c_meaning.specs.declared.operation.Operation.TheVariants.{Numbers, MoveLeft, MoveRight, Span, Ordered, Wrong}
@@ -34,18 +34,18 @@ abbrev pub right_kind : Binary → Kind → Kind → Kind
 right_kind o left right = if is_shift o then promoted_kind right else common_kind left right
 
 -- how many cells an element has, where a pointer can be moved along elements
-abbrev pub is_step : ℕ → Bool
-is_step size = nat_le 1 size && nat_le size 1048576
+abbrev pub is_step_size : ℕ → Bool
+is_step_size size = nat_le 1 size && nat_le size 1048576
 
 -- a pointer and a number (C99 6.5.6p8)
 abbrev pub moves_left : Binary → ℕ → Operation
-moves_left op.Add size = if is_step size then MoveLeft (pos size) else Wrong
-moves_left op.Sub size = if is_step size then MoveLeft (neg_ℤ (pos size)) else Wrong
+moves_left op.Add size = if is_step_size size then MoveLeft (pos size) else Wrong
+moves_left op.Sub size = if is_step_size size then MoveLeft (neg_ℤ (pos size)) else Wrong
 moves_left o size = Wrong
 
 -- a number and a pointer
 abbrev pub moves_right : Binary → ℕ → Operation
-moves_right op.Add size = if is_step size then MoveRight (pos size) else Wrong
+moves_right op.Add size = if is_step_size size then MoveRight (pos size) else Wrong
 moves_right o size = Wrong
 
 abbrev pub order_of : Binary → Option Order
@@ -57,14 +57,14 @@ order_of op.Eq = Some order.Eq
 order_of op.Ne = Some order.Ne
 order_of o = None
 
-abbrev pub ordered : Option Order → Operation
-ordered None = Wrong
-ordered (Some o) = Ordered o
+abbrev pub order_operation : Option Order → Operation
+order_operation None = Wrong
+order_operation (Some o) = Ordered o
 
 -- two pointers (C99 6.5.6p9, 6.5.8p5, 6.5.9p6)
 abbrev pub on_pointers : Binary → ℕ → Operation
-on_pointers op.Sub size = if is_step size then Span size else Wrong
-on_pointers o size = ordered (order_of o)
+on_pointers op.Sub size = if is_step_size size then Span size else Wrong
+on_pointers o size = order_operation (order_of o)
 
 abbrev pub on_values : Binary → Option ValueType → Option ValueType → Operation
 on_values o (Some (type.Number left)) (Some (type.Number right)) = Numbers o left right
@@ -83,9 +83,9 @@ abbrev pub flagged : Result Bool Trap → Result Scalar Trap
 flagged (Ok holds) = Ok (flag_value holds)
 flagged (Err t) = Err t
 
-abbrev pub counted : Result ℤ Trap → Result Scalar Trap
-counted (Ok count) = Ok (Number Int count)
-counted (Err t) = Err t
+abbrev pub counted_value : Result ℤ Trap → Result Scalar Trap
+counted_value (Ok count) = Ok (Number Int count)
+counted_value (Err t) = Err t
 
 -- Both operands are there: they are converted, and then calculated with.
 unfoldable pub operate : Operation → Scalar → Scalar → Objects → Result Scalar Trap
@@ -93,7 +93,7 @@ operate (Numbers o left right) x y objects =
     converts (between left (left_kind o left right)) x >>= λ a. converts (between right (right_kind o left right)) y >>= λ b. applied o a b
 operate (MoveLeft size) x y objects = moved_by size x y objects
 operate (MoveRight size) x y objects = moved_by size y x objects
-operate (Span size) x y objects = counted (difference x y size objects)
+operate (Span size) x y objects = counted_value (difference x y size objects)
 operate (Ordered o) x y objects = flagged (compared o x y objects)
 operate Wrong x y objects = Err Internal
 

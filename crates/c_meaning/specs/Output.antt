@@ -9,21 +9,21 @@ use Rattle.cbi_base.specs.declared.trap.Trap.TheVariants as trap
 use Rattle.flow.specs.Limits.{output_limit}
 use Rattle.flow.specs.Now.{byte_of}
 use Rattle.flow.specs.Printing.{Printed, pieces_of, printed, string_at, take_values, then_print, these}
-use Rattle.c_meaning.specs.World.{World, Out, Go, Stop, Done, bind, choose, nothing, stuck}
+use Rattle.c_meaning.specs.World.{World, Out, Go, Stop, OutDone, bind, choose, nothing, stuck}
 
 -- Bytes are written; where there isn't room for all of them the run is cut, and those stay that there is room for.
-abbrev pub written : List ℕ → World → Done
+abbrev pub written : List ℕ → World → OutDone
 written bytes w =
     if nat_le (length w.output + length bytes) output_limit
     then Go tt (record w { output = w.output ++ bytes })
     else Stop CutOutput (record w { output = w.output ++ take (output_limit - length w.output) bytes })
 
-abbrev pub stop_or : Option Trap → World → Done
+abbrev pub stop_or : Option Trap → World → OutDone
 stop_or None w = Go tt w
 stop_or (Some t) w = Stop (Trapped t) w
 
 -- bytes that are written, and the trap that is met after them
-abbrev pub print : Printed → World → Done
+abbrev pub print : Printed → World → OutDone
 print p w = bind (written p.bytes w) (λ _. stop_or p.stop)
 
 -- `getchar`: the next byte, or -1 at the end of the input
@@ -44,6 +44,6 @@ put_string (Number kind value) w = stuck w
 put_string p w = bind (print (then_print (string_at p w.objects) (these (10 ∷ []))) w) (λ _. Go (Number Int (pos 0)))
 
 -- `printf` writes piece by piece, each conversion the value at its place
-abbrev pub put_format : List ℕ → List Scalar → World → Done
+abbrev pub put_format : List ℕ → List Scalar → World → OutDone
 put_format format values w =
     choose (take_values (pieces_of format) values) (print (printed (pieces_of format) values w.objects)) stuck w

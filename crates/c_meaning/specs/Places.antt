@@ -33,15 +33,19 @@ unless_zero true v = Err trap.Internal
 unless_zero false v = Ok v
 
 -- `*e`: null is no place. Whether the object lives is seen where the place is read or changed (C99 6.5.3.2p4).
-abbrev pub pointed : Scalar → Result Scalar Trap
-pointed Undefined = Err trap.Undefined
-pointed Null = Err trap.NullUse
-pointed (Number kind value) = unless_zero (is_zero value) (Number kind value)
-pointed v = Ok v
+abbrev pub pointed_place : Scalar → Result Scalar Trap
+pointed_place Undefined = Err trap.Undefined
+pointed_place Null = Err trap.NullUse
+pointed_place (Number kind value) = unless_zero (is_zero value) (Number kind value)
+pointed_place v = Ok v
 
 -- the value is stored, and is what the whole gives (C99 6.5.16p3)
 abbrev pub store_at : Scalar → Scalar → World → Out Scalar
 store_at p v w = bind (answered (stored p v w.objects) w) (λ objects u. Go v (record u { objects = objects }))
+
+-- the operation of `++` and `--`: 1 is added or subtracted in the common type (C99 6.5.2.4p2, 6.5.3.1p2)
+abbrev pub step_operation : Bool → Option ValueType → Operation
+step_operation is_up of = operation (step_of is_up) of (Some (type.Number (one_kind of)))
 
 module _ (s : Setting) where
   abbrev pub variable : Option Slot → World → Out Scalar
@@ -50,28 +54,24 @@ module _ (s : Setting) where
   variable (Some (slot.Global index)) w = Go (Place index 0) w
 
   -- what is assigned at the token is stored, and then the sites there are visited
-  abbrev pub assigned : ℕ → Scalar → Scalar → World → Out Scalar
-  assigned token p v w = bind (store_at p v w) (visited s (s.sites.pairs_at token))
+  abbrev pub assigned_at : ℕ → Scalar → Scalar → World → Out Scalar
+  assigned_at token p v w = bind (store_at p v w) (visited s (s.sites.pairs_at token))
 
   -- the old value is loaded, the operation is done on it and the right value, and the result is stored (C99 6.5.16.2)
   abbrev pub changed : ℕ → Option ValueType → Operation → Scalar → Scalar → World → Out Scalar
   changed token of o p right w =
       bind (load_at of p w) (λ old u. bind (answered (operate o old right u.objects) u) (λ x y.
-      bind (as_wanted (conversion (type_given o of) of) x y) (assigned token p)))
-
-  -- `++` and `--`: 1 is added or subtracted in the common type
-  abbrev pub step : Bool → Option ValueType → Operation
-  step is_up of = operation (step_of is_up) of (Some (type.Number (one_kind of)))
+      bind (as_wanted (conversion (type_given o of) of) x y) (assigned_at token p)))
 
   abbrev pub one_beside : Option ValueType → Scalar
   one_beside of = Number (one_kind of) (pos 1)
 
   -- before a place they give the new value (C99 6.5.3.1)
-  abbrev pub stepped : Bool → ℕ → Option ValueType → Scalar → World → Out Scalar
-  stepped is_up token of p w = changed token of (step is_up of) p (one_beside of) w
+  abbrev pub stepped_value : Bool → ℕ → Option ValueType → Scalar → World → Out Scalar
+  stepped_value is_up token of p w = changed token of (step_operation is_up of) p (one_beside of) w
 
   -- behind a place they give the old value (C99 6.5.2.4)
   abbrev pub stepped_behind : Bool → ℕ → Option ValueType → Scalar → World → Out Scalar
   stepped_behind is_up token of p w =
-      bind (load_at of p w) (λ old u. bind (answered (operate (step is_up of) old (one_beside of) u.objects) u) (λ x y.
-      bind (as_wanted (conversion (type_given (step is_up of) of) of) x y) (λ z a. bind (assigned token p z a) (λ _. Go old))))
+      bind (load_at of p w) (λ old u. bind (answered (operate (step_operation is_up of) old (one_beside of) u.objects) u) (λ x y.
+      bind (as_wanted (conversion (type_given (step_operation is_up of) of) of) x y) (λ z a. bind (assigned_at token p z a) (λ _. Go old))))

@@ -1,5 +1,6 @@
 -- What a whole text does: calls of its functions, and a run from its start to its end (C99 5.1.2.2, 5.1.2.3, 6.5.2.2, 6.9.1).
-use Rattle.std.specs.Prelude.{ℕ, zero, suc, ◌+◌, ◌-◌, ◌==◌, Bool, true, false, nat_lt, if◌then◌else◌, pos, List, [], length, Option, Some, None, Result, Ok, Err}
+use Rattle.std.specs.Prelude.{ℕ, zero, suc, ◌+◌, ◌-◌, ◌==◌, Bool, true, false, nat_lt, if◌then◌else◌, pos, List, [], length, Option, Some, None, Result}
+use Rattle.std.specs.Prelude.{Ok, Err}
 use Rattle.cbi_base.specs.declared.observation.Observation.{Observation}
 use Rattle.cbi_base.specs.declared.outcome.Outcome.{Outcome}
 use Rattle.cbi_base.specs.declared.outcome.Outcome.TheVariants.{Ended, Trapped, CutTurns}
@@ -47,8 +48,8 @@ value_left is_main false Next w = Go Undefined w
 value_left is_main has_value flow w = stuck w
 
 -- the objects of a function's variables die as it ends
-abbrev pub left : Locals → Scalar → World → Out Scalar
-left locals v w = Go v (record w { objects = all_killed locals.first locals.count w.objects; active = w.active - 1 })
+abbrev pub left_function : Locals → Scalar → World → Out Scalar
+left_function locals v w = Go v (record w { objects = all_killed locals.first locals.count w.objects; active = w.active - 1 })
 
 abbrev pub setting_of : Source → Caller → Locals → Setting
 setting_of src call locals = record { facts = src.facts; sites = src.sites; call = call; locals = locals }
@@ -70,9 +71,9 @@ abbrev pub enter_with : Source → Caller → ℕ → ℕ → Signature → Worl
 enter_with src call n number f w None = Stop (Trapped trap.StackOverflow) w
 enter_with src call n number f w (Some objects) = run_body src call n f (locals_at f w) (src.body number) (inside objects w)
 
-abbrev pub enter : Source → Caller → ℕ → ℕ → Option Signature → List Scalar → World → Out Flow
-enter src call n number None arguments w = stuck w
-enter src call n number (Some f) arguments w =
+abbrev pub enter_function : Source → Caller → ℕ → ℕ → Option Signature → List Scalar → World → Out Flow
+enter_function src call n number None arguments w = stuck w
+enter_function src call n number (Some f) arguments w =
     if nat_lt w.active active_limit
     then enter_with src call n number f w (all_made (first_cells arguments f.locals) w.objects)
     else Stop (Trapped trap.StackOverflow) w
@@ -81,17 +82,17 @@ abbrev pub gives_value : Option Signature → Bool
 gives_value None = false
 gives_value (Some f) = has_value f.result
 
-abbrev pub variables_of : Option Signature → World → Locals
-variables_of None w = record { first = w.objects.made; count = 0 }
-variables_of (Some f) w = locals_at f w
+abbrev pub locals_of : Option Signature → World → Locals
+locals_of None w = record { first = w.objects.made; count = 0 }
+locals_of (Some f) w = locals_at f w
 
 -- a call, where at most so many turns are left: it spends one, enters the function, and leaves it
 abbrev pub call_at : Source → ℕ → Caller
 call_at src zero number arguments w = Stop CutTurns w
 call_at src (suc n) number arguments w = spend w.turns w (λ u.
     bind (all_defined arguments u) (λ vs _.
-    bind (enter src (call_at src n) n number (src.facts.signature number) vs u) (λ flow y.
-    bind (value_left (number == src.main) (gives_value (src.facts.signature number)) flow y) (left (variables_of (src.facts.signature number) u)))))
+    bind (enter_function src (call_at src n) n number (src.facts.signature number) vs u) (λ flow y.
+    bind (value_left (number == src.main) (gives_value (src.facts.signature number)) flow y) (left_function (locals_of (src.facts.signature number) u)))))
 
 -- the value of `main` is the status of the run
 abbrev pub status : Scalar → World → Behaviour
@@ -102,18 +103,18 @@ abbrev pub behaves : Out Scalar → Behaviour
 behaves (Go v w) = status v w
 behaves (Stop outcome w) = record { outcome = outcome; output = w.output; seen = w.seen }
 
-abbrev pub beginning : Objects → List ℕ → ℕ → World
-beginning objects input turns = record { objects = objects; input = input; output = []; turns = turns; active = 0; seen = [] }
+abbrev pub first_world : Objects → List ℕ → ℕ → World
+first_world objects input turns = record { objects = objects; input = input; output = []; turns = turns; active = 0; seen = [] }
 
 abbrev pub run_from : Source → List ℕ → ℕ → Option Objects → Out Scalar
-run_from src input turns None = Stop (Trapped trap.StackOverflow) (beginning no_objects input turns)
+run_from src input turns None = Stop (Trapped trap.StackOverflow) (first_world no_objects input turns)
 run_from src input turns (Some objects) =
-    bind (enter src (call_at src turns) turns src.main (src.facts.signature src.main) [] (beginning objects input turns))
+    bind (enter_function src (call_at src turns) turns src.main (src.facts.signature src.main) [] (first_world objects input turns))
     (value_left true (gives_value (src.facts.signature src.main)))
 
 -- the objects of the beginning are made, and `main` is entered without a turn
 abbrev pub run_main : Source → List ℕ → ℕ → Option (List Object) → Out Scalar
-run_main src input turns None = stuck (beginning no_objects input turns)
+run_main src input turns None = stuck (first_world no_objects input turns)
 run_main src input turns (Some objects) = run_from src input turns (each_made objects no_objects)
 
 -- what a text does on an input, where so many turns may be spent

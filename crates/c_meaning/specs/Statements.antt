@@ -11,7 +11,7 @@ use Rattle.c_meaning.specs.Facts.{Setting}
 use Rattle.c_meaning.specs.Initialisers.{declares}
 use Rattle.c_meaning.specs.Meaning.{condition, expr}
 use Rattle.c_meaning.specs.Trees.{type_of}
-use Rattle.c_meaning.specs.World.{World, Out, Go, Stop, Done, Flow, Next, Broken, Continued, Returned, bind, choose, spend}
+use Rattle.c_meaning.specs.World.{World, Out, Go, Stop, OutDone, Flow, Next, Broken, Continued, Returned, bind, choose, spend}
 
 -- after the body of a loop: the next round, or the end of the loop
 abbrev pub after_body : (World → Out Flow) → Flow → World → Out Flow
@@ -29,7 +29,7 @@ abbrev pub do_round : (World → Out Bool) → (World → Out Flow) → (World �
 do_round test body again w = bind (body w) (after_body (λ u. bind (test u) (λ holds. choose holds again (Go Next))))
 
 -- a `for` is its `while`, with the third part behind the body (C99 6.8.5.3)
-abbrev pub for_round : (World → Out Bool) → (World → Out Flow) → (World → Done) → (World → Out Flow) → World → Out Flow
+abbrev pub for_round : (World → Out Bool) → (World → Out Flow) → (World → OutDone) → (World → Out Flow) → World → Out Flow
 for_round test body step again w = while_round test body (λ u. bind (step u) (λ _. again)) w
 
 -- the rounds of a loop, where at most so many turns are left: each but the first one spends one
@@ -43,7 +43,7 @@ after_entry rest Next w = rest w
 after_entry rest other w = Go other w
 
 module _ (s : Setting) where
-  abbrev pub optional_effect : Option ExprTree → World → Done
+  abbrev pub optional_effect : Option ExprTree → World → OutDone
   optional_effect None w = Go tt w
   optional_effect (Some x) w = (expr s x).effect w
 
@@ -52,7 +52,7 @@ module _ (s : Setting) where
   optional_condition token None w = Go true w
   optional_condition token (Some x) w = condition s token x w
 
-  abbrev pub for_started : ForStartTree → World → Done
+  abbrev pub for_started : ForStartTree → World → OutDone
   for_started (tree.Declares d) w = declares s d w
   for_started (tree.Computes x) w = optional_effect x w
 

@@ -33,15 +33,15 @@ sites_from number of_kind token [] = []
 sites_from number of_kind token (s ∷ sites) =
     if s.token == token && of_kind s.kind then number ∷ sites_from (suc number) of_kind token sites else sites_from (suc number) of_kind token sites
 
-abbrev pub first_of : List ℕ → Option ℕ
-first_of [] = None
-first_of (site ∷ more) = Some site
+abbrev pub head_site : List ℕ → Option ℕ
+head_site [] = None
+head_site (site ∷ more) = Some site
 
 -- the sites of a table, by token
 abbrev pub sites_by_table : List Site → Sites
 sites_by_table table = record {
-  branch_at = λ token. first_of (sites_from 0 is_branch token table);
-  return_at = λ token. first_of (sites_from 0 is_return token table);
+  branch_at = λ token. head_site (sites_from 0 is_branch token table);
+  return_at = λ token. head_site (sites_from 0 is_return token table);
   pairs_at = λ token. sites_from 0 is_pair token table;
   site = slice_get table;
 }

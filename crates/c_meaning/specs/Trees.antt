@@ -10,14 +10,14 @@ use Rattle.c_syntax.specs.declared.token.Sign.TheVariants as sign
 use Rattle.c_syntax.specs.declared.expr.PrefixOperator.TheVariants as prefix
 use Rattle.c_syntax.specs.ExprTree as e
 use Rattle.c_syntax.specs.ExprTree.{ExprTree, ExprList, LinkList, PostfixList}
-use Rattle.c_rules.specs.declared.library.Library.{Library}
-use Rattle.c_rules.specs.Library.{library_named}
+use Rattle.c_types_rules.specs.declared.library.Library.{Library}
+use Rattle.c_types_rules.specs.Library.{library_named}
 use Rattle.c_types_expressions.specs.ExprWalk.{binary_of, compound_of}
 use Rattle.c_meaning.specs.declared.value_type.ValueType.{ValueType}
 use Rattle.c_meaning.specs.declared.value_type.ValueType.TheVariants as type
 use Rattle.c_meaning.specs.declared.value_type.Called.{Called}
 use Rattle.c_meaning.specs.declared.value_type.Called.TheVariants as called
-use Rattle.c_meaning.specs.Conversions.{is_null_as, is_pointer}
+use Rattle.c_meaning.specs.Conversions.{is_null_as, is_pointer_value}
 use Rattle.c_meaning.specs.Facts.{Facts, Signature}
 
 -- the token at which the type of the whole is known: that of its last operator

@@ -12,8 +12,8 @@ use Rattle.c_meaning.specs.World.{World, Out, Go, bind, answered}
 abbrev pub now_of : Locals → List Scalar → World → Now
 now_of locals operands w = record { operands = operands; locals = locals; objects = w.objects; input = w.input; output = w.output }
 
-abbrev pub with_seen : ℕ → Seen → World → World
-with_seen site seen w = record w { seen = w.seen ++ record { site = site; seen = seen } ∷ [] }
+abbrev pub world_with_seen : ℕ → Seen → World → World
+world_with_seen site seen w = record w { seen = w.seen ++ record { site = site; seen = seen } ∷ [] }
 
 abbrev pub listed : Option ℕ → List ℕ
 listed None = []
@@ -24,13 +24,13 @@ truth v w = answered (truth_of v) w
 
 module _ (s : Setting) where
   -- one visit: the site sees the value, which goes on
-  abbrev pub observed : ℕ → Scalar → World → Out Scalar
-  observed site v w = bind (answered (looked (s.sites.site site) (now_of s.locals (v ∷ []) w)) w) (λ seen u. Go v (with_seen site seen u))
+  abbrev pub observed_value : ℕ → Scalar → World → Out Scalar
+  observed_value site v w = bind (answered (looked (s.sites.site site) (now_of s.locals (v ∷ []) w)) w) (λ seen u. Go v (world_with_seen site seen u))
 
   -- visits of several sites, one after another
   abbrev pub visited : List ℕ → Scalar → World → Out Scalar
   visited [] v w = Go v w
-  visited (site ∷ more) v w = bind (observed site v w) (visited more)
+  visited (site ∷ more) v w = bind (observed_value site v w) (visited more)
 
   -- a condition's value, with the visit of its site
   abbrev pub decided : ℕ → Scalar → World → Out Bool

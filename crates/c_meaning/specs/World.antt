@@ -23,19 +23,19 @@ pub data Out (A : Type 0) : Type 0 where
   Stop : Outcome → World → Out A
 
 -- a part that gives nothing
-abbrev pub Done : Type 0
-Done = Out (Unit {0})
+abbrev pub OutDone : Type 0
+OutDone = Out (Unit {0})
 
 -- one part, and then another one
 abbrev pub bind : {A B : Type 0} → Out A → (A → World → Out B) → Out B
 bind (Go x w) next = next x w
 bind (Stop outcome w) next = Stop outcome w
 
-abbrev pub nothing : World → Done
+abbrev pub nothing : World → OutDone
 nothing w = Go tt w
 
 -- what a part gives isn't taken
-abbrev pub done : {A : Type 0} → Out A → Done
+abbrev pub done : {A : Type 0} → Out A → OutDone
 done part = bind part (λ _. nothing)
 
 -- the answer of an operation, or its trap

@@ -1,6 +1,6 @@
 ghost use Rattle.std.specs.Prelude.{◌≡◌};
-ghost use Rattle.c_rules.specs.Laws.{common_kind, promoted_kind};
-ghost use Rattle.c_meaning.specs.Operation.{is_shift, is_step, left_kind, moves_left, moves_right, on_pointers, operation, order_of, right_kind};
+ghost use Rattle.c_types_rules.specs.Laws.{common_kind, promoted_kind};
+ghost use Rattle.c_meaning.specs.Operation.{is_shift, is_step_size, left_kind, moves_left, moves_right, on_pointers, operation, order_of, right_kind};
 
 use crate::value_type::{ValueType, as_used};
 use cbi_base::{Binary, Kind, Order};
@@ -24,7 +24,7 @@ pub enum Operation {
 
 /// Whether elements have so many cells.
 fn is_step(size: u32) -> bool
-    ensures { result ≡ is_step size }
+    ensures { result ≡ is_step_size size }
 {
     1 <= size && size <= 1_048_576
 }

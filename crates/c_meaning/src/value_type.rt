@@ -1,7 +1,7 @@
 ghost use Rattle.std.specs.Prelude.{◌≡◌};
-ghost use Rattle.c_meaning.specs.Conversions.{as_used, is_pointer};
+ghost use Rattle.c_meaning.specs.Conversions.{as_used, is_pointer_value};
 
-use c_rules::Library;
+use c_types_rules::Library;
 use cbi_base::Kind;
 
 /// What a type is where values are computed. A pointer has the size in cells of what it points to, and an array that of its elements; it
@@ -35,7 +35,7 @@ pub fn as_used(of: Option<ValueType>) -> Option<ValueType>
 
 /// Whether a value of the type is a pointer.
 pub fn is_pointer(of: Option<ValueType>) -> bool
-    ensures { result ≡ is_pointer of }
+    ensures { result ≡ is_pointer_value of }
 {
     matches!(
         of,

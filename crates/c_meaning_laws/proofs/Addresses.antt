@@ -11,7 +11,7 @@ use Rattle.c_meaning.specs.Expressions.{Sense, valued}
 use Rattle.c_meaning.specs.Facts.{Setting}
 use Rattle.c_meaning.specs.Meaning.{expr}
 use Rattle.c_meaning.specs.Operation.{operation, operate}
-use Rattle.c_meaning.specs.Places.{pointed}
+use Rattle.c_meaning.specs.Places.{pointed_place}
 use Rattle.c_meaning.specs.Trees.{type_of}
 use Rattle.c_meaning.specs.World.{World, Out, Go, answered, bind}
 use Rattle.std.proofs.Common.{Option}
@@ -54,4 +54,4 @@ address_of_index_is_sum s address bracket level plus a i left right keeps has l 
     ∙ sum_value s level plus left right w))
 
 pub address_of_target_is_pointer : AddressOfTargetIsPointer
-address_of_target_is_pointer s address star p number offset w u h = ap (λ out. bind out (λ v y. answered (pointed v) y)) h
+address_of_target_is_pointer s address star p number offset w u h = ap (λ out. bind out (λ v y. answered (pointed_place v) y)) h

@@ -11,7 +11,7 @@ use Rattle.cbi_base.specs.declared.scalar.Want.{Want}
 use Rattle.cbi_base.specs.declared.scalar.Want.TheVariants as want
 use Rattle.cbi_base.specs.declared.trap.Trap.{Trap}
 use Rattle.cbi_base.specs.declared.trap.Trap.TheVariants as trap
-use Rattle.cbi_base.specs.Objects.{Object, Objects, found, is_text, live_or, loaded, set_in, stored, with_object, ◌>>=◌}
+use Rattle.cbi_base.specs.Objects.{Object, Objects, found_cell, is_text, live_or, loaded, set_in, stored, with_object, ◌>>=◌}
 use Rattle.c_syntax.specs.declared.token.Sign.{Sign}
 use Rattle.c_syntax.specs.ExprTree as e
 use Rattle.c_syntax.specs.ExprTree.{ExprTree}
@@ -27,16 +27,16 @@ use Rattle.c_meaning.specs.Expressions.{assign, wanted_value}
 use Rattle.c_meaning.specs.Facts.{Facts, Setting}
 use Rattle.c_meaning.specs.Meaning.{expr}
 use Rattle.c_meaning.specs.Operation.{operate, operation, type_given}
-use Rattle.c_meaning.specs.Places.{assigned, changed, object_place, store_at, variable}
+use Rattle.c_meaning.specs.Places.{assigned_at, changed, object_place, store_at, variable}
 use Rattle.c_meaning.specs.Runs.{call_at, setting_of}
 use Rattle.c_meaning.specs.Trees.{Assignment, Plain, By, assignment, type_of}
-use Rattle.c_meaning.specs.Visits.{now_of, observed, visited, with_seen}
+use Rattle.c_meaning.specs.Visits.{now_of, observed_value, visited, world_with_seen}
 use Rattle.c_meaning.specs.World.{World, Out, Go, answered, bind, stuck}
-use Rattle.c_types_never_stuck.specs.Rules.{Assigns, IsScalar, TakesOrNull}
-use Rattle.c_types_never_stuck.specs.TypedSource.{without_sites}
-use Rattle.c_types_never_stuck.proofs.Expressions.{expr_safe}
-use Rattle.c_types_never_stuck.proofs.Runs.{calls_safe}
-use Rattle.c_types_never_stuck.proofs.Values.{Fits, scalar_value}
+use Rattle.c_meaning_laws.specs.Rules.{Assigns, IsScalar, TakesOrNull}
+use Rattle.c_meaning_laws.specs.TypedSource.{without_sites}
+use Rattle.c_meaning_laws.proofs.Expressions.{expr_safe}
+use Rattle.c_meaning_laws.proofs.Runs.{calls_safe}
+use Rattle.c_meaning_laws.proofs.Values.{Fits, scalar_value}
 use Rattle.c_meaning_laws.specs.Assigned.{AssignmentIsRead}
 use Rattle.c_meaning_laws.proofs.Objects.{load_found, load_in, put_found}
 use Rattle.c_meaning_laws.proofs.Parts.{Ends, anything, ends_bind, ends_go}
@@ -49,14 +49,14 @@ held (Some (type.Pointer size)) n o = loaded want.Pointer (Place n 0) o
 held of n o = Err trap.Internal
 
 -- a value of the type is what a load of that type wants
-found_number : (kind : Kind) (n : ℤ) → found (want.Number kind) (Some (Number kind n)) ≡ Ok (Number kind n)
+found_number : (kind : Kind) (n : ℤ) → found_cell (want.Number kind) (Some (Number kind n)) ≡ Ok (Number kind n)
 found_number Char n = refl
 found_number Int n = refl
 found_number Unsigned n = refl
 
 abbrev wants : Option ValueType → Scalar → Result Scalar Trap
-wants (Some (type.Number kind)) v = found (want.Number kind) (Some v)
-wants (Some (type.Pointer size)) v = found want.Pointer (Some v)
+wants (Some (type.Number kind)) v = found_cell (want.Number kind) (Some v)
+wants (Some (type.Pointer size)) v = found_cell want.Pointer (Some v)
 wants of v = Err trap.Internal
 
 -- it is there
@@ -66,7 +66,7 @@ IsThere v = Unit {0}
 
 wanted_there : (of : Option ValueType) (v : Scalar) → IsScalar of → IsThere v → Fits of v → wants of v ≡ Ok v
 wanted_there (Some (type.Number kind)) (Number other n) h i f =
-    subst (λ k. found (want.Number kind) (Some (Number k n)) ≡ Ok (Number k n)) f (found_number kind n)
+    subst (λ k. found_cell (want.Number kind) (Some (Number k n)) ≡ Ok (Number k n)) f (found_number kind n)
 wanted_there (Some (type.Number kind)) Undefined h i f = absurd i
 wanted_there (Some (type.Number kind)) (Place a j) h i f = absurd f
 wanted_there (Some (type.Number kind)) Null h i f = absurd f
@@ -80,10 +80,10 @@ wanted_there (Some type.Struct) v h i f = absurd h
 wanted_there None v h i f = absurd h
 
 put_load : (wanted : Want) (n : ℕ) (o : Objects) (object : Object) (v : Scalar) (cells : List Scalar) → object.cells ≡ v ∷ cells
-    → loaded wanted (Place n 0) (with_object o n object) ≡ found wanted (Some v)
+    → loaded wanted (Place n 0) (with_object o n object) ≡ found_cell wanted (Some v)
 put_load wanted n o object v cells is =
     load_found wanted n 0 (with_object o n object) ∙ ap (load_in wanted 0) (put_found o n object)
-    ∙ ap (λ (xs : List Scalar). found wanted (slice_get xs 0)) is
+    ∙ ap (λ (xs : List Scalar). found_cell wanted (slice_get xs 0)) is
 
 put_held : (of : Option ValueType) (n : ℕ) (o : Objects) (object : Object) (v : Scalar) (cells : List Scalar) → object.cells ≡ v ∷ cells
     → held of n (with_object o n object) ≡ wants of v
@@ -135,19 +135,19 @@ module _ (of : Option ValueType) (n : ℕ) (scalar : IsScalar of) where
 
   module _ (s : Setting) where
     seen_holds : (site : ℕ) (v : Scalar) (w : World) (r : Result Seen Trap) → Holds v w.objects
-        → Ends HeldIn (bind (answered r w) (λ seen u. Go v (with_seen site seen u)))
+        → Ends HeldIn (bind (answered r w) (λ seen u. Go v (world_with_seen site seen u)))
     seen_holds site v w (Ok seen) h = h
     seen_holds site v w (Err t) h = tt
 
     visited_holds : (sites : List ℕ) (v : Scalar) (w : World) → Holds v w.objects → Ends HeldIn (visited s sites v w)
     visited_holds [] v w h = h
     visited_holds (site ∷ more) v w h =
-        ends_bind HeldIn HeldIn (observed s site v w) (visited s more) (seen_holds site v w (looked (s.sites.site site) (now_of s.locals (v ∷ []) w)) h)
+        ends_bind HeldIn HeldIn (observed_value s site v w) (visited s more) (seen_holds site v w (looked (s.sites.site site) (now_of s.locals (v ∷ []) w)) h)
         (visited_holds more)
 
-    assigned_holds : (token : ℕ) (p v : Scalar) (w : World) → p ≡ Place n 0 → Ends HeldIn (assigned s token p v w)
+    assigned_holds : (token : ℕ) (p v : Scalar) (w : World) → p ≡ Place n 0 → Ends HeldIn (assigned_at s token p v w)
     assigned_holds token p v w is =
-        subst (λ q. Ends HeldIn (assigned s token q v w)) (sym is)
+        subst (λ q. Ends HeldIn (assigned_at s token q v w)) (sym is)
         (ends_bind HeldIn HeldIn (store_at (Place n 0) v w) (visited s (s.sites.pairs_at token))
         (answer_holds v (stored (Place n 0) v w.objects) w (stored_holds v w.objects)) (visited_holds (s.sites.pairs_at token)))
 
@@ -156,7 +156,7 @@ module _ (of : Option ValueType) (n : ℕ) (scalar : IsScalar of) where
     changed_holds token t o p right w is =
         ends_bind (λ _ _. Unit {0}) HeldIn (load_at t p w) _ (anything (load_at t p w)) (λ old u _.
         ends_bind (λ _ _. Unit {0}) HeldIn (answered (operate o old right u.objects) u) _ (anything (answered (operate o old right u.objects) u)) (λ x y _.
-        ends_bind (λ _ _. Unit {0}) HeldIn (as_wanted (conversion (type_given o t) t) x y) (assigned s token p)
+        ends_bind (λ _ _. Unit {0}) HeldIn (as_wanted (conversion (type_given o t) t) x y) (assigned_at s token p)
         (anything (as_wanted (conversion (type_given o t) t) x y)) (λ z a _. assigned_holds token p z a is)))
 
     module _ (target value : ExprTree) (w : World) (at : (u : World) → (expr s target).place u ≡ Go (Place n 0) u) where
@@ -170,7 +170,7 @@ module _ (of : Option ValueType) (n : ℕ) (scalar : IsScalar of) where
           → Ends HeldIn (assign s token a b left right (expr s target) (expr s value) w)
       assign_holds token Plain b left right =
           ends_bind IsAtObject HeldIn ((expr s target).place w) _ place_found (λ p u is.
-          ends_bind (λ _ _. Unit {0}) HeldIn (wanted_value b right left (expr s value) u) (assigned s token p)
+          ends_bind (λ _ _. Unit {0}) HeldIn (wanted_value b right left (expr s value) u) (assigned_at s token p)
           (anything (wanted_value b right left (expr s value) u)) (λ v y _. assigned_holds token p v y is))
       assign_holds token (By o) b left right =
           ends_bind IsAtObject HeldIn ((expr s target).place w) _ place_found (λ p u is.

@@ -9,7 +9,7 @@ use Rattle.c_syntax.specs.ExprTree as e
 use Rattle.c_syntax.specs.ExprTree.{ExprTree, LinkList}
 use Rattle.c_types_expressions.specs.ExprWalk.{binary_of}
 use Rattle.c_meaning.specs.declared.value_type.ValueType.{ValueType}
-use Rattle.c_meaning.specs.Conversions.{is_pointer}
+use Rattle.c_meaning.specs.Conversions.{is_pointer_value}
 use Rattle.c_meaning.specs.Expressions.{linked, null_or, valued}
 use Rattle.c_meaning.specs.Facts.{Facts, Setting}
 use Rattle.c_meaning.specs.Meaning.{expr, links_value}
@@ -22,8 +22,8 @@ use Rattle.c_meaning_laws.proofs.Parts.{bind_behind, bind_go}
 -- what stands within parentheses is no null constant
 never_beside : (o : Option Binary) (of : Option ValueType) (paren : ℕ) (x : ExprTree) → is_null_beside o of (e.Paren paren x) ≡ false
 never_beside None of paren x = refl
-never_beside (Some op.Eq) of paren x = never_both (is_pointer of)
-never_beside (Some op.Ne) of paren x = never_both (is_pointer of)
+never_beside (Some op.Eq) of paren x = never_both (is_pointer_value of)
+never_beside (Some op.Ne) of paren x = never_both (is_pointer_value of)
 never_beside (Some o) of paren x = refl
 
 never_begins : (facts : Facts) (paren : ℕ) (x : ExprTree) (rest : LinkList) → begins_null facts (e.Paren paren x) rest ≡ false

@@ -15,16 +15,16 @@ use Rattle.c_meaning.specs.Meaning.{expr, last_sense}
 use Rattle.c_meaning.specs.Statements.{after_entry, exec, exec_all}
 use Rattle.c_meaning.specs.Trees.{type_of}
 use Rattle.c_meaning.specs.Visits.{decided, listed, truth, visited}
-use Rattle.c_meaning.specs.World.{World, Out, Go, Stop, Done, Flow, Next, answered, bind, choose}
+use Rattle.c_meaning.specs.World.{World, Out, Go, Stop, OutDone, Flow, Next, answered, bind, choose}
 use Rattle.c_meaning_laws.specs.Choices.{CommaIsSequence, ConditionalIsIf, NegatedConditionSwaps, in_sequence}
 use Rattle.c_meaning_laws.proofs.Parts.{bind_behind}
 
 -- the last operand of a comma, and one with others behind it
-last_operand : (out : Done) → bind out (λ _. Go Next) ≡ bind (bind out (λ _. Go Next)) (after_entry (Go Next))
+last_operand : (out : OutDone) → bind out (λ _. Go Next) ≡ bind (bind out (λ _. Go Next)) (after_entry (Go Next))
 last_operand (Go x w) = refl
 last_operand (Stop outcome w) = refl
 
-next_operand : (out : Done) (rest : World → Done) (more : World → Out Flow) → ((w : World) → bind (rest w) (λ _. Go Next) ≡ more w)
+next_operand : (out : OutDone) (rest : World → OutDone) (more : World → Out Flow) → ((w : World) → bind (rest w) (λ _. Go Next) ≡ more w)
     → bind (bind out (λ _. rest)) (λ _. Go Next) ≡ bind (bind out (λ _. Go Next)) (after_entry more)
 next_operand (Go x w) rest more h = h w
 next_operand (Stop outcome w) rest more h = refl
@@ -35,17 +35,17 @@ comma_is_sequence s n result token comma x (e.more_exprs y rest) w =
     next_operand ((expr s x).effect w) (last_sense s (e.more_exprs y rest)).effect (exec_all s n result (in_sequence token (e.more_exprs y rest)))
     (comma_is_sequence s n result token comma y rest)
 
-chosen_next : (b : Bool) (first second : World → Done) (w : World)
+chosen_next : (b : Bool) (first second : World → OutDone) (w : World)
     → bind (choose b first second w) (λ _. Go Next) ≡ choose b (λ u. bind (first u) (λ _. Go Next)) (λ u. bind (second u) (λ _. Go Next)) w
 chosen_next true first second w = refl
 chosen_next false first second w = refl
 
 module _ (s : Setting) (token : ℕ) (c x y : ExprTree) where
-  abbrev act : Option ValueType → ExprTree → World → Done
+  abbrev act : Option ValueType → ExprTree → World → OutDone
   act of z = arm_effect (is_null_as of z) (type_of s.facts z) of (expr s z)
 
   -- what is done for an arm whose value isn't taken
-  abbrev either : Option ValueType → World → Done
+  abbrev either : Option ValueType → World → OutDone
   either of w = bind ((expr s c).value w) (λ v u. bind (decided s token v u) (λ holds. choose holds (act of x) (act of y)))
 
   either_next : (w : World) → bind (either (Some type.Void) w) (λ _. Go Next) ≡ bind (bind ((expr s c).value w) (decided s token)) (λ holds.

@@ -14,12 +14,12 @@ use Rattle.c_meaning.specs.declared.value_type.ValueType.{ValueType}
 use Rattle.c_meaning.specs.declared.value_type.ValueType.TheVariants as type
 use Rattle.cbi_base.specs.declared.trap.Trap.{Trap}
 use Rattle.std.specs.Prelude.{Result, Ok, Err}
-use Rattle.c_meaning.specs.Conversions.{as_wanted, conversion, is_null_as, is_pointer, load_at}
+use Rattle.c_meaning.specs.Conversions.{as_wanted, conversion, is_null_as, is_pointer_value, load_at}
 use Rattle.c_meaning.specs.Expressions.{Sense, assign, linked, null_or, settled, spot, wanted_value}
 use Rattle.c_meaning.specs.Facts.{Setting}
 use Rattle.c_meaning.specs.Meaning.{expr, links_value}
 use Rattle.c_meaning.specs.Operation.{operate, operation, type_given}
-use Rattle.c_meaning.specs.Places.{assigned, changed, object_place, variable}
+use Rattle.c_meaning.specs.Places.{assigned_at, changed, object_place, variable}
 use Rattle.c_meaning.specs.Trees.{Joint, Computes, assigned_by, computes, is_null_beside, is_place, joint, operand_type, type_of}
 use Rattle.c_meaning.specs.World.{World, Out, Go, Stop, answered, bind}
 use Rattle.c_meaning_laws.specs.Compound.{CompoundIsOperation, CompoundOfVariable, Stays, TypedTargetMeets}
@@ -83,7 +83,7 @@ module _ (s : Setting) (operator : ℕ) (o : Binary) (plain : Sign) (x right : E
       → wanted_value (is_null_as (type_of s.facts x) (e.Chain level x link)) (s.facts.type_at operator) (type_of s.facts x) (expr s (e.Chain level x link)) u
       ≡ bind (bind ((expr s x).value u) then_right) (as_wanted (conversion (s.facts.type_at operator) (type_of s.facts x)))
   simple_value level u =
-      ap (λ (b : Bool). wanted_value b (s.facts.type_at operator) (type_of s.facts x) (expr s (e.Chain level x link)) u) (never_both (is_pointer (type_of s.facts x)))
+      ap (λ (b : Bool). wanted_value b (s.facts.type_at operator) (type_of s.facts x) (expr s (e.Chain level x link)) u) (never_both (is_pointer_value (type_of s.facts x)))
       ∙ ap (λ out. bind out (as_wanted (conversion (s.facts.type_at operator) (type_of s.facts x)))) (chain_value level u)
 
   -- both forms once the place is found, and the value known that stands right
@@ -96,39 +96,39 @@ module _ (s : Setting) (operator : ℕ) (o : Binary) (plain : Sign) (x right : E
     kept = as_wanted (conversion (s.facts.type_at operator) (type_of s.facts x))
 
     by_old : (p : Scalar) (out : Out Scalar) → Stays w out
-        → bind out (λ old u. bind (calculated old u) (λ a y. bind (kept a y) (assigned s token p)))
-        ≡ bind (bind (bind out then_right) kept) (assigned s token p)
+        → bind out (λ old u. bind (calculated old u) (λ a y. bind (kept a y) (assigned_at s token p)))
+        ≡ bind (bind (bind out then_right) kept) (assigned_at s token p)
     by_old p (Stop outcome u) h = refl
     by_old p (Go old u) h =
-        subst (λ (y : World). bind (calculated old y) (λ a z. bind (kept a z) (assigned s token p))
-        ≡ bind (bind (then_right old y) kept) (assigned s token p)) (sym h)
-        (bind_behind (calculated old w) kept _ (assigned s token p) (λ a z. refl)
+        subst (λ (y : World). bind (calculated old y) (λ a z. bind (kept a z) (assigned_at s token p))
+        ≡ bind (bind (then_right old y) kept) (assigned_at s token p)) (sym h)
+        (bind_behind (calculated old w) kept _ (assigned_at s token p) (λ a z. refl)
         ∙ ap (λ (out : Out Scalar). bind (bind (bind out
-        (λ y z. answered (operate (operation o (type_of s.facts x) (type_of s.facts right)) old y z.objects) z)) kept) (assigned s token p)) (sym gives))
+        (λ y z. answered (operate (operation o (type_of s.facts x) (type_of s.facts right)) old y z.objects) z)) kept) (assigned_at s token p)) (sym gives))
 
     at_place : (p : Scalar) → (expr s x).value w ≡ load_at (type_of s.facts x) p w
         → bind ((expr s right).value w) (changed s token (type_of s.facts x) (operation o (type_of s.facts x) (type_of s.facts right)) p)
         ≡ bind (wanted_value (is_null_as (type_of s.facts x) (e.Chain level x link)) (s.facts.type_at operator) (type_of s.facts x)
-        (expr s (e.Chain level x link)) w) (assigned s token p)
+        (expr s (e.Chain level x link)) w) (assigned_at s token p)
     at_place p loads =
         ap (λ out. bind out (changed s token (type_of s.facts x) (operation o (type_of s.facts x) (type_of s.facts right)) p)) gives
         ∙ subst (λ of. changed s token (type_of s.facts x) (operation o (type_of s.facts x) (type_of s.facts right)) p v w
         ≡ bind (load_at (type_of s.facts x) p w) (λ old u. bind (calculated old u) (λ a y.
-        bind (as_wanted (conversion of (type_of s.facts x)) a y) (assigned s token p)))) (sym typed) refl
+        bind (as_wanted (conversion of (type_of s.facts x)) a y) (assigned_at s token p)))) (sym typed) refl
         ∙ by_old p (load_at (type_of s.facts x) p w) (load_stays (type_of s.facts x) p w)
-        ∙ ap (λ out. bind (bind (bind out then_right) kept) (assigned s token p)) (sym loads)
-        ∙ ap (λ out. bind out (assigned s token p)) (sym (simple_value level w))
+        ∙ ap (λ out. bind (bind (bind out then_right) kept) (assigned_at s token p)) (sym loads)
+        ∙ ap (λ out. bind out (assigned_at s token p)) (sym (simple_value level w))
 
     by_place : (out : Out Scalar) → Stays w out
         → ((p : Scalar) → out ≡ Go p w → (expr s x).value w ≡ load_at (type_of s.facts x) p w)
         → bind out (λ p u. bind ((expr s right).value u) (changed s token (type_of s.facts x) (operation o (type_of s.facts x) (type_of s.facts right)) p))
         ≡ bind out (λ p u. bind (wanted_value (is_null_as (type_of s.facts x) (e.Chain level x link)) (s.facts.type_at operator) (type_of s.facts x)
-        (expr s (e.Chain level x link)) u) (assigned s token p))
+        (expr s (e.Chain level x link)) u) (assigned_at s token p))
     by_place (Stop outcome u) h k = refl
     by_place (Go p u) h k =
         subst (λ (y : World). bind ((expr s right).value y) (changed s token (type_of s.facts x) (operation o (type_of s.facts x) (type_of s.facts right)) p)
         ≡ bind (wanted_value (is_null_as (type_of s.facts x) (e.Chain level x link)) (s.facts.type_at operator) (type_of s.facts x)
-        (expr s (e.Chain level x link)) y) (assigned s token p)) (sym h) (at_place p (k p (ap (λ (y : World). Go p y) h)))
+        (expr s (e.Chain level x link)) y) (assigned_at s token p)) (sym h) (at_place p (k p (ap (λ (y : World). Go p y) h)))
 
 place_loads : (s : Setting) (x : ExprTree) (w : World) → is_place x ≡ true → KeepsType s.facts x → (p : Scalar) → (expr s x).place w ≡ Go p w
     → (expr s x).value w ≡ load_at (type_of s.facts x) p w

@@ -1,8 +1,8 @@
 -- What an expression does where nothing takes its value is what it does where its value is taken.
 use Rattle.std.proofs.Common.{◌≡◌, ℕ, Bool, true, false, ◌==◌, length, List, [], Option, Some, None, refl, ap, sym, ◌∙◌, subst}
 use Rattle.cbi_base.specs.declared.scalar.Scalar.{Scalar}
-use Rattle.c_rules.specs.declared.library.Library.{Library}
-use Rattle.c_rules.specs.declared.library.Library.TheVariants as library
+use Rattle.c_types_rules.specs.declared.library.Library.{Library}
+use Rattle.c_types_rules.specs.declared.library.Library.TheVariants as library
 use Rattle.c_syntax.specs.declared.expr.PrefixOperator.{PrefixOperator}
 use Rattle.c_syntax.specs.declared.expr.PrefixOperator.TheVariants as prefix
 use Rattle.c_syntax.specs.ExprTree as e
@@ -13,15 +13,15 @@ use Rattle.c_meaning.specs.declared.value_type.ValueType.{ValueType}
 use Rattle.c_meaning.specs.declared.value_type.ValueType.TheVariants as type
 use Rattle.c_meaning.specs.Calls.{Argument, Arguments, call_function, call_library, call_sense, with_result}
 use Rattle.c_meaning.specs.Conversions.{as_used, is_null_as, load_at}
-use Rattle.c_meaning.specs.Expressions.{Sense, arm_effect, arm_value, cast, conditional, is_struct, placed, postfixed, prefixed, size_value, spot}
+use Rattle.c_meaning.specs.Expressions.{Sense, arm_effect, arm_value, cast, conditional, is_struct_value, placed, postfixed, prefixed_sense, size_value, spot}
 use Rattle.c_meaning.specs.Facts.{Setting, Signature}
-use Rattle.c_meaning.specs.Meaning.{arguments_value, behind, expr, formatted, last_sense, lone_value}
-use Rattle.c_meaning.specs.Places.{pointed, variable}
+use Rattle.c_meaning.specs.Meaning.{arguments_value, expr, formatted, last_sense, lone_value, onward}
+use Rattle.c_meaning.specs.Places.{pointed_place, variable}
 use Rattle.c_meaning.specs.Trees.{called_as, count, ends_as_place, has_value, is_place, token_of, type_of}
 use Rattle.c_meaning.specs.Visits.{decided}
-use Rattle.c_meaning.specs.World.{World, Out, Go, Next, Done, answered, bind, choose, done, nothing, stuck}
-use Rattle.c_types_never_stuck.specs.Rules.{IsValue}
-use Rattle.c_types_never_stuck.specs.Typed.{Calls, CallsFunction, CallsLibrary, Typed, TypedArguments, TypedLast, TypedLone}
+use Rattle.c_meaning.specs.World.{World, Out, Go, Next, OutDone, answered, bind, choose, done, nothing, stuck}
+use Rattle.c_meaning_laws.specs.Rules.{IsValue}
+use Rattle.c_meaning_laws.specs.Typed.{CallsFunction, CallsLibrary, Typed, TypedArguments, TypedCall, TypedLast, TypedLone}
 use Rattle.c_meaning_laws.specs.Discarding.{CastDiscards, StatementDiscards}
 use Rattle.c_meaning_laws.proofs.Parts.{bind_behind}
 
@@ -29,7 +29,7 @@ use Rattle.c_meaning_laws.proofs.Parts.{bind_behind}
 abbrev LetsGo : Sense → Type 0
 LetsGo m = (w : World) → m.effect w ≡ done (m.value w)
 
-load_goes : (of : Option ValueType) (v : Scalar) (w : World) → IsValue of → choose (is_struct of) nothing (λ u. done (load_at of v u)) w ≡ done (load_at of v w)
+load_goes : (of : Option ValueType) (v : Scalar) (w : World) → IsValue of → choose (is_struct_value of) nothing (λ u. done (load_at of v u)) w ≡ done (load_at of v w)
 load_goes (Some (type.Number kind)) v w h = refl
 load_goes (Some (type.Pointer size)) v w h = refl
 load_goes (Some (type.Array size)) v w h = refl
@@ -64,7 +64,7 @@ arm_goes b have (Some type.Void) m w h = absurd h
 arm_goes b have (Some type.Struct) m w h = absurd h
 arm_goes b have None m w h = absurd h
 
-chosen_goes : (b : Bool) (first second : World → Out Scalar) (act other : World → Done) (w : World) → act w ≡ done (first w) → other w ≡ done (second w)
+chosen_goes : (b : Bool) (first second : World → Out Scalar) (act other : World → OutDone) (w : World) → act w ≡ done (first w) → other w ≡ done (second w)
     → choose b act other w ≡ done (choose b first second w)
 chosen_goes true first second act other w h k = h
 chosen_goes false first second act other w h k = k
@@ -79,19 +79,19 @@ used_value None h = h
 
 module _ (s : Setting) (room : ℕ) where
   prefix_goes : (token : ℕ) (o : PrefixOperator) (of : Option ValueType) (cells : Option ℕ) (m : Sense) → IsValue (s.facts.type_at token)
-      → LetsGo (prefixed s token o of cells m)
+      → LetsGo (prefixed_sense s token o of cells m)
   prefix_goes token prefix.Increment of cells m h w = refl
   prefix_goes token prefix.Decrement of cells m h w = refl
   prefix_goes token prefix.Address of cells m h w = refl
   prefix_goes token prefix.Indirection of cells m h w =
-      place_goes (s.facts.type_at token) (λ u. bind (m.value u) (λ v y. answered (pointed v) y)) h w
+      place_goes (s.facts.type_at token) (λ u. bind (m.value u) (λ v y. answered (pointed_place v) y)) h w
   prefix_goes token prefix.Plus of cells m h w = refl
   prefix_goes token prefix.Minus of cells m h w = refl
   prefix_goes token prefix.Complement of cells m h w = refl
   prefix_goes token prefix.Not of cells m h w = refl
   prefix_goes token prefix.SizeOf of cells m h w = size_goes cells w
 
-  pub conditional_goes : (token : ℕ) (c : Sense) (first second : World → Out Scalar) (act other : World → Done)
+  pub conditional_goes : (token : ℕ) (c : Sense) (first second : World → Out Scalar) (act other : World → OutDone)
       → ((w : World) → act w ≡ done (first w)) → ((w : World) → other w ≡ done (second w)) → LetsGo (conditional s token c first second act other)
   conditional_goes token c first second act other h k w =
       bind_behind (c.value w) _ _ (λ _. nothing) (λ v u.
@@ -110,7 +110,7 @@ module _ (s : Setting) (room : ℕ) where
   function_goes token number (Some f) n arguments Fit of h k w =
       result_goes token f.result (choose (n == length f.params) (λ u. bind (arguments f.params u) (s.call number)) stuck) (subst IsValue h.1 k) w
 
-  library_goes : (token : ℕ) (function : Library) (n : ℕ) (argument : Argument) (print : World → Done) (Fit : List ValueType → Type 0) (One : Type 0)
+  library_goes : (token : ℕ) (function : Library) (n : ℕ) (argument : Argument) (print : World → OutDone) (Fit : List ValueType → Type 0) (One : Type 0)
       (of : Option ValueType) → CallsLibrary function Fit One of → IsValue of → LetsGo (call_library s token function n argument print)
   library_goes token library.Getchar n argument print Fit One of h k w = refl
   library_goes token library.Putchar n argument print Fit One of h k w = refl
@@ -122,8 +122,8 @@ module _ (s : Setting) (room : ℕ) where
   library_goes token library.Assert n argument print Fit One of h k w = absurd (subst IsValue h.1 k)
   library_goes token library.Printf n argument print Fit One of h k w = absurd h
 
-  call_goes : (token : ℕ) (what : Called) (n : ℕ) (arguments : Arguments) (argument : Argument) (print : World → Done) (Fit : List ValueType → Type 0)
-      (One : Type 0) (of : Option ValueType) → Calls s.facts s.sites room what Fit One of → IsValue of
+  call_goes : (token : ℕ) (what : Called) (n : ℕ) (arguments : Arguments) (argument : Argument) (print : World → OutDone) (Fit : List ValueType → Type 0)
+      (One : Type 0) (of : Option ValueType) → TypedCall s.facts s.sites room what Fit One of → IsValue of
       → LetsGo (call_sense s token what n arguments argument print)
   call_goes token (called.Function number) n arguments argument print Fit One of h k w =
       function_goes token number (s.facts.signature number) n arguments Fit of h k w
@@ -149,7 +149,7 @@ module _ (s : Setting) (room : ℕ) where
     goes (e.SizeOfType token base stars) h k w = size_goes (s.facts.named_cells base stars) w
     goes (e.Postfix primary operators) h k w =
         postfix_goes (ends_as_place (is_place primary) operators) (type_of s.facts (e.Postfix primary operators))
-        (λ u. bind (spot (is_place primary) (expr s primary) u) (behind s (is_place primary) (type_of s.facts primary) operators)) k w
+        (λ u. bind (spot (is_place primary) (expr s primary) u) (onward s (is_place primary) (type_of s.facts primary) operators)) k w
     goes (e.Name token name) h k w = place_goes (s.facts.type_at token) (variable s (s.facts.slot_at token)) k w
     goes (e.Call token name arguments) h k w =
         call_goes token (called_as (s.facts.function_at token) name) (count arguments) (λ types. arguments_value s types arguments [])

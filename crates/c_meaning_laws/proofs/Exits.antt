@@ -20,7 +20,7 @@ use Rattle.c_meaning.specs.Conversions.{as_wanted, conversion, handed}
 use Rattle.c_meaning.specs.Facts.{Setting}
 use Rattle.c_meaning.specs.Initialisers.{declares}
 use Rattle.c_meaning.specs.Meaning.{arguments_value, condition, expr, formatted, lone_value}
-use Rattle.c_meaning.specs.Runs.{beginning, behaves, call_at, enter, enter_with, gives_value, inside, locals_at, meaning}
+use Rattle.c_meaning.specs.Runs.{behaves, call_at, enter_function, enter_with, first_world, gives_value, inside, locals_at, meaning}
 use Rattle.c_meaning.specs.Runs.{run_body, run_from, run_main, setting_of, value_left}
 use Rattle.cbi_base.specs.Objects.{Object, Objects}
 use Rattle.flow.specs.Now.{Locals}
@@ -28,8 +28,8 @@ use Rattle.c_meaning.specs.Facts.{Signature}
 use Rattle.c_meaning.specs.Statements.{after_body, after_entry, do_round, exec, exec_all, for_round, for_started}
 use Rattle.c_meaning.specs.Statements.{optional_condition, optional_effect, rounds, while_round}
 use Rattle.c_meaning.specs.Trees.{called_as, count, has_value, type_of}
-use Rattle.c_meaning.specs.World.{World, Out, Go, Stop, Done, Flow, Next, Broken, Continued, Returned, answered, bind, choose, spend}
-use Rattle.c_types_never_stuck.specs.Rules.{IsNumber}
+use Rattle.c_meaning.specs.World.{World, Out, Go, Stop, OutDone, Flow, Next, Broken, Continued, Returned, answered, bind, choose, spend}
+use Rattle.c_meaning_laws.specs.Rules.{IsNumberType}
 use Rattle.c_meaning_laws.specs.Exits.{AreExited, IsExited, ReturnOfMainExits, RunIsOfMain, exit_with, main_body}
 use Rattle.c_meaning_laws.specs.Negation.{IsOf}
 
@@ -119,7 +119,7 @@ do_ends test body other h again more k w =
     bind_ends (body w) (other w) (after_body (next again)) (after_body (next more)) (h w) (λ v y. refl) (body_ends (next again) (next more) (λ u.
     same_ends (test u) _ _ (λ holds. chosen_ends holds again more (Go Next) (Go Next) k (itself (Go Next)))))
 
-for_ends : (test : World → Out Bool) (body other : World → Out Flow) (step : World → Done) → Ends body other
+for_ends : (test : World → Out Bool) (body other : World → Out Flow) (step : World → OutDone) → Ends body other
     → RoundEnds (for_round test body step) (for_round test other step)
 for_ends test body other step h again more k =
     while_ends test body other h (λ u. bind (step u) (λ _. again)) (λ u. bind (step u) (λ _. more)) (λ u. same_ends (step u) _ _ (λ _. k))
@@ -141,7 +141,7 @@ turned_int k Undefined w = inl refl
 turned_int k Null w = inl refl
 turned_int k (Place number offset) w = inl refl
 
-value_ends : (of : Option ValueType) (v : Scalar) (w : World) → IsNumber of
+value_ends : (of : Option ValueType) (v : Scalar) (w : World) → IsNumberType of
     → EndsAs (bind (as_wanted (conversion of (Some (type.Number Int))) v w) (λ x. Go (Returned (Some x))))
     (bind (bind (handed (Some (type.Number Int)) v w) exit) (λ _. Go Next))
 value_ends (Some (type.Number Int)) v w h = inr (v, w, refl, kept_int v w)
@@ -153,7 +153,7 @@ value_ends (Some type.Void) v w h = absurd h
 value_ends (Some type.Struct) v w h = absurd h
 value_ends None v w h = absurd h
 
-out_ends : (of : Option ValueType) (out : Out Scalar) → IsNumber of
+out_ends : (of : Option ValueType) (out : Out Scalar) → IsNumberType of
     → EndsAs (bind (bind out (as_wanted (conversion of (Some (type.Number Int))))) (λ x. Go (Returned (Some x))))
     (bind (bind (bind out (handed (Some (type.Number Int)))) exit) (λ _. Go Next))
 out_ends of (Go v w) h = value_ends of v w h
@@ -213,7 +213,7 @@ module _ (s : Setting) (n : ℕ) where
         (do_ends (test token c) (exec s n result body) (exec s n result h.0) (statement_ends body h.0 h.2)) n)
     statement_ends (tree.For token start c step body) y h =
         let holds : World → Out Bool = optional_condition s token c in
-        let act : World → Done = optional_effect s step in
+        let act : World → OutDone = optional_effect s step in
         as_written (tree.For token start c step body) y (tree.For token start c step h.0) h.1 (λ w. same_ends (for_started s start w) _ _ (λ _.
         rounds_end (for_round holds (exec s n result body) act) (for_round holds (exec s n result h.0) act)
         (for_ends holds (exec s n result body) (exec s n result h.0) act (statement_ends body h.0 h.2)) n))
@@ -260,11 +260,11 @@ return_of_main_exits src turns locals body other w exits ints =
 pub run_is_of_main : RunIsOfMain
 unfolding meaning
 run_is_of_main src input turns f body made objects entered known int has start room enters =
-    let w : World = beginning objects input turns in
+    let w : World = first_world objects input turns in
     let locals : Locals = locals_at f w in
     ap (λ (o : Option (List Object)). behaves (run_main src input turns o)) start
     ∙ ap (λ (o : Option Objects). behaves (run_from src input turns o)) room
-    ∙ ap (λ (g : Option Signature). behaves (bind (enter src (call_at src turns) turns src.main g [] w) (value_left true (gives_value g)))) known
+    ∙ ap (λ (g : Option Signature). behaves (bind (enter_function src (call_at src turns) turns src.main g [] w) (value_left true (gives_value g)))) known
     ∙ ap (λ (o : Option Objects). behaves (bind (enter_with src (call_at src turns) turns src.main f w o) (value_left true (has_value f.result)))) enters
     ∙ ap (λ (b : Option EntryList).
     behaves (bind (run_body src (call_at src turns) turns f locals b (inside entered w)) (value_left true (has_value f.result)))) has

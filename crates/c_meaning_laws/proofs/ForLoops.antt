@@ -9,18 +9,18 @@ use Rattle.c_meaning.specs.Initialisers.{declares}
 use Rattle.c_meaning.specs.Meaning.{condition, expr}
 use Rattle.c_meaning.specs.Statements.{after_body, after_entry, exec, for_round, for_started, optional_condition, optional_effect, rounds, while_round}
 use Rattle.c_meaning.specs.Visits.{listed, truth, visited}
-use Rattle.c_meaning.specs.World.{World, Out, Go, Stop, Done, Flow, Next, Broken, Continued, Returned, bind, choose, spend}
+use Rattle.c_meaning.specs.World.{World, Out, Go, Stop, OutDone, Flow, Next, Broken, Continued, Returned, bind, choose, spend}
 use Rattle.c_meaning_laws.specs.Constants.{one_at}
 use Rattle.c_meaning_laws.specs.Rounds.{ForIsWhile, ForStartsBefore, ForWithoutStepIsWhile, MissingConditionIsTrue}
 
 -- the third part, and what comes again
-after_step : (again other : World → Out Flow) → ((u : World) → again u ≡ other u) → (out : Done) →
+after_step : (again other : World → Out Flow) → ((u : World) → again u ≡ other u) → (out : OutDone) →
     bind out (λ _. again) ≡ bind (bind (bind out (λ _. Go Next)) (after_entry (Go Next))) (after_body other)
 after_step again other same (Go x w) = same w
 after_step again other same (Stop outcome w) = refl
 
 -- the body, the third part, and what comes again
-after_round : (step : World → Done) (again other : World → Out Flow) → ((u : World) → again u ≡ other u) → (out : Out Flow) →
+after_round : (step : World → OutDone) (again other : World → Out Flow) → ((u : World) → again u ≡ other u) → (out : Out Flow) →
     ((v : World) → out ≡ Go Continued v → ⊥) →
     bind out (after_body (λ u. bind (step u) (λ _. again)))
     ≡ bind (bind out (after_entry (λ u. bind (bind (step u) (λ _. Go Next)) (after_entry (Go Next))))) (after_body other)
@@ -30,7 +30,7 @@ after_round step again other same (Go Continued w) none = absurd (none w refl)
 after_round step again other same (Go (Returned v) w) none = refl
 after_round step again other same (Stop outcome w) none = refl
 
-module _ (test : World → Out Bool) (body : World → Out Flow) (step : World → Done) (none : (u v : World) → body u ≡ Go Continued v → ⊥) where
+module _ (test : World → Out Bool) (body : World → Out Flow) (step : World → OutDone) (none : (u v : World) → body u ≡ Go Continued v → ⊥) where
   abbrev stepped : World → Out Flow
   stepped u = bind (body u) (after_entry (λ v. bind (bind (step v) (λ _. Go Next)) (after_entry (Go Next))))
 
@@ -73,11 +73,11 @@ last_entry (Go (Returned v) w) = refl
 last_entry (Stop outcome w) = refl
 
 -- what is started, and then the last entry
-started_last : (out : Done) (loop : World → Out Flow) → bind out (λ _. loop) ≡ bind out (λ _ u. bind (loop u) (after_entry (Go Next)))
+started_last : (out : OutDone) (loop : World → Out Flow) → bind out (λ _. loop) ≡ bind out (λ _ u. bind (loop u) (after_entry (Go Next)))
 started_last (Go x w) loop = last_entry (loop w)
 started_last (Stop outcome w) loop = refl
 
-stated_last : (out : Done) (loop : World → Out Flow)
+stated_last : (out : OutDone) (loop : World → Out Flow)
     → bind out (λ _. loop) ≡ bind (bind out (λ _. Go Next)) (after_entry (λ u. bind (loop u) (after_entry (Go Next))))
 stated_last (Go x w) loop = last_entry (loop w)
 stated_last (Stop outcome w) loop = refl

@@ -12,12 +12,12 @@ use Rattle.cbi_base.specs.declared.scalar.Scalar.{Scalar}
 use Rattle.cbi_base.specs.declared.scalar.Scalar.TheVariants.{Undefined}
 use Rattle.cbi_base.specs.declared.trap.Trap.TheVariants as trap
 use Rattle.cbi_base.specs.Frames.{all_killed, all_made, first_cells}
-use Rattle.cbi_base.specs.Objects.{Object, Objects, has_room, one_more}
+use Rattle.cbi_base.specs.Objects.{Object, Objects, has_room, one_object_more}
 use Rattle.flow.specs.Limits.{active_limit}
 use Rattle.flow.specs.Now.{Locals, is_defined}
 use Rattle.c_meaning.specs.Calls.{all_defined}
 use Rattle.c_meaning.specs.Facts.{Signature}
-use Rattle.c_meaning.specs.Runs.{Source, call_at, enter, enter_with, gives_value, left, value_left, variables_of}
+use Rattle.c_meaning.specs.Runs.{Source, call_at, enter_function, enter_with, gives_value, left_function, locals_of, value_left}
 use Rattle.c_meaning.specs.World.{World, Out, Go, Stop, bind, spend}
 use Rattle.c_meaning_laws.specs.Frames.{BodyBeginsAfresh, HasOwnVariables, VariablesDie}
 use Rattle.c_meaning_laws.proofs.Objects.{put_found, put_other, removed_here, removed_other, same_number}
@@ -33,7 +33,7 @@ pub record AreMade (cells : List (List Scalar)) (before after : Objects) : Type 
 no_cells : (o : Objects) → AreMade [] o o
 no_cells o = record { each = λ index some h. cc; older = λ number h. refl; made = omega arith }
 
-module _ (x : List Scalar) (rest : List (List Scalar)) (o after : Objects) (h : AreMade rest (one_more Local x o) after) where
+module _ (x : List Scalar) (rest : List (List Scalar)) (o after : Objects) (h : AreMade rest (one_object_more Local x o) after) where
   here : get after.live (o.made + 0) ≡ Some (record { class = Local; cells = x })
   here =
       let first : o.made + 0 ≡ o.made = omega arith in
@@ -60,8 +60,8 @@ module _ (x : List Scalar) (rest : List (List Scalar)) (o after : Objects) (h : 
 
 -- the first one, where there is room for it, and then the others
 more_by_room : (x : List Scalar) (rest : List (List Scalar)) (before after : Objects) (b : Bool)
-    → (all_made rest (one_more Local x before) ≡ Some after → AreMade rest (one_more Local x before) after)
-    → option_and_then (all_made rest) (if b then Some (one_more Local x before) else None) ≡ Some after → AreMade (x ∷ rest) before after
+    → (all_made rest (one_object_more Local x before) ≡ Some after → AreMade rest (one_object_more Local x before) after)
+    → option_and_then (all_made rest) (if b then Some (one_object_more Local x before) else None) ≡ Some after → AreMade (x ∷ rest) before after
 more_by_room x rest before after true next e = more_made x rest before after (next e)
 more_by_room x rest before after false next e = cc
 
@@ -72,7 +72,7 @@ made_all [] before after is = subst IfMade is (no_cells before)
     IfMade None = Unit {0}
     IfMade (Some o) = AreMade [] before o
 made_all (x ∷ rest) before after is =
-    more_by_room x rest before after (has_room (length x) before) (made_all rest (one_more Local x before) after) is
+    more_by_room x rest before after (has_room (length x) before) (made_all rest (one_object_more Local x before) after) is
 
 -- the cells of each variable
 parameter_cells : (sizes : List ℕ) (vs : List Scalar) (index size : ℕ) (v : Scalar) → slice_get sizes index ≡ Some size → slice_get vs index ≡ Some v
@@ -140,23 +140,23 @@ module _ (first count : ℕ) where
   abbrev DeadIn : Scalar → World → Type 0
   DeadIn v u = AreDead first count u.objects
 
-  left_dead : (locals : Locals) (v : Scalar) (w : World) → locals.first ≡ first → locals.count ≡ count → Ends DeadIn (left locals v w)
+  left_dead : (locals : Locals) (v : Scalar) (w : World) → locals.first ≡ first → locals.count ≡ count → Ends DeadIn (left_function locals v w)
   left_dead locals v w f n =
       subst (λ a. AreDead a count (all_killed locals.first locals.count w.objects)) f
       (subst (λ b. AreDead locals.first b (all_killed locals.first locals.count w.objects)) n (killed_dead locals.first locals.count w.objects))
 
   then_left : {A : Type 0} (out : Out A) (value : A → World → Out Scalar) (locals : Locals) → locals.first ≡ first → locals.count ≡ count
-      → Ends DeadIn (bind out (λ x y. bind (value x y) (left locals)))
+      → Ends DeadIn (bind out (λ x y. bind (value x y) (left_function locals)))
   then_left out value locals f n =
       ends_bind (λ _ _. Unit {0}) DeadIn out _ (anything out) (λ x y _.
-      ends_bind (λ _ _. Unit {0}) DeadIn (value x y) (left locals) (anything (value x y)) (λ v u _. left_dead locals v u f n))
+      ends_bind (λ _ _. Unit {0}) DeadIn (value x y) (left_function locals) (anything (value x y)) (λ v u _. left_dead locals v u f n))
 
-  module _ (src : Source) (n number : ℕ) (vs : List Scalar) (g : Option Signature) (u : World) (is_first : (variables_of g u).first ≡ first)
-      (is_count : (variables_of g u).count ≡ count) where
+  module _ (src : Source) (n number : ℕ) (vs : List Scalar) (g : Option Signature) (u : World) (is_first : (locals_of g u).first ≡ first)
+      (is_count : (locals_of g u).count ≡ count) where
     given_dead : (b : Bool) → Ends DeadIn (bind (if b then Go (reverse vs) u else Stop (Trapped trap.Undefined) u) (λ xs _.
-        bind (enter src (call_at src n) n number g xs u) (λ flow y. bind (value_left (number == src.main) (gives_value g) flow y) (left (variables_of g u)))))
+        bind (enter_function src (call_at src n) n number g xs u) (λ flow y. bind (value_left (number == src.main) (gives_value g) flow y) (left_function (locals_of g u)))))
     given_dead true =
-        then_left (enter src (call_at src n) n number g (reverse vs) u) (value_left (number == src.main) (gives_value g)) (variables_of g u) is_first is_count
+        then_left (enter_function src (call_at src n) n number g (reverse vs) u) (value_left (number == src.main) (gives_value g)) (locals_of g u) is_first is_count
     given_dead false = tt
 
 spent_dead : (src : Source) (turns number : ℕ) (f : Signature) (vs : List Scalar) (w : World) → src.facts.signature number ≡ Some f
@@ -165,13 +165,13 @@ spent_dead src zero number f vs w known = tt
 spent_dead src (suc n) number f vs w known = by_turns w.turns
   where
     by_turns : (turns : ℕ) → Ends (DeadIn w.objects.made (length f.locals)) (spend turns w (λ u.
-        bind (all_defined vs u) (λ xs _. bind (enter src (call_at src n) n number (src.facts.signature number) xs u) (λ flow y.
-        bind (value_left (number == src.main) (gives_value (src.facts.signature number)) flow y) (left (variables_of (src.facts.signature number) u))))))
+        bind (all_defined vs u) (λ xs _. bind (enter_function src (call_at src n) n number (src.facts.signature number) xs u) (λ flow y.
+        bind (value_left (number == src.main) (gives_value (src.facts.signature number)) flow y) (left_function (locals_of (src.facts.signature number) u))))))
     by_turns zero = tt
     by_turns (suc turns) =
         let u : World = record w { turns = turns } in
         given_dead w.objects.made (length f.locals) src n number vs (src.facts.signature number) u
-        (ap (λ g. (variables_of g u).first) known) (ap (λ g. (variables_of g u).count) known) (list_all is_defined vs)
+        (ap (λ g. (locals_of g u).first) known) (ap (λ g. (locals_of g u).count) known) (list_all is_defined vs)
 
 pub variables_die : VariablesDie
 variables_die src turns number f arguments v w u known is =

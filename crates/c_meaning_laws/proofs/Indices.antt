@@ -10,16 +10,16 @@ use Rattle.c_meaning.specs.declared.operation.Operation.{Operation}
 use Rattle.c_meaning.specs.declared.operation.Operation.TheVariants.{Numbers, MoveLeft, MoveRight, Span, Ordered, Wrong}
 use Rattle.c_meaning.specs.declared.value_type.ValueType.{ValueType}
 use Rattle.c_meaning.specs.declared.value_type.ValueType.TheVariants as type
-use Rattle.c_meaning.specs.Conversions.{is_pointer}
+use Rattle.c_meaning.specs.Conversions.{is_pointer_value}
 use Rattle.c_meaning.specs.Expressions.{Sense, placed, postfixed, settled, spot}
 use Rattle.c_meaning.specs.Facts.{Setting}
-use Rattle.c_meaning.specs.Meaning.{behind, expr}
+use Rattle.c_meaning.specs.Meaning.{expr, onward}
 use Rattle.c_meaning.specs.Operation.{operation, operate}
-use Rattle.c_meaning.specs.Places.{member_place, pointed, stepped_behind}
+use Rattle.c_meaning.specs.Places.{member_place, pointed_place, stepped_behind}
 use Rattle.c_meaning.specs.Trees.{ends_as_place, is_place, postfix_token, token_of, type_of}
 use Rattle.c_meaning.specs.World.{World, Out, Go, answered, bind, choose, stuck}
-use Rattle.c_types_never_stuck.specs.Rules.{IsPointing, Moves}
-use Rattle.c_types_never_stuck.specs.Typed.{Typed, TypedPostfix, variable_named}
+use Rattle.c_meaning_laws.specs.Rules.{IsPointing, Moves}
+use Rattle.c_meaning_laws.specs.Typed.{Typed, TypedPostfix, variable_named}
 use Rattle.c_meaning_laws.specs.Indexing.{FollowedIndexMeansSum, HasPointer, IndexIsPlaceOfSum, IndexMeansSum, TypedIndexMeets, at_sum, followed, then_more}
 use Rattle.c_meaning_laws.specs.Parentheses.{IsWritten, KeepsType}
 use Rattle.c_meaning_laws.proofs.Parts.{bind_behind}
@@ -54,9 +54,9 @@ type_more s token other (e.increment next rest) same = refl
 type_more s token other (e.decrement next rest) same = refl
 
 behind_more : (s : Setting) (operators more : PostfixList) (known : Bool) (token : ℕ) (v : Scalar) (w : World)
-    → behind s known (s.facts.type_at token) (then_more operators more) v w
-    ≡ bind (behind s known (s.facts.type_at token) operators v w)
-    (behind s (ends_as_place known operators) (s.facts.type_at (postfix_token token operators)) more)
+    → onward s known (s.facts.type_at token) (then_more operators more) v w
+    ≡ bind (onward s known (s.facts.type_at token) operators v w)
+    (onward s (ends_as_place known operators) (s.facts.type_at (postfix_token token operators)) more)
 behind_more s e.no_postfix more known token v w = refl
 behind_more s (e.index next i rest) more known token v w =
     bind_behind (settled known (s.facts.type_at token) v w) _ _ _ (λ p u. bind_behind ((expr s i).value u) _ _ _ (λ x y.
@@ -78,7 +78,7 @@ spot_postfixed false of m w = refl
 
 -- what an expression finds or gives, and then the operators behind it
 abbrev pub reached : Setting → ExprTree → PostfixList → World → Out Scalar
-reached s x more w = bind (spot (is_place x) (expr s x) w) (behind s (is_place x) (type_of s.facts x) more)
+reached s x more w = bind (spot (is_place x) (expr s x) w) (onward s (is_place x) (type_of s.facts x) more)
 
 pub followed_sense : (s : Setting) (x : ExprTree) (more : PostfixList)
     → expr s (followed x more) ≡ postfixed (ends_as_place (is_place x) more) (s.facts.type_at (postfix_token (token_of x) more)) (reached s x more)
@@ -90,9 +90,9 @@ followed_sense s (e.Postfix primary operators) more =
     ap (λ b. postfixed b (s.facts.type_at whole) n) (ends_more (is_place primary) operators more)
     ∙ ap (λ token. postfixed (ends_as_place (is_place x) more) (s.facts.type_at token) n) (token_more (token_of primary) operators more)
     ∙ ap (λ r. postfixed (ends_as_place (is_place x) more) (s.facts.type_at (postfix_token (token_of x) more)) r) (fun_ext (λ w.
-    bind_behind (spot (is_place primary) (expr s primary) w) _ _ (behind s (is_place x) (type_of s.facts x) more)
+    bind_behind (spot (is_place primary) (expr s primary) w) _ _ (onward s (is_place x) (type_of s.facts x) more)
     (behind_more s operators more (is_place primary) (token_of primary))
-    ∙ ap (λ o. bind o (behind s (is_place x) (type_of s.facts x) more)) (spot_postfixed (is_place x) (type_of s.facts x) m w)))
+    ∙ ap (λ o. bind o (onward s (is_place x) (type_of s.facts x) more)) (spot_postfixed (is_place x) (type_of s.facts x) m w)))
 followed_sense s x more = refl
 
 module _ (s : Setting) (bracket : ℕ) (i : ExprTree) where
@@ -103,7 +103,7 @@ module _ (s : Setting) (bracket : ℕ) (i : ExprTree) where
   abbrev summed : Sense → Sense → Option ValueType → Option ValueType → World → Out Scalar
   summed m n left right w =
       bind (bind (m.value w) (λ p u. bind (bind (n.value u) (λ x y. answered (operate (operation op.Add left right) p x y.objects) y)) (λ v. Go v)))
-      (λ v u. answered (pointed v) u)
+      (λ v u. answered (pointed_place v) u)
 
   -- what is added to what, and then found
   pub index_value : (a : ExprTree) (w : World) → KeepsType s.facts a
@@ -129,7 +129,7 @@ module _ (s : Setting) (bracket : ℕ) (i : ExprTree) where
       let r : (expr s right ≡ expr s i) × (type_of s.facts right ≡ type_of s.facts i) = written s i right k in
       sym (ap₂ (λ m of. summed m (expr s right) of (type_of s.facts right) w) l.0 l.1 ∙ ap₂ (λ m of. summed (expr s a) m (type_of s.facts a) of w) r.0 r.1)
 
-  pointing_pointer : (of : Option ValueType) → IsPointing of → is_pointer of ≡ true
+  pointing_pointer : (of : Option ValueType) → IsPointing of → is_pointer_value of ≡ true
   pointing_pointer (Some (type.Pointer size)) h = refl
   pointing_pointer (Some (type.Array size)) h = refl
   pointing_pointer (Some (type.Number kind)) h = absurd h
@@ -175,9 +175,9 @@ module _ (s : Setting) (bracket star paren plus : ℕ) (a i left right : ExprTre
   reached_more : (outer : ℕ) (more : PostfixList) (w : World) → s.facts.type_at bracket ≡ s.facts.type_at outer
       → reached s a (e.index bracket i more) w ≡ reached s (e.Paren outer (at_sum star paren plus left right)) more w
   reached_more outer more w same =
-      bind_behind (spot (is_place a) (expr s a) w) (behind s (is_place a) (type_of s.facts a) (e.index bracket i e.no_postfix)) _
-      (behind s true (s.facts.type_at bracket) more) (behind_more s (e.index bracket i e.no_postfix) more (is_place a) (token_of a))
-      ∙ ap₂ (λ o of. bind o (behind s true of more)) (reached_place w) same
+      bind_behind (spot (is_place a) (expr s a) w) (onward s (is_place a) (type_of s.facts a) (e.index bracket i e.no_postfix)) _
+      (onward s true (s.facts.type_at bracket) more) (behind_more s (e.index bracket i e.no_postfix) more (is_place a) (token_of a))
+      ∙ ap₂ (λ o of. bind o (onward s true of more)) (reached_place w) same
 
 pub index_is_place_of_sum : IndexIsPlaceOfSum
 index_is_place_of_sum s bracket star paren plus a i left right w keeps has l r =

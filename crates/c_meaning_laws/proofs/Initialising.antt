@@ -18,8 +18,8 @@ use Rattle.c_meaning.specs.Places.{store_at, variable}
 use Rattle.c_meaning.specs.Statements.{after_entry, exec_all}
 use Rattle.c_meaning.specs.Trees.{type_of}
 use Rattle.c_meaning.specs.Visits.{visited}
-use Rattle.c_meaning.specs.World.{World, Out, Go, Stop, Done, Flow, Next, bind, done, nothing}
-use Rattle.c_types_never_stuck.specs.Rules.{IsScalar}
+use Rattle.c_meaning.specs.World.{World, Out, Go, Stop, OutDone, Flow, Next, bind, done, nothing}
+use Rattle.c_meaning_laws.specs.Rules.{IsScalar}
 use Rattle.c_meaning_laws.specs.Initialising.{DeclarationIsOneOfEach, InitialiserIsAssignment, NamesDeclared, set_to}
 use Rattle.c_meaning_laws.proofs.Parts.{bind_alike, bind_behind}
 
@@ -55,16 +55,16 @@ module _ (s : Setting) (value : ExprTree) where
       ∙ ap (λ (sites : List ℕ). done (set_with (s.facts.slot_at at) (s.facts.type_at at) sites w)) (sym names.sites)
 
 -- what goes on behind a part that gives nothing
-then_rest : {A : Type 0} (out : Done) (f : World → Done) (rest : World → Out A)
+then_rest : {A : Type 0} (out : OutDone) (f : World → OutDone) (rest : World → Out A)
     → bind (bind (bind out (λ _. f)) (λ _. nothing)) (λ _. rest) ≡ bind out (λ _ u. bind (f u) (λ _. rest))
 then_rest (Stop outcome w) f rest = refl
 then_rest (Go x w) f rest = behind (f w)
   where
-    behind : (out : Done) → bind (bind out (λ _. nothing)) (λ _. rest) ≡ bind out (λ _. rest)
+    behind : (out : OutDone) → bind (bind out (λ _. nothing)) (λ _. rest) ≡ bind out (λ _. rest)
     behind (Go y u) = refl
     behind (Stop outcome u) = refl
 
-next_entry : (out : Done) (rest : World → Out Flow) → bind (bind out (λ _. Go Next)) (after_entry rest) ≡ bind out (λ _. rest)
+next_entry : (out : OutDone) (rest : World → Out Flow) → bind (bind out (λ _. Go Next)) (after_entry rest) ≡ bind out (λ _. rest)
 next_entry (Go x w) rest = refl
 next_entry (Stop outcome w) rest = refl
 

@@ -15,17 +15,17 @@ use Rattle.c_meaning.specs.Meaning.{expr}
 use Rattle.c_meaning.specs.Operation.{flag_value}
 use Rattle.c_meaning.specs.Trees.{type_of}
 use Rattle.c_meaning.specs.Visits.{decided, listed, truth, visited}
-use Rattle.c_meaning.specs.World.{World, Out, Go, Done, bind, choose, done, stuck}
+use Rattle.c_meaning.specs.World.{World, Out, Go, OutDone, bind, choose, done, stuck}
 use Rattle.c_meaning_laws.specs.Constants.{one_at, zero_at}
 use Rattle.c_meaning_laws.specs.Joints.{AndIsConditional, AreInts, OrIsConditional, flag_of, joined_by}
 use Rattle.c_meaning_laws.proofs.Effects.{arm_goes, conditional_goes}
 use Rattle.c_meaning_laws.proofs.Parts.{bind_alike, bind_behind, bind_go}
 
 -- two senses that are no places, of which the second lets its value go
-same_sense : (first second : World → Out Scalar) (act : World → Done) → ((w : World) → first w ≡ second w) → ((w : World) → act w ≡ done (second w))
+same_sense : (first second : World → Out Scalar) (act : World → OutDone) → ((w : World) → first w ≡ second w) → ((w : World) → act w ≡ done (second w))
     → valued first ≡ record { value = second; place = stuck; effect = act }
 same_sense first second act same goes =
-    ap₂ (λ (v : World → Out Scalar) (a : World → Done). record { value = v; place = stuck; effect = a }) (fun_ext same)
+    ap₂ (λ (v : World → Out Scalar) (a : World → OutDone). record { value = v; place = stuck; effect = a }) (fun_ext same)
     (fun_ext (λ w. ap done (same w) ∙ sym (goes w)))
 
 -- the type of the whole, and of its arms
@@ -37,7 +37,7 @@ module _ (s : Setting) where
   abbrev arm : Option ValueType → Option ValueType → ExprTree → World → Out Scalar
   arm of own x = arm_value (is_null_as of x) own of (expr s x)
 
-  abbrev act : Option ValueType → Option ValueType → ExprTree → World → Done
+  abbrev act : Option ValueType → Option ValueType → ExprTree → World → OutDone
   act of own x = arm_effect (is_null_as of x) own of (expr s x)
 
   abbrev choice : Option ValueType → Option ValueType → Option ValueType → ℕ → ExprTree → ExprTree → ExprTree → Sense

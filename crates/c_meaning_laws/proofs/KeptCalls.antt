@@ -16,7 +16,7 @@ use Rattle.c_syntax.specs.StatementTree.{EntryList}
 use Rattle.flow.specs.Limits.{active_limit}
 use Rattle.flow.specs.Now.{Locals, is_defined}
 use Rattle.c_meaning.specs.Facts.{Signature}
-use Rattle.c_meaning.specs.Runs.{Source, call_at, enter, enter_with, gives_value, inside, left, locals_at, run_body, setting_of, value_left, variables_of}
+use Rattle.c_meaning.specs.Runs.{Source, call_at, enter_function, enter_with, gives_value, inside, left_function, locals_at, locals_of, run_body, setting_of, value_left}
 use Rattle.c_meaning.specs.World.{World, Out, Go, Stop, Caller, Flow, Next, Broken, Continued, Returned, bind}
 use Rattle.c_meaning_laws.proofs.Parts.{Ends, ends_bind}
 use Rattle.c_meaning_laws.proofs.Kept.{Closed, Keeps, Made, changes, gives, seq, spends, stops}
@@ -50,7 +50,7 @@ module _ {Q : Scalar → Type 0} {Own : ℕ → Type 0} {I : Objects → Type 0}
   killed_kept first (suc count) o own a =
       c.kills (first + count) (all_killed first count o) (own (first + count) (omega arith)) (killed_kept first count o own a)
 
-  left_kept : (locals : Locals) (v : Scalar) → AllOwn locals.first → Q v → Keeps I Q (left locals v)
+  left_kept : (locals : Locals) (v : Scalar) → AllOwn locals.first → Q v → Keeps I Q (left_function locals v)
   left_kept locals v own h =
       changes (λ w. v) (λ w. record w { objects = all_killed locals.first locals.count w.objects; active = w.active - 1 })
       (λ w a. (h, killed_kept locals.first locals.count w.objects own a))
@@ -109,29 +109,29 @@ module _ {Q : Scalar → Type 0} {Own : ℕ → Type 0} {I : Objects → Type 0}
       fresh_own w a number le = c.fresh number w.objects a le
 
       enter_ended : (number : ℕ) (f : Option Signature) (vs : List Scalar) (w : World) → AllByRecursion Q vs → I w.objects
-          → Ended (enter src call n number f vs w)
+          → Ended (enter_function src call n number f vs w)
       enter_ended number None vs w h a = tt
       enter_ended number (Some f) vs w h a =
           room_ended number f w (nat_lt w.active active_limit) (all_made (first_cells vs f.locals) w.objects) (fresh_own w a)
           (all_made_kept (first_cells vs f.locals) w.objects (cells_kept vs f.locals h) a)
 
-      variables_first : (f : Option Signature) (w : World) → AllOwn w.objects.made → AllOwn (variables_of f w).first
+      variables_first : (f : Option Signature) (w : World) → AllOwn w.objects.made → AllOwn (locals_of f w).first
       variables_first None w own = own
       variables_first (Some f) w own = own
 
       -- a function is entered and left again
       abbrev passes : ℕ → List Scalar → World → Out Scalar
       passes number vs u =
-          bind (enter src call n number (src.facts.signature number) vs u) (λ flow y.
-          bind (value_left (number == src.main) (gives_value (src.facts.signature number)) flow y) (left (variables_of (src.facts.signature number) u)))
+          bind (enter_function src call n number (src.facts.signature number) vs u) (λ flow y.
+          bind (value_left (number == src.main) (gives_value (src.facts.signature number)) flow y) (left_function (locals_of (src.facts.signature number) u)))
 
       passes_kept : (number : ℕ) (vs : List Scalar) → AllByRecursion Q vs → Keeps I Q (passes number vs)
       passes_kept number vs h = record {
         at = λ w a.
-            ends_bind (λ flow u. Leaves Q flow × I u.objects) (λ v u. Q v × I u.objects) (enter src call n number (src.facts.signature number) vs w) _
+            ends_bind (λ flow u. Leaves Q flow × I u.objects) (λ v u. Q v × I u.objects) (enter_function src call n number (src.facts.signature number) vs w) _
             (enter_ended number (src.facts.signature number) vs w h a) (λ flow y k.
             (seq (value_left_kept (number == src.main) (gives_value (src.facts.signature number)) flow k.0) (λ v j.
-            left_kept (variables_of (src.facts.signature number) w) v (variables_first (src.facts.signature number) w (fresh_own w a)) j)).at y k.1);
+            left_kept (locals_of (src.facts.signature number) w) v (variables_first (src.facts.signature number) w (fresh_own w a)) j)).at y k.1);
       }
 
       given_kept : (number : ℕ) (vs : List Scalar) (b : Bool) → AllByRecursion Q vs

@@ -12,7 +12,7 @@ use Rattle.c_types_expressions.specs.ExprWalk.{binary_of}
 use Rattle.c_meaning.specs.declared.value_type.ValueType.{ValueType}
 use Rattle.c_meaning.specs.Conversions.{is_null_as}
 use Rattle.c_meaning.specs.Facts.{Facts, Setting}
-use Rattle.c_meaning.specs.Meaning.{arguments_value, behind, condition, expr, formatted, last_sense, links_value, lone_value, text_of, text_place}
+use Rattle.c_meaning.specs.Meaning.{arguments_value, condition, expr, formatted, last_sense, links_value, lone_value, onward, text_of_string, text_place}
 use Rattle.c_meaning.specs.Operation.{operation}
 use Rattle.c_meaning.specs.Trees.{assignment, begins_null, called_as, count, ends_as_place, first_type, is_null_beside, is_place, joint, operand_type}
 use Rattle.c_meaning.specs.Trees.{other_types, token_of, type_of}
@@ -63,7 +63,7 @@ module _ {Q : Scalar → Type 0} {Own : ℕ → Type 0} {I : Objects → Type 0}
     expr_kept (e.Null token) = valued_kept c (gives Null c.null)
     expr_kept (e.EndOfFile token) = valued_kept c (gives (Number Int (negsuc 0)) (c.numbers Int (negsuc 0)))
 
-    behind_kept : (operators : PostfixList) (known : Bool) (of : Option ValueType) (v : Scalar) → Q v → Keeps I Q (behind s known of operators v)
+    behind_kept : (operators : PostfixList) (known : Bool) (of : Option ValueType) (v : Scalar) → Q v → Keeps I Q (onward s known of operators v)
     behind_kept e.no_postfix known of v h = gives v h
     behind_kept (e.index token i rest) known of v h =
         seq (settled_kept c known of v h) (λ p k. seq (expr_kept i).value (λ x j.
@@ -102,7 +102,7 @@ module _ {Q : Scalar → Type 0} {Own : ℕ → Type 0} {I : Objects → Type 0}
     formatted_kept : (arguments : ExprList) → Keeps I Any (formatted s arguments)
     formatted_kept e.no_exprs = stuck_kept c
     formatted_kept (e.more_exprs x rest) =
-        print_by_kept c (text_of s.facts x) (count rest) (λ types. arguments_value s types rest []) (λ types. arguments_kept rest types [] tt)
+        print_by_kept c (text_of_string s.facts x) (count rest) (λ types. arguments_value s types rest []) (λ types. arguments_kept rest types [] tt)
 
   -- a condition, with the visit of its site
   pub condition_kept : (token : ℕ) (x : ExprTree) → Keeps I Any (condition s token x)

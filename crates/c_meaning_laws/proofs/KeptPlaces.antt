@@ -29,12 +29,12 @@ use Rattle.c_meaning.specs.declared.value_type.ValueType.{ValueType}
 use Rattle.c_meaning.specs.declared.value_type.ValueType.TheVariants as type
 use Rattle.c_meaning.specs.Conversions.{as_wanted, between, conversion, converts, defined, handed, load_at}
 use Rattle.c_meaning.specs.Facts.{Facts, Setting}
-use Rattle.c_meaning.specs.Operation.{counted, flagged, left_kind, operate, right_kind, type_given}
+use Rattle.c_meaning.specs.Operation.{counted_value, flagged, left_kind, operate, right_kind, type_given}
 use Rattle.c_meaning.specs.Output.{next_byte, print, put_byte, put_format, put_string, stop_or, written}
-use Rattle.c_meaning.specs.Places.{assigned, changed, member_place, object_place, one_beside, pointed, step, store_at, stepped, stepped_behind}
+use Rattle.c_meaning.specs.Places.{assigned_at, changed, member_place, object_place, one_beside, pointed_place, step_operation, store_at, stepped_value, stepped_behind}
 use Rattle.c_meaning.specs.Places.{unless_zero, variable}
 use Rattle.c_meaning.specs.Trees.{one_kind}
-use Rattle.c_meaning.specs.Visits.{decided, listed, now_of, observed, truth, visited, with_seen}
+use Rattle.c_meaning.specs.Visits.{decided, listed, now_of, observed_value, truth, visited, world_with_seen}
 use Rattle.c_meaning.specs.World.{Go, Stop, answered, bind, choose, stuck}
 use Rattle.c_meaning_laws.proofs.Kept.{Answers, Any, Closed, Keeps, answers, answers_bind, by_state, changes, chosen, gives, seq, stops}
 
@@ -130,7 +130,7 @@ module _ {Q : Scalar → Type 0} {Own : ℕ → Type 0} {I : Objects → Type 0}
   moved_kept size Null (Place number offset) o h = tt
   moved_kept size Null Null o h = tt
 
-  counted_kept : (r : Result ℤ Trap) → Answers Q (counted r)
+  counted_kept : (r : Result ℤ Trap) → Answers Q (counted_value r)
   counted_kept (Ok count) = c.numbers Int count
   counted_kept (Err t) = tt
 
@@ -162,7 +162,7 @@ module _ {Q : Scalar → Type 0} {Own : ℕ → Type 0} {I : Objects → Type 0}
   unless_kept true v h = tt
   unless_kept false v h = h
 
-  pub pointed_kept : (v : Scalar) → Q v → Answers Q (pointed v)
+  pub pointed_kept : (v : Scalar) → Q v → Answers Q (pointed_place v)
   pointed_kept Undefined h = tt
   pointed_kept Null h = tt
   pointed_kept (Number kind value) h = unless_kept (is_zero value) (Number kind value) h
@@ -242,11 +242,11 @@ module _ {Q : Scalar → Type 0} {Own : ℕ → Type 0} {I : Objects → Type 0}
     pub variable_kept : (token : ℕ) → StaticsOwn Own s.facts → LocalsOwn Own s.locals → Keeps I Q (variable s (s.facts.slot_at token))
     variable_kept token statics locals = slot_kept (s.facts.slot_at token) (statics.globals token) locals
 
-    observed_kept : (site : ℕ) (v : Scalar) → Q v → Keeps I Q (observed s site v)
+    observed_kept : (site : ℕ) (v : Scalar) → Q v → Keeps I Q (observed_value s site v)
     observed_kept site v h =
         seq {P = Any} (answers (λ w. looked (s.sites.site site) (now_of s.locals (v ∷ []) w))
         (λ w a. any_seen (looked (s.sites.site site) (now_of s.locals (v ∷ []) w))))
-        (λ seen _. changes (λ w. v) (λ w. with_seen site seen w) (λ w a. (h, a)))
+        (λ seen _. changes (λ w. v) (λ w. world_with_seen site seen w) (λ w a. (h, a)))
       where
         any_seen : {A : Type 0} (r : Result A Trap) → Answers Any r
         any_seen (Ok x) = tt
@@ -259,7 +259,7 @@ module _ {Q : Scalar → Type 0} {Own : ℕ → Type 0} {I : Objects → Type 0}
     pub decided_kept : (token : ℕ) (v : Scalar) → Q v → Keeps I Any (decided s token v)
     decided_kept token v h = seq (visited_kept (listed (s.sites.branch_at token)) v h) (λ x _. truth_kept x)
 
-    pub assigned_kept : (token : ℕ) (p v : Scalar) → Q p → Q v → Keeps I Q (assigned s token p v)
+    pub assigned_kept : (token : ℕ) (p v : Scalar) → Q p → Q v → Keeps I Q (assigned_at s token p v)
     assigned_kept token p v h k = seq (store_kept p v h k) (visited_kept (s.sites.pairs_at token))
 
     pub changed_kept : (token : ℕ) (of : Option ValueType) (o : Operation) (p right : Scalar) → Q p → Q right → Keeps I Q (changed s token of o p right)
@@ -267,10 +267,10 @@ module _ {Q : Scalar → Type 0} {Own : ℕ → Type 0} {I : Objects → Type 0}
         seq (load_kept of p h) (λ old j. seq (operate_kept o old right j k) (λ x i.
         seq (wanted_kept (conversion (type_given o of) of) x i) (λ y l. assigned_kept token p y h l)))
 
-    pub stepped_kept : (is_up : Bool) (token : ℕ) (of : Option ValueType) (p : Scalar) → Q p → Keeps I Q (stepped s is_up token of p)
-    stepped_kept is_up token of p h = changed_kept token of (step s is_up of) p (one_beside s of) h (c.numbers (one_kind of) (pos 1))
+    pub stepped_kept : (is_up : Bool) (token : ℕ) (of : Option ValueType) (p : Scalar) → Q p → Keeps I Q (stepped_value s is_up token of p)
+    stepped_kept is_up token of p h = changed_kept token of (step_operation is_up of) p (one_beside s of) h (c.numbers (one_kind of) (pos 1))
 
     pub stepped_behind_kept : (is_up : Bool) (token : ℕ) (of : Option ValueType) (p : Scalar) → Q p → Keeps I Q (stepped_behind s is_up token of p)
     stepped_behind_kept is_up token of p h =
-        seq (load_kept of p h) (λ old j. seq (operate_kept (step s is_up of) old (one_beside s of) j (c.numbers (one_kind of) (pos 1))) (λ x i.
-        seq (wanted_kept (conversion (type_given (step s is_up of) of) of) x i) (λ z l. seq (assigned_kept token p z h l) (λ _ _. gives old j))))
+        seq (load_kept of p h) (λ old j. seq (operate_kept (step_operation is_up of) old (one_beside s of) j (c.numbers (one_kind of) (pos 1))) (λ x i.
+        seq (wanted_kept (conversion (type_given (step_operation is_up of) of) of) x i) (λ z l. seq (assigned_kept token p z h l) (λ _ _. gives old j))))

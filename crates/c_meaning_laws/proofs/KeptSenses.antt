@@ -16,8 +16,8 @@ use Rattle.cbi_base.specs.declared.trap.Trap.TheVariants as trap
 use Rattle.cbi_base.specs.Arithmetic.{complement, fitted}
 use Rattle.cbi_base.specs.Objects.{Objects, allocated, released}
 use Rattle.cbi_base.specs.Scalars.{applied_to_one, as_promoted, opposite, truth_of}
-use Rattle.c_rules.specs.declared.library.Library.{Library}
-use Rattle.c_rules.specs.declared.library.Library.TheVariants as library
+use Rattle.c_types_rules.specs.declared.library.Library.{Library}
+use Rattle.c_types_rules.specs.declared.library.Library.TheVariants as library
 use Rattle.c_syntax.specs.declared.expr.PrefixOperator.{PrefixOperator}
 use Rattle.c_syntax.specs.declared.expr.PrefixOperator.TheVariants as prefix
 use Rattle.flow.specs.declared.program.Text.{Text}
@@ -33,13 +33,13 @@ use Rattle.c_meaning.specs.Calls.{returned, types_taken, with_result}
 use Rattle.c_meaning.specs.Conversions.{as_used, conversion}
 use Rattle.c_meaning.specs.Expressions.{Sense, arm_as, arm_effect, arm_value, as_flag, assign, cast, comma, conditional, effected, handed_value}
 use Rattle.c_meaning.specs.Expressions.{is_other_pointer}
-use Rattle.c_meaning.specs.Expressions.{is_struct, linked, null_or, one_operand, placed, postfixed, prefixed, settled, size_value, spot, valued, wanted_value}
+use Rattle.c_meaning.specs.Expressions.{is_struct_value, linked, null_or, one_operand, placed, postfixed, prefixed_sense, settled, size_value, spot, valued, wanted_value}
 use Rattle.c_meaning.specs.Facts.{Setting, Signature}
 use Rattle.c_meaning.specs.Operation.{flag_value, operation}
-use Rattle.c_meaning.specs.Places.{pointed}
+use Rattle.c_meaning.specs.Places.{pointed_place}
 use Rattle.c_meaning.specs.Trees.{Assignment, Plain, By, Joint, Both, Either, Computes, Unjoined, has_value}
 use Rattle.c_meaning.specs.Visits.{listed}
-use Rattle.c_meaning.specs.World.{World, Out, Go, Stop, Done, bind}
+use Rattle.c_meaning.specs.World.{World, Out, Go, Stop, OutDone, bind}
 use Rattle.c_meaning_laws.proofs.Kept.{Answers, Any, Closed, Keeps, answers, changes, chosen, done_kept, gives, nothing_kept, seq, stops}
 use Rattle.c_meaning_laws.proofs.KeptPlaces.{assigned_kept, changed_kept, decided_kept, handed_kept, load_kept, next_kept, number_kept, operate_kept}
 use Rattle.c_meaning_laws.proofs.KeptPlaces.{pointed_kept}
@@ -65,14 +65,14 @@ module _ {Q : Scalar → Type 0} {Own : ℕ → Type 0} {I : Objects → Type 0}
   pub valued_kept : {m : World → Out Scalar} → Keeps I Q m → SenseKept Q I (valued m)
   valued_kept h = record { value = h; place = stuck_kept c; effect = done_kept h }
 
-  pub effected_kept : {m : World → Done} → Keeps I Any m → SenseKept Q I (effected m)
+  pub effected_kept : {m : World → OutDone} → Keeps I Any m → SenseKept Q I (effected m)
   effected_kept h = record { value = stuck_kept c; place = stuck_kept c; effect = h }
 
   pub placed_kept : {m : World → Out Scalar} (of : Option ValueType) → Keeps I Q m → SenseKept Q I (placed of m)
   placed_kept of h = record {
     value = seq h (load_kept c of);
     place = h;
-    effect = seq h (λ v k. chosen (is_struct of) nothing_kept (done_kept (load_kept c of v k)));
+    effect = seq h (λ v k. chosen (is_struct_value of) nothing_kept (done_kept (load_kept c of v k)));
   }
 
   pub null_kept : (b : Bool) (m : Sense) → SenseKept Q I m → Keeps I Q (null_or b m)
@@ -220,7 +220,7 @@ module _ {Q : Scalar → Type 0} {Own : ℕ → Type 0} {I : Objects → Type 0}
     assign_kept token (By o) b left right goal m h k =
         seq h.place (λ p i. seq k.value (λ v j. changed_kept c s token left (operation o left right) p v i j))
 
-    pub conditional_kept : (token : ℕ) (m : Sense) {x y : World → Out Scalar} {a b : World → Done} → SenseKept Q I m → Keeps I Q x → Keeps I Q y
+    pub conditional_kept : (token : ℕ) (m : Sense) {x y : World → Out Scalar} {a b : World → OutDone} → SenseKept Q I m → Keeps I Q x → Keeps I Q y
         → Keeps I Any a → Keeps I Any b → SenseKept Q I (conditional s token m x y a b)
     conditional_kept token m h i j k l = record {
       value = seq h.value (λ v n. seq (decided_kept c s token v n) (λ holds _. chosen holds i j));
@@ -229,12 +229,12 @@ module _ {Q : Scalar → Type 0} {Own : ℕ → Type 0} {I : Objects → Type 0}
     }
 
     pub prefixed_kept : (token : ℕ) (o : PrefixOperator) (of : Option ValueType) (cells : Option ℕ) (m : Sense) → SenseKept Q I m
-        → SenseKept Q I (prefixed s token o of cells m)
+        → SenseKept Q I (prefixed_sense s token o of cells m)
     prefixed_kept token prefix.Increment of cells m h = valued_kept (seq h.place (stepped_kept c s true token of))
     prefixed_kept token prefix.Decrement of cells m h = valued_kept (seq h.place (stepped_kept c s false token of))
     prefixed_kept token prefix.Address of cells m h = valued_kept h.place
     prefixed_kept token prefix.Indirection of cells m h =
-        placed_kept (s.facts.type_at token) (seq h.value (λ v k. answers (λ w. pointed v) (λ w _. pointed_kept c v k)))
+        placed_kept (s.facts.type_at token) (seq h.value (λ v k. answers (λ w. pointed_place v) (λ w _. pointed_kept c v k)))
     prefixed_kept token prefix.Plus of cells m h = valued_kept (seq h.value (handed_kept c (s.facts.type_at token)))
     prefixed_kept token prefix.Minus of cells m h = operand_kept of (s.facts.type_at token) unary.Neg h.value
     prefixed_kept token prefix.Complement of cells m h = operand_kept of (s.facts.type_at token) unary.Com h.value
@@ -256,7 +256,7 @@ module _ {Q : Scalar → Type 0} {Own : ℕ → Type 0} {I : Objects → Type 0}
       function_kept token number (Some f) n arguments h =
           result_kept token (has_value f.result) (chosen (n == length f.params) (seq (h f.params) (calls number)) (stuck_kept c))
 
-      library_kept : (token : ℕ) (function : Library) (n : ℕ) (argument : Argument) (print : World → Done)
+      library_kept : (token : ℕ) (function : Library) (n : ℕ) (argument : Argument) (print : World → OutDone)
           → ((want : Option ValueType → Option ValueType) → Keeps I Q (argument want)) → Keeps I Any print
           → SenseKept Q I (call_library s token function n argument print)
       library_kept token library.Getchar n argument print h k = returned_kept token (chosen (n == 0) (next_kept c) (stuck_kept c))
@@ -269,7 +269,7 @@ module _ {Q : Scalar → Type 0} {Own : ℕ → Type 0} {I : Objects → Type 0}
       library_kept token library.Assert n argument print h k = effected_kept (seq (h as_used) (λ v _. seq (truth_kept c v) (λ b _. assert_kept b)))
       library_kept token library.Printf n argument print h k = effected_kept k
 
-      pub call_kept : (token : ℕ) (what : Called) (n : ℕ) (arguments : Arguments) (argument : Argument) (print : World → Done)
+      pub call_kept : (token : ℕ) (what : Called) (n : ℕ) (arguments : Arguments) (argument : Argument) (print : World → OutDone)
           → ((types : List ValueType) → Keeps I (AllByRecursion Q) (arguments types))
           → ((want : Option ValueType → Option ValueType) → Keeps I Q (argument want)) → Keeps I Any print
           → SenseKept Q I (call_sense s token what n arguments argument print)

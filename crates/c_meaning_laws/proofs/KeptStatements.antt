@@ -16,18 +16,18 @@ use Rattle.c_syntax.specs.StatementTree.{InitialTree, StartTree, ForStartTree, S
 use Rattle.flow.specs.declared.program.Text.{Text}
 use Rattle.flow.specs.declared.site.Slot.{Slot}
 use Rattle.flow.specs.declared.site.Slot.TheVariants as slot
-use Rattle.flow.specs.Rows.{char_of, spelled, zero_of}
+use Rattle.flow.specs.Rows.{char_of, spelled, zero_value}
 use Rattle.c_meaning.specs.declared.value_type.ValueType.{ValueType}
 use Rattle.c_meaning.specs.declared.value_type.ValueType.TheVariants as type
 use Rattle.c_meaning.specs.Conversions.{is_null_as}
 use Rattle.c_meaning.specs.Facts.{Setting}
 use Rattle.c_meaning.specs.Initialisers.{all_started, clear, element_set, elements_set, equals_token, initialised, object_of, on_local, on_object, scalar_set}
 use Rattle.c_meaning.specs.Initialisers.{spell, value_set, want_of, zeroed}
-use Rattle.c_meaning.specs.Meaning.{condition, expr, text_of}
+use Rattle.c_meaning.specs.Meaning.{condition, expr, text_of_string}
 use Rattle.c_meaning.specs.Statements.{after_body, after_entry, do_round, exec, exec_all, for_round, for_started, optional_condition, optional_effect}
 use Rattle.c_meaning.specs.Statements.{returned_value, rounds, while_round}
 use Rattle.c_meaning.specs.Trees.{type_of}
-use Rattle.c_meaning.specs.World.{World, Out, Stop, Done, Flow, Next, Broken, Continued, Returned, spend}
+use Rattle.c_meaning.specs.World.{World, Out, Stop, OutDone, Flow, Next, Broken, Continued, Returned, spend}
 use Rattle.c_meaning_laws.proofs.Kept.{Answers, Any, Closed, Keeps, answers, answers_bind, changes, chosen, done_kept, gives, seq, spends, stops}
 use Rattle.c_meaning_laws.proofs.KeptPlaces.{LocalsOwn, StaticsOwn, assigned_kept, member_kept, store_kept, stuck_kept, variable_kept}
 use Rattle.c_meaning_laws.proofs.KeptSenses.{wanted_value_kept}
@@ -39,22 +39,22 @@ Leaves Q (Returned (Some v)) = Q v
 Leaves Q flow = Unit {0}
 
 module _ {Q : Scalar → Type 0} {Own : ℕ → Type 0} {I : Objects → Type 0} (c : Closed Q Own I) where
-  on_kept : {act : ℕ → World → Done} (number : Option ℕ) → ((n : ℕ) → number ≡ Some n → Keeps I Any (act n)) → Keeps I Any (on_object number act)
+  on_kept : {act : ℕ → World → OutDone} (number : Option ℕ) → ((n : ℕ) → number ≡ Some n → Keeps I Any (act n)) → Keeps I Any (on_object number act)
   on_kept None h = stuck_kept c
   on_kept (Some number) h = record { at = (h number refl).at }
 
   clear_kept : (number : ℕ) → Own number → Keeps I Any (clear number)
   clear_kept number own = changes (λ w. tt {0}) (λ w. record w { objects = cleared number w.objects }) (λ w a. (tt, c.clears number w.objects own a))
 
-  zero_kept : (wanted : Want) → Q (zero_of wanted)
+  zero_kept : (wanted : Want) → Q (zero_value wanted)
   zero_kept (want.Number kind) = c.numbers kind _
   zero_kept want.Pointer = c.null
 
   zeroed_kept : (wanted : Option Want) (number : ℕ) → Own number → Keeps I Any (zeroed wanted number)
   zeroed_kept None number own = stuck_kept c
   zeroed_kept (Some wanted) number own =
-      changes (λ w. tt {0}) (λ w. record w { objects = filled number (zero_of wanted) w.objects })
-      (λ w a. (tt, c.fills number (zero_of wanted) w.objects own (zero_kept wanted) a))
+      changes (λ w. tt {0}) (λ w. record w { objects = filled number (zero_value wanted) w.objects })
+      (λ w a. (tt, c.fills number (zero_value wanted) w.objects own (zero_kept wanted) a))
 
   spelled_kept : (number offset : ℕ) (bytes : List ℕ) (o : Objects) → Own number → I o → Answers I (spelled number offset bytes o)
   spelled_kept number offset [] o own a = a
@@ -91,7 +91,7 @@ module _ {Q : Scalar → Type 0} {Own : ℕ → Type 0} {I : Objects → Type 0}
   do_kept : {test : World → Out Bool} {body : World → Out Flow} → Keeps I Any test → Keeps I (Leaves Q) body → RoundKept (do_round test body)
   do_kept h j again more = seq j (λ flow k. after_body_kept flow (seq h (λ holds _. chosen holds more (gives Next tt))) k)
 
-  for_kept : {test : World → Out Bool} {body : World → Out Flow} {step : World → Done} → Keeps I Any test → Keeps I (Leaves Q) body → Keeps I Any step
+  for_kept : {test : World → Out Bool} {body : World → Out Flow} {step : World → OutDone} → Keeps I Any test → Keeps I (Leaves Q) body → Keeps I Any step
       → RoundKept (for_round test body step)
   for_kept h j i again more = while_kept h j _ (seq i (λ _ _. more))
 
@@ -122,12 +122,12 @@ module _ {Q : Scalar → Type 0} {Own : ℕ → Type 0} {I : Objects → Type 0}
     object_own (Some (slot.Local index)) n h = locals index n h
     object_own (Some (slot.Global index)) n h = cc
 
-    local_kept : {act : ℕ → World → Done} (token : ℕ) → ((n : ℕ) → Own n → Keeps I Any (act n)) → Keeps I Any (on_local s token act)
+    local_kept : {act : ℕ → World → OutDone} (token : ℕ) → ((n : ℕ) → Own n → Keeps I Any (act n)) → Keeps I Any (on_local s token act)
     local_kept token h = on_kept (object_of s (s.facts.slot_at token)) (λ n is. h n (object_own (s.facts.slot_at token) n is))
 
     value_kept : (token : ℕ) (of : Option ValueType) (x : ExprTree) → Keeps I Any (value_set s token of x)
     value_kept token (Some (type.Array size)) x =
-        seq (local_kept token (zeroed_kept (want_of (s.facts.element_at token)))) (λ _ _. local_kept token (spell_kept (text_of s.facts x)))
+        seq (local_kept token (zeroed_kept (want_of (s.facts.element_at token)))) (λ _ _. local_kept token (spell_kept (text_of_string s.facts x)))
     value_kept token (Some (type.Number kind)) x = scalar_kept token x
     value_kept token (Some (type.Pointer size)) x = scalar_kept token x
     value_kept token (Some type.Void) x = scalar_kept token x

@@ -10,7 +10,7 @@ use Rattle.c_types_expressions.specs.ExprWalk.{binary_of}
 use Rattle.c_meaning.specs.declared.value_type.ValueType.{ValueType}
 use Rattle.c_meaning.specs.Conversions.{is_null_as}
 use Rattle.c_meaning.specs.Facts.{Facts, Setting}
-use Rattle.c_meaning.specs.Meaning.{arguments_value, behind, condition, expr, formatted, last_sense, links_value, lone_value, text_of, text_place}
+use Rattle.c_meaning.specs.Meaning.{arguments_value, condition, expr, formatted, last_sense, links_value, lone_value, onward, text_of_string, text_place}
 use Rattle.c_meaning.specs.Operation.{operation}
 use Rattle.c_meaning.specs.Trees.{assignment, begins_null, called_as, count, ends_as_place, first_type, is_null_beside, is_place, joint, operand_type, other_types, token_of, type_of}
 use Rattle.c_meaning.specs.World.{Caller}
@@ -68,7 +68,7 @@ module _ (k : ℕ) (s : Setting) (call : Caller) (calls : (number : ℕ) (vs : L
     expr_longer (e.EndOfFile token) = valued_longer k (gives k (Number Int (negsuc 0)))
 
     behind_longer : (operators : PostfixList) (known : Bool) (of : Option ValueType) (v : Scalar)
-        → Longer k (behind s known of operators v) (behind t known of operators v)
+        → Longer k (onward s known of operators v) (onward t known of operators v)
     behind_longer e.no_postfix known of v = gives k v
     behind_longer (e.index token i rest) known of v =
         seq k (settled_longer k known of v) (λ p. seq k (expr_longer i).value (λ x.
@@ -110,7 +110,7 @@ module _ (k : ℕ) (s : Setting) (call : Caller) (calls : (number : ℕ) (vs : L
     formatted_longer : (arguments : ExprList) → Longer k (formatted s arguments) (formatted t arguments)
     formatted_longer e.no_exprs = stuck_longer k (Unit {0})
     formatted_longer (e.more_exprs x rest) =
-        print_by_longer k (text_of s.facts x) (count rest) (λ types. arguments_value s types rest []) (λ types. arguments_value t types rest [])
+        print_by_longer k (text_of_string s.facts x) (count rest) (λ types. arguments_value s types rest []) (λ types. arguments_value t types rest [])
         (λ types. arguments_longer rest types [])
 
   -- a condition, with the visit of its site

@@ -24,8 +24,8 @@ use Rattle.c_meaning.specs.Conversions.{as_wanted, conversion, converts, defined
 use Rattle.c_meaning.specs.Facts.{Setting}
 use Rattle.c_meaning.specs.Operation.{operate, type_given}
 use Rattle.c_meaning.specs.Output.{next_byte, print, put_byte, put_format, put_string, stop_or, written}
-use Rattle.c_meaning.specs.Places.{assigned, changed, member_place, object_place, one_beside, step, store_at, stepped, stepped_behind, variable}
-use Rattle.c_meaning.specs.Visits.{decided, listed, now_of, observed, truth, visited, with_seen}
+use Rattle.c_meaning.specs.Places.{assigned_at, changed, member_place, object_place, one_beside, step_operation, store_at, stepped_value, stepped_behind, variable}
+use Rattle.c_meaning.specs.Visits.{decided, listed, now_of, observed_value, truth, visited, world_with_seen}
 use Rattle.c_meaning.specs.World.{World, Out, Go, Stop, Caller, answered, bind, choose, nothing, stuck}
 use Rattle.c_meaning_laws.proofs.Longer.{Longer, Matches, answers, changes, chosen, gives, longer, no_more, same_left, seq, stops}
 
@@ -158,10 +158,10 @@ module _ (k : ℕ) where
     variable_longer (Some (slot.Local index)) = object_longer (local_at index s.locals)
     variable_longer (Some (slot.Global index)) = gives k (Place index 0)
 
-    observed_longer : (site : ℕ) (v : Scalar) → Longer k (observed s site v) (observed t site v)
+    observed_longer : (site : ℕ) (v : Scalar) → Longer k (observed_value s site v) (observed_value t site v)
     observed_longer site v =
         seq k (answers k (λ w. looked (s.sites.site site) (now_of s.locals (v ∷ []) w)) (λ w. refl)) (λ seen.
-        changes k (λ w. v) (λ w. with_seen site seen w) (λ w. refl) (λ w. refl)
+        changes k (λ w. v) (λ w. world_with_seen site seen w) (λ w. refl) (λ w. refl)
         (λ w. record { extends = record { output = no_more w.output; seen = (_, refl) }; turns = omega arith }))
 
     pub visited_longer : (sites : List ℕ) (v : Scalar) → Longer k (visited s sites v) (visited t sites v)
@@ -171,7 +171,7 @@ module _ (k : ℕ) where
     pub decided_longer : (token : ℕ) (v : Scalar) → Longer k (decided s token v) (decided t token v)
     decided_longer token v = seq k (visited_longer (listed (s.sites.branch_at token)) v) truth_longer
 
-    pub assigned_longer : (token : ℕ) (p v : Scalar) → Longer k (assigned s token p v) (assigned t token p v)
+    pub assigned_longer : (token : ℕ) (p v : Scalar) → Longer k (assigned_at s token p v) (assigned_at t token p v)
     assigned_longer token p v = seq k (store_longer p v) (visited_longer (s.sites.pairs_at token))
 
     pub changed_longer : (token : ℕ) (of : Option ValueType) (o : Operation) (p right : Scalar)
@@ -180,11 +180,11 @@ module _ (k : ℕ) where
         seq k (load_longer of p) (λ old. seq k (operate_longer o old right) (λ x.
         seq k (wanted_longer (conversion (type_given o of) of) x) (assigned_longer token p)))
 
-    pub stepped_longer : (is_up : Bool) (token : ℕ) (of : Option ValueType) (p : Scalar) → Longer k (stepped s is_up token of p) (stepped t is_up token of p)
-    stepped_longer is_up token of p = changed_longer token of (step s is_up of) p (one_beside s of)
+    pub stepped_longer : (is_up : Bool) (token : ℕ) (of : Option ValueType) (p : Scalar) → Longer k (stepped_value s is_up token of p) (stepped_value t is_up token of p)
+    stepped_longer is_up token of p = changed_longer token of (step_operation is_up of) p (one_beside s of)
 
     pub stepped_behind_longer : (is_up : Bool) (token : ℕ) (of : Option ValueType) (p : Scalar)
         → Longer k (stepped_behind s is_up token of p) (stepped_behind t is_up token of p)
     stepped_behind_longer is_up token of p =
-        seq k (load_longer of p) (λ old. seq k (operate_longer (step s is_up of) old (one_beside s of)) (λ x.
-        seq k (wanted_longer (conversion (type_given (step s is_up of) of) of) x) (λ z. seq k (assigned_longer token p z) (λ _. gives k old))))
+        seq k (load_longer of p) (λ old. seq k (operate_longer (step_operation is_up of) old (one_beside s of)) (λ x.
+        seq k (wanted_longer (conversion (type_given (step_operation is_up of) of) of) x) (λ z. seq k (assigned_longer token p z) (λ _. gives k old))))

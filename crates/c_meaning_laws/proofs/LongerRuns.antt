@@ -15,7 +15,7 @@ use Rattle.flow.specs.Machine.{each_made}
 use Rattle.flow.specs.Now.{Locals, is_defined}
 use Rattle.c_meaning.specs.Calls.{all_defined}
 use Rattle.c_meaning.specs.Facts.{Signature}
-use Rattle.c_meaning.specs.Runs.{Source, beginning, behaves, call_at, enter, enter_with, gives_value, inside, left, locals_at, meaning, run_body, run_from, run_main, setting_of, status, value_left, variables_of}
+use Rattle.c_meaning.specs.Runs.{Source, behaves, call_at, enter_function, enter_with, first_world, gives_value, inside, left_function, locals_at, locals_of, meaning, run_body, run_from, run_main, setting_of, status, value_left}
 use Rattle.c_meaning.specs.Texts.{source_of}
 use Rattle.c_meaning.specs.World.{World, Out, Go, Stop, Flow, Next, Broken, Continued, Returned, Caller, bind, spend}
 use Rattle.c_meaning_laws.specs.Turns.{Begins, CutBegins, CutTextBegins, UncutStays, UncutTextStays}
@@ -41,7 +41,7 @@ module _ (k : ℕ) where
   value_longer is_main false Broken = stuck_longer k Scalar
   value_longer is_main false Continued = stuck_longer k Scalar
 
-  left_longer : (locals : Locals) (v : Scalar) → Longer k (left locals v) (left locals v)
+  left_longer : (locals : Locals) (v : Scalar) → Longer k (left_function locals v) (left_function locals v)
   left_longer locals v =
       changes k (λ w. v) (λ w. record w { objects = all_killed locals.first locals.count w.objects; active = w.active - 1 }) (λ w. refl) (λ w. refl)
       (λ w. same_left w _ refl refl refl)
@@ -71,7 +71,7 @@ module _ (k : ℕ) where
           (inside_longer number f)
       room_longer number f cells false = stops k Flow (Trapped trap.StackOverflow)
 
-      enter_longer : (number : ℕ) (f : Option Signature) (vs : List Scalar) → Longer k (enter src call n number f vs) (enter src others m number f vs)
+      enter_longer : (number : ℕ) (f : Option Signature) (vs : List Scalar) → Longer k (enter_function src call n number f vs) (enter_function src others m number f vs)
       enter_longer number None vs = stuck_longer k Flow
       enter_longer number (Some f) vs =
           by_state k (λ w. nat_lt w.active active_limit)
@@ -82,20 +82,20 @@ module _ (k : ℕ) where
       -- a function is entered and left again, where so many turns are left for its body
       abbrev passes : Caller → ℕ → ℕ → List Scalar → World → Out Scalar
       passes caller turns number vs u =
-          bind (enter src caller turns number (src.facts.signature number) vs u) (λ flow y.
-          bind (value_left (number == src.main) (gives_value (src.facts.signature number)) flow y) (left (variables_of (src.facts.signature number) u)))
+          bind (enter_function src caller turns number (src.facts.signature number) vs u) (λ flow y.
+          bind (value_left (number == src.main) (gives_value (src.facts.signature number)) flow y) (left_function (locals_of (src.facts.signature number) u)))
 
-      variables_same : (f : Option Signature) (w : World) → variables_of f (longer k w) ≡ variables_of f w
+      variables_same : (f : Option Signature) (w : World) → locals_of f (longer k w) ≡ locals_of f w
       variables_same None w = refl
       variables_same (Some f) w = refl
 
       passes_longer : (number : ℕ) (vs : List Scalar) → Longer k (passes call n number vs) (passes others m number vs)
       passes_longer number vs =
-          by_state k (λ u. variables_of (src.facts.signature number) u)
-          (λ l u. bind (enter src call n number (src.facts.signature number) vs u) (λ flow y.
-          bind (value_left (number == src.main) (gives_value (src.facts.signature number)) flow y) (left l)))
-          (λ l u. bind (enter src others m number (src.facts.signature number) vs u) (λ flow y.
-          bind (value_left (number == src.main) (gives_value (src.facts.signature number)) flow y) (left l)))
+          by_state k (λ u. locals_of (src.facts.signature number) u)
+          (λ l u. bind (enter_function src call n number (src.facts.signature number) vs u) (λ flow y.
+          bind (value_left (number == src.main) (gives_value (src.facts.signature number)) flow y) (left_function l)))
+          (λ l u. bind (enter_function src others m number (src.facts.signature number) vs u) (λ flow y.
+          bind (value_left (number == src.main) (gives_value (src.facts.signature number)) flow y) (left_function l)))
           (variables_same (src.facts.signature number)) (λ l.
           seq k (enter_longer number (src.facts.signature number) vs) (λ flow.
           seq k (value_longer (number == src.main) (gives_value (src.facts.signature number)) flow) (left_longer l)))
@@ -133,7 +133,7 @@ module _ (k : ℕ) where
     from_longer input turns (Some objects) =
         let le : turns ≤ turns + k = omega arith in
         (seq k (enter_longer (call_at src turns) (call_at src (turns + k)) (call_longer turns (turns + k) le) turns (turns + k) le src.main
-        (src.facts.signature src.main) []) (value_longer true (gives_value (src.facts.signature src.main)))).same (beginning objects input turns)
+        (src.facts.signature src.main) []) (value_longer true (gives_value (src.facts.signature src.main)))).same (first_world objects input turns)
 
     main_longer : (input : List ℕ) (turns : ℕ) (objects : Option (List Object))
         → Matches k (run_main src input turns objects) (run_main src input (turns + k) objects)

@@ -11,8 +11,8 @@ use Rattle.cbi_base.specs.declared.scalar.Scalar.TheVariants.{Number, Place, Nul
 use Rattle.cbi_base.specs.declared.trap.Trap.TheVariants as trap
 use Rattle.cbi_base.specs.Objects.{allocated, released}
 use Rattle.cbi_base.specs.Scalars.{applied_to_one}
-use Rattle.c_rules.specs.declared.library.Library.{Library}
-use Rattle.c_rules.specs.declared.library.Library.TheVariants as library
+use Rattle.c_types_rules.specs.declared.library.Library.{Library}
+use Rattle.c_types_rules.specs.declared.library.Library.TheVariants as library
 use Rattle.c_syntax.specs.declared.expr.PrefixOperator.{PrefixOperator}
 use Rattle.c_syntax.specs.declared.expr.PrefixOperator.TheVariants as prefix
 use Rattle.flow.specs.declared.program.Text.{Text}
@@ -24,13 +24,13 @@ use Rattle.c_meaning.specs.declared.value_type.ValueType.{ValueType}
 use Rattle.c_meaning.specs.declared.value_type.ValueType.TheVariants as type
 use Rattle.c_meaning.specs.Calls.{Argument, Arguments, all_defined, allocate, as_type, assert, call_function, call_library, call_sense, exit, print_by, release, returned, types_taken, with_result}
 use Rattle.c_meaning.specs.Conversions.{as_used, conversion}
-use Rattle.c_meaning.specs.Expressions.{Sense, arm_as, arm_effect, arm_value, as_flag, assign, cast, comma, conditional, effected, handed_value, is_other_pointer, is_struct, linked, null_or, one_operand, placed, postfixed, prefixed, settled, size_value, spot, valued, wanted_value}
+use Rattle.c_meaning.specs.Expressions.{Sense, arm_as, arm_effect, arm_value, as_flag, assign, cast, comma, conditional, effected, handed_value, is_other_pointer, is_struct_value, linked, null_or, one_operand, placed, postfixed, prefixed_sense, settled, size_value, spot, valued, wanted_value}
 use Rattle.c_meaning.specs.Facts.{Setting, Signature}
 use Rattle.c_meaning.specs.Operation.{flag_value, operation}
-use Rattle.c_meaning.specs.Places.{pointed}
+use Rattle.c_meaning.specs.Places.{pointed_place}
 use Rattle.c_meaning.specs.Trees.{Assignment, Plain, By, Joint, Both, Either, Computes, Unjoined, has_value}
 use Rattle.c_meaning.specs.Visits.{listed}
-use Rattle.c_meaning.specs.World.{World, Out, Go, Stop, Done, Caller, bind}
+use Rattle.c_meaning.specs.World.{World, Out, Go, Stop, OutDone, Caller, bind}
 use Rattle.c_meaning_laws.proofs.Longer.{Longer, answers, changes, chosen, done_longer, gives, same_left, seq, stops}
 use Rattle.c_meaning_laws.proofs.LongerPlaces.{assigned_longer, changed_longer, decided_longer, handed_longer, load_longer, next_longer, nothing_longer, operate_longer}
 use Rattle.c_meaning_laws.proofs.LongerPlaces.{put_byte_longer, put_format_longer, put_string_longer, stepped_longer, stores, stuck_longer, truth_longer, visited_longer, wanted_longer}
@@ -45,14 +45,14 @@ module _ (k : ℕ) where
   pub valued_longer : {m more : World → Out Scalar} → Longer k m more → SenseLonger (valued m) (valued more)
   valued_longer h = record { value = h; place = stuck_longer k Scalar; effect = done_longer k h }
 
-  pub effected_longer : {m more : World → Done} → Longer k m more → SenseLonger (effected m) (effected more)
+  pub effected_longer : {m more : World → OutDone} → Longer k m more → SenseLonger (effected m) (effected more)
   effected_longer h = record { value = stuck_longer k Scalar; place = stuck_longer k Scalar; effect = h }
 
   pub placed_longer : {m more : World → Out Scalar} (of : Option ValueType) → Longer k m more → SenseLonger (placed of m) (placed of more)
   placed_longer of h = record {
     value = seq k h (load_longer k of);
     place = h;
-    effect = seq k h (λ v. chosen k (is_struct of) (nothing_longer k) (done_longer k (load_longer k of v)));
+    effect = seq k h (λ v. chosen k (is_struct_value of) (nothing_longer k) (done_longer k (load_longer k of v)));
   }
 
   pub null_longer : (b : Bool) (m more : Sense) → SenseLonger m more → Longer k (null_or b m) (null_or b more)
@@ -187,7 +187,7 @@ module _ (k : ℕ) where
     assign_longer token (By o) b left right goal goals m more h j =
         seq k h.place (λ p. seq k j.value (changed_longer k s call token left (operation o left right) p))
 
-    pub conditional_longer : (token : ℕ) (c others : Sense) {x xs y ys : World → Out Scalar} {a as_more b bs : World → Done} → SenseLonger c others → Longer k x xs
+    pub conditional_longer : (token : ℕ) (c others : Sense) {x xs y ys : World → Out Scalar} {a as_more b bs : World → OutDone} → SenseLonger c others → Longer k x xs
         → Longer k y ys → Longer k a as_more → Longer k b bs → SenseLonger (conditional s token c x y a b) (conditional t token others xs ys as_more bs)
     conditional_longer token c others h i j l m = record {
       value = seq k h.value (λ v. seq k (decided_longer k s call token v) (λ holds. chosen k holds i j));
@@ -196,12 +196,12 @@ module _ (k : ℕ) where
     }
 
     pub prefixed_longer : (token : ℕ) (o : PrefixOperator) (of : Option ValueType) (cells : Option ℕ) (m more : Sense) → SenseLonger m more
-        → SenseLonger (prefixed s token o of cells m) (prefixed t token o of cells more)
+        → SenseLonger (prefixed_sense s token o of cells m) (prefixed_sense t token o of cells more)
     prefixed_longer token prefix.Increment of cells m more h = valued_longer (seq k h.place (stepped_longer k s call true token of))
     prefixed_longer token prefix.Decrement of cells m more h = valued_longer (seq k h.place (stepped_longer k s call false token of))
     prefixed_longer token prefix.Address of cells m more h = valued_longer h.place
     prefixed_longer token prefix.Indirection of cells m more h =
-        placed_longer (s.facts.type_at token) (seq k h.value (λ v. answers k (λ w. pointed v) (λ w. refl)))
+        placed_longer (s.facts.type_at token) (seq k h.value (λ v. answers k (λ w. pointed_place v) (λ w. refl)))
     prefixed_longer token prefix.Plus of cells m more h = valued_longer (seq k h.value (handed_longer k (s.facts.type_at token)))
     prefixed_longer token prefix.Minus of cells m more h = operand_longer of (s.facts.type_at token) unary.Neg h.value
     prefixed_longer token prefix.Complement of cells m more h = operand_longer of (s.facts.type_at token) unary.Com h.value
@@ -223,7 +223,7 @@ module _ (k : ℕ) where
       function_longer token number (Some f) n arguments others h =
           result_longer token (has_value f.result) (chosen k (n == length f.params) (seq k (h f.params) (calls number)) (stuck_longer k Scalar))
 
-      library_longer : (token : ℕ) (function : Library) (n : ℕ) (argument other : Argument) (print more : World → Done)
+      library_longer : (token : ℕ) (function : Library) (n : ℕ) (argument other : Argument) (print more : World → OutDone)
           → ((want : Option ValueType → Option ValueType) → Longer k (argument want) (other want)) → Longer k print more
           → SenseLonger (call_library s token function n argument print) (call_library t token function n other more)
       library_longer token library.Getchar n argument other print more h j = returned_longer token (chosen k (n == 0) (next_longer k) (stuck_longer k Scalar))
@@ -238,7 +238,7 @@ module _ (k : ℕ) where
           effected_longer (seq k (h as_used) (λ v. seq k (truth_longer k v) assert_longer))
       library_longer token library.Printf n argument other print more h j = effected_longer j
 
-      pub call_longer : (token : ℕ) (what : Called) (n : ℕ) (arguments others : Arguments) (argument other : Argument) (print more : World → Done)
+      pub call_longer : (token : ℕ) (what : Called) (n : ℕ) (arguments others : Arguments) (argument other : Argument) (print more : World → OutDone)
           → ((types : List ValueType) → Longer k (arguments types) (others types))
           → ((want : Option ValueType → Option ValueType) → Longer k (argument want) (other want)) → Longer k print more
           → SenseLonger (call_sense s token what n arguments argument print) (call_sense t token what n others other more)

@@ -10,23 +10,23 @@ use Rattle.c_syntax.specs.ExprTree.{ExprTree, ExprList}
 use Rattle.c_syntax.specs.StatementTree as tree
 use Rattle.c_syntax.specs.StatementTree.{InitialTree, StartTree, DeclarationTree, ForStartTree, StatementTree, EntryList}
 use Rattle.flow.specs.declared.program.Text.{Text}
-use Rattle.flow.specs.Rows.{spelled, zero_of}
+use Rattle.flow.specs.Rows.{spelled, zero_value}
 use Rattle.c_meaning.specs.declared.value_type.ValueType.{ValueType}
 use Rattle.c_meaning.specs.declared.value_type.ValueType.TheVariants as type
 use Rattle.c_meaning.specs.Conversions.{is_null_as}
 use Rattle.c_meaning.specs.Facts.{Setting}
 use Rattle.c_meaning.specs.Initialisers.{all_started, clear, element_set, elements_set, equals_token, initialised, object_of, on_local, on_object, scalar_set, spell, value_set, want_of, zeroed}
-use Rattle.c_meaning.specs.Meaning.{condition, expr, text_of}
+use Rattle.c_meaning.specs.Meaning.{condition, expr, text_of_string}
 use Rattle.c_meaning.specs.Statements.{after_body, after_entry, do_round, exec, exec_all, for_round, for_started, optional_condition, optional_effect, returned_value, rounds, while_round}
 use Rattle.c_meaning.specs.Trees.{type_of}
-use Rattle.c_meaning.specs.World.{World, Out, Stop, Done, Flow, Next, Broken, Continued, Returned, Caller, spend}
+use Rattle.c_meaning.specs.World.{World, Out, Stop, OutDone, Flow, Next, Broken, Continued, Returned, Caller, spend}
 use Rattle.c_meaning_laws.proofs.Longer.{Longer, answers, changes, chosen, cut, done_longer, gives, grown_spend, same_left, seq, spends, stops}
 use Rattle.c_meaning_laws.proofs.LongerPlaces.{assigned_longer, member_longer, store_longer, stores, stuck_longer, variable_longer}
 use Rattle.c_meaning_laws.proofs.LongerSenses.{wanted_value_longer}
 use Rattle.c_meaning_laws.proofs.LongerExpressions.{condition_longer, expr_longer}
 
 module _ (k : ℕ) where
-  pub on_longer : {act more : ℕ → World → Done} (number : Option ℕ) → ((n : ℕ) → Longer k (act n) (more n)) → Longer k (on_object number act) (on_object number more)
+  pub on_longer : {act more : ℕ → World → OutDone} (number : Option ℕ) → ((n : ℕ) → Longer k (act n) (more n)) → Longer k (on_object number act) (on_object number more)
   on_longer None h = stuck_longer k (Unit {0})
   on_longer (Some number) h = record { grows = (h number).grows; same = (h number).same }
 
@@ -36,7 +36,7 @@ module _ (k : ℕ) where
 
   zeroed_longer : (wanted : Option Want) (number : ℕ) → Longer k (zeroed wanted number) (zeroed wanted number)
   zeroed_longer None number = stuck_longer k (Unit {0})
-  zeroed_longer (Some wanted) number = changes k (λ w. tt {0}) (λ w. record w { objects = filled number (zero_of wanted) w.objects }) (λ w. refl) (λ w. refl)
+  zeroed_longer (Some wanted) number = changes k (λ w. tt {0}) (λ w. record w { objects = filled number (zero_value wanted) w.objects }) (λ w. refl) (λ w. refl)
       (λ w. same_left w _ refl refl refl)
 
   spell_longer : (text : Option Text) (number : ℕ) → Longer k (spell text number) (spell text number)
@@ -68,7 +68,7 @@ module _ (k : ℕ) where
       → RoundLonger (do_round test body) (do_round tests bodies)
   do_longer h j again others more = seq k j (λ flow. after_body_longer flow (seq k h (λ holds. chosen k holds more (gives k Next))))
 
-  for_longer : {test tests : World → Out Bool} {body bodies : World → Out Flow} {step steps : World → Done} → Longer k test tests → Longer k body bodies
+  for_longer : {test tests : World → Out Bool} {body bodies : World → Out Flow} {step steps : World → OutDone} → Longer k test tests → Longer k body bodies
       → Longer k step steps → RoundLonger (for_round test body step) (for_round tests bodies steps)
   for_longer h j i again others more = while_longer h j _ _ (seq k i (λ _. more))
 
@@ -113,12 +113,12 @@ module _ (k : ℕ) where
     elements_longer token index e.no_exprs = gives k tt
     elements_longer token index (e.more_exprs x rest) = seq k (element_longer token index x) (λ _. elements_longer token (suc index) rest)
 
-    local_longer : {act more : ℕ → World → Done} (token : ℕ) → ((n : ℕ) → Longer k (act n) (more n)) → Longer k (on_local s token act) (on_local t token more)
+    local_longer : {act more : ℕ → World → OutDone} (token : ℕ) → ((n : ℕ) → Longer k (act n) (more n)) → Longer k (on_local s token act) (on_local t token more)
     local_longer token h = on_longer (object_of s (s.facts.slot_at token)) h
 
     value_longer : (token : ℕ) (of : Option ValueType) (x : ExprTree) → Longer k (value_set s token of x) (value_set t token of x)
     value_longer token (Some (type.Array size)) x =
-        seq k (local_longer token (zeroed_longer (want_of (s.facts.element_at token)))) (λ _. local_longer token (spell_longer (text_of s.facts x)))
+        seq k (local_longer token (zeroed_longer (want_of (s.facts.element_at token)))) (λ _. local_longer token (spell_longer (text_of_string s.facts x)))
     value_longer token (Some (type.Number kind)) x = scalar_longer token x
     value_longer token (Some (type.Pointer size)) x = scalar_longer token x
     value_longer token (Some type.Void) x = scalar_longer token x

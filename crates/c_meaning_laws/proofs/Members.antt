@@ -14,11 +14,11 @@ use Rattle.c_syntax.specs.ExprTree.{ExprTree, PostfixList}
 use Rattle.flow.specs.declared.site.Slot.{Slot}
 use Rattle.c_meaning.specs.Expressions.{Sense, postfixed, settled, spot}
 use Rattle.c_meaning.specs.Facts.{Setting}
-use Rattle.c_meaning.specs.Meaning.{behind, expr}
-use Rattle.c_meaning.specs.Places.{member_place, pointed, unless_zero}
+use Rattle.c_meaning.specs.Meaning.{expr, onward}
+use Rattle.c_meaning.specs.Places.{member_place, pointed_place, unless_zero}
 use Rattle.c_meaning.specs.Trees.{ends_as_place, is_place, postfix_token, token_of, type_of}
 use Rattle.c_meaning.specs.World.{World, Out, answered, bind}
-use Rattle.c_types_never_stuck.specs.Typed.{Typed, TypedPostfix, variable_named}
+use Rattle.c_meaning_laws.specs.Typed.{Typed, TypedPostfix, variable_named}
 use Rattle.c_meaning_laws.specs.Indexing.{followed, then_more}
 use Rattle.c_meaning_laws.specs.Members.{ArrowIsMember, TypedArrowMeets}
 use Rattle.c_meaning_laws.specs.Parentheses.{IsWritten, KeepsType}
@@ -36,7 +36,7 @@ module _ (rest : Scalar → World → Out Scalar) (offset : ℕ) (w : World) whe
   number_sought true kind n = refl
   number_sought false kind n = refl
 
-  pointer_sought : (q : Scalar) → sought q w ≡ bind (answered (pointed q) w) sought
+  pointer_sought : (q : Scalar) → sought q w ≡ bind (answered (pointed_place q) w) sought
   unfolding moved
   pointer_sought (Place number place) = refl
   pointer_sought Null = refl
@@ -44,7 +44,7 @@ module _ (rest : Scalar → World → Out Scalar) (offset : ℕ) (w : World) whe
   pointer_sought (Number kind n) = number_sought (is_zero n) kind n
 
 follows : (offset : Option ℕ) (rest : Scalar → World → Out Scalar) (q : Scalar) (w : World) → IsSome offset
-    → bind (member_place offset q w) rest ≡ bind (answered (pointed q) w) (λ p u. bind (member_place offset p u) rest)
+    → bind (member_place offset q w) rest ≡ bind (answered (pointed_place q) w) (λ p u. bind (member_place offset p u) rest)
 follows None rest q w known = absurd (false≢true known)
 follows (Some offset) rest q w known = pointer_sought rest offset w q
 
@@ -53,13 +53,13 @@ module _ (s : Setting) (arrow : ℕ) (name : List ℕ) where
       → IsWritten s.facts p left
       → reached s p (e.arrow arrow name more) w ≡ reached s (e.Paren paren (e.Prefix star prefix.Indirection left)) (e.member arrow name more) w
   arrow_found p left paren star more w keeps known l =
-      let rest : Scalar → World → Out Scalar = λ q u. bind (member_place (s.facts.offset_at arrow) q u) (behind s true (s.facts.type_at arrow) more) in
+      let rest : Scalar → World → Out Scalar = λ q u. bind (member_place (s.facts.offset_at arrow) q u) (onward s true (s.facts.type_at arrow) more) in
       bind_behind (spot (is_place p) (expr s p) w) (settled (is_place p) (type_of s.facts p)) _ rest (λ v u. refl)
       ∙ ap (λ out. bind out rest) (sym (value_settled s p w keeps))
-      ∙ bind_alike ((expr s p).value w) rest (λ v u. bind (answered (pointed v) u) rest)
-      (λ v u. follows (s.facts.offset_at arrow) (behind s true (s.facts.type_at arrow) more) v u known)
-      ∙ bind_behind ((expr s p).value w) (λ v u. answered (pointed v) u) _ rest (λ v u. refl)
-      ∙ ap (λ (m : Sense). bind (bind (m.value w) (λ v u. answered (pointed v) u)) rest) (sym (written s p left l).0)
+      ∙ bind_alike ((expr s p).value w) rest (λ v u. bind (answered (pointed_place v) u) rest)
+      (λ v u. follows (s.facts.offset_at arrow) (onward s true (s.facts.type_at arrow) more) v u known)
+      ∙ bind_behind ((expr s p).value w) (λ v u. answered (pointed_place v) u) _ rest (λ v u. refl)
+      ∙ ap (λ (m : Sense). bind (bind (m.value w) (λ v u. answered (pointed_place v) u)) rest) (sym (written s p left l).0)
 
   typed_offset : (count : ℕ) (operators more : PostfixList) (known : Bool) (named : Option Slot) (token : ℕ)
       → TypedPostfix s.facts s.sites count known named (s.facts.type_at token) (then_more operators (e.arrow arrow name more))

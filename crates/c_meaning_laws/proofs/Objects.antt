@@ -9,11 +9,11 @@ use Rattle.cbi_base.specs.declared.scalar.Scalar.{Scalar}
 use Rattle.cbi_base.specs.declared.scalar.Scalar.TheVariants.{Place}
 use Rattle.cbi_base.specs.declared.scalar.Want.{Want}
 use Rattle.cbi_base.specs.declared.trap.Trap.{Trap}
-use Rattle.cbi_base.specs.Objects.{Object, Objects, found, live_or, loaded, with_object, ◌>>=◌}
+use Rattle.cbi_base.specs.Objects.{Object, Objects, found_cell, live_or, loaded, with_object, ◌>>=◌}
 
 -- a load from what is found at an object's number
 abbrev pub load_in : Want → ℕ → Option Object → Result Scalar Trap
-load_in wanted place o = live_or o >>= λ object. found wanted (slice_get object.cells place)
+load_in wanted place o = live_or o >>= λ object. found_cell wanted (slice_get object.cells place)
 
 pub load_found : (wanted : Want) (number place : ℕ) (o : Objects) → loaded wanted (Place number place) o ≡ load_in wanted place (get o.live number)
 unfolding loaded

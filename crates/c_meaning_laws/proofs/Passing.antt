@@ -27,10 +27,10 @@ use Rattle.c_meaning.specs.Conversions.{handed, is_null_as}
 use Rattle.c_meaning.specs.Expressions.{Sense, handed_value, wanted_value}
 use Rattle.c_meaning.specs.Facts.{Setting, Signature}
 use Rattle.c_meaning.specs.Meaning.{arguments_value, expr, formatted, lone_value}
-use Rattle.c_meaning.specs.Places.{assigned, object_place, store_at, variable}
-use Rattle.c_meaning.specs.Runs.{Source, call_at, enter, gives_value, left, setting_of, value_left, variables_of}
+use Rattle.c_meaning.specs.Places.{assigned_at, object_place, store_at, variable}
+use Rattle.c_meaning.specs.Runs.{Source, call_at, enter_function, gives_value, left_function, locals_of, setting_of, value_left}
 use Rattle.c_meaning.specs.Trees.{called_as, count, has_value, type_of}
-use Rattle.c_meaning.specs.Visits.{listed, now_of, observed, visited, with_seen}
+use Rattle.c_meaning.specs.Visits.{listed, now_of, observed_value, visited, world_with_seen}
 use Rattle.c_meaning.specs.World.{World, Out, Go, Stop, Returned, answered, bind, choose, done, spend, stuck}
 use Rattle.c_meaning_laws.specs.Passing.{ArePassed, CallPassesArguments, MeansIn, ReturnIsAssigned, argument_as, body_of}
 use Rattle.c_meaning_laws.proofs.Frames.{body_begins_afresh}
@@ -127,13 +127,13 @@ module _ (src : Source) (turns number rest : ℕ) (f : Signature) (arguments : L
   -- the function is entered and left again
   abbrev passes : Option Signature → List Scalar → World → Out Scalar
   passes g vs z =
-      bind (enter src (call_at src turns) turns number g vs z) (λ flow y.
-      bind (value_left (number == src.main) (gives_value g) flow y) (left (variables_of g z)))
+      bind (enter_function src (call_at src turns) turns number g vs z) (λ flow y.
+      bind (value_left (number == src.main) (gives_value g) flow y) (left_function (locals_of g z)))
 
   entered : passes (src.facts.signature number) arguments spent ≡ body_of src turns number f objects spent
   entered =
       ap (λ g. passes g arguments spent) known
-      ∙ ap (λ out. bind out (λ flow y. bind (value_left (number == src.main) (has_value f.result) flow y) (left (variables_of (Some f) spent))))
+      ∙ ap (λ out. bind out (λ flow y. bind (value_left (number == src.main) (has_value f.result) flow y) (left_function (locals_of (Some f) spent))))
       (body_begins_afresh src (call_at src turns) turns number f arguments spent objects few made).0
 
   called : (vs : List Scalar) → reverse vs ≡ arguments → list_all is_defined vs ≡ true
@@ -193,22 +193,22 @@ module _ (s : Setting) (v : Scalar) where
   abbrev IsIt : Scalar → World → Type 0
   IsIt x w = x ≡ v
 
-  seen_is : (site : ℕ) (w : World) (answer : Result Seen Trap) → Ends IsIt (bind (answered answer w) (λ seen u. Go v (with_seen site seen u)))
+  seen_is : (site : ℕ) (w : World) (answer : Result Seen Trap) → Ends IsIt (bind (answered answer w) (λ seen u. Go v (world_with_seen site seen u)))
   seen_is site w (Ok seen) = refl
   seen_is site w (Err t) = tt
 
-  observed_is : (site : ℕ) (x : Scalar) (w : World) → x ≡ v → Ends IsIt (observed s site x w)
-  observed_is site x w h = subst (λ y. Ends IsIt (observed s site y w)) (sym h) (seen_is site w (looked (s.sites.site site) (now_of s.locals (v ∷ []) w)))
+  observed_is : (site : ℕ) (x : Scalar) (w : World) → x ≡ v → Ends IsIt (observed_value s site x w)
+  observed_is site x w h = subst (λ y. Ends IsIt (observed_value s site y w)) (sym h) (seen_is site w (looked (s.sites.site site) (now_of s.locals (v ∷ []) w)))
 
   visited_is : (sites : List ℕ) (x : Scalar) (w : World) → x ≡ v → Ends IsIt (visited s sites x w)
   visited_is [] x w h = h
-  visited_is (site ∷ more) x w h = ends_bind IsIt IsIt (observed s site x w) (visited s more) (observed_is site x w h) (visited_is more)
+  visited_is (site ∷ more) x w h = ends_bind IsIt IsIt (observed_value s site x w) (visited s more) (observed_is site x w h) (visited_is more)
 
   stored_is : (w : World) (answer : Result Objects Trap) → Ends IsIt (bind (answered answer w) (λ objects u. Go v (record u { objects = objects })))
   stored_is w (Ok objects) = refl
   stored_is w (Err t) = tt
 
-  assigned_is : (token : ℕ) (p : Scalar) (w : World) → Ends IsIt (assigned s token p v w)
+  assigned_is : (token : ℕ) (p : Scalar) (w : World) → Ends IsIt (assigned_at s token p v w)
   assigned_is token p w =
       ends_bind IsIt IsIt (store_at p v w) (visited s (s.sites.pairs_at token)) (stored_is w (stored p v w.objects)) (visited_is (s.sites.pairs_at token))
 
@@ -216,16 +216,16 @@ module _ (s : Setting) (token : ℕ) (v : Scalar) (u : World) where
   abbrev Gives : Out Scalar → Type 0
   Gives out = (y : World) × (bind out (λ x. Go (Returned (Some x))) ≡ Go (Returned (Some v)) y)
 
-  from_stored : (p : Scalar) (out : Out Scalar) → bind out (assigned s token p) ≡ Go v u → Gives out
-  from_stored p (Go x y) h = (y, ap (λ a. Go (Returned (Some a)) y) (sym (ends_go (IsIt s x) (assigned s token p x y) v u (assigned_is s x token p y) h)))
+  from_stored : (p : Scalar) (out : Out Scalar) → bind out (assigned_at s token p) ≡ Go v u → Gives out
+  from_stored p (Go x y) h = (y, ap (λ a. Go (Returned (Some a)) y) (sym (ends_go (IsIt s x) (assigned_at s token p x y) v u (assigned_is s x token p y) h)))
   from_stored p (Stop outcome y) h = cc
 
-  from_local : (at : Option ℕ) (m : World → Out Scalar) (w : World) → bind (object_place at w) (λ p z. bind (m z) (assigned s token p)) ≡ Go v u
+  from_local : (at : Option ℕ) (m : World → Out Scalar) (w : World) → bind (object_place at w) (λ p z. bind (m z) (assigned_at s token p)) ≡ Go v u
       → Gives (m w)
   from_local None m w h = cc
   from_local (Some n) m w h = from_stored (Place n 0) (m w) h
 
-  from_variable : (at : Option Slot) (m : World → Out Scalar) (w : World) → bind (variable s at w) (λ p z. bind (m z) (assigned s token p)) ≡ Go v u
+  from_variable : (at : Option Slot) (m : World → Out Scalar) (w : World) → bind (variable s at w) (λ p z. bind (m z) (assigned_at s token p)) ≡ Go v u
       → Gives (m w)
   from_variable None m w h = cc
   from_variable (Some (slot.Local index)) m w h = from_local (local_at index s.locals) m w h
@@ -235,4 +235,4 @@ pub return_is_assigned : ReturnIsAssigned
 return_is_assigned s n token equals at name result value v w u typed h =
     from_variable s equals v u (s.facts.slot_at at) (wanted_value (is_null_as (Some result) value) (type_of s.facts value) (Some result) (expr s value)) w
     (subst (λ of. bind (variable s (s.facts.slot_at at) w) (λ p z.
-    bind (wanted_value (is_null_as of value) (type_of s.facts value) of (expr s value) z) (assigned s equals p)) ≡ Go v u) typed h)
+    bind (wanted_value (is_null_as of value) (type_of s.facts value) of (expr s value) z) (assigned_at s equals p)) ≡ Go v u) typed h)

@@ -15,7 +15,7 @@ use Rattle.c_meaning.specs.Meaning.{expr}
 use Rattle.c_meaning.specs.Places.{object_place, variable}
 use Rattle.c_meaning.specs.Trees.{ends_as_place, is_place, type_of}
 use Rattle.c_meaning.specs.World.{World, Out, Go, bind}
-use Rattle.c_types_never_stuck.specs.Typed.{Typed}
+use Rattle.c_meaning_laws.specs.Typed.{Typed}
 use Rattle.c_meaning_laws.specs.Parentheses.{IsWritten, KeepsType}
 use Rattle.c_meaning_laws.proofs.Parts.{bind_go}
 

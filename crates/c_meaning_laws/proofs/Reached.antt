@@ -14,8 +14,8 @@ use Rattle.cbi_base.specs.declared.scalar.Scalar.TheVariants.{Number, Place, Nul
 use Rattle.cbi_base.specs.declared.scalar.Want.{Want}
 use Rattle.cbi_base.specs.declared.trap.Trap.TheVariants as trap
 use Rattle.cbi_base.specs.Frames.{filled_in}
-use Rattle.cbi_base.specs.Objects.{Object, Objects, allocated, found, has_room, is_heap_start, is_text, is_wanted, killed, live_or, loaded}
-use Rattle.cbi_base.specs.Objects.{made_with, moved, moved_in, one_more, place_or_null, released, set_in, stored, undefined_in, with_object, ◌>>=◌}
+use Rattle.cbi_base.specs.Objects.{Object, Objects, allocated, found_cell, has_room, is_heap_start, is_text, is_wanted, killed, live_or, loaded}
+use Rattle.cbi_base.specs.Objects.{made_with, moved, moved_in, one_object_more, place_or_null, released, set_in, stored, undefined_in, with_object, ◌>>=◌}
 use Rattle.c_syntax.specs.ExprTree as e
 use Rattle.c_syntax.specs.ExprTree.{ExprList}
 use Rattle.flow.specs.Now.{Locals}
@@ -123,7 +123,7 @@ module _ (hidden : ℕ → Bool) (first : Objects) where
   fresh_own : (n : ℕ) (o : Objects) → Stay o → o.made ≤ n → Own n
   fresh_own n o h le = not_same (hidden n) (λ k. (let low : n < o.made = h.apart.made n k in absurd (omega (arith, low, le))))
 
-  more_stays : (class : Class) (cells : List Scalar) (o : Objects) → AllByRecursion Elsewhere cells → Stay o → Stay (one_more class cells o)
+  more_stays : (class : Class) (cells : List Scalar) (o : Objects) → AllByRecursion Elsewhere cells → Stay o → Stay (one_object_more class cells o)
   more_stays class cells o h k =
       put_stays o (o.made + 1) o.made (record { class = class; cells = cells }) (omega arith) (fresh_own o.made o k (omega arith)) h k
 
@@ -132,7 +132,7 @@ module _ (hidden : ℕ → Bool) (first : Objects) where
   either_value true v h = h
   either_value false v h = tt
 
-  found_elsewhere : (wanted : Want) (cell : Option Scalar) → IfCell Elsewhere cell → Answers Elsewhere (found wanted cell)
+  found_elsewhere : (wanted : Want) (cell : Option Scalar) → IfCell Elsewhere cell → Answers Elsewhere (found_cell wanted cell)
   found_elsewhere wanted None h = tt
   found_elsewhere wanted (Some Undefined) h = tt
   found_elsewhere wanted (Some (Number kind value)) h = either_value (is_wanted wanted (Number kind value)) (Number kind value) h
@@ -147,7 +147,7 @@ module _ (hidden : ℕ → Bool) (first : Objects) where
   unfolding loaded
   loads_elsewhere wanted (Place number offset) o own h =
       answers_bind (λ object. AllByRecursion Elsewhere object.cells) Elsewhere (live_or (get o.live number))
-      (λ object. found wanted (slice_get object.cells offset))
+      (λ object. found_cell wanted (slice_get object.cells offset))
       (live_object (get o.live number) (cells_at o number h.apart own)) (λ object k.
       found_elsewhere wanted (slice_get object.cells offset) (cell_of Elsewhere object.cells offset k))
   loads_elsewhere wanted Undefined o own h = tt
@@ -216,7 +216,7 @@ module _ (hidden : ℕ → Bool) (first : Objects) where
   releases_stay (Place number offset) o own h = either_killed (is_heap_start offset (get o.live number)) number o own h
 
   either_made : (class : Class) (b : Bool) (cells : List Scalar) (o : Objects) → AllByRecursion Elsewhere cells → Stay o
-      → Made Stay (if b then Some (one_more class cells o) else None)
+      → Made Stay (if b then Some (one_object_more class cells o) else None)
   either_made class true cells o h k = more_stays class cells o h k
   either_made class false cells o h k = tt
 

@@ -13,7 +13,7 @@ use Rattle.c_meaning.specs.Meaning.{condition}
 use Rattle.c_meaning.specs.Runs.{Source, call_at, setting_of}
 use Rattle.c_meaning.specs.Statements.{after_body, after_entry, do_round, exec, exec_all, rounds, while_round}
 use Rattle.c_meaning.specs.World.{World, Out, Go, Stop, Flow, Next, Broken, Continued, Returned, bind, choose, spend}
-use Rattle.c_meaning_laws.specs.Rounds.{BlockIsEntries, DoIsFirstRound, WhileIsFirstRound, joined}
+use Rattle.c_meaning_laws.specs.Rounds.{BlockIsEntries, DoIsFirstRound, WhileIsFirstRound, joined_entries}
 use Rattle.c_meaning_laws.proofs.Longer.{Longer, cut, left_in}
 use Rattle.c_meaning_laws.proofs.LongerExpressions.{condition_longer}
 use Rattle.c_meaning_laws.proofs.LongerRuns.{call_grows}
@@ -123,10 +123,10 @@ after_alike (Returned v) m other h w = refl
 pub block_is_entries : BlockIsEntries
 block_is_entries s n result token tree.no_entries others w = refl
 block_is_entries s n result token (tree.declared d rest) others w =
-    sym (bind_behind (declares s d w) (λ _. exec_all s n result rest) (λ _. exec_all s n result (joined rest others))
+    sym (bind_behind (declares s d w) (λ _. exec_all s n result rest) (λ _. exec_all s n result (joined_entries rest others))
     (after_entry (exec_all s n result others)) (λ _ u. sym (block_is_entries s n result token rest others u)))
 block_is_entries s n result token (tree.stated x rest) others w =
     entry_next (exec s n result x w) (exec_all s n result rest) (exec_all s n result others)
     ∙ bind_alike (exec s n result x w) _ _ (λ flow u.
-    after_alike flow (λ y. bind (exec_all s n result rest y) (after_entry (exec_all s n result others))) (exec_all s n result (joined rest others))
+    after_alike flow (λ y. bind (exec_all s n result rest y) (after_entry (exec_all s n result others))) (exec_all s n result (joined_entries rest others))
     (block_is_entries s n result token rest others) u)

@@ -18,7 +18,7 @@ use Rattle.c_meaning.specs.Expressions.{Sense, spot, valued}
 use Rattle.c_meaning.specs.Facts.{Setting}
 use Rattle.c_meaning.specs.Meaning.{expr}
 use Rattle.c_meaning.specs.Operation.{operate, operation, type_given}
-use Rattle.c_meaning.specs.Places.{assigned, changed, one_beside, step, stepped, stepped_behind}
+use Rattle.c_meaning.specs.Places.{assigned_at, changed, one_beside, step_operation, stepped_behind, stepped_value}
 use Rattle.c_meaning.specs.Trees.{is_place, step_of, type_of}
 use Rattle.c_meaning.specs.World.{World, Out, Go, answered, bind, choose, done, nothing, stuck}
 use Rattle.c_meaning_laws.specs.Steps.{DecrementIsDifference, IncrementIsSum, StepBehindIsStep}
@@ -37,18 +37,18 @@ module _ (s : Setting) (is_up : Bool) (token : ℕ) where
   abbrev by_int : Option ValueType → Scalar → World → Out Scalar
   by_int of p w = changed s token of (operation (step_of is_up) of (Some (type.Number Int))) p (Number Int (pos 1)) w
 
-  unsigned_step : (b : Bool) (p : Scalar) (w : World) → b ≡ is_up → stepped s b token (Some (type.Number Unsigned)) p w
+  unsigned_step : (b : Bool) (p : Scalar) (w : World) → b ≡ is_up → stepped_value s b token (Some (type.Number Unsigned)) p w
       ≡ changed s token (Some (type.Number Unsigned)) (operation (step_of b) (Some (type.Number Unsigned)) (Some (type.Number Int))) p (Number Int (pos 1)) w
   unsigned_step true p w h =
       bind_alike (load_at (Some (type.Number Unsigned)) p w) _ _ (λ old u.
       ap (λ (r : Result Scalar Trap). bind (answered r u) (λ x y. bind (as_wanted (conversion (Some (type.Number Unsigned)) (Some (type.Number Unsigned))) x y)
-      (assigned s token p))) (unsigned_one true old u.objects))
+      (assigned_at s token p))) (unsigned_one true old u.objects))
   unsigned_step false p w h =
       bind_alike (load_at (Some (type.Number Unsigned)) p w) _ _ (λ old u.
       ap (λ (r : Result Scalar Trap). bind (answered r u) (λ x y. bind (as_wanted (conversion (Some (type.Number Unsigned)) (Some (type.Number Unsigned))) x y)
-      (assigned s token p))) (unsigned_one false old u.objects))
+      (assigned_at s token p))) (unsigned_one false old u.objects))
 
-  step_by_int : (of : Option ValueType) (p : Scalar) (w : World) → stepped s is_up token of p w ≡ by_int of p w
+  step_by_int : (of : Option ValueType) (p : Scalar) (w : World) → stepped_value s is_up token of p w ≡ by_int of p w
   step_by_int (Some (type.Number Unsigned)) p w = unsigned_step is_up p w refl
   step_by_int (Some (type.Number Int)) p w = refl
   step_by_int (Some (type.Number Char)) p w = refl
@@ -60,7 +60,7 @@ module _ (s : Setting) (is_up : Bool) (token : ℕ) where
 
   -- a step, and what an assignment by a value of this type does
   steps_sense : (x : ExprTree) (right : Option ValueType) → right ≡ Some (type.Number Int)
-      → valued (λ w. bind ((expr s x).place w) (stepped s is_up token (type_of s.facts x)))
+      → valued (λ w. bind ((expr s x).place w) (stepped_value s is_up token (type_of s.facts x)))
       ≡ valued (λ w. bind ((expr s x).place w) (λ p.
       changed s token (type_of s.facts x) (operation (step_of is_up) (type_of s.facts x) right) p (Number Int (pos 1))))
   steps_sense x right h =
@@ -69,13 +69,13 @@ module _ (s : Setting) (is_up : Bool) (token : ℕ) where
       ∙ ap (λ of. changed s token (type_of s.facts x) (operation (step_of is_up) (type_of s.facts x) of) p (Number Int (pos 1)) u) (sym h))))
 
   -- the old value given behind it is let go
-  behind_done : (of : Option ValueType) (p : Scalar) (w : World) → done (stepped_behind s is_up token of p w) ≡ done (stepped s is_up token of p w)
+  behind_done : (of : Option ValueType) (p : Scalar) (w : World) → done (stepped_behind s is_up token of p w) ≡ done (stepped_value s is_up token of p w)
   behind_done of p w =
-      let o : Operation = step s is_up of in
+      let o : Operation = step_operation is_up of in
       sym (bind_behind (load_at of p w) _ _ (λ _. nothing) (λ old u.
       bind_behind (answered (operate o old (one_beside s of) u.objects) u) _ _ (λ _. nothing) (λ x y.
       bind_behind (as_wanted (conversion (type_given o of) of) x y) _ _ (λ _. nothing) (λ z a.
-      bind_behind (assigned s token p z a) (λ _. Go old) (λ _. nothing) (λ _. nothing) (λ _ b. refl)))))
+      bind_behind (assigned_at s token p z a) (λ _. Go old) (λ _. nothing) (λ _. nothing) (λ _ b. refl)))))
       ∙ bind_behind (load_at of p w) _ _ (λ _. nothing) (λ old u.
       bind_behind (answered (operate o old (one_beside s of) u.objects) u) _ _ (λ _. nothing) (λ x y.
       bind_behind (as_wanted (conversion (type_given o of) of) x y) _ _ (λ _. nothing) (λ z a. refl)))
@@ -89,7 +89,7 @@ decrement_is_difference s token one x h = steps_sense s false token x (s.facts.t
 -- where the place is found, and what stands behind it
 reached_step : (s : Setting) (is_up : Bool) (token : ℕ) (x : ExprTree) (w : World) → is_place x ≡ true
     → done (bind (spot (is_place x) (expr s x) w) (λ v u. bind (choose (is_place x) (stepped_behind s is_up token (type_of s.facts x) v) stuck u) (λ y. Go y)))
-    ≡ done (bind ((expr s x).place w) (stepped s is_up token (type_of s.facts x)))
+    ≡ done (bind ((expr s x).place w) (stepped_value s is_up token (type_of s.facts x)))
 reached_step s is_up token x w is =
     ap (λ (b : Bool). done (bind (spot b (expr s x) w) (λ v u. bind (choose b (stepped_behind s is_up token (type_of s.facts x) v) stuck u) (λ y. Go y)))) is
     ∙ sym (bind_behind ((expr s x).place w) _ _ (λ _. nothing) (λ p u.

@@ -11,9 +11,9 @@ use Rattle.flow.specs.Rows.{moved_by}
 use Rattle.c_meaning.specs.declared.operation.Operation.TheVariants.{MoveLeft, MoveRight, Wrong}
 use Rattle.c_meaning.specs.declared.value_type.ValueType.{ValueType}
 use Rattle.c_meaning.specs.declared.value_type.ValueType.TheVariants as type
-use Rattle.c_meaning.specs.Conversions.{is_pointer}
-use Rattle.c_meaning.specs.Operation.{is_step, operation, operate}
-use Rattle.c_meaning.specs.Places.{pointed}
+use Rattle.c_meaning.specs.Conversions.{is_pointer_value}
+use Rattle.c_meaning.specs.Operation.{is_step_size, operation, operate}
+use Rattle.c_meaning.specs.Places.{pointed_place}
 use Rattle.c_meaning.specs.World.{World, Out, Go, Stop, answered, bind}
 
 -- a place, or a trap
@@ -68,7 +68,7 @@ left_place : (size : ℕ) (right : Option ValueType) (p x : Scalar) (o : Objects
 unfolding operate
 left_place size None p x o = tt
 left_place size (Some type.Void) p x o = tt
-left_place size (Some (type.Number kind)) p x o = left_moves (is_step size) size p x o
+left_place size (Some (type.Number kind)) p x o = left_moves (is_step_size size) size p x o
 left_place size (Some (type.Pointer other)) p x o = tt
 left_place size (Some (type.Array other)) p x o = tt
 left_place size (Some type.Struct) p x o = tt
@@ -78,12 +78,12 @@ right_place : (size : ℕ) (left : Option ValueType) (p x : Scalar) (o : Objects
 unfolding operate
 right_place size None p x o = tt
 right_place size (Some type.Void) p x o = tt
-right_place size (Some (type.Number kind)) p x o = right_moves (is_step size) size p x o
+right_place size (Some (type.Number kind)) p x o = right_moves (is_step_size size) size p x o
 right_place size (Some (type.Pointer other)) p x o = tt
 right_place size (Some (type.Array other)) p x o = tt
 right_place size (Some type.Struct) p x o = tt
 
-by_left : (left right : Option ValueType) → is_pointer left ≡ true → (p x : Scalar) (o : Objects) → GivesPlace (operate (operation op.Add left right) p x o)
+by_left : (left right : Option ValueType) → is_pointer_value left ≡ true → (p x : Scalar) (o : Objects) → GivesPlace (operate (operation op.Add left right) p x o)
 by_left None right h p x o = cc
 by_left (Some type.Void) right h p x o = cc
 by_left (Some (type.Number kind)) right h p x o = cc
@@ -91,7 +91,7 @@ by_left (Some (type.Pointer size)) right h p x o = left_place size right p x o
 by_left (Some (type.Array size)) right h p x o = left_place size right p x o
 by_left (Some type.Struct) right h p x o = cc
 
-by_right : (left right : Option ValueType) → is_pointer right ≡ true → (p x : Scalar) (o : Objects) → GivesPlace (operate (operation op.Add left right) p x o)
+by_right : (left right : Option ValueType) → is_pointer_value right ≡ true → (p x : Scalar) (o : Objects) → GivesPlace (operate (operation op.Add left right) p x o)
 by_right left None h p x o = cc
 by_right left (Some type.Void) h p x o = cc
 by_right left (Some (type.Number kind)) h p x o = cc
@@ -99,13 +99,13 @@ by_right left (Some (type.Pointer size)) h p x o = right_place size left p x o
 by_right left (Some (type.Array size)) h p x o = right_place size left p x o
 by_right left (Some type.Struct) h p x o = cc
 
-pub sum_place : (left right : Option ValueType) → (is_pointer left ≡ true) ⊎ (is_pointer right ≡ true) → (p x : Scalar) (o : Objects)
+pub sum_place : (left right : Option ValueType) → (is_pointer_value left ≡ true) ⊎ (is_pointer_value right ≡ true) → (p x : Scalar) (o : Objects)
     → GivesPlace (operate (operation op.Add left right) p x o)
 sum_place left right (inl h) p x o = by_left left right h p x o
 sum_place left right (inr h) p x o = by_right left right h p x o
 
 sum_end : (r : Result Scalar Trap) (w : World) → GivesPlace r
-    → bind (answered r w) (λ v. Go v) ≡ bind (bind (answered r w) (λ v. Go v)) (λ v u. answered (pointed v) u)
+    → bind (answered r w) (λ v. Go v) ≡ bind (bind (answered r w) (λ v. Go v)) (λ v u. answered (pointed_place v) u)
 sum_end (Err t) w h = refl
 sum_end (Ok (Place number offset)) w h = refl
 sum_end (Ok (Number kind value)) w h = absurd h
@@ -115,13 +115,13 @@ sum_end (Ok Undefined) w h = absurd h
 module _ (value : World → Out Scalar) (r : Scalar → Scalar → Objects → Result Scalar Trap) (h : (p x : Scalar) (o : Objects) → GivesPlace (r p x o)) where
   right_end : (p : Scalar) (out : Out Scalar)
       → bind out (λ x y. bind (answered (r p x y.objects) y) (λ v. Go v))
-      ≡ bind (bind (bind out (λ x y. answered (r p x y.objects) y)) (λ v. Go v)) (λ v u. answered (pointed v) u)
+      ≡ bind (bind (bind out (λ x y. answered (r p x y.objects) y)) (λ v. Go v)) (λ v u. answered (pointed_place v) u)
   right_end p (Go x w) = sum_end (r p x w.objects) w (h p x w.objects)
   right_end p (Stop outcome w) = refl
 
   -- the sum of what stands left and of what stands right is a place
   pub points : (out : Out Scalar)
       → bind out (λ p u. bind (value u) (λ x y. bind (answered (r p x y.objects) y) (λ v. Go v)))
-      ≡ bind (bind out (λ p u. bind (bind (value u) (λ x y. answered (r p x y.objects) y)) (λ v. Go v))) (λ v u. answered (pointed v) u)
+      ≡ bind (bind out (λ p u. bind (bind (value u) (λ x y. answered (r p x y.objects) y)) (λ v. Go v))) (λ v u. answered (pointed_place v) u)
   points (Go p w) = right_end p (value w)
   points (Stop outcome w) = refl

@@ -14,21 +14,21 @@ use Rattle.c_meaning.specs.declared.value_type.ValueType.{ValueType}
 use Rattle.c_meaning.specs.declared.value_type.ValueType.TheVariants as type
 use Rattle.c_meaning.specs.Facts.{Setting, Signature}
 use Rattle.c_meaning.specs.Expressions.{placed, postfixed, spot}
-use Rattle.c_meaning.specs.Meaning.{behind, expr}
-use Rattle.c_meaning.specs.Places.{pointed}
+use Rattle.c_meaning.specs.Meaning.{expr, onward}
+use Rattle.c_meaning.specs.Places.{pointed_place}
 use Rattle.c_meaning.specs.Runs.{call_at, setting_of}
 use Rattle.c_meaning.specs.Trees.{is_place, type_of}
 use Rattle.c_meaning.specs.World.{World, Out, Go, Stop, Returned, answered, bind}
-use Rattle.c_types_never_stuck.specs.Rules.{IsValue}
-use Rattle.c_types_never_stuck.specs.Typed.{variable_named}
-use Rattle.c_types_never_stuck.specs.TypedSource.{GivesInt, TypedBody, without_sites}
-use Rattle.c_types_never_stuck.specs.TypedStatements.{TypedEntries}
-use Rattle.c_types_never_stuck.proofs.Expressions.{expr_safe}
-use Rattle.c_types_never_stuck.proofs.Runs.{calls_safe}
-use Rattle.c_types_never_stuck.proofs.Safe.{Ending}
-use Rattle.c_types_never_stuck.proofs.Statements.{FlowFits, entries_safe}
-use Rattle.c_types_never_stuck.proofs.Values.{Fits, IsAt}
-use Rattle.c_types_never_stuck.proofs.Visits.{Spot, spot_at}
+use Rattle.c_meaning_laws.specs.Rules.{IsValue}
+use Rattle.c_meaning_laws.specs.Typed.{variable_named}
+use Rattle.c_meaning_laws.specs.TypedSource.{GivesInt, TypedBody, without_sites}
+use Rattle.c_meaning_laws.specs.TypedStatements.{TypedEntries}
+use Rattle.c_meaning_laws.proofs.Expressions.{expr_safe}
+use Rattle.c_meaning_laws.proofs.Runs.{calls_safe}
+use Rattle.c_meaning_laws.proofs.Safe.{Ending}
+use Rattle.c_meaning_laws.proofs.Statements.{FlowFits, entries_safe}
+use Rattle.c_meaning_laws.proofs.Values.{Fits, IsAt}
+use Rattle.c_meaning_laws.proofs.Visits.{Spot, spot_at}
 use Rattle.c_meaning_laws.specs.Addresses.{TargetOfAddressIsPlace}
 use Rattle.c_meaning_laws.specs.Exits.{TypedMainMeets, main_body}
 use Rattle.c_meaning_laws.specs.Negation.{IsOf, TypedValueMeets}
@@ -84,20 +84,20 @@ place_sense s (e.Name token name) is keeps = refl
 place_sense s (e.Prefix token prefix.Indirection operand) is keeps = refl
 place_sense s (e.Postfix primary operators) is keeps =
     let of : Option ValueType = type_of s.facts (e.Postfix primary operators) in
-    let m : World → Out Scalar = λ w. bind (spot (is_place primary) (expr s primary) w) (behind s (is_place primary) (type_of s.facts primary) operators) in
+    let m : World → Out Scalar = λ w. bind (spot (is_place primary) (expr s primary) w) (onward s (is_place primary) (type_of s.facts primary) operators) in
     ap (λ b. postfixed b of m) is ∙ ap (λ b. placed of (postfixed b of m).place) (sym is)
 place_sense s (e.Paren token inner) is keeps =
     place_sense s inner is keeps.1 ∙ ap (λ of. placed of (expr s inner).place) (sym keeps.0)
 place_sense s x is keeps = absurd (false≢true is)
 
 -- a place is what `*` goes on with
-at_pointed : (v : Scalar) (w : World) → IsAt v → answered (pointed v) w ≡ Go v w
+at_pointed : (v : Scalar) (w : World) → IsAt v → answered (pointed_place v) w ≡ Go v w
 at_pointed (Place number offset) w h = refl
 at_pointed Undefined w h = absurd h
 at_pointed Null w h = absurd h
 at_pointed (Number kind n) w h = absurd h
 
-followed_place : (P : Scalar → Type 0) (out : Out Scalar) → ((v : Scalar) → P v → IsAt v) → Ending P out → bind out (λ v u. answered (pointed v) u) ≡ out
+followed_place : (P : Scalar → Type 0) (out : Out Scalar) → ((v : Scalar) → P v → IsAt v) → Ending P out → bind out (λ v u. answered (pointed_place v) u) ≡ out
 followed_place P (Go v w) f h = at_pointed v w (f v h)
 followed_place P (Stop outcome w) f h = refl
 

@@ -10,7 +10,7 @@ use Rattle.cbi_base.specs.declared.scalar.Scalar.TheVariants.{Place, Undefined}
 use Rattle.cbi_base.specs.declared.scalar.Want.{Want}
 use Rattle.cbi_base.specs.declared.scalar.Want.TheVariants as want
 use Rattle.cbi_base.specs.declared.trap.Trap.TheVariants as trap
-use Rattle.cbi_base.specs.Objects.{Object, Objects, found, loaded, undefined_in}
+use Rattle.cbi_base.specs.Objects.{Object, Objects, found_cell, loaded, undefined_in}
 use Rattle.c_syntax.specs.StatementTree.{InitialTree, StartTree}
 use Rattle.c_meaning.specs.declared.value_type.ValueType.{ValueType}
 use Rattle.c_meaning.specs.declared.value_type.ValueType.TheVariants as type
@@ -18,7 +18,7 @@ use Rattle.c_meaning.specs.Conversions.{load_at}
 use Rattle.c_meaning.specs.Facts.{Setting}
 use Rattle.c_meaning.specs.Initialisers.{all_started, clear, declares, initialised, object_of, on_object, started}
 use Rattle.c_meaning.specs.World.{World, Stop, answered, bind}
-use Rattle.c_types_never_stuck.specs.Rules.{IsScalar}
+use Rattle.c_meaning_laws.specs.Rules.{IsScalar}
 use Rattle.c_meaning_laws.specs.Declared.{AreBare, DeclaredHoldsNothing, HoldsNothing, ReadIsMet}
 use Rattle.c_meaning_laws.proofs.Objects.{cell_within, load_found, load_in, put_found}
 use Rattle.c_meaning_laws.proofs.Parts.{Ends, anything, bind_go, ends_bind, ends_go}
@@ -56,19 +56,19 @@ stays_blank o number other (Some object) h =
     subst IsBlank (sym (get-insert nat_cmp_total o.live other (record object { cells = map blank object.cells }) number))
     (either_blank (eq_by_cmp nat_cmp number other) object (get o.live number) h)
 
-no_cell : (wanted : Want) (c : Option Scalar) (v : Scalar) → found wanted (option_map blank c) ≡ Ok v → ⊥
+no_cell : (wanted : Want) (c : Option Scalar) (v : Scalar) → found_cell wanted (option_map blank c) ≡ Ok v → ⊥
 no_cell wanted None v h = cc
 no_cell wanted (Some x) v h = cc
 
 no_load : (wanted : Want) (place : ℕ) (at : Option Object) (v : Scalar) → IsBlank at → load_in wanted place at ≡ Ok v → ⊥
 no_load wanted place None v h e = cc
-no_load wanted place (Some object) v h e = no_cell wanted (slice_get object.cells place) v (ap (found wanted) (sym (h place)) ∙ e)
+no_load wanted place (Some object) v h e = no_cell wanted (slice_get object.cells place) v (ap (found_cell wanted) (sym (h place)) ∙ e)
 
 load_traps : (wanted : Want) (place : ℕ) (at : Option Object) (object : Object) → IsBlank at → at ≡ Some object → place < length object.cells
     → load_in wanted place at ≡ Err trap.Undefined
 load_traps wanted place at object h e within =
     let blanks : IsBlank (Some object) = subst IsBlank e h in
-    ap (load_in wanted place) e ∙ ap (found wanted) (blanks place ∙ cell_within Undefined object.cells place within)
+    ap (load_in wanted place) e ∙ ap (found_cell wanted) (blanks place ∙ cell_within Undefined object.cells place within)
 
 blank_holds : (number : ℕ) (o : Objects) → IsBlank (get o.live number) → HoldsNothing number o
 blank_holds number o h = record {

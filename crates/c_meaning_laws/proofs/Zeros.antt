@@ -11,10 +11,10 @@ use Rattle.cbi_base.specs.declared.scalar.Want.TheVariants as want
 use Rattle.cbi_base.specs.declared.trap.Trap.{Trap}
 use Rattle.cbi_base.specs.declared.trap.Trap.TheVariants as trap
 use Rattle.cbi_base.specs.Frames.{filled, filled_in}
-use Rattle.cbi_base.specs.Objects.{Object, Objects, found, live_or, loaded, moved, moved_in, set_in, stored, with_object, ◌>>=◌}
+use Rattle.cbi_base.specs.Objects.{Object, Objects, found_cell, live_or, loaded, moved, moved_in, set_in, stored, with_object, ◌>>=◌}
 use Rattle.c_syntax.specs.ExprTree as e
 use Rattle.c_syntax.specs.ExprTree.{ExprTree, ExprList}
-use Rattle.flow.specs.Rows.{zero_of}
+use Rattle.flow.specs.Rows.{zero_value}
 use Rattle.c_meaning.specs.declared.value_type.ValueType.{ValueType}
 use Rattle.c_meaning.specs.Conversions.{as_wanted, conversion, converts, is_null_as}
 use Rattle.c_meaning.specs.Expressions.{wanted_value}
@@ -32,7 +32,7 @@ use Rattle.c_meaning_laws.proofs.Places.{variable_found}
 zero_plus : (n : ℕ) → pos 0 +ℤ pos n ≡ pos n
 zero_plus n = omega (arith, ints)
 
-zero_found : (wanted : Want) → found wanted (Some (zero_of wanted)) ≡ Ok (zero_of wanted)
+zero_found : (wanted : Want) → found_cell wanted (Some (zero_value wanted)) ≡ Ok (zero_value wanted)
 zero_found (want.Number kind.Char) = refl
 zero_found (want.Number kind.Int) = refl
 zero_found (want.Number kind.Unsigned) = refl
@@ -41,12 +41,12 @@ zero_found want.Pointer = refl
 module _ (s : Setting) (token : ℕ) (wanted : Want) (number place : ℕ) where
   -- a load of the cell gives zero
   abbrev IsZero : Objects → Type 0
-  IsZero o = loaded wanted (Place number place) o ≡ Ok (zero_of wanted)
+  IsZero o = loaded wanted (Place number place) o ≡ Ok (zero_value wanted)
 
   abbrev Kept : {A : Type 0} → A → World → Type 0
   Kept x w = IsZero w.objects
 
-  put_load : (o : Objects) (object : Object) → loaded wanted (Place number place) (with_object o number object) ≡ found wanted (slice_get object.cells place)
+  put_load : (o : Objects) (object : Object) → loaded wanted (Place number place) (with_object o number object) ≡ found_cell wanted (slice_get object.cells place)
   put_load o object =
       load_found wanted number place (with_object o number object) ∙ ap (load_in wanted place) (put_found o number object)
 
@@ -56,14 +56,14 @@ module _ (s : Setting) (token : ℕ) (wanted : Want) (number place : ℕ) where
   StoredZero (Err t) = Unit {0}
 
   set_keeps : (b c : Bool) (index : ℕ) (v : Scalar) (o : Objects) (object : Object) → (index ≡ place → ⊥)
-      → found wanted (slice_get object.cells place) ≡ Ok (zero_of wanted)
+      → found_cell wanted (slice_get object.cells place) ≡ Ok (zero_value wanted)
       → StoredZero (cond b (cond c (Err trap.ReadOnly) (Ok (with_object o number (record object { cells = slice_set object.cells index v })))) (Err trap.Bounds))
   set_keeps true true index v o object other h = tt
   set_keeps true false index v o object other h =
-      put_load o (record object { cells = slice_set object.cells index v }) ∙ ap (found wanted) (set_elsewhere object.cells index place v other) ∙ h
+      put_load o (record object { cells = slice_set object.cells index v }) ∙ ap (found_cell wanted) (set_elsewhere object.cells index place v other) ∙ h
   set_keeps false c index v o object other h = tt
 
-  found_keeps : (index : ℕ) (v : Scalar) (o : Objects) (at : Option Object) → (index ≡ place → ⊥) → load_in wanted place at ≡ Ok (zero_of wanted)
+  found_keeps : (index : ℕ) (v : Scalar) (o : Objects) (at : Option Object) → (index ≡ place → ⊥) → load_in wanted place at ≡ Ok (zero_value wanted)
       → StoredZero (live_or at >>= set_in number index v o)
   found_keeps index v o None other h = tt
   found_keeps index v o (Some object) other h = set_keeps _ _ index v o object other h
@@ -142,16 +142,16 @@ module _ (s : Setting) (token : ℕ) (wanted : Want) (number place : ℕ) where
       (λ y u k. elements_keep (suc index) rest u local (omega (arith, low)) (leave.1 u k.1) k.0)
 
   -- all cells are zero first
-  zero_first : (o : Objects) (object : Object) → get o.live number ≡ Some object → place < length object.cells → IsZero (filled number (zero_of wanted) o)
+  zero_first : (o : Objects) (object : Object) → get o.live number ≡ Some object → place < length object.cells → IsZero (filled number (zero_value wanted) o)
   zero_first o object live within =
-      subst (λ (at : Option Object). IsZero (filled_in o number (zero_of wanted) at)) (sym live)
-      (put_load o (record object { cells = map (λ _. zero_of wanted) object.cells })
-      ∙ ap (found wanted) (slice_get-map (λ _. zero_of wanted) object.cells place ∙ cell_within (zero_of wanted) object.cells place within)
+      subst (λ (at : Option Object). IsZero (filled_in o number (zero_value wanted) at)) (sym live)
+      (put_load o (record object { cells = map (λ _. zero_value wanted) object.cells })
+      ∙ ap (found_cell wanted) (slice_get-map (λ _. zero_value wanted) object.cells place ∙ cell_within (zero_value wanted) object.cells place within)
       ∙ zero_found wanted)
 
 pub list_leaves_zero : ListLeavesZero
 list_leaves_zero s token at number place items comma wanted object w u local is live low within leave e =
-    let start : World = record w { objects = filled number (zero_of wanted) w.objects } in
+    let start : World = record w { objects = filled number (zero_value wanted) w.objects } in
     let begun : elements_set s token 0 items start ≡ Go tt u =
     subst (λ kind. bind (zeroed kind number w) (λ _. elements_set s token 0 items) ≡ Go tt u) is
     (subst (λ o. bind (on_object o (zeroed (want_of (s.facts.element_at token))) w) (λ _. elements_set s token 0 items) ≡ Go tt u) local e)

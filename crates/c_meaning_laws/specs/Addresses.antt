@@ -11,9 +11,9 @@ use Rattle.c_meaning.specs.Meaning.{expr}
 use Rattle.c_meaning.specs.Runs.{Source, call_at, setting_of}
 use Rattle.c_meaning.specs.Trees.{is_place, type_of}
 use Rattle.c_meaning.specs.World.{World, Go}
-use Rattle.c_types_never_stuck.specs.Typed.{Typed}
-use Rattle.c_types_never_stuck.specs.TypedSource.{SourceFits}
-use Rattle.c_meaning_laws.specs.Indexing.{HasPointer, indexed}
+use Rattle.c_meaning_laws.specs.Typed.{Typed}
+use Rattle.c_meaning_laws.specs.TypedSource.{SourceFits}
+use Rattle.c_meaning_laws.specs.Indexing.{HasPointer, indexed_tree}
 use Rattle.c_meaning_laws.specs.Parentheses.{IsWritten, KeepsType}
 
 -- `&a[i]` means what `a + i` means, whatever a and i do: the same pointer in the same state, or the same trap, also for what it does alone. Each of a
@@ -22,7 +22,7 @@ abbrev pub AddressOfIndexIsSum : Type 0
 AddressOfIndexIsSum =
     (s : Setting) (address bracket level plus : ℕ) (a i left right : ExprTree) → KeepsType s.facts a → HasPointer s.facts a i →
     IsWritten s.facts a left → IsWritten s.facts i right →
-    expr s (e.Prefix address prefix.Address (indexed a bracket i)) ≡ expr s (e.Chain level left (e.more_links plus sign.Plus right e.no_links))
+    expr s (e.Prefix address prefix.Address (indexed_tree a bracket i)) ≡ expr s (e.Chain level left (e.more_links plus sign.Plus right e.no_links))
 
 -- Where `p` leads to an object, `&*p` gives what `p` gives, in the same state.
 abbrev pub AddressOfTargetIsPointer : Type 0

@@ -9,8 +9,8 @@ use Rattle.c_meaning.specs.Facts.{Setting}
 use Rattle.c_meaning.specs.Meaning.{expr}
 use Rattle.c_meaning.specs.Runs.{Source, call_at, setting_of}
 use Rattle.c_meaning.specs.World.{World, Go}
-use Rattle.c_types_never_stuck.specs.Typed.{Typed}
-use Rattle.c_types_never_stuck.specs.TypedSource.{SourceFits}
+use Rattle.c_meaning_laws.specs.Typed.{Typed}
+use Rattle.c_meaning_laws.specs.TypedSource.{SourceFits}
 
 -- In a function of a text whose types fit: what `x = value`, or `x op= value`, gives is what x gives behind it.
 abbrev pub AssignmentIsRead : Type 0

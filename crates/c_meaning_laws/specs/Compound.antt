@@ -12,7 +12,7 @@ use Rattle.c_meaning.specs.Meaning.{expr}
 use Rattle.c_meaning.specs.Operation.{operation, type_given}
 use Rattle.c_meaning.specs.Trees.{is_place, type_of}
 use Rattle.c_meaning.specs.World.{World, Out, Go, Stop}
-use Rattle.c_types_never_stuck.specs.Typed.{Typed}
+use Rattle.c_meaning_laws.specs.Typed.{Typed}
 use Rattle.c_meaning_laws.specs.Parentheses.{IsWritten, KeepsType}
 
 -- `x = x op value`

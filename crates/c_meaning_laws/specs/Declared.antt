@@ -13,7 +13,7 @@ use Rattle.c_meaning.specs.Facts.{Setting}
 use Rattle.c_meaning.specs.Initialisers.{declares, object_of}
 use Rattle.c_meaning.specs.Meaning.{expr}
 use Rattle.c_meaning.specs.World.{World, Go, Stop}
-use Rattle.c_types_never_stuck.specs.Rules.{IsScalar}
+use Rattle.c_meaning_laws.specs.Rules.{IsScalar}
 
 -- an object that holds nothing: no load from it gives a value, and a load from one of its cells meets an undefined one
 pub record HoldsNothing (number : ℕ) (o : Objects) : Type 0 where

@@ -11,8 +11,8 @@ use Rattle.c_meaning.specs.Meaning.{expr}
 use Rattle.c_meaning.specs.Statements.{exec}
 use Rattle.c_meaning.specs.Trees.{type_of}
 use Rattle.c_meaning.specs.World.{World, Go, Next, bind}
-use Rattle.c_types_never_stuck.specs.Rules.{IsValue}
-use Rattle.c_types_never_stuck.specs.Typed.{Typed}
+use Rattle.c_meaning_laws.specs.Rules.{IsValue}
+use Rattle.c_meaning_laws.specs.Typed.{Typed}
 
 -- `(void)(x)`
 abbrev pub to_void : ℕ → ℕ → ℕ → ExprTree → ExprTree

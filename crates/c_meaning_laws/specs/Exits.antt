@@ -13,12 +13,12 @@ use Rattle.flow.specs.Machine.{each_made}
 use Rattle.flow.specs.Now.{Locals}
 use Rattle.c_meaning.specs.declared.value_type.ValueType.TheVariants as type
 use Rattle.c_meaning.specs.Facts.{Facts, Signature}
-use Rattle.c_meaning.specs.Runs.{Behaviour, Source, beginning, behaves, call_at, inside, locals_at, meaning, setting_of, value_left}
+use Rattle.c_meaning.specs.Runs.{Behaviour, Source, behaves, call_at, first_world, inside, locals_at, meaning, setting_of, value_left}
 use Rattle.c_meaning.specs.Statements.{exec_all}
 use Rattle.c_meaning.specs.Trees.{type_of}
 use Rattle.c_meaning.specs.World.{World, Out, Go, Flow, Returned, bind}
-use Rattle.c_types_never_stuck.specs.Rules.{IsNumber}
-use Rattle.c_types_never_stuck.specs.TypedSource.{SourceFits}
+use Rattle.c_meaning_laws.specs.Rules.{IsNumberType}
+use Rattle.c_meaning_laws.specs.TypedSource.{SourceFits}
 use Rattle.c_meaning_laws.specs.Negation.{IsOf}
 
 -- `exit(v)`
@@ -29,7 +29,7 @@ exit_with name v = e.Call name (codes "exit") (e.more_exprs v e.no_exprs)
 abbrev mutual
   pub IsExited : Facts → StatementTree → StatementTree → Type 0
   IsExited facts (tree.Return token (Some v)) y = (y ≡ tree.Return token (Some v))
-      ⊎ ((other name : ℕ) × (y ≡ tree.Expr other (exit_with name v)) × (facts.function_at name ≡ None) × IsNumber (type_of facts v))
+      ⊎ ((other name : ℕ) × (y ≡ tree.Expr other (exit_with name v)) × (facts.function_at name ≡ None) × IsNumberType (type_of facts v))
   IsExited facts (tree.Block token entries) y = (others : EntryList) × (y ≡ tree.Block token others) × AreExited facts entries others
   IsExited facts (tree.If token c first) y = (other : StatementTree) × (y ≡ tree.If token c other) × IsExited facts first other
   IsExited facts (tree.IfElse token c first second) y =
@@ -70,7 +70,7 @@ RunIsOfMain =
     (src : Source) (input : List ℕ) (turns : ℕ) (f : Signature) (body : EntryList) (made : List Object) (objects entered : Objects) →
     src.facts.signature src.main ≡ Some f → f.result ≡ type.Number Int → src.body src.main ≡ Some body → src.objects ≡ Some made →
     each_made made no_objects ≡ Some objects → all_made (first_cells [] f.locals) objects ≡ Some entered →
-    let w : World = beginning objects input turns in
+    let w : World = first_world objects input turns in
     meaning src input turns ≡ main_run src turns (locals_at f w) body (inside entered w)
 
 -- In a text whose types fit, what the body of `main` returns is an `int`, if a number that it returns lies in its kind's range.

@@ -9,7 +9,7 @@ use Rattle.cbi_base.specs.Objects.{Objects}
 use Rattle.flow.specs.Limits.{active_limit}
 use Rattle.flow.specs.Now.{local_at}
 use Rattle.c_meaning.specs.Facts.{Signature}
-use Rattle.c_meaning.specs.Runs.{Source, call_at, enter, inside, locals_at, run_body}
+use Rattle.c_meaning.specs.Runs.{Source, call_at, enter_function, inside, locals_at, run_body}
 use Rattle.c_meaning.specs.World.{World, Caller, Go}
 
 -- The variables of a function that is entered with these arguments are objects made now, in their order: a parameter holds its argument, and the others
@@ -27,7 +27,7 @@ abbrev pub BodyBeginsAfresh : Type 0
 BodyBeginsAfresh =
     (src : Source) (call : Caller) (turns number : ℕ) (f : Signature) (arguments : List Scalar) (w : World) (objects : Objects) → w.active < active_limit →
     all_made (first_cells arguments f.locals) w.objects ≡ Some objects →
-    (enter src call turns number (Some f) arguments w ≡ run_body src call turns f (locals_at f w) (src.body number) (inside objects w))
+    (enter_function src call turns number (Some f) arguments w ≡ run_body src call turns f (locals_at f w) (src.body number) (inside objects w))
     × HasOwnVariables f arguments w.objects objects
     × ((index : ℕ) → index < length f.locals → local_at index (locals_at f w) ≡ Some (w.objects.made + index))
 

@@ -4,12 +4,12 @@ use Rattle.c_syntax.specs.declared.expr.PrefixOperator.TheVariants as prefix
 use Rattle.c_syntax.specs.declared.token.Sign.TheVariants as sign
 use Rattle.c_syntax.specs.ExprTree as e
 use Rattle.c_syntax.specs.ExprTree.{ExprTree, PostfixList}
-use Rattle.c_meaning.specs.Conversions.{is_pointer}
+use Rattle.c_meaning.specs.Conversions.{is_pointer_value}
 use Rattle.c_meaning.specs.Facts.{Facts, Setting}
 use Rattle.c_meaning.specs.Meaning.{expr}
 use Rattle.c_meaning.specs.Trees.{type_of}
 use Rattle.c_meaning.specs.World.{World}
-use Rattle.c_types_never_stuck.specs.Typed.{Typed}
+use Rattle.c_meaning_laws.specs.Typed.{Typed}
 use Rattle.c_meaning_laws.specs.Parentheses.{IsWritten, KeepsType}
 
 -- postfix operators, and others behind them
@@ -27,8 +27,8 @@ followed (e.Postfix primary operators) more = e.Postfix primary (then_more opera
 followed x more = e.Postfix x more
 
 -- `a[i]`
-abbrev pub indexed : ExprTree → ℕ → ExprTree → ExprTree
-indexed a bracket i = followed a (e.index bracket i e.no_postfix)
+abbrev pub indexed_tree : ExprTree → ℕ → ExprTree → ExprTree
+indexed_tree a bracket i = followed a (e.index bracket i e.no_postfix)
 
 -- `*(a + i)`
 abbrev pub at_sum : ℕ → ℕ → ℕ → ExprTree → ExprTree → ExprTree
@@ -36,20 +36,20 @@ at_sum star paren plus a i = e.Prefix star prefix.Indirection (e.Paren paren (e.
 
 -- one of the two is a pointer, or an array, which is one where its value is used (C99 6.5.2.1p1)
 abbrev pub HasPointer : Facts → ExprTree → ExprTree → Type 0
-HasPointer facts a i = (is_pointer (type_of facts a) ≡ true) ⊎ (is_pointer (type_of facts i) ≡ true)
+HasPointer facts a i = (is_pointer_value (type_of facts a) ≡ true) ⊎ (is_pointer_value (type_of facts i) ≡ true)
 
 -- `a[i]` finds what `*(a + i)` finds, where a and i may stand within parentheses: the same place in the same state, or the same end of the run.
 abbrev pub IndexIsPlaceOfSum : Type 0
 IndexIsPlaceOfSum =
     (s : Setting) (bracket star paren plus : ℕ) (a i left right : ExprTree) (w : World) → KeepsType s.facts a → HasPointer s.facts a i →
-    IsWritten s.facts a left → IsWritten s.facts i right → (expr s (indexed a bracket i)).place w ≡ (expr s (at_sum star paren plus left right)).place w
+    IsWritten s.facts a left → IsWritten s.facts i right → (expr s (indexed_tree a bracket i)).place w ≡ (expr s (at_sum star paren plus left right)).place w
 
 -- Where both have one type, they mean the same: as values, as places, and for what they do alone.
 abbrev pub IndexMeansSum : Type 0
 IndexMeansSum =
     (s : Setting) (bracket star paren plus : ℕ) (a i left right : ExprTree) → KeepsType s.facts a → HasPointer s.facts a i →
     IsWritten s.facts a left → IsWritten s.facts i right → s.facts.type_at bracket ≡ s.facts.type_at star →
-    expr s (indexed a bracket i) ≡ expr s (at_sum star paren plus left right)
+    expr s (indexed_tree a bracket i) ≡ expr s (at_sum star paren plus left right)
 
 -- With further postfix operators behind it, `a[i]` means what `(*(a + i))` means with them: as `a[i].m`, `a[i][j]` and `a[i]++`.
 abbrev pub FollowedIndexMeansSum : Type 0

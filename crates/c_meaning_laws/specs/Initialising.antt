@@ -10,7 +10,7 @@ use Rattle.c_meaning.specs.Facts.{Setting}
 use Rattle.c_meaning.specs.Initialisers.{equals_token}
 use Rattle.c_meaning.specs.Statements.{exec_all}
 use Rattle.c_meaning.specs.World.{World}
-use Rattle.c_types_never_stuck.specs.Rules.{IsScalar}
+use Rattle.c_meaning_laws.specs.Rules.{IsScalar}
 
 -- a declaration of these alone
 abbrev pub declaring : DeclarationTree → List StartTree → DeclarationTree

@@ -20,3 +20,9 @@ pub mod Chains
 pub mod Choices
 pub mod Assigned
 pub mod Passing
+pub mod Rules
+pub mod Typed
+pub mod TypedStatements
+pub mod TypedSource
+pub mod Example
+pub mod TypedText

@@ -9,7 +9,7 @@ use Rattle.cbi_base.specs.Objects.{Object, loaded}
 use Rattle.c_syntax.specs.ExprTree as e
 use Rattle.c_syntax.specs.ExprTree.{ExprTree, ExprList}
 use Rattle.c_syntax.specs.StatementTree as tree
-use Rattle.flow.specs.Rows.{zero_of}
+use Rattle.flow.specs.Rows.{zero_value}
 use Rattle.c_meaning.specs.Facts.{Setting}
 use Rattle.c_meaning.specs.Initialisers.{element_set, initialised, object_of, want_of}
 use Rattle.c_meaning.specs.Meaning.{expr}
@@ -35,5 +35,5 @@ ListLeavesZero =
     (s : Setting) (token at number place : ℕ) (items : ExprList) (comma : Bool) (wanted : Want) (object : Object) (w u : World) →
     object_of s (s.facts.slot_at token) ≡ Some number → want_of (s.facts.element_at token) ≡ Some wanted →
     get w.objects.live number ≡ Some object → count items ≤ place → place < length object.cells →
-    ItemsLeave s token wanted number place 0 items (record w { objects = filled number (zero_of wanted) w.objects }) →
-    initialised s token (Some (tree.Braced at items comma)) w ≡ Go tt u → loaded wanted (Place number place) u.objects ≡ Ok (zero_of wanted)
+    ItemsLeave s token wanted number place 0 items (record w { objects = filled number (zero_value wanted) w.objects }) →
+    initialised s token (Some (tree.Braced at items comma)) w ≡ Go tt u → loaded wanted (Place number place) u.objects ≡ Ok (zero_value wanted)

@@ -5,13 +5,13 @@ use Rattle.c_syntax.specs.ExprTree as e
 use Rattle.c_syntax.specs.ExprTree.{ExprTree, PostfixList}
 use Rattle.c_meaning.specs.Facts.{Setting}
 use Rattle.c_meaning.specs.Meaning.{expr}
-use Rattle.c_types_never_stuck.specs.Typed.{Typed}
+use Rattle.c_meaning_laws.specs.Typed.{Typed}
 use Rattle.c_meaning_laws.specs.Indexing.{followed}
 use Rattle.c_meaning_laws.specs.Parentheses.{IsWritten, KeepsType}
 
 -- `(*p).m`, with any postfix operators behind it
-abbrev pub member_of : ℕ → ℕ → ExprTree → ℕ → List ℕ → PostfixList → ExprTree
-member_of paren star p dot name more = e.Postfix (e.Paren paren (e.Prefix star prefix.Indirection p)) (e.member dot name more)
+abbrev pub member_tree : ℕ → ℕ → ExprTree → ℕ → List ℕ → PostfixList → ExprTree
+member_tree paren star p dot name more = e.Postfix (e.Paren paren (e.Prefix star prefix.Indirection p)) (e.member dot name more)
 
 -- `p->m` means what `(*p).m` means: as a value, as a place, and for what it does alone; and with any postfix operators behind it, as `p->m[i]` and
 -- `p->m.n`. The member, whose offset is known, is named at one token in both, and p may stand within parentheses.
@@ -19,7 +19,7 @@ abbrev pub ArrowIsMember : Type 0
 ArrowIsMember =
     (s : Setting) (arrow paren star : ℕ) (name : List ℕ) (p left : ExprTree) (more : PostfixList) → KeepsType s.facts p →
     IsSome (s.facts.offset_at arrow) → IsWritten s.facts p left →
-    expr s (followed p (e.arrow arrow name more)) ≡ expr s (member_of paren star left arrow name more)
+    expr s (followed p (e.arrow arrow name more)) ≡ expr s (member_tree paren star left arrow name more)
 
 -- An arrow whose types fit meets the premises of this law.
 abbrev pub TypedArrowMeets : Type 0

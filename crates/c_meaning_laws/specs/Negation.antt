@@ -16,9 +16,9 @@ use Rattle.c_meaning.specs.Meaning.{expr}
 use Rattle.c_meaning.specs.Runs.{Source, call_at, setting_of}
 use Rattle.c_meaning.specs.Trees.{type_of}
 use Rattle.c_meaning.specs.World.{World, Go}
-use Rattle.c_types_never_stuck.specs.Rules.{IsValue}
-use Rattle.c_types_never_stuck.specs.Typed.{Typed}
-use Rattle.c_types_never_stuck.specs.TypedSource.{SourceFits}
+use Rattle.c_meaning_laws.specs.Rules.{IsValue}
+use Rattle.c_meaning_laws.specs.Typed.{Typed}
+use Rattle.c_meaning_laws.specs.TypedSource.{SourceFits}
 use Rattle.c_meaning_laws.specs.Constants.{IsInt, zero_at}
 use Rattle.c_meaning_laws.specs.Parentheses.{IsWritten}
 

@@ -15,7 +15,7 @@ use Rattle.c_meaning.specs.Conversions.{is_null_as}
 use Rattle.c_meaning.specs.Expressions.{Sense, cast}
 use Rattle.c_meaning.specs.Facts.{Setting, Signature}
 use Rattle.c_meaning.specs.Meaning.{expr}
-use Rattle.c_meaning.specs.Runs.{Source, call_at, inside, left, locals_at, run_body, setting_of, value_left}
+use Rattle.c_meaning.specs.Runs.{Source, call_at, inside, left_function, locals_at, run_body, setting_of, value_left}
 use Rattle.c_meaning.specs.Statements.{exec}
 use Rattle.c_meaning.specs.Trees.{has_value}
 use Rattle.c_meaning.specs.World.{World, Out, Go, Returned, bind}
@@ -36,7 +36,7 @@ ArePassed s types passed w vs u = ⊥
 abbrev pub body_of : Source → ℕ → ℕ → Signature → Objects → World → Out Scalar
 body_of src turns number f objects w =
     bind (run_body src (call_at src turns) turns f (locals_at f w) (src.body number) (inside objects w)) (λ flow y.
-    bind (value_left (number == src.main) (has_value f.result) flow y) (left (locals_at f w)))
+    bind (value_left (number == src.main) (has_value f.result) flow y) (left_function (locals_at f w)))
 
 -- in this state the first means what the second means
 abbrev pub MeansIn : World → Sense → Sense → Type 0

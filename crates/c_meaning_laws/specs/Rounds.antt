@@ -17,7 +17,8 @@ use Rattle.c_meaning_laws.specs.Constants.{one_at}
 abbrev pub again : Setting → ℕ → ValueType → StatementTree → World → Out Flow
 again s n result loop w = spend w.turns w (exec s n result loop)
 
--- In a function of a text, where at most n turns are left: `while (c) body` is `if (c)` the body, and then the loop again where the body was left at its end or by `continue`; `break` ends it.
+-- In a function of a text, where at most n turns are left: `while (c) body` is `if (c)` the body, and then the loop again where the body was left at its
+-- end or by `continue`; `break` ends it.
 abbrev pub WhileIsFirstRound : Type 0
 WhileIsFirstRound =
     (src : Source) (calls n : ℕ) (locals : Locals) (result : ValueType) (token : ℕ) (c : ExprTree) (body : StatementTree) (w : World) → w.turns ≤ n →
@@ -75,13 +76,13 @@ ForStartsBefore =
     (tree.stated (tree.For token (tree.Computes None) c step body) tree.no_entries))) w
 
 -- entries, and others behind them
-abbrev pub joined : EntryList → EntryList → EntryList
-joined tree.no_entries others = others
-joined (tree.declared d rest) others = tree.declared d (joined rest others)
-joined (tree.stated x rest) others = tree.stated x (joined rest others)
+abbrev pub joined_entries : EntryList → EntryList → EntryList
+joined_entries tree.no_entries others = others
+joined_entries (tree.declared d rest) others = tree.declared d (joined_entries rest others)
+joined_entries (tree.stated x rest) others = tree.stated x (joined_entries rest others)
 
 -- A block within a block does what its entries do in its place.
 abbrev pub BlockIsEntries : Type 0
 BlockIsEntries =
     (s : Setting) (n : ℕ) (result : ValueType) (token : ℕ) (entries others : EntryList) (w : World) →
-    exec_all s n result (tree.stated (tree.Block token entries) others) w ≡ exec_all s n result (joined entries others) w
+    exec_all s n result (tree.stated (tree.Block token entries) others) w ≡ exec_all s n result (joined_entries entries others) w

@@ -1,7 +1,9 @@
-//! Laws: what the meaning of a text says in the terms of C99, each of the state in which a construct stands.
+//! Laws: what the meaning of a text says in the terms of C99, each of the state in which a construct stands; and that no run of a text whose types fit
+//! comes to trap Internal, and its sites change nothing but what is seen.
 #![tactic(auto)]
 
 mod laws;
+mod never_faults;
 
 pub use laws::{
     a_block_is_its_statements, a_call_has_variables_of_its_own,
@@ -14,3 +16,4 @@ pub use laws::{
     an_assignment_is_what_its_variable_holds, an_index_is_the_place_of_a_sum,
     an_initialiser_is_an_assignment, expressions_are_statements, turns_only_cut,
 };
+pub use never_faults::{a_typed_text_never_faults, sites_change_nothing};

@@ -6,15 +6,15 @@ use Rattle.std.proofs.Math.Seq.{take-append_seam}
 use Rattle.c_syntax.specs.declared.token.Token.{Token}
 use Rattle.c_syntax.specs.declared.token.TokenKind.{TokenKind}
 use Rattle.c_syntax.specs.ItemTree.{ItemTree, SourceTree}
-use Rattle.c_syntax.specs.Spelling.{Kinds, item_kinds, tree_kinds}
+use Rattle.c_syntax.specs.Spelling.{Kinds, tree_kinds}
 use Rattle.c_syntax.specs.Shape.{HasOne}
 use Rattle.c_syntax.specs.Tokens.{kinds_of, lines_of}
 use Rattle.c_syntax.specs.WellFormed.{IsWellFormed}
 use Rattle.c_parser_expressions.specs.Reading.{Cursor, Same, Found, Fails}
 use Rattle.c_parser_items.specs.Items.{item, AreItems, items}
-use Rattle.c_parser.specs.Parsed.{IsTreeOf, HasTree, IsDead, Refuses}
+use Rattle.c_parser.specs.Parsed.{IsTreeOf, FirstHaveTree, IsDead, Refuses}
 use Rattle.c_parser_expressions.proofs.Laws.{same-all}
-use Rattle.c_parser.proofs.Texts.{kinds, item-some, Reached, reached-end, reached-fails, reached-longest, reached-good}
+use Rattle.c_parser.proofs.Texts.{kinds, Reached, reached-end, reached-fails, reached-longest, reached-good}
 
 abbrev pub beginning : List Token → Cursor
 beginning ts = record { at = 0; rest = kinds_of ts }
@@ -60,7 +60,7 @@ dead-at ts index f low = record {
 }
 
 good-of : (ts : List Token) (now : Cursor) (xs : List ItemTree) → AreItems 200 0 xs → kinds_of ts ≡ kinds xs ++ now.rest → now.at ≡ 0 + length (kinds xs)
-    → (now.at ≡ 0) ⊎ HasTree ts now.at
+    → (now.at ≡ 0) ⊎ FirstHaveTree ts now.at
 good-of ts now [] are whole at = inl (omega arith)
 good-of ts now (x ∷ xs) are whole at =
     let lines : List ℕ = map (λ (t : TokenKind). 1) (kinds (x ∷ xs)) in
@@ -75,7 +75,7 @@ good-of ts now (x ∷ xs) are whole at =
     )
 
 most-of : (ts : List Token) (now : Cursor) (xs : List ItemTree) (last : ℕ) → Reached 200 (beginning ts) now xs → Fails (item 200) now last → (m : ℕ)
-    → now.at < m → m ≤ length ts → HasTree ts m → ⊥
+    → now.at < m → m ≤ length ts → FirstHaveTree ts m → ⊥
 most-of ts now xs last r f m low high tree =
     let few : m ≤ length (kinds_of ts) = omega (arith, length-map ts (λ (t : Token). t.kind)) in
     let whole : kinds_of ts ≡ kinds tree.0.items ++ drop m (kinds_of ts) =
@@ -100,25 +100,6 @@ refuses ts now xs index r some f =
       from = f.from;
       within = omega arith;
       dead = dead-at ts index fails;
-    }
-
-some-kinds : (xs : List ItemTree) → HasOne xs → 1 ≤ length (kinds xs)
-some-kinds [] h = absurd h
-some-kinds (x ∷ xs) h = omega (arith, length-append (item_kinds x) (kinds xs), item-some x)
-
--- there is no tree without a token
-no-tokens : (t : SourceTree) → IsWellFormed t → 1 ≤ length (tree_kinds t)
-no-tokens t w = some-kinds t.items w.shaped.has_item
-
-pub refuses-nothing : (ts : List Token) → length ts ≡ 0 → Refuses ts 0 0
-refuses-nothing ts none =
-    let long : length (kinds_of ts) ≡ length ts = length-map ts (λ (t : Token). t.kind) in
-    record {
-      none = λ t w h. (let some = no-tokens t w in let same : length (tree_kinds t) ≡ length (kinds_of ts) = ap length h in omega arith);
-      longest = record { within = omega arith; good = inl refl; most = λ m low high tree. omega arith };
-      from = omega arith;
-      within = omega arith;
-      dead = λ low. absurd (omega arith);
     }
 
 -- what was read to the end is a tree

@@ -12,7 +12,7 @@ use Rattle.c_syntax.specs.Spelling.{Kinds, item_kinds, base_kinds}
 use Rattle.c_syntax.specs.Place.{EachAt, ItemAt}
 use Rattle.c_parser_expressions.specs.Reading.{Cursor, Same, Found, Fails}
 use Rattle.c_parser_items.specs.Items.{IsItem, item, AreItems, IsEnd, items}
-use Rattle.c_parser_expressions.proofs.Laws.{same-all, Leads, leads-found, leads-fails, leads-trans, leads-wrap, leads-none, found-takes}
+use Rattle.c_parser_expressions.proofs.Laws.{same-all, Leads, leads-found, leads-fails, leads-trans, leads-wrap, found-takes}
 
 -- an item has a token
 base-some : (b : Base) → 1 ≤ length (base_kinds b)
@@ -133,9 +133,6 @@ pub record Reached (d : ℕ) (start now : Cursor) (xs : List ItemTree) : Type 0 
   pub front : (ys : List ItemTree) (k : Kinds) → AreItems d start.at ys → start.rest ≡ kinds ys ++ k
       → (start.at + length (kinds ys) ≤ now.at) ⊎ ((zs : List ItemTree) × AreItems d now.at zs × (now.rest ≡ kinds zs ++ k)
       × (start.at + length (kinds ys) ≡ now.at + length (kinds zs)))
-
-pub reached-start : (d : ℕ) (c : Cursor) → Reached d c c []
-reached-start d c = record { leads = leads-none (items d) c; front = λ ys k are h. inr (ys, are, h, refl) }
 
 -- one item more
 further : (d : ℕ) (c to : Cursor) (x : ItemTree) (total : ℕ) (k : Kinds) (zs : List ItemTree) → Found (item d) c x to → AreItems d c.at zs

@@ -19,14 +19,14 @@ pub record IsTreeOf (ts : List Token) (t : SourceTree) : Type 0 where
   pub lines : t.lines ≡ lines_of ts
 
 -- the first n tokens are those of a well-formed tree
-abbrev pub HasTree : (ts : List Token) → (n : ℕ) → Type 0
-HasTree ts n = (t : SourceTree) × IsWellFormed t × (tree_kinds t ≡ take n (kinds_of ts))
+abbrev pub FirstHaveTree : (ts : List Token) → (n : ℕ) → Type 0
+FirstHaveTree ts n = (t : SourceTree) × IsWellFormed t × (tree_kinds t ≡ take n (kinds_of ts))
 
 -- the longest front of the tokens that is empty or those of a well-formed tree
 pub record IsLongest (ts : List Token) (n : ℕ) : Type 0 where
   pub within : n ≤ length ts
-  pub good : (n ≡ 0) ⊎ HasTree ts n
-  pub most : (m : ℕ) → n < m → m ≤ length ts → HasTree ts m → ⊥
+  pub good : (n ≡ 0) ⊎ FirstHaveTree ts n
+  pub most : (m : ℕ) → n < m → m ≤ length ts → FirstHaveTree ts m → ⊥
 
 -- no well-formed tree's tokens begin with those up to the index and with the one there
 pub record IsDead (ts : List Token) (index : ℕ) : Type 0 where

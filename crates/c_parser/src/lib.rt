@@ -16,7 +16,8 @@ use c_syntax::{Tokens, Tree};
 pub use error::ParseError;
 use std::alloc::Global;
 
-/// The tree of a list of tokens. Want of memory is free.
+/// The tree of a list of tokens, nested at most 200 deep. A refusal tells how many tokens stand in front of the item that has no tree, and the index of
+/// a token from which none goes on. Want of memory is free.
 pub fn parse(alloc: Global, tokens: &Tokens) -> Result<Tree, ParseError>
     ensures tree { IfOk result (λ t. IsTreeOf tokens.now (plain_tree t)) }
     ensures kept { IfOk result (λ t. IsKeptTree (plain_tree t)) }

@@ -1,18 +1,16 @@
 -- What the loops over parts of declarations keep.
-use Rattle.std.proofs.Common.{◌≡◌, ℕ, zero, suc, ◌-◌, ◌≤◌, ◌<◌, true, false, List, [], ◌∷◌, ◌++◌, Bool, Ok, Err, refl, sym, ap, ◌∙◌, subst, append_assoc, arith}
-use Rattle.std.proofs.lemmas.List.{append-nil}
+use Rattle.std.proofs.Common.{◌≡◌, ℕ, zero, suc, ◌-◌, ◌≤◌, ◌<◌, true, List, [], ◌∷◌, ◌++◌, Bool, Ok, Err, refl, sym, ap, ◌∙◌, subst, append_assoc, arith}
 use Rattle.c_syntax.specs.declared.token.Sign.TheVariants as sign_is
 use Rattle.c_syntax.specs.declared.parts.Bound.{Bound}
 use Rattle.c_syntax.specs.ExprTree.{ExprTree}
 use Rattle.c_syntax.specs.Plain.{expr_list}
 use Rattle.c_syntax.specs.StatementTree as s
-use Rattle.c_parser_expressions.specs.declared.stop.Stop.{Stop}
 use Rattle.c_parser_expressions.specs.declared.stop.Stop.TheVariants as stop
 use Rattle.c_parser_expressions.specs.Reading.{Cursor, Read, after}
 use Rattle.c_parser_expressions.specs.Marks.{stands}
-use Rattle.c_parser_expressions.specs.Steps.{◌>>=◌, Gives, with_front, all_of, Advances, the_sign}
+use Rattle.c_parser_expressions.specs.Steps.{◌>>=◌, with_front, all_of, Advances, the_sign}
 use Rattle.c_parser_expressions.specs.ExpressionParser.{deeper_than, assignment_by}
-use Rattle.c_parser_declarations.specs.Declarations.{items_end, start, starts_end}
+use Rattle.c_parser_declarations.specs.Declarations.{items_end, start_rule, starts_end}
 use Rattle.c_parser_declarations.specs.DeclarationParser.{the_bound, the_bounds, item_step, end_of_list, braced_by, start_by, start_step}
 use Rattle.c_parser_expressions.proofs.Heads.{not-zero}
 use Rattle.c_parser_expressions.proofs.Depths.{deeper_assignment}
@@ -27,16 +25,9 @@ use Rattle.c_parser_declarations.proofs.Declaring.{start-parses}
 pub record Bounds (left : ℕ) (now : Cursor) (xs : List Bound) (whole : Read (List Bound)) : Type 0 where
   pub all : with_front xs (the_bounds left now) ≡ whole
 
-with-nil : {A : Type 0} (r : Read (List A)) → with_front [] r ≡ r
-with-nil (Ok p) = refl
-with-nil (Err i) = refl
-
 with-more : {A : Type 0} (xs : List A) (x : A) (r : Read (List A)) → with_front (xs ++ x ∷ []) r ≡ with_front xs (with_front (x ∷ []) r)
 with-more {A} xs x (Ok p) = ap {B = Read (List A)} (λ (v : List A). Ok (v, p.1)) (append_assoc xs (x ∷ []) p.0)
 with-more xs x (Err i) = refl
-
-pub bounds_start : (most : ℕ) (c : Cursor) (xs : List Bound) → xs ≡ [] → Bounds most c xs (the_bounds most c)
-bounds_start most c xs h = record { all = ap (λ (v : List Bound). with_front v (the_bounds most c)) h ∙ with-nil (the_bounds most c) }
 
 bound-front : (x : Bound) (r : Read (List Bound)) → ◌≡◌ {A = Read (List Bound)}
     (◌>>=◌ {A = List Bound × Cursor} {B = List Bound × Cursor} r (λ q. Ok (x ∷ q.0, q.1))) (with_front (x ∷ []) r)
@@ -62,26 +53,7 @@ bounds_more (suc n) c to xs ys x whole b some t h pushed =
           ∙ with-more xs x (the_bounds n to) ∙ ap (with_front xs) (sym step) ∙ b.all;
     }
 
-pub bounds_failed : (left : ℕ) (c to : Cursor) (xs : List Bound) (whole : Read (List Bound)) (w : Stop) → Bounds left c xs whole → 0 < left
-    → stands sign_is.LeftBracket c.rest ≡ true → Gives (λ v. v) (Err w) to (the_bound (after c))
-    → Gives {A = List Bound} {V = List Bound} (λ v. v) (Err w) to whole
-unfolding the_bounds
-bounds_failed zero c to xs whole w b some t h = absurd (omega arith)
-bounds_failed (suc n) c to xs whole stop.Memory b some t h = tt
-bounds_failed (suc n) c to xs whole (stop.Refused i) b some t h =
-    let step : the_bounds (suc n) c ≡ Err i = rw (t, h) refl in
-    sym b.all ∙ ap (with_front xs) step
-
-pub bounds_done : (left : ℕ) (c : Cursor) (xs : List Bound) (whole : Read (List Bound)) → Bounds left c xs whole
-    → (0 < left → stands sign_is.LeftBracket c.rest ≡ false) → whole ≡ Ok (xs, c)
-unfolding the_bounds
-bounds_done zero c xs whole b h = sym b.all ∙ ap {B = Read (List Bound)} (λ (v : List Bound). Ok (v, c)) (append-nil xs)
-bounds_done (suc n) c xs whole b h =
-    let step : the_bounds (suc n) c ≡ Ok ([], c) = rw (h (omega arith)) refl in
-    sym b.all ∙ ap (with_front xs) step ∙ ap {B = Read (List Bound)} (λ (v : List Bound). Ok (v, c)) (append-nil xs)
-
 -- each turn takes a token
-
 pub braced_advance : (d : ℕ) → Advances (item_step (assignment_by d (deeper_than d)))
 braced_advance d =
     let e : suc d - 1 ≡ d = omega arith in
@@ -96,7 +68,7 @@ unfolding start_step
 starts_advance by d le =
     let reads = start-parses (λ n k. (parses n).assignment k) (λ n k. (deep n).assignment k) by d le in
     closing-advances (starts_end by d) (start_step by d) (λ y ys. y ∷ ys) (λ k. the_sign sign_is.Semicolon k >>= (λ q. Ok ([], q.1)))
-    (commas-closing (start by d) sign_is.Semicolon (start_by by d) (start_step by d) (omega arith) (λ h. cc) (λ at v k v_is ends. ends) (λ k. refl) reads)
+    (commas-closing (start_rule by d) sign_is.Semicolon (start_by by d) (start_step by d) (omega arith) (λ h. cc) (λ at v k v_is ends. ends) (λ k. refl) reads)
 
 -- a braced list, part by part
 pub braced_reads : (d : ℕ) (c to next end : Cursor) (x : ExprTree) (xs : List ExprTree) (comma : Bool) → (d ≡ 0 → ⊥)

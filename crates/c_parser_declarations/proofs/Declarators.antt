@@ -16,7 +16,7 @@ use Rattle.c_parser_expressions.specs.Steps.{◌>>=◌, the_sign, the_name}
 use Rattle.c_parser_expressions.specs.Expressions.{stars, EndsType}
 use Rattle.c_parser_expressions.specs.ExpressionParser.{the_stars}
 use Rattle.c_parser_declarations.specs.Declarations.{bound_end, NoBracket, bounds, declarator}
-use Rattle.c_parser_declarations.specs.DeclarationParser.{constant_of, past_constant, the_bound, the_bounds, named_by, the_declarator}
+use Rattle.c_parser_declarations.specs.DeclarationParser.{constant_of, past_constant, the_bound, the_bounds, declarator_by, the_declarator}
 use Rattle.c_parser_expressions.proofs.Heads.{sign-head, same-sign, sign-same, stands-sign, sign-stands}
 use Rattle.c_parser_expressions.proofs.Laws.{Leads, leads-here, leads-trans, leads-wrap, seq-leads, part, finish}
 use Rattle.c_parser_expressions.proofs.Tokens.{sign-parses, name-parses}
@@ -165,8 +165,8 @@ named-leads d c to n found =
     (declarator-leads d c)
     (seq-leads (stars d) (behind_stars d) c to n (λ at v y k v_is y_is ends. stars-before d at v y k) found))
 
-named-parses : (d : ℕ) (c : Cursor) (s : ℕ × Cursor) → Found (stars d) c s.0 s.1 → Outcome (declarator d) c (named_by d c.at s)
-unfolding named_by
+named-parses : (d : ℕ) (c : Cursor) (s : ℕ × Cursor) → Found (stars d) c s.0 s.1 → Outcome (declarator d) c (declarator_by d c.at s)
+unfolding declarator_by
 named-parses d c s found =
     part (declarator d) name (λ x. bounds (d - s.0)) c s.1 (named c.at s.0 s.1.at) (the_name s.1)
     (λ x. the_bounds (d - s.0) x.1 >>= (λ y. Ok (record { token = c.at; stars = s.0; name_token = s.1.at; name = x.0; bounds = y.0 }, y.1)))

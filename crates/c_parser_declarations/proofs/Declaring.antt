@@ -15,7 +15,7 @@ use Rattle.c_parser_expressions.specs.Steps.{◌>>=◌, with_front, all_of, the_
 use Rattle.c_parser_declarations.specs.Lists.{Separates, comma, closed, EachBehindComma}
 use Rattle.c_parser_expressions.specs.Expressions.{base, NoInt}
 use Rattle.c_parser_expressions.specs.ExpressionParser.{the_base}
-use Rattle.c_parser_declarations.specs.Declarations.{NoBracket, declarator, IsInitial, initialised, start, starts_end, AreVariables, variables, declaration}
+use Rattle.c_parser_declarations.specs.Declarations.{NoBracket, declarator, IsInitial, initialised, start_rule, starts_end, AreVariables, variables, declaration}
 use Rattle.c_parser_declarations.specs.DeclarationParser.{the_declarator, initialised_by, start_by, start_step, more_starts_by, starts_by, declaration_by}
 use Rattle.c_parser_expressions.proofs.Laws.{Leads, leads-here, part, finish}
 use Rattle.c_parser_expressions.proofs.TypeNames.{base-parses}
@@ -53,8 +53,8 @@ initial-is by d at (Some x) le shaped nests placed = record { shaped = shaped; n
 abbrev pub start_tree : ℕ → Declarator × Option InitialTree → StartTree
 start_tree token p = record { token = token; declarator = p.0; initial = p.1 }
 
-pub start-leads : (by d : ℕ) (c : Cursor) → by ≤ d → Leads (start by d) (seq (declarator d) (λ v. initialised (d - by))) c c (start_tree c.at)
-start-leads by d c le = leads-here (start by d) (seq (declarator d) (λ v. initialised (d - by))) c (start_tree c.at)
+pub start-leads : (by d : ℕ) (c : Cursor) → by ≤ d → Leads (start_rule by d) (seq (declarator d) (λ v. initialised (d - by))) c c (start_tree c.at)
+start-leads by d c le = leads-here (start_rule by d) (seq (declarator d) (λ v. initialised (d - by))) c (start_tree c.at)
     (λ p is.
     (let n1 = is.0.nests in
     let n2 = initial-nests by d (c.at + length (declarator_kinds p.0) + 1) p.1 le is.1 in
@@ -68,13 +68,13 @@ start-leads by d c le = leads-here (start by d) (seq (declarator d) (λ v. initi
       ends,
     )))
 
-pub start-parses : ReadsAssignments → ReadsInner → (by d : ℕ) → by ≤ d → (c : Cursor) → Outcome (start by d) c (start_by by d c)
+pub start-parses : ReadsAssignments → ReadsInner → (by d : ℕ) → by ≤ d → (c : Cursor) → Outcome (start_rule by d) c (start_by by d c)
 unfolding start_by
 start-parses reads inside by d le c =
-    part (start by d) (declarator d) (λ v. initialised (d - by)) c c (start_tree c.at) (the_declarator d c)
+    part (start_rule by d) (declarator d) (λ v. initialised (d - by)) c c (start_tree c.at) (the_declarator d c)
     (λ x. initialised_by (d - by) x.1 >>= (λ y. Ok (record { token = c.at; declarator = x.0; initial = y.0 }, y.1)))
     (λ at v y k v_is y_is ends. start-follow (d - by) y k ends) (start-leads by d c le) (declarator-parses d c)
-    (λ x to found l. finish (start by d) (initialised (d - by)) c to (λ y. start_tree c.at (x, y)) (initialised_by (d - by) to) l
+    (λ x to found l. finish (start_rule by d) (initialised (d - by)) c to (λ y. start_tree c.at (x, y)) (initialised_by (d - by) to) l
     (initialised-parses reads inside (d - by) to))
 
 -- the variables of a declaration
@@ -84,7 +84,7 @@ pub record AreBehind (by d at : ℕ) (xs : List StartTree) : Type 0 where
   pub nests : deepest (start_nesting by) xs ≤ d
   pub placed : EachAt StartAt start_kinds 1 (at + 1) xs
 
-starts-are : (by d at : ℕ) (xs : List StartTree) → EachBehindComma (start by d) at xs → AreBehind by d at xs
+starts-are : (by d at : ℕ) (xs : List StartTree) → EachBehindComma (start_rule by d) at xs → AreBehind by d at xs
 starts-are by d at [] is = record { shaped = tt; nests = omega arith; placed = tt }
 starts-are by d at (x ∷ xs) is =
     let rest = starts-are by d (at + 1 + length (start_kinds x)) xs is.1 in
@@ -93,7 +93,7 @@ starts-are by d at (x ∷ xs) is =
     record { shaped = (is.0.shaped, rest.shaped); nests = omega arith; placed = (is.0.placed, rest.placed) }
 
 pub starts-each : (by d at : ℕ) (xs : List StartTree) → AllByRecursion ShapedStart xs → deepest (start_nesting by) xs ≤ d
-    → EachAt StartAt start_kinds 1 (at + 1) xs → EachBehindComma (start by d) at xs
+    → EachAt StartAt start_kinds 1 (at + 1) xs → EachBehindComma (start_rule by d) at xs
 starts-each by d at [] shaped nests placed = tt
 starts-each by d at (x ∷ xs) shaped nests placed = (
   record { shaped = shaped.0; nests = omega arith; placed = placed.0 },
@@ -102,7 +102,7 @@ starts-each by d at (x ∷ xs) shaped nests placed = (
 )
 
 variables-back : (by d at : ℕ) (xs : List StartTree) → AreVariables by d at xs
-    → (p : StartTree × List StartTree) × (xs ≡ p.0 ∷ p.1) × (seq (start by d) (λ x. starts_end by d)).Is at p
+    → (p : StartTree × List StartTree) × (xs ≡ p.0 ∷ p.1) × (seq (start_rule by d) (λ x. starts_end by d)).Is at p
 variables-back by d at [] is = absurd is.some
 variables-back by d at (x ∷ xs) is =
     let nests = is.nests in (
@@ -114,8 +114,8 @@ variables-back by d at (x ∷ xs) is =
       ),
     )
 
-pub variables-leads : (by d : ℕ) (c : Cursor) → Leads (variables by d) (seq (start by d) (λ x. starts_end by d)) c c (λ p. p.0 ∷ p.1)
-variables-leads by d c = leads-here (variables by d) (seq (start by d) (λ x. starts_end by d)) c (λ p. p.0 ∷ p.1)
+pub variables-leads : (by d : ℕ) (c : Cursor) → Leads (variables by d) (seq (start_rule by d) (λ x. starts_end by d)) c c (λ p. p.0 ∷ p.1)
+variables-leads by d c = leads-here (variables by d) (seq (start_rule by d) (λ x. starts_end by d)) c (λ p. p.0 ∷ p.1)
     (λ p is.
     (let rest = starts-are by d (c.at + length (start_kinds p.0)) p.1 is.1 in
     let n1 = is.0.nests in
@@ -127,12 +127,12 @@ variables-leads by d c = leads-here (variables by d) (seq (start by d) (λ x. st
 pub variables-parses : ReadsAssignments → ReadsInner → (by d : ℕ) → by ≤ d → (c : Cursor) → Outcome (variables by d) c (starts_by by d c)
 unfolding starts_by more_starts_by start_step
 variables-parses reads inside by d le c =
-    part (variables by d) (start by d) (λ x. starts_end by d) c c (λ p. p.0 ∷ p.1) (start_by by d c)
+    part (variables by d) (start_rule by d) (λ x. starts_end by d) c c (λ p. p.0 ∷ p.1) (start_by by d c)
     (λ x. with_front (x.0 ∷ []) (all_of (start_step by d) x.1) >>= (λ xs. the_sign sign_is.Semicolon xs.1 >>= (λ y. Ok (xs.0, y.1))))
-    (λ at v y k v_is y_is ends. commas-follow (start by d) sign_is.Semicolon y k) (variables-leads by d c) (start-parses reads inside by d le c)
+    (λ at v y k v_is y_is ends. commas-follow (start_rule by d) sign_is.Semicolon y k) (variables-leads by d c) (start-parses reads inside by d le c)
     (λ x to found l. list-behind (variables by d) (starts_end by d) (start_step by d) c to (λ ys. x ∷ ys) (λ y ys. y ∷ ys) (the_sign sign_is.Semicolon)
     (λ u. []) (λ xs u. xs) x
-    (commas-closing (start by d) sign_is.Semicolon (start_by by d) (start_step by d) (omega arith) (λ h. cc) (λ at v k v_is ends. ends) (λ k. refl)
+    (commas-closing (start_rule by d) sign_is.Semicolon (start_by by d) (start_step by d) (omega arith) (λ h. cc) (λ at v k v_is ends. ends) (λ k. refl)
     (λ k. start-parses reads inside by d le k))
     l (λ xs u. ap (λ ys. x ∷ ys) (put-list xs)))
 

@@ -17,13 +17,13 @@ use Rattle.c_parser_expressions.specs.Steps.{◌>>=◌, with_front, all_of, the_
 use Rattle.c_parser_declarations.specs.Lists.{Separates, comma, closed}
 use Rattle.c_parser_expressions.specs.Expressions.{sign_binds, binds, EndsAt, IsExpr, expression, inner}
 use Rattle.c_parser_expressions.specs.ExpressionParser.{assignment_by, deeper_than}
-use Rattle.c_parser_declarations.specs.Declarations.{IsInitial, initial, AreItems, items_end, initialised}
+use Rattle.c_parser_declarations.specs.Declarations.{IsInitial, initial, AreFurtherItems, items_end, initialised}
 use Rattle.c_parser_declarations.specs.DeclarationParser.{item_step, end_of_list, braced_by, initial_by, initialised_by}
 use Rattle.c_parser_expressions.proofs.Heads.{sign-head, same-sign, sign-same, stands-sign, sign-stands}
 use Rattle.c_parser_expressions.proofs.Laws.{Leads, leads-here, part, finish}
 use Rattle.c_parser_expressions.proofs.Many.{put}
 use Rattle.c_parser_expressions.proofs.Tokens.{sign-parses, fails-here}
-use Rattle.c_parser_expressions.proofs.Starts.{starts, starts-expr, starts-same, starts-more}
+use Rattle.c_parser_expressions.proofs.Starts.{starts-expr, starts-same, starts-more}
 use Rattle.c_parser_declarations.proofs.Lists.{ClosingIs, Closing, close-item, list-behind, behind-shorter}
 
 -- what is known of expressions
@@ -41,12 +41,6 @@ sign-binds (_ ∷ k) x h = cc
 pub separates-ends : (x : Sign) (k : Kinds) → sign_binds x ≡ 0 → Separates x k → EndsAt 1 k
 separates-ends x k zero_binds (comma h) = let b = sign-binds k sign_is.Comma h in record { by = omega arith }
 separates-ends x k zero_binds (closed h) = let b = sign-binds k x h in record { by = omega arith }
-
--- no expression begins with a brace or a comma
-expr-unlike : (last at : ℕ) (t : TokenKind) (ks k : Kinds) (r d : ℕ) (x : ExprTree) → starts t ≡ false → IsExpr r d at x
-    → Same last at (t ∷ ks) (expr_kinds x ++ k) → ⊥
-expr-unlike last at t ks k r d x h is same = let begins = starts-same last at t ks (expr_kinds x ++ k)
-    (starts-more (expr_kinds x) k (starts-expr x is.shaped)) same in cc
 
 -- braced lists
 
@@ -103,7 +97,7 @@ put-items : (xs : List ExprTree) (b : Bool) → ◌≡◌ {A = ExprList × Bool}
 put-items [] b = refl
 put-items (x ∷ xs) b = ap {B = ExprList × Bool} (add_item x) (put-items xs b)
 
-item-back : (d at last : ℕ) (ks k : Kinds) (p : ExprList × Bool) → (sign_at ks ≡ Some sign_is.RightBrace → ⊥) → AreItems d at p → at + 1 ≤ last
+item-back : (d at last : ℕ) (ks k : Kinds) (p : ExprList × Bool) → (sign_at ks ≡ Some sign_is.RightBrace → ⊥) → AreFurtherItems d at p → at + 1 ≤ last
     → Same last at (kind.Punctuator sign_is.Comma ∷ ks) ((more_exprs_kinds p.0 ++ (comma_kinds p.1 ++ a_sign sign_is.RightBrace)) ++ k)
     → (q : ExprTree × (ExprList × Bool)) × (◌≡◌ {A = ExprList × Bool} p (add_item q.0 q.1)) × (seq (inner 1 d) (λ y. items_end d)).Is (at + 1) q
 item-back d at last ks k (e.no_exprs, true) other is le same = absurd (other (same-sign last (at + 1) ks k sign_is.RightBrace (same.1 (omega arith))))
@@ -137,7 +131,7 @@ item-leads d c h other =
           (b.0, b.1, b.2, record {}));
     }
 
-last-comma-back : (d at last : ℕ) (ks k : Kinds) (p : ExprList × Bool) → sign_at ks ≡ Some sign_is.RightBrace → AreItems d at p → at + 1 ≤ last
+last-comma-back : (d at last : ℕ) (ks k : Kinds) (p : ExprList × Bool) → sign_at ks ≡ Some sign_is.RightBrace → AreFurtherItems d at p → at + 1 ≤ last
     → Same last at (kind.Punctuator sign_is.Comma ∷ ks) ((more_exprs_kinds p.0 ++ (comma_kinds p.1 ++ a_sign sign_is.RightBrace)) ++ k)
     → ◌≡◌ {A = ExprList × Bool} p (e.no_exprs, true)
 last-comma-back d at last ks k (e.no_exprs, true) h is le same = refl

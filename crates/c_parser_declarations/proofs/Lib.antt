@@ -4,3 +4,7 @@ pub mod Declaring
 pub mod Initials
 pub mod Lists
 pub mod Turns
+pub mod MemberLines
+pub mod ParamLists
+pub mod ParamParses
+pub mod PartTurns

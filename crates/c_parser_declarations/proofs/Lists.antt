@@ -75,17 +75,6 @@ pub list-closed : {A L : Type 0} (R : Rule L) (step : Cursor → Step A) (add : 
 unfolding all_of
 list-closed R step add end list c = many-closed R step add end list (length c.rest + 1) c (omega arith)
 
--- a step of one part, and then the list again
-pub close-part : {A B L : Type 0} (R : Rule L) (P : Rule B) (c d : Cursor) (add : A → L → L) (end : Cursor → Read L) (make : B → A) (r : Read B)
-    → ((at : ℕ) (v : B) (y : L) (k : Kinds) → P.Is at v → R.Is (at + length (P.spell v)) y → R.Ends y k → P.Ends v (R.spell y ++ k))
-    → Leads R (seq P (λ x. R)) c d (λ p. add (make p.0) p.1) → length d.rest < length c.rest → Outcome P d r
-    → ClosingIs R add end c (Some (r >>= (λ p. Ok (make p.0, p.1))))
-close-part R P c d add end make (Ok p) follows l less o = (
-  leads-trans R (seq P (λ x. R)) R c d p.1 (λ q. add (make q.0) q.1) (λ y. (p.0, y)) l (seq-leads P (λ x. R) d p.1 p.0 follows o),
-  (let le = found-shorter P d p.1 p.0 o in omega arith),
-)
-close-part R P c d add end make (Err i) follows l less o = leads-fails R (seq P (λ x. R)) c d (λ q. add (make q.0) q.1) i l (seq-fails P (λ x. R) d i follows o)
-
 -- the same where the part is the item itself
 pub close-item : {A L : Type 0} (R : Rule L) (P : Rule A) (c d : Cursor) (add : A → L → L) (end : Cursor → Read L) (r : Read A)
     → ((at : ℕ) (v : A) (y : L) (k : Kinds) → P.Is at v → R.Is (at + length (P.spell v)) y → R.Ends y k → P.Ends v (R.spell y ++ k))

@@ -40,14 +40,14 @@ the_bounds (suc n) c = if stands sign.LeftBracket c.rest then (do
     else Ok ([], c)
 
 -- a declarator, behind its stars
-unfoldable pub named_by : (depth token : ℕ) → ℕ × Cursor → Read Declarator
-named_by depth token stars = do
+unfoldable pub declarator_by : (depth token : ℕ) → ℕ × Cursor → Read Declarator
+declarator_by depth token stars = do
   name ← the_name stars.1
   bounds ← the_bounds (depth - stars.0) name.1
   Ok (record { token = token; stars = stars.0; name_token = stars.1.at; name = name.0; bounds = bounds.0 }, bounds.1)
 
 unfoldable pub the_declarator : (depth : ℕ) → Cursor → Read Declarator
-the_declarator depth c = named_by depth c.at (the_stars depth c)
+the_declarator depth c = declarator_by depth c.at (the_stars depth c)
 
 -- a further item of a list: a comma that ends the list has none behind it
 unfoldable pub item_step : (Cursor → Read ExprTree) → Cursor → Step ExprTree

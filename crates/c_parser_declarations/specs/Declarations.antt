@@ -6,7 +6,8 @@ use Rattle.c_syntax.specs.declared.parts.Bound.{Bound}
 use Rattle.c_syntax.specs.declared.parts.Declarator.{Declarator}
 use Rattle.c_syntax.specs.ExprTree.{ExprList}
 use Rattle.c_syntax.specs.StatementTree.{InitialTree, StartTree, DeclarationTree}
-use Rattle.c_syntax.specs.Spelling.{Kinds, a_sign, optional, with_commas, constant_kinds, bound_kinds, declarator_kinds, more_exprs_kinds, comma_kinds, initial_kinds, start_kinds, declaration_kinds}
+use Rattle.c_syntax.specs.Spelling.{Kinds, a_sign, optional, with_commas, constant_kinds, bound_kinds, declarator_kinds, more_exprs_kinds, comma_kinds}
+use Rattle.c_syntax.specs.Spelling.{initial_kinds, start_kinds, declaration_kinds}
 use Rattle.c_syntax.specs.Nesting.{deepest, declarator_nesting, arguments_nesting, initial_nesting, start_nesting, declaration_nesting}
 use Rattle.c_syntax.specs.Shape.{HasOne, ShapedExprs, ShapedInitial, ShapedStart, ShapedDeclaration}
 use Rattle.c_syntax.specs.Place.{EachAt, DeclaratorAt, ExprsAt, InitialAt, StartAt, DeclarationAt}
@@ -40,13 +41,13 @@ abbrev pub initial : (d : ℕ) → Rule InitialTree
 initial d = record { Is = IsInitial d; spell = initial_kinds; Ends = λ x k. Separates sign.Semicolon k }
 
 -- further items of a braced list, its last comma where it has one, and the brace
-pub record AreItems (d at : ℕ) (p : ExprList × Bool) : Type 0 where
+pub record AreFurtherItems (d at : ℕ) (p : ExprList × Bool) : Type 0 where
   pub shaped : ShapedExprs p.0
   pub nests : arguments_nesting p.0 ≤ d
   pub placed : ExprsAt (at + 1) p.0
 
 abbrev pub items_end : (d : ℕ) → Rule (ExprList × Bool)
-items_end d = record { Is = AreItems d; spell = λ p. more_exprs_kinds p.0 ++ (comma_kinds p.1 ++ a_sign sign.RightBrace); Ends = λ p k. Any k }
+items_end d = record { Is = AreFurtherItems d; spell = λ p. more_exprs_kinds p.0 ++ (comma_kinds p.1 ++ a_sign sign.RightBrace); Ends = λ p k. Any k }
 
 -- `=` and an initialiser, or nothing
 abbrev pub initialised : (d : ℕ) → Rule (Option InitialTree)
@@ -61,12 +62,12 @@ pub record IsStart (by d at : ℕ) (x : StartTree) : Type 0 where
   pub nests : start_nesting by x ≤ d
   pub placed : StartAt at x
 
-abbrev pub start : (by d : ℕ) → Rule StartTree
-start by d = record { Is = IsStart by d; spell = start_kinds; Ends = λ x k. Separates sign.Semicolon k }
+abbrev pub start_rule : (by d : ℕ) → Rule StartTree
+start_rule by d = record { Is = IsStart by d; spell = start_kinds; Ends = λ x k. Separates sign.Semicolon k }
 
 -- further variables, each with a comma before it, and the semicolon
 abbrev pub starts_end : (by d : ℕ) → Rule (List StartTree)
-starts_end by d = commas (start by d) sign.Semicolon
+starts_end by d = commas (start_rule by d) sign.Semicolon
 
 -- the variables of a declaration, and the semicolon
 pub record AreVariables (by d at : ℕ) (xs : List StartTree) : Type 0 where

@@ -5,7 +5,9 @@ ghost use Rattle.c_parser_expressions.specs.Reading.{first};
 ghost use Rattle.c_parser_expressions.specs.Steps.{Gives, with_front, all_of};
 ghost use Rattle.c_parser_declarations.specs.Turns.{GivesStep};
 ghost use Rattle.c_parser_expressions.specs.ExpressionParser.{assignment_by, deeper_than};
-ghost use Rattle.c_parser_declarations.specs.DeclarationParser.{constant_of, past_constant, the_bound, the_bounds, the_declarator, item_step, end_of_list, braced_by, initial_by, initialised_by, start_by, start_step, more_starts_by, declaration_by};
+ghost use Rattle.c_parser_declarations.specs.DeclarationParser.{constant_of, past_constant, the_bound, the_bounds, the_declarator, item_step, end_of_list};
+ghost use Rattle.c_parser_declarations.specs.DeclarationParser.{braced_by, initial_by, initialised_by, start_by, start_step, more_starts_by};
+ghost use Rattle.c_parser_declarations.specs.DeclarationParser.{declaration_by};
 ghost use Rattle.c_parser_expressions.specs.Views.{plain_items};
 
 use c_parser_expressions::{Reader, Stop, assigned, base, stars};
@@ -55,7 +57,7 @@ pub fn bounds(alloc: Global, reader: &mut Reader<'_>, most: u32) -> Result<Seq<B
 }
 
 /// A name with its stars and its bounds.
-#[tactic(auto, unfolding(crate::specs::DeclarationParser::the_declarator, crate::specs::DeclarationParser::named_by))]
+#[tactic(auto, unfolding(crate::specs::DeclarationParser::the_declarator, crate::specs::DeclarationParser::declarator_by))]
 pub fn declarator(alloc: Global, reader: &mut Reader<'_>, depth: u32) -> Result<Declarator, Stop>
     ensures { Gives (λ x. x) result reader.new (the_declarator depth reader.old) }
 {
@@ -88,7 +90,8 @@ fn next_item(alloc: Global, reader: &mut Reader<'_>, depth: u32) -> Result<Optio
 
 /// The items of a braced list, of which the first is read.
 fn items(alloc: Global, reader: &mut Reader<'_>, depth: u32, first: Expr) -> Result<Vec<Expr>, Stop>
-    ensures { Gives plain_items result reader.new (with_front (plain_expr first ∷ []) (all_of (item_step (assignment_by depth (deeper_than depth))) reader.old)) }
+    ensures { Gives plain_items result reader.new
+        (with_front (plain_expr first ∷ []) (all_of (item_step (assignment_by depth (deeper_than depth))) reader.old)) }
 {
     let mut items = Vec::new(alloc);
     items.push(first)?;

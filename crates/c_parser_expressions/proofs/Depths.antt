@@ -9,7 +9,7 @@ use Rattle.c_syntax.specs.Spelling.{Kinds}
 use Rattle.c_syntax.specs.ExprTree.{ExprTree}
 use Rattle.c_parser_expressions.specs.Reading.{Cursor, Read, first, after, sign_at}
 use Rattle.c_parser_expressions.specs.Marks.{stands}
-use Rattle.c_parser_expressions.specs.ExpressionParser.{Parsers, the_stars, layer, nothing, parsers, deeper_than, unary_by, cast_by, level_by, chain_by, conditional_by}
+use Rattle.c_parser_expressions.specs.ExpressionParser.{Parsers, the_stars, layer, no_parsers, deeper_than, unary_by, cast_by, level_by, chain_by, conditional_by}
 use Rattle.c_parser_expressions.specs.ExpressionParser.{assignment_by, whole_by, list_by, closed_list, assignment_sign, chooses, opens_type, prefix_at, postfix_sign_of}
 use Rattle.c_parser_expressions.specs.ExpressionParser.{postfix_sign, level_sign}
 use Rattle.c_parser_expressions.proofs.Heads.{sign_first, stands_some}
@@ -52,12 +52,12 @@ deeper_unary zero h = absurd (h refl)
 deeper_unary (suc n) h = ap (λ (p : Parsers). p.unary) (below n) ∙ ap (λ (m : ℕ). unary_by m (deeper_than m)) (sym (one-less n))
 
 pub flat_assignment : (d : ℕ) (c : Cursor) → d ≡ 0 → closed_list (deeper_than d).assignment c ≡ Err c.at
-unfolding closed_list list_by deeper_than nothing
+unfolding closed_list list_by deeper_than no_parsers
 flat_assignment zero c h = refl
 flat_assignment (suc n) c h = absurd (omega arith)
 
 pub flat_unary : (d : ℕ) (c : Cursor) → d ≡ 0 → (deeper_than d).unary c ≡ Err c.at
-unfolding deeper_than nothing
+unfolding deeper_than no_parsers
 flat_unary zero c h = refl
 flat_unary (suc n) c h = absurd (omega arith)
 
@@ -73,14 +73,6 @@ chain_more level operand c low high =
     let e : 11 - level ≡ suc (11 - (level + 1)) = omega arith in
     let l : 10 - (11 - (level + 1)) ≡ level = omega arith in
     ap (λ (n : ℕ). chain_by n operand c) e ∙ ap (λ (m : ℕ). level_by (chain_by (11 - (level + 1)) operand) m c) l
-
-pub whole_at : (d : ℕ) (c : Cursor) → (parsers d).whole c ≡ whole_by d (deeper_than d) c
-unfolding layer
-whole_at d c = ap (λ (p : Parsers). p.whole c) (parsers-at d)
-
-pub assignment_at : (d : ℕ) (c : Cursor) → (parsers d).assignment c ≡ assignment_by d (deeper_than d) c
-unfolding layer
-assignment_at d c = ap (λ (p : Parsers). p.assignment c) (parsers-at d)
 
 -- stars, one by one
 pub stars_none : (most : ℕ) (c : Cursor) → most ≡ 0 → ◌≡◌ {A = ℕ × Cursor} (the_stars most c) (0, c)

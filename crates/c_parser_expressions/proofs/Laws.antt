@@ -162,16 +162,6 @@ leads-here R S c wrap build spelled back = record {
 pub leads-none : {A : Type 0} (R : Rule A) (c : Cursor) → Leads R R c c (λ y. y)
 leads-none R c = leads-here R R c (λ y. y) (λ y is. is) (λ y. refl) (λ x k last is ends le same. (x, refl, is, ends))
 
--- a refusal may be told later
-pub fails-later : {A : Type 0} (R : Rule A) (c : Cursor) (last more : ℕ) → last ≤ more → more ≤ c.at + length c.rest → Fails R c last → Fails R c more
-fails-later R c last more le within f =
-    let from = f.from in
-    record {
-      from = omega arith;
-      within = within;
-      none = λ y k is ends same. f.none y k is ends (same-less more last c.at c.rest (R.spell y ++ k) le same);
-    }
-
 -- what was read isn't longer than what there was
 pub found-shorter : {A : Type 0} (R : Rule A) (c to : Cursor) (x : A) → Found R c x to → length to.rest ≤ length c.rest
 found-shorter R c to x f =
@@ -181,12 +171,6 @@ found-shorter R c to x f =
 pub found-takes : {A : Type 0} (R : Rule A) (c to : Cursor) (x : A) → 1 ≤ length (R.spell x) → Found R c x to → length to.rest < length c.rest
 found-takes R c to x some f =
     let e : length c.rest ≡ length (R.spell x) + length to.rest = ap length f.spelled ∙ length-append (R.spell x) to.rest in
-    omega arith
-
-pub found-ends : {A : Type 0} (R : Rule A) (c to : Cursor) (x : A) → Found R c x to → to.at + length to.rest ≡ c.at + length c.rest
-found-ends R c to x f =
-    let e : length c.rest ≡ length (R.spell x) + length to.rest = ap length f.spelled ∙ length-append (R.spell x) to.rest in
-    let moved = f.moved in
     omega arith
 
 -- Reading on: R is read at c by reading S at d, and going on from there.

@@ -21,7 +21,7 @@ use Rattle.c_parser_expressions.specs.Steps.{◌>>=◌, with_front, all_of, the_
 use Rattle.c_parser_expressions.specs.Expressions.{kind_binds, EndsAt, IsExpr, expression, IsInner, inner, AreMore, more_expressions, AreExprs, expressions}
 use Rattle.c_parser_expressions.specs.Expressions.{AreArguments, arguments, texts}
 use Rattle.c_parser_expressions.specs.ExpressionParser.{Parsers, closed_by, paren_by, comma_step, more_by, list_by, closed_list, arguments_by, call_by, named_at}
-use Rattle.c_parser_expressions.specs.ExpressionParser.{named_by, text_of, text_step, strings_by, primary_of, primary_by}
+use Rattle.c_parser_expressions.specs.ExpressionParser.{named_by, text_read, text_step, strings_by, primary_of, primary_by}
 use Rattle.c_parser_expressions.proofs.Heads.{sign-head, name-head, same-sign, stands-sign, sign-stands, not-zero}
 use Rattle.c_parser_expressions.proofs.Laws.{Leads, leads-here, leads-found, leads-fails, leads-trans, leads-outcome, seq-leads, seq-fails}
 use Rattle.c_parser_expressions.proofs.Laws.{finish}
@@ -514,7 +514,7 @@ text-first (_ ∷ k) bytes h = cc
 first-text : (k : Kinds) (bytes : List ℕ) → first k ≡ Some (kind.Text bytes) → text_at k ≡ Some bytes
 first-text k bytes h = ap text_at (text-head k bytes h)
 
-text-of : (c : Cursor) (o : Option (List ℕ)) → text_at c.rest ≡ o → StepIs texts (λ x xs. x ∷ xs) [] c (text_of c o)
+text-of : (c : Cursor) (o : Option (List ℕ)) → text_at c.rest ≡ o → StepIs texts (λ x xs. x ∷ xs) [] c (text_read c o)
 text-of c (Some bytes) h = (text-leads c bytes (text-first c.rest bytes h), first-shorter c.rest (kind.Text bytes) (text-first c.rest bytes h))
 text-of c None h = texts-none c (λ bytes s. let both : None ≡ Some bytes = sym h ∙ first-text c.rest bytes s in cc)
 
@@ -525,7 +525,7 @@ text-listing = record { is = λ c. text-of c (text_at c.rest) refl }
 -- a loop over strings
 text-here : (c : Cursor) (bytes : List ℕ) → text_at c.rest ≡ Some bytes → text_step c ≡ Some (Ok (bytes, after c))
 unfolding text_step
-text-here c bytes h = ap (text_of c) h
+text-here c bytes h = ap (text_read c) h
 
 pub text_turn : (whole : Read (List (List ℕ))) (c to : Cursor) (xs ws : List (List ℕ)) (bytes : List ℕ) → text_at c.rest ≡ Some bytes
     → Front text_step whole c xs → to ≡ after c → ws ≡ xs ++ bytes ∷ [] → Front text_step whole to ws
@@ -536,7 +536,7 @@ text_turn whole c to xs ws bytes h inv moved pushed =
 
 pub text_end : (whole : Read (List (List ℕ))) (c : Cursor) (xs : List (List ℕ)) → text_at c.rest ≡ None → Front text_step whole c xs → whole ≡ Ok (xs, c)
 unfolding text_step
-text_end whole c xs h inv = front_done text_step whole c xs inv (ap (text_of c) h)
+text_end whole c xs h inv = front_done text_step whole c xs inv (ap (text_read c) h)
 
 put-texts : (xs : List (List ℕ)) → put (λ (x : List ℕ) (ys : List (List ℕ)). x ∷ ys) xs [] ≡ xs
 put-texts [] = refl
@@ -571,7 +571,7 @@ strings-as d c bytes (Err i) l o = leads-fails (expression 16 d) texts c (after 
 
 text-step-some : (c : Cursor) (bytes : List ℕ) → first c.rest ≡ Some (kind.Text bytes) → text_step c ≡ Some (Ok (bytes, after c))
 unfolding text_step
-text-step-some c bytes h = ap (text_of c) (first-text c.rest bytes h)
+text-step-some c bytes h = ap (text_read c) (first-text c.rest bytes h)
 
 strings-parses : (d : ℕ) (c : Cursor) (bytes : List ℕ) → first c.rest ≡ Some (kind.Text bytes) → Outcome (expression 16 d) c (strings_by c)
 unfolding strings_by

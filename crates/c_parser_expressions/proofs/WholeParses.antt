@@ -1,9 +1,9 @@
 -- The parser of expressions meets its rules, at every depth.
-use Rattle.std.proofs.Common.{◌≡◌, ℕ, zero, suc, ◌-◌, ◌≤◌, Err, refl, sym, subst, arith}
+use Rattle.std.proofs.Common.{◌≡◌, ℕ, zero, suc, ◌-◌, ◌≤◌, Err, refl, arith}
 use Rattle.c_syntax.specs.ExprTree.{ExprTree}
 use Rattle.c_parser_expressions.specs.Reading.{Cursor, Fails, Read, Outcome}
 use Rattle.c_parser_expressions.specs.Expressions.{expression, inner}
-use Rattle.c_parser_expressions.specs.ExpressionParser.{Parsers, layer, nothing, parsers, deeper_than, primary_by, postfix_by, unary_by, cast_by, chain_by}
+use Rattle.c_parser_expressions.specs.ExpressionParser.{Parsers, layer, no_parsers, parsers, deeper_than, primary_by, postfix_by, unary_by, cast_by, chain_by}
 use Rattle.c_parser_expressions.specs.ExpressionParser.{conditional_by, assignment_by, whole_by}
 use Rattle.c_parser_expressions.proofs.Laws.{leads-here, leads-outcome}
 use Rattle.c_parser_expressions.proofs.Tokens.{fails-here}
@@ -59,8 +59,8 @@ one-layer d deeper deep =
 no-inner : (r : ℕ) (c : Cursor) → Fails (inner r 0) c c.at
 no-inner r c = fails-here (inner r 0) c (λ x k is ends same. (let nests = is.nests in omega arith))
 
-deep-none : Deep 0 nothing
-unfolding nothing
+deep-none : Deep 0 no_parsers
+unfolding no_parsers
 deep-none = record { whole = no-inner 0; assignment = no-inner 1; conditional = no-inner 2; cast = no-inner 13; unary = no-inner 14; flat = λ h c. refl }
 
 inner-of : (r n : ℕ) (f : Cursor → Read ExprTree) → ((c : Cursor) → Outcome (expression r n) c (f c)) → (c : Cursor) → Outcome (inner r (suc n)) c (f c)
@@ -91,7 +91,7 @@ deep-more n deeper p = record {
 pub deep : (d : ℕ) → Deep d (deeper_than d)
 unfolding deeper_than parsers
 deep zero = deep-none
-deep (suc zero) = deep-more 0 nothing (one-layer 0 nothing deep-none)
+deep (suc zero) = deep-more 0 no_parsers (one-layer 0 no_parsers deep-none)
 deep (suc (suc n)) = deep-more (suc n) (parsers n) (one-layer (suc n) (parsers n) (deep (suc n)))
 
 pub parses : (d : ℕ) → Parses d (deeper_than d)
@@ -102,11 +102,3 @@ pub parsers-at : (d : ℕ) → parsers d ≡ layer d (deeper_than d)
 unfolding parsers deeper_than
 parsers-at zero = refl
 parsers-at (suc n) = refl
-
-pub whole-parses : (d : ℕ) (c : Cursor) → Outcome (expression 0 d) c ((parsers d).whole c)
-unfolding layer
-whole-parses d c = subst (λ (p : Parsers). Outcome (expression 0 d) c (p.whole c)) (sym (parsers-at d)) ((parses d).whole c)
-
-pub assign-parses : (d : ℕ) (c : Cursor) → Outcome (expression 1 d) c ((parsers d).assignment c)
-unfolding layer
-assign-parses d c = subst (λ (p : Parsers). Outcome (expression 1 d) c (p.assignment c)) (sym (parsers-at d)) ((parses d).assignment c)

@@ -77,7 +77,8 @@ closed_type depth c = do
   y ← the_sign sign.RightParen t.1
   Ok (t.0, y.1)
 
--- what reads the expressions that lie one deeper: any, those that are no comma expressions, those that are no assignments either, operands of a cast, and unary ones
+-- what reads the expressions that lie one deeper: any, those that are no comma expressions, those that are no assignments either, operands of a cast, and
+-- unary ones
 pub record Parsers : Type 0 where
   pub whole : Cursor → Read ExprTree
   pub assignment : Cursor → Read ExprTree
@@ -135,12 +136,12 @@ named_by deeper c = do
   name ← the_name c
   named_at deeper c.at name.0 name.1
 
-abbrev pub text_of : Cursor → Option (List ℕ) → Step (List ℕ)
-text_of c (Some bytes) = Some (Ok (bytes, after c))
-text_of c None = None
+abbrev pub text_read : Cursor → Option (List ℕ) → Step (List ℕ)
+text_read c (Some bytes) = Some (Ok (bytes, after c))
+text_read c None = None
 
 unfoldable pub text_step : Cursor → Step (List ℕ)
-text_step c = text_of c (text_at c.rest)
+text_step c = text_read c (text_at c.rest)
 
 unfoldable pub strings_by : Cursor → Read ExprTree
 strings_by c = do
@@ -382,15 +383,15 @@ layer depth deeper = record {
 }
 
 -- nothing lies deeper
-unfoldable pub nothing : Parsers
-nothing = record { whole = λ c. Err c.at; assignment = λ c. Err c.at; conditional = λ c. Err c.at; cast = λ c. Err c.at; unary = λ c. Err c.at }
+unfoldable pub no_parsers : Parsers
+no_parsers = record { whole = λ c. Err c.at; assignment = λ c. Err c.at; conditional = λ c. Err c.at; cast = λ c. Err c.at; unary = λ c. Err c.at }
 
 -- what may still nest so deep
 unfoldable pub parsers : (depth : ℕ) → Parsers
-parsers zero = layer 0 nothing
+parsers zero = layer 0 no_parsers
 parsers (suc n) = layer (suc n) (parsers n)
 
 -- what lies deeper
 unfoldable pub deeper_than : (depth : ℕ) → Parsers
-deeper_than zero = nothing
+deeper_than zero = no_parsers
 deeper_than (suc n) = parsers n

@@ -22,15 +22,15 @@ use Rattle.c_parser_expressions.specs.Marks.{stands}
 use Rattle.c_parser_expressions.specs.Steps.{◌>>=◌, with_front, all_of, the_sign, the_name}
 use Rattle.c_parser_expressions.specs.Expressions.{base, NoInt, stars, EndsType}
 use Rattle.c_parser_expressions.specs.ExpressionParser.{the_base, the_stars}
-use Rattle.c_parser_declarations.specs.Declarations.{NoBracket, bounds, initialised, start, starts_end, variables}
+use Rattle.c_parser_declarations.specs.Declarations.{NoBracket, bounds, initialised, start_rule, starts_end, variables}
 use Rattle.c_parser_declarations.specs.DeclarationParser.{the_bounds, initialised_by, start_by, start_step, more_starts_by}
 use Rattle.c_parser_statements.specs.Statements.{AreEntries, entries_end}
 use Rattle.c_parser_statements.specs.StatementParser.{entries_by, statements_below}
 use Rattle.c_parser_items.specs.Items.{IsItem, item}
 use Rattle.c_parser_items.specs.ItemParts.{body, Ending, Call, More, ending_kinds, EndingIs, ending, Tail, tail}
-use Rattle.c_parser_parts.specs.Parts.{AreLines, lines, AreParams, params}
+use Rattle.c_parser_declarations.specs.Parts.{AreMemberLines, lines, AreParams, params}
 use Rattle.c_parser_items.specs.ItemParser.{struct_by, body_by, Head, first_start, function_by, globals_by, headed_by, head_by, declared_by, item_of, item_by}
-use Rattle.c_parser_parts.specs.PartParser.{lines_by, params_by}
+use Rattle.c_parser_declarations.specs.PartParser.{lines_by, params_by}
 use Rattle.c_parser_expressions.proofs.Heads.{sign-head, same-sign, same-name, stands-sign, sign-stands}
 use Rattle.c_parser_expressions.proofs.Laws.{Leads, leads-here, leads-trans, leads-wrap, seq-leads, same-rest, bind, part, finish}
 use Rattle.c_parser_expressions.proofs.Tokens.{token-found, sign-parses, name-parses}
@@ -42,9 +42,9 @@ use Rattle.c_parser_declarations.proofs.Declaring.{initial-is, starts-each, star
 use Rattle.c_parser_statements.proofs.Conditions.{ReadsWhole}
 use Rattle.c_parser_statements.proofs.BlockEntries.{entries-parses}
 use Rattle.c_parser_statements.proofs.StatementParses.{below-parse}
-use Rattle.c_parser_parts.proofs.MemberLines.{lines-parses}
-use Rattle.c_parser_parts.proofs.ParamParses.{sign-no_name}
-use Rattle.c_parser_parts.proofs.ParamLists.{params-parses, assoc}
+use Rattle.c_parser_declarations.proofs.MemberLines.{lines-parses}
+use Rattle.c_parser_declarations.proofs.ParamParses.{sign-no_name}
+use Rattle.c_parser_declarations.proofs.ParamLists.{params-parses, assoc}
 
 -- a body, or a semicolon
 
@@ -111,7 +111,7 @@ more-leads d n c other = leads-here (ending d n) (more_parts d n) c (λ p. More 
 bounds-follow : (d : ℕ) (o : Option InitialTree) (xs : List StartTree) (k : Kinds) → NoBracket (((initialised (d - 1)).spell o ++ (after_commas start_kinds xs ++ a_sign sign_is.Semicolon)) ++ k)
 bounds-follow d o xs k =
     subst NoBracket (sym (append_assoc ((initialised (d - 1)).spell o) (after_commas start_kinds xs ++ a_sign sign_is.Semicolon) k))
-    (start-follow (d - 1) o ((after_commas start_kinds xs ++ a_sign sign_is.Semicolon) ++ k) (commas-follow (start 1 d) sign_is.Semicolon xs k))
+    (start-follow (d - 1) o ((after_commas start_kinds xs ++ a_sign sign_is.Semicolon) ++ k) (commas-follow (start_rule 1 d) sign_is.Semicolon xs k))
 
 -- an item from its base and its tail
 
@@ -197,7 +197,7 @@ tail-is d c to b n x (More bs o xs) positive base_at at is = globals-are d c to 
 -- what an item is made of
 
 data Split (d at : ℕ) (x : ItemTree) : Type 0 where
-  lined : (tag : List ℕ) (ms : List Members) → x ≡ i.Struct at tag ms → AreLines d (at + 3) ms → Split d at x
+  lined : (tag : List ℕ) (ms : List Members) → x ≡ i.Struct at tag ms → AreMemberLines d (at + 3) ms → Split d at x
   tailed : (b : Base) (t : Tail) → BaseAt at b → x ≡ item_with at (at + length (base_kinds b)) b t → TailIs d (at + length (base_kinds b)) t → Split d at x
 
 declaration-split : (d at token : ℕ) (b : Base) (xs : List StartTree) → 1 ≤ d → IsItem d at (i.Declaration (record { token = token; base = b; starts = xs })) → Split d at (i.Declaration (record { token = token; base = b; starts = xs }))
@@ -302,7 +302,7 @@ tail-leads d c to b positive f not_struct = record {
 }
 
 lines-of : (d : ℕ) (c to : Cursor) (at : ℕ) (tag : List ℕ) (x : ItemTree) (k : Kinds) (last : ℕ) → Found base c (base_is.Struct at tag) to → sign_at to.rest ≡ Some sign_is.LeftBrace → Split d c.at x → to.at ≤ last
-    → Same last c.at c.rest (item_kinds x ++ k) → (ms : List Members) × (x ≡ i.Struct c.at tag ms) × AreLines d (to.at + 1) ms
+    → Same last c.at c.rest (item_kinds x ++ k) → (ms : List Members) × (x ≡ i.Struct c.at tag ms) × AreMemberLines d (to.at + 1) ms
 lines-of d c to at tag x k last f h (lined other ms e are) le same =
     let s : Same last c.at c.rest (base_kinds (base_is.Struct c.at other) ++ ((a_sign sign_is.LeftBrace ++ lines_kinds ms) ++ k)) = subst (λ (v : ItemTree). Same last c.at c.rest (item_kinds v ++ k)) e same in
     let r = behind-base c to (base_is.Struct at tag) (base_is.Struct c.at other) ((a_sign sign_is.LeftBrace ++ lines_kinds ms) ++ k) last f refl (no-int-brace ms k) le s in
@@ -310,7 +310,7 @@ lines-of d c to at tag x k last f h (lined other ms e are) le same =
     let tag_is : other ≡ tag = cc in
     let moved = f.moved in
     let at_lines : c.at + 3 ≡ to.at + 1 = omega arith in
-    (ms, e ∙ ap (λ (v : List ℕ). i.Struct c.at v ms) tag_is, subst (λ (n : ℕ). AreLines d n ms) at_lines are)
+    (ms, e ∙ ap (λ (v : List ℕ). i.Struct c.at v ms) tag_is, subst (λ (n : ℕ). AreMemberLines d n ms) at_lines are)
 lines-of d c to at tag x k last f h (tailed other t at_b e is) le same =
     let first = c.at + length (base_kinds other) in
     let s1 : Same last c.at c.rest (item_kinds (item_with c.at first other t) ++ k) = subst (λ (v : ItemTree). Same last c.at c.rest (item_kinds v ++ k)) e same in
@@ -396,10 +396,10 @@ globals-parse assigns inside d c mid first name_token n b x positive l other =
     (leads-trans (item d) (ending d n) (more_parts d n) c mid mid (λ e. item_named c.at first name_token b n (x, e)) (λ p. More p.0 p.1.0 p.1.1) l (more-leads d n mid other)) (bounds-parses (d - n) mid)
     (λ bs to found l2. part (item d) (initialised (d - 1)) (λ o. starts_end 1 d) c to (λ p. item_named c.at first name_token b n (x, More bs p.0 p.1)) (initialised_by (d - 1) to)
     (λ o. more_starts_by 1 d (first_start h bs o.0) o.1 >>= (λ xs. Ok (make xs.0, xs.1)))
-    (λ at v y k v_is y_is ends. commas-follow (start 1 d) sign_is.Semicolon y k) l2 (initialised-parses assigns inside (d - 1) to)
+    (λ at v y k v_is y_is ends. commas-follow (start_rule 1 d) sign_is.Semicolon y k) l2 (initialised-parses assigns inside (d - 1) to)
     (λ o end o_found l3. subst (λ (r : Read ItemTree). Outcome (item d) c r) (sym (thrice (with_front (first_start h bs o ∷ []) (all_of (start_step 1 d) end)) sign_is.Semicolon (λ xs. xs) make))
     (list-behind (item d) (starts_end 1 d) (start_step 1 d) c end (λ xs. item_named c.at first name_token b n (x, More bs o xs)) (λ y ys. y ∷ ys) (the_sign sign_is.Semicolon) (λ u. []) (λ xs u. make xs) (first_start h bs o)
-    (commas-closing (start 1 d) sign_is.Semicolon (start_by 1 d) (start_step 1 d) (omega arith) (λ e. cc) (λ at v k v_is ends. ends) (λ k. refl) (λ k. start-parses assigns inside 1 d positive k))
+    (commas-closing (start_rule 1 d) sign_is.Semicolon (start_by 1 d) (start_step 1 d) (omega arith) (λ e. cc) (λ at v k v_is ends. ends) (λ k. refl) (λ k. start-parses assigns inside 1 d positive k))
     l3 (λ xs u. ap (λ (ys : List StartTree). make (first_start h bs o ∷ ys)) (put-list xs)))))
 
 headed-parses : ReadsWhole → ReadsAssignments → ReadsInner → (d : ℕ) (c mid : Cursor) (first name_token n : ℕ) (b : Base) (x : List ℕ) → 1 ≤ d → Leads (item d) (ending d n) c mid (λ e. item_named c.at first name_token b n (x, e))

@@ -13,7 +13,7 @@ use Rattle.c_parser_expressions.specs.Steps.{◌>>=◌, the_sign, the_name}
 use Rattle.c_parser_expressions.specs.ExpressionParser.{the_base, the_stars}
 use Rattle.c_parser_declarations.specs.DeclarationParser.{the_bounds, initialised_by, more_starts_by}
 use Rattle.c_parser_statements.specs.StatementParser.{entries_by, statements_below}
-use Rattle.c_parser_parts.specs.PartParser.{lines_by, params_by}
+use Rattle.c_parser_declarations.specs.PartParser.{lines_by, params_by}
 
 -- a struct, behind its brace
 unfoldable pub struct_by : (depth token : ℕ) (tag : List ℕ) → Cursor → Read ItemTree

@@ -9,7 +9,7 @@ use Rattle.c_parser_expressions.specs.Reading.{Rule, Any, seq, name}
 use Rattle.c_parser_expressions.specs.Expressions.{stars}
 use Rattle.c_parser_declarations.specs.Declarations.{initialised, starts_end}
 use Rattle.c_parser_statements.specs.Statements.{AreEntries}
-use Rattle.c_parser_parts.specs.Parts.{AreParams}
+use Rattle.c_parser_declarations.specs.Parts.{AreParams}
 
 -- a body, or a semicolon
 abbrev pub body : (d : ℕ) → Rule (Option EntryList)

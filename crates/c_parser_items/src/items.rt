@@ -4,9 +4,8 @@ ghost use Rattle.c_parser_expressions.specs.Steps.{Gives};
 ghost use Rattle.c_parser_items.specs.ItemViews.{plain_head};
 ghost use Rattle.c_parser_items.specs.ItemParser.{struct_by, body_by, function_by, globals_by, headed_by, declared_by, item_by};
 
-use c_parser_declarations::{bounds, initialised, more_starts};
+use c_parser_declarations::{bounds, initialised, member_lines, more_starts, params};
 use c_parser_expressions::{Reader, Stop, base, stars};
-use c_parser_parts::{member_lines, params};
 use c_parser_statements::entries;
 use c_syntax::{Base, Declaration, Declarator, Entry, Item, Sign, Start};
 use cbi_base::{Name, Seq};

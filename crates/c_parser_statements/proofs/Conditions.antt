@@ -21,7 +21,7 @@ use Rattle.c_parser_expressions.specs.Expressions.{sign_binds, IsExpr, expressio
 use Rattle.c_parser_expressions.specs.ExpressionParser.{is_base_word, begins_type, closed_by, whole_by, deeper_than}
 use Rattle.c_parser_declarations.specs.Declarations.{IsDeclaration, declaration}
 use Rattle.c_parser_declarations.specs.DeclarationParser.{declaration_by}
-use Rattle.c_parser_statements.specs.Statements.{condition, ended, until, IsForStart, for_start, header}
+use Rattle.c_parser_statements.specs.Statements.{condition, ended_by, until, IsForStart, for_start, header}
 use Rattle.c_parser_statements.specs.StatementParser.{optional_by, condition_by, until_by, for_start_by, Header, header_by}
 use Rattle.c_parser_expressions.proofs.Heads.{sign-head, same-sign, stands-sign, sign-stands}
 use Rattle.c_parser_expressions.proofs.Laws.{Leads, leads-here, leads-outcome, part, finish}
@@ -73,20 +73,20 @@ some-back : (d at last : ℕ) (x : Sign) (ks k : Kinds) (o : Option ExprTree) �
 some-back d at last x ks k None other is same = absurd (other (same-sign last at ks k x same))
 some-back d at last x ks k (Some v) other is same = (v, refl, is)
 
-some-leads : (d : ℕ) (x : Sign) (c : Cursor) → (sign_at c.rest ≡ Some x → ⊥) → Leads (ended d x) (before (expression 0 d) x) c c Some
-some-leads d x c other = leads-here (ended d x) (before (expression 0 d) x) c Some (λ v is. is) (λ v. refl)
+some-leads : (d : ℕ) (x : Sign) (c : Cursor) → (sign_at c.rest ≡ Some x → ⊥) → Leads (ended_by d x) (before (expression 0 d) x) c c Some
+some-leads d x c other = leads-here (ended_by d x) (before (expression 0 d) x) c Some (λ v is. is) (λ v. refl)
     (λ o k last is ends le same. (let b = some-back d c.at last x c.rest k o other is same in (b.0, b.1, b.2, record {})))
 
 pub ended-parses : ReadsWhole → (d : ℕ) (x : Sign) (c : Cursor) → 1 ≤ sign_mark x → sign_binds x ≡ 0 → starts (kind.Punctuator x) ≡ false
-    → Outcome (ended d x) c (optional_by d x c)
+    → Outcome (ended_by d x) c (optional_by d x c)
 unfolding optional_by
 ended-parses reads d x c marked none other = elim (cases_Bool (stands x c.rest)) [
   | inl t ↦
       (let h = stands-sign x c.rest marked t in
-      rw t (token-found (ended d x) c (kind.Punctuator x) None tt refl (sign-head c.rest x h)
+      rw t (token-found (ended_by d x) c (kind.Punctuator x) None tt refl (sign-head c.rest x h)
       (λ o k last is ends le same. none-only d c.at last x c.rest k o other h is same)))
   | inr f ↦
-      rw f (finish (ended d x) (before (expression 0 d) x) c c Some (closed_by (whole_by d (deeper_than d)) x c)
+      rw f (finish (ended_by d x) (before (expression 0 d) x) c c Some (closed_by (whole_by d (deeper_than d)) x c)
       (some-leads d x c (λ h. let t = sign-stands x c.rest h in cc)) (closed-parses reads d x c marked none))
 ]
 
@@ -174,8 +174,8 @@ computes-back : (d at last : ℕ) (ks k : Kinds) (x : ForStartTree) → begins_t
 computes-back d at last ks k (s.Declares v) h is same = absurd (let t = declaration-begins last at ks k v same in let e : true ≡ false = sym t ∙ h in cc)
 computes-back d at last ks k (s.Computes o) h is same = (o, refl, opt-is d at o is.shaped is.nests is.placed)
 
-computes-leads : (d : ℕ) (c : Cursor) → begins_type c.rest ≡ false → Leads (for_start d) (ended d sign_is.Semicolon) c c s.Computes
-computes-leads d c h = leads-here (for_start d) (ended d sign_is.Semicolon) c s.Computes
+computes-leads : (d : ℕ) (c : Cursor) → begins_type c.rest ≡ false → Leads (for_start d) (ended_by d sign_is.Semicolon) c c s.Computes
+computes-leads d c h = leads-here (for_start d) (ended_by d sign_is.Semicolon) c s.Computes
     (λ o is. record { shaped = opt-shaped d c.at o is; nests = opt-nests d c.at o is; placed = opt-placed d c.at o is }) (λ o. refl)
     (λ x k last is ends le same. (let b = computes-back d c.at last c.rest k x h is same in (b.0, b.1, b.2, record {})))
 
@@ -184,7 +184,7 @@ unfolding for_start_by
 for_start-parses reads assigns inside d positive c = elim (cases_Bool (begins_type c.rest)) [
   | inl t ↦ rw t (finish (for_start d) (declaration 0 (d - 1)) c c s.Declares (declaration_by 0 (d - 1) c) (declares-leads d c positive t)
       (declaration-parses assigns inside 0 (d - 1) (omega arith) c))
-  | inr f ↦ rw f (finish (for_start d) (ended d sign_is.Semicolon) c c s.Computes (optional_by d sign_is.Semicolon c) (computes-leads d c f)
+  | inr f ↦ rw f (finish (for_start d) (ended_by d sign_is.Semicolon) c c s.Computes (optional_by d sign_is.Semicolon c) (computes-leads d c f)
       (ended-parses reads d sign_is.Semicolon c (omega arith) refl refl))
 ]
 
@@ -195,7 +195,7 @@ abbrev header_of : HeaderParts → Header
 header_of p = record { start = p.1.0; condition = p.1.1.0; step = p.1.1.1 }
 
 abbrev header_parts : (d : ℕ) → Rule HeaderParts
-header_parts d = seq (sign sign_is.LeftParen) (λ u. seq (for_start d) (λ x. seq (ended d sign_is.Semicolon) (λ y. ended d sign_is.RightParen)))
+header_parts d = seq (sign sign_is.LeftParen) (λ u. seq (for_start d) (λ x. seq (ended_by d sign_is.Semicolon) (λ y. ended_by d sign_is.RightParen)))
 
 header-leads : (d : ℕ) (c : Cursor) → Leads (header d) (header_parts d) c c header_of
 header-leads d c = leads-here (header d) (header_parts d) c header_of (λ p is. record { start = is.1.0; condition = is.1.1.0; step = is.1.1.1 }) (λ p. refl)
@@ -204,19 +204,19 @@ header-leads d c = leads-here (header d) (header_parts d) c header_of (λ p is. 
 pub header-parses : ReadsWhole → ReadsAssignments → ReadsInner → (d : ℕ) → 1 ≤ d → (c : Cursor) → Outcome (header d) c (header_by d c)
 unfolding header_by
 header-parses reads assigns inside d positive c =
-    part (header d) (sign sign_is.LeftParen) (λ u. seq (for_start d) (λ x. seq (ended d sign_is.Semicolon) (λ y. ended d sign_is.RightParen))) c c header_of
+    part (header d) (sign sign_is.LeftParen) (λ u. seq (for_start d) (λ x. seq (ended_by d sign_is.Semicolon) (λ y. ended_by d sign_is.RightParen))) c c header_of
     (the_sign sign_is.LeftParen c)
     (λ u. for_start_by d u.1 >>= (λ x. optional_by d sign_is.Semicolon x.1 >>=
     (λ y. optional_by d sign_is.RightParen y.1 >>= (λ z. Ok (record { start = x.0; condition = y.0; step = z.0 }, z.1)))))
     (λ at v y k v_is y_is ends. record {}) (header-leads d c) (sign-parses sign_is.LeftParen c (omega arith))
-    (λ u to found l. part (header d) (for_start d) (λ x. seq (ended d sign_is.Semicolon) (λ y. ended d sign_is.RightParen)) c to (λ p. header_of (tt, p))
+    (λ u to found l. part (header d) (for_start d) (λ x. seq (ended_by d sign_is.Semicolon) (λ y. ended_by d sign_is.RightParen)) c to (λ p. header_of (tt, p))
     (for_start_by d to)
     (λ x. optional_by d sign_is.Semicolon x.1 >>= (λ y. optional_by d sign_is.RightParen y.1 >>=
     (λ z. Ok (record { start = x.0; condition = y.0; step = z.0 }, z.1))))
     (λ at v y k v_is y_is ends. record {}) l (for_start-parses reads assigns inside d positive to)
-    (λ x mid x_found l2. part (header d) (ended d sign_is.Semicolon) (λ y. ended d sign_is.RightParen) c mid (λ p. header_of (tt, (x, p)))
+    (λ x mid x_found l2. part (header d) (ended_by d sign_is.Semicolon) (λ y. ended_by d sign_is.RightParen) c mid (λ p. header_of (tt, (x, p)))
     (optional_by d sign_is.Semicolon mid)
     (λ y. optional_by d sign_is.RightParen y.1 >>= (λ z. Ok (record { start = x; condition = y.0; step = z.0 }, z.1)))
     (λ at v y k v_is y_is ends. record {}) l2 (ended-parses reads d sign_is.Semicolon mid (omega arith) refl refl)
-    (λ y end y_found l3. finish (header d) (ended d sign_is.RightParen) c end (λ z. header_of (tt, (x, (y, z)))) (optional_by d sign_is.RightParen end) l3
+    (λ y end y_found l3. finish (header d) (ended_by d sign_is.RightParen) c end (λ z. header_of (tt, (x, (y, z)))) (optional_by d sign_is.RightParen end) l3
     (ended-parses reads d sign_is.RightParen end (omega arith) refl refl))))

@@ -17,7 +17,7 @@ use Rattle.c_syntax.specs.Place.{ExprAt, ForStartAt, StatementAt}
 use Rattle.c_parser_expressions.specs.Reading.{Cursor, Same, Found, seq, before, sign, first, after, behind, sign_at, word_at}
 use Rattle.c_parser_expressions.specs.Expressions.{IsExpr, expression}
 use Rattle.c_parser_statements.specs.StatementParser.{Header}
-use Rattle.c_parser_statements.specs.Statements.{IsStatement, EndsStatement, statement, inner_statement, EndsOtherwise, else_kinds, branches, condition, ended, until, header_kinds, header, AreEntries, entries_end}
+use Rattle.c_parser_statements.specs.Statements.{IsStatement, EndsStatement, statement, inner_statement, EndsOtherwise, else_kinds, branches, condition, ended_by, until, header_kinds, header, AreEntries, entries_end}
 use Rattle.c_parser_expressions.proofs.Heads.{sign-head, word-head}
 use Rattle.c_parser_expressions.proofs.Laws.{Leads, leads-here}
 use Rattle.c_parser_expressions.proofs.Tokens.{token-found}
@@ -315,7 +315,7 @@ return-back d at last ks k (s.Return t o) is same = (o, ap (λ (n : ℕ). s.Retu
 return-back d at last ks k (s.Expr t x) is same = absurd (no-expr last at (kind.Word word_is.Return) ks k x refl is.shaped same)
 return-back d at last ks k _ is same = let h = same.0 in cc
 
-pub return-leads : (d : ℕ) (c : Cursor) → word_at c.rest ≡ Some word_is.Return → Leads (statement d) (ended d sign_is.Semicolon) c (after c) (s.Return c.at)
+pub return-leads : (d : ℕ) (c : Cursor) → word_at c.rest ≡ Some word_is.Return → Leads (statement d) (ended_by d sign_is.Semicolon) c (after c) (s.Return c.at)
 return-leads d c h =
     let whole : c.rest ≡ kind.Word word_is.Return ∷ behind c.rest = word-head c.rest word_is.Return h in
     record {

@@ -16,7 +16,7 @@ use Rattle.c_parser_expressions.specs.Marks.{says}
 use Rattle.c_parser_expressions.specs.Steps.{◌>>=◌, the_sign}
 use Rattle.c_parser_expressions.specs.Expressions.{expression}
 use Rattle.c_parser_expressions.specs.ExpressionParser.{closed_by, whole_by, deeper_than}
-use Rattle.c_parser_statements.specs.Statements.{IsStatement, EndsStatement, statement, inner_statement, branches, condition, ended, until, header, entries_end}
+use Rattle.c_parser_statements.specs.Statements.{IsStatement, EndsStatement, statement, inner_statement, branches, condition, ended_by, until, header, entries_end}
 use Rattle.c_parser_statements.specs.StatementParser.{optional_by, condition_by, expression_by, otherwise_by, if_by, while_by, until_by, do_by, header_by, for_by, return_by, jump_by, entries_by, block_by, statement_of, statement_by, statements, statements_below}
 use Rattle.c_parser_expressions.proofs.Heads.{word-head, says-word, word-says}
 use Rattle.c_parser_expressions.proofs.Laws.{Leads, leads-here, leads-found, leads-fails, leads-trans, leads-outcome, part, finish}
@@ -212,7 +212,7 @@ for-shuts d deeper shuts c = elim (cases_Bool (d == 0)) [
 
 return-parses : ReadsWhole → (d : ℕ) (c : Cursor) → word_at c.rest ≡ Some word_is.Return → Outcome (statement d) c (return_by d c)
 unfolding return_by
-return-parses whole d c h = finish (statement d) (ended d sign_is.Semicolon) c (after c) (s.Return c.at) (optional_by d sign_is.Semicolon (after c))
+return-parses whole d c h = finish (statement d) (ended_by d sign_is.Semicolon) c (after c) (s.Return c.at) (optional_by d sign_is.Semicolon (after c))
     (return-leads d c h) (ended-parses whole d sign_is.Semicolon (after c) (omega arith) refl refl)
 
 return-shuts : (d : ℕ) (c : Cursor) → Shuts (return_by d c)

@@ -62,8 +62,8 @@ abbrev pub condition : (d : ℕ) → Rule ExprTree
 condition d = record { Is = λ at x. IsExpr 0 d (at + 1) x; spell = λ x. parenthesized (expr_kinds x); Ends = λ x k. Any k }
 
 -- an expression or none, with a sign behind it
-abbrev pub ended : (d : ℕ) → Sign → Rule (Option ExprTree)
-ended d s = record { Is = λ at o. IfSome o (IsExpr 0 d at); spell = λ o. optional expr_kinds o ++ a_sign s; Ends = λ o k. Any k }
+abbrev pub ended_by : (d : ℕ) → Sign → Rule (Option ExprTree)
+ended_by d s = record { Is = λ at o. IfSome o (IsExpr 0 d at); spell = λ o. optional expr_kinds o ++ a_sign s; Ends = λ o k. Any k }
 
 -- what stands behind the body of a `do`
 abbrev pub until : (d : ℕ) → Rule ExprTree

@@ -7,7 +7,9 @@ ghost use Rattle.c_parser_expressions.specs.Marks.{sign_mark};
 ghost use Rattle.c_parser_expressions.specs.Reading.{first};
 ghost use Rattle.c_parser_expressions.specs.Steps.{Gives, all_of};
 ghost use Rattle.c_parser_declarations.specs.Turns.{GivesStep};
-ghost use Rattle.c_parser_statements.specs.StatementParser.{optional_by, condition_by, otherwise_by, if_by, while_by, until_by, do_by, for_start_by, header_by, for_by, return_by, jump_by, entry_by, entry_step, entries_by, block_by, expression_by, statements, statements_below};
+ghost use Rattle.c_parser_statements.specs.StatementParser.{optional_by, condition_by, otherwise_by, if_by, while_by, until_by, do_by, for_start_by};
+ghost use Rattle.c_parser_statements.specs.StatementParser.{header_by, for_by, return_by, jump_by, entry_by, entry_step, entries_by, block_by};
+ghost use Rattle.c_parser_statements.specs.StatementParser.{expression_by, statements, statements_below};
 
 use c_parser_declarations::declaration;
 use c_parser_expressions::{Reader, Stop, closed};

@@ -38,10 +38,6 @@ none_made arguments size sizes o p is =
     ap (λ cells. all_made cells o) (first_cells-cons arguments size sizes)
     ∙ on_full (first_cells (drop 1 arguments) sizes) (made_with Local (cells_at_start arguments size) o) o p is
 
-on_number : (room : Option Objects) (o p : Objects) (n : ℕ) → IsMade room o p (made.Object n) → n ≡ o.made
-on_number None o p n never = absurd never
-on_number (Some next) o p n is = is.0
-
 killed_swap : (o : Objects) (j k : ℕ) → killed k (killed j o) ≡ killed j (killed k o)
 killed_swap o j k = ap (λ l. let p : Objects = record { made = o.made; live = l } in p) (remove-remove o.live j k)
 

@@ -12,8 +12,8 @@ use Rattle.cbi_base.specs.declared.scalar.Scalar.{Scalar}
 use Rattle.cbi_base.specs.declared.scalar.Scalar.TheVariants.{Undefined}
 use Rattle.cbi_base.specs.declared.trap.Trap.{Trap}
 use Rattle.cbi_base.specs.declared.trap.Trap.TheVariants as trap
-use Rattle.c_store.specs.Written.{with_each, with_cell, put_back, stored_in, filled_in, after}
-use Rattle.c_store.specs.Kept.{IsKept}
+use Rattle.c_store.specs.Written.{with_each, with_cell, put_back, stored_in, filled_map, after}
+use Rattle.c_store.specs.Kept.{AreObjectsKept}
 use Rattle.cbi_base.specs.Frames as frames
 use Rattle.cbi_base.specs.Frames.{filled}
 use Rattle.c_store.specs.Made.{undone}
@@ -23,7 +23,7 @@ nothing : (es : List (ℕ × Object)) → length es ≡ 0 → sum_by (λ o. leng
 nothing [] none = refl
 nothing (e ∷ es) none = absurd (omega arith)
 
-pub kept_at_start : IsKept 0 no_objects
+pub kept_at_start : AreObjectsKept 0 no_objects
 kept_at_start =
     record {
       counted = sym (nothing (entries {R = nat_cmp} empty) (sym (len-entries {R = nat_cmp} empty) ∙ len-empty nat_cmp Object));
@@ -39,9 +39,9 @@ hidden : {A : Type 0} (b : Bool) (x : A) (o : Option A) → b ≡ false → o �
 hidden true x o is none = cc
 hidden false x o is none = none
 
-pub kept_by_make : (cells : ℕ) (o : Objects) (k : IsKept cells o) (object : Object) (n : ℕ) → length object.cells ≡ n → cells + n ≤ cell_limit →
+pub kept_by_make : (cells : ℕ) (o : Objects) (k : AreObjectsKept cells o) (object : Object) (n : ℕ) → length object.cells ≡ n → cells + n ≤ cell_limit →
     o.made < object_limit →
-    IsKept (cells + n) (record { made = o.made + 1; live = insert o.live o.made object })
+    AreObjectsKept (cells + n) (record { made = o.made + 1; live = insert o.live o.made object })
 kept_by_make cells o k object n long room more =
     record {
       counted = let sum = sum-insert (λ o. length o.cells) o.live o.made object (k.fresh o.made (omega arith)) in omega (arith, k.counted, sum, long);
@@ -55,8 +55,8 @@ none_left : {A : Type 0} (b : Bool) (o : Option A) → o ≡ None → cond b Non
 none_left true o none = refl
 none_left false o none = none
 
-pub kept_by_kill : (cells : ℕ) (o : Objects) (k : IsKept cells o) (number : ℕ) (object : Object) → get o.live number ≡ Some object →
-    IsKept (cells - length object.cells) (killed number o)
+pub kept_by_kill : (cells : ℕ) (o : Objects) (k : AreObjectsKept cells o) (number : ℕ) (object : Object) → get o.live number ≡ Some object →
+    AreObjectsKept (cells - length object.cells) (killed number o)
 kept_by_kill cells o k number object at =
     record {
       counted = let sum = sum-remove (λ o. length o.cells) o.live number object at in omega (arith, k.counted, sum);
@@ -73,9 +73,9 @@ same_number : (q k : ℕ) → (q == k) ≡ true → q ≡ k
 same_number q k is = grind (arith, nat_tests)
 
 -- a live object with as many cells as before
-pub kept_by_change : (cells : ℕ) (o : Objects) (k : IsKept cells o) (number : ℕ) (old object : Object) → get o.live number ≡ Some old →
+pub kept_by_change : (cells : ℕ) (o : Objects) (k : AreObjectsKept cells o) (number : ℕ) (old object : Object) → get o.live number ≡ Some old →
     length object.cells ≡ length old.cells →
-    IsKept cells (with_object o number object)
+    AreObjectsKept cells (with_object o number object)
 kept_by_change cells o k number old object at long =
     record {
       counted = k.counted ∙ sym (sum-replace (λ o. length o.cells) o.live number old object at long);
@@ -89,50 +89,50 @@ kept_by_change cells o k number old object at long =
     }
 
 -- no object has more cells than live
-pub within_all : (cells : ℕ) (o : Objects) (k : IsKept cells o) (number : ℕ) (object : Object) → get o.live number ≡ Some object → length object.cells ≤ cells
+pub within_all : (cells : ℕ) (o : Objects) (k : AreObjectsKept cells o) (number : ℕ) (object : Object) → get o.live number ≡ Some object → length object.cells ≤ cells
 within_all cells o k number object at = let sum = sum-remove (λ o. length o.cells) o.live number object at in omega (arith, k.counted, sum)
 
 -- an object that is filled keeps its length
-fill_kept : (cells : ℕ) (o : Objects) (k : IsKept cells o) (number : ℕ) (value : Scalar) (found : Option Object) → get o.live number ≡ found →
-    IsKept cells (record o { live = filled_in number value found o.live })
+fill_kept : (cells : ℕ) (o : Objects) (k : AreObjectsKept cells o) (number : ℕ) (value : Scalar) (found : Option Object) → get o.live number ≡ found →
+    AreObjectsKept cells (record o { live = filled_map number value found o.live })
 fill_kept cells o k number value None is = k
 fill_kept cells o k number value (Some object) is = kept_by_change cells o k number object (with_each value object) is (length-map object.cells (λ _. value))
 
-pub kept_by_fill : (cells : ℕ) (o : Objects) (k : IsKept cells o) (number : ℕ) (value : Scalar) →
-    IsKept cells (record o { live = filled_in number value (get o.live number) o.live })
+pub kept_by_fill : (cells : ℕ) (o : Objects) (k : AreObjectsKept cells o) (number : ℕ) (value : Scalar) →
+    AreObjectsKept cells (record o { live = filled_map number value (get o.live number) o.live })
 kept_by_fill cells o k number value = fill_kept cells o k number value (get o.live number) refl
 
-changed : {A : Type 0} (cells : ℕ) (o : Objects) (k : IsKept cells o) (number offset : ℕ) (value : Scalar) (found : Option Object) (r : Result A Trap) (m : FinMap nat_cmp Object) →
-    get o.live number ≡ found → stored_in number offset value found o.live ≡ after r m → (OnErr r (m ≡ o.live)) → IsKept cells (record o { live = m })
-changed cells o k number offset value found (Err t) m is stored same = subst (λ l. IsKept cells (record o { live = l })) (sym same) k
+changed : {A : Type 0} (cells : ℕ) (o : Objects) (k : AreObjectsKept cells o) (number offset : ℕ) (value : Scalar) (found : Option Object) (r : Result A Trap) (m : FinMap nat_cmp Object) →
+    get o.live number ≡ found → stored_in number offset value found o.live ≡ after r m → (OnErr r (m ≡ o.live)) → AreObjectsKept cells (record o { live = m })
+changed cells o k number offset value found (Err t) m is stored same = subst (λ l. AreObjectsKept cells (record o { live = l })) (sym same) k
 changed cells o k number offset value None (Ok done) m is stored same = absurd cc
 changed cells o k number offset value (Some object) (Ok done) m is stored same =
     within (nat_lt offset (length object.cells)) (is_text object.class) stored
   where
     within : (b t : Bool) →
         put_back o.live number (if b then (if t then Err trap.ReadOnly else Ok (with_cell offset value object)) else Err trap.Bounds) ≡ Ok m →
-        IsKept cells (record o { live = m })
+        AreObjectsKept cells (record o { live = m })
     within false t stored = absurd cc
     within true true stored = absurd cc
     within true false stored =
         let is_map : insert o.live number (with_cell offset value object) ≡ m = cc in
-        subst (λ l. IsKept cells (record o { live = l })) is_map
+        subst (λ l. AreObjectsKept cells (record o { live = l })) is_map
         (kept_by_change cells o k number object (with_cell offset value object) is (length-set object.cells offset value))
 
-pub kept_by_store : {A : Type 0} (cells : ℕ) (o : Objects) (k : IsKept cells o) (number offset : ℕ) (value : Scalar) (r : Result A Trap) (m : FinMap nat_cmp Object) →
-    stored_in number offset value (get o.live number) o.live ≡ after r m → OnErr r (m ≡ o.live) → IsKept cells (record o { live = m })
+pub kept_by_store : {A : Type 0} (cells : ℕ) (o : Objects) (k : AreObjectsKept cells o) (number offset : ℕ) (value : Scalar) (r : Result A Trap) (m : FinMap nat_cmp Object) →
+    stored_in number offset value (get o.live number) o.live ≡ after r m → OnErr r (m ≡ o.live) → AreObjectsKept cells (record o { live = m })
 kept_by_store cells o k number offset value r m stored same = changed cells o k number offset value (get o.live number) r m refl stored same
 
 -- the same of a store that may do nothing
-pub kept_by_quick_store : (cells : ℕ) (o : Objects) (k : IsKept cells o) (number offset : ℕ) (value : Scalar) (done : Bool) (m : FinMap nat_cmp Object) →
+pub kept_by_quick_store : (cells : ℕ) (o : Objects) (k : AreObjectsKept cells o) (number offset : ℕ) (value : Scalar) (done : Bool) (m : FinMap nat_cmp Object) →
     (IsTrue done → stored_in number offset value (get o.live number) o.live ≡ Ok m) → (IsFalse done → m ≡ o.live) →
-    IsKept cells (record o { live = m })
+    AreObjectsKept cells (record o { live = m })
 kept_by_quick_store cells o k number offset value true m stores same =
     let stands : Result (Unit {0}) Trap = Ok tt in
     kept_by_store cells o k number offset value stands m (stores refl) tt
-kept_by_quick_store cells o k number offset value false m stores same = subst (λ l. IsKept cells (record o { live = l })) (sym (same refl)) k
+kept_by_quick_store cells o k number offset value false m stores same = subst (λ l. AreObjectsKept cells (record o { live = l })) (sym (same refl)) k
 
-last_or_fresh : (cells : ℕ) (o : Objects) (k : IsKept cells o) (q : ℕ) → get o.live (o.made - 1) ≡ None → o.made - 1 ≤ q → get o.live q ≡ None
+last_or_fresh : (cells : ℕ) (o : Objects) (k : AreObjectsKept cells o) (q : ℕ) → get o.live (o.made - 1) ≡ None → o.made - 1 ≤ q → get o.live q ≡ None
 last_or_fresh cells o k q none least =
     elim (nat_lt q o.made) as (λ (t : Bool). nat_lt q o.made ≡ t → get o.live q ≡ None) [
       | true ↦ λ is. let last : q ≡ o.made - 1 = grind (arith, nat_tests) in ap (get o.live) last ∙ none
@@ -140,7 +140,7 @@ last_or_fresh cells o k q none least =
     ] refl
 
 -- without the object that was made last, which is dead
-pub kept_by_undo : (cells : ℕ) (o : Objects) (k : IsKept cells o) → get o.live (o.made - 1) ≡ None → IsKept cells (record o { made = o.made - 1 })
+pub kept_by_undo : (cells : ℕ) (o : Objects) (k : AreObjectsKept cells o) → get o.live (o.made - 1) ≡ None → AreObjectsKept cells (record o { made = o.made - 1 })
 kept_by_undo cells o k none =
     record {
       counted = k.counted;
@@ -171,8 +171,8 @@ undone_made o object m none is =
 pub killed_none : (o : Objects) (number : ℕ) → get o.live number ≡ None → o ≡ killed number o
 killed_none o number none = ap (λ l. let p : Objects = record { made = o.made; live = l } in p) (sym (remove_none o.live number none))
 
-pub kept_without : (cells : ℕ) (o : Objects) (k : IsKept cells o) (number : ℕ) → get o.live number ≡ None → IsKept cells (killed number o)
-kept_without cells o k number none = subst (IsKept cells) (killed_none o number none) k
+pub kept_without : (cells : ℕ) (o : Objects) (k : AreObjectsKept cells o) (number : ℕ) → get o.live number ≡ None → AreObjectsKept cells (killed number o)
+kept_without cells o k number none = subst (AreObjectsKept cells) (killed_none o number none) k
 
 undefined_each : (o : Objects) (number : ℕ) (found : Option Object) → frames.filled_in o number Undefined found ≡ undefined_in o number found
 undefined_each o number None = refl
@@ -182,10 +182,10 @@ pub filled_undefined : (number : ℕ) (o : Objects) → filled number Undefined 
 filled_undefined number o = undefined_each o number (get o.live number)
 
 -- the object of the last number is dead once it was killed
-pub undo_is : (cells : ℕ) (o p : Objects) (k : IsKept cells p) → p ≡ killed (o.made - 1) o → IsKept cells (record { made = o.made - 1; live = p.live })
+pub undo_is : (cells : ℕ) (o p : Objects) (k : AreObjectsKept cells p) → p ≡ killed (o.made - 1) o → AreObjectsKept cells (record { made = o.made - 1; live = p.live })
 undo_is cells o p k is =
     let made : p.made ≡ o.made = ap (λ q. q.made) is in
     let live : p.live ≡ remove o.live (o.made - 1) = ap (λ q. q.live) is in
     let none : get p.live (p.made - 1) ≡ None =
     ap (λ l. get l (p.made - 1)) live ∙ ap (λ n. get (remove o.live (o.made - 1)) (n - 1)) made ∙ gone o.live (o.made - 1) in
-    subst (λ n. IsKept cells (record { made = n - 1; live = p.live })) made (kept_by_undo cells p k none)
+    subst (λ n. AreObjectsKept cells (record { made = n - 1; live = p.live })) made (kept_by_undo cells p k none)

@@ -8,7 +8,7 @@ use Rattle.cbi_base.specs.declared.scalar.Kind.TheVariants as kind
 use Rattle.cbi_base.specs.declared.scalar.Want.{Want}
 use Rattle.cbi_base.specs.declared.scalar.Want.TheVariants as want
 use Rattle.cbi_base.specs.declared.trap.Trap.TheVariants as trap
-use Rattle.cbi_base.specs.Objects.{Object, Objects, ◌>>=◌, live_or, is_wanted, found, loaded, moved, moved_in}
+use Rattle.cbi_base.specs.Objects.{Object, Objects, ◌>>=◌, live_or, is_wanted, found_cell, loaded, moved, moved_in}
 use Rattle.c_store.specs.Word.{cell_of}
 use Rattle.std.proofs.lemmas.Bool.Decides.{nat_tests}
 
@@ -18,7 +18,7 @@ undefined_unwanted (want.Number kind.Int) = refl
 undefined_unwanted (want.Number kind.Unsigned) = refl
 undefined_unwanted want.Pointer = refl
 
-wanted_found : (w : Want) (value : Scalar) → is_wanted w value ≡ true → found w (Some value) ≡ Ok value
+wanted_found : (w : Want) (value : Scalar) → is_wanted w value ≡ true → found_cell w (Some value) ≡ Ok value
 wanted_found w Undefined is = absurd (let no : true ≡ false = sym is ∙ undefined_unwanted w in cc)
 wanted_found w (Number kind value) is = ap (λ b. if b then Ok (Number kind value) else Err trap.WrongKind) is
 wanted_found w (Place object offset) is = ap (λ b. if b then Ok (Place object offset) else Err trap.WrongKind) is
@@ -26,9 +26,9 @@ wanted_found w Null is = ap (λ b. if b then Ok Null else Err trap.WrongKind) is
 
 in_object : (w : Want) (offset : ℕ) (value : Scalar) (object : Option Object) → option_and_then (λ o. slice_get o.cells offset) object ≡ Some value →
     is_wanted w value ≡ true →
-    (live_or object >>= λ o. found w (slice_get o.cells offset)) ≡ Ok value
+    (live_or object >>= λ o. found_cell w (slice_get o.cells offset)) ≡ Ok value
 in_object w offset value None is wanted = absurd cc
-in_object w offset value (Some object) is wanted = ap (found w) is ∙ wanted_found w value wanted
+in_object w offset value (Some object) is wanted = ap (found_cell w) is ∙ wanted_found w value wanted
 
 pub loaded_there : (w : Want) (number offset : ℕ) (value : Scalar) (o : Objects) → cell_of number offset o ≡ Some value → is_wanted w value ≡ true →
     loaded w (Place number offset) o ≡ Ok value

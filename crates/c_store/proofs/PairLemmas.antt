@@ -1,17 +1,14 @@
 -- Two pointers.
 use Rattle.std.proofs.Common.{◌≡◌, ℕ, ◌≤◌, ℤ, pos, ◌-ℤ◌, ◌≤ℤ◌, Bool, true, false, ◌&&◌, IsTrue, Option, None, Some, Result, Ok, Err, refl, ap, sym, ◌∙◌, arith}
-use Rattle.std.proofs.lemmas.Int.{ints}
-use Rattle.std.specs.Prelude.{int_le, unsigned_abs, ◌==◌, if◌then◌else◌}
+use Rattle.std.specs.Prelude.{◌==◌, if◌then◌else◌}
 use Rattle.std.specs.FinMap.{get}
 use Rattle.cbi_base.specs.declared.operators.Order.{Order}
 use Rattle.cbi_base.specs.declared.operators.Order.TheVariants.{Lt, Le, Gt, Ge, Eq, Ne}
-use Rattle.cbi_base.specs.declared.scalar.Kind.TheVariants.{Int}
 use Rattle.cbi_base.specs.declared.scalar.Scalar.{Scalar}
 use Rattle.cbi_base.specs.declared.scalar.Scalar.TheVariants.{Number, Place, Null, Undefined}
 use Rattle.cbi_base.specs.declared.trap.Trap.{Trap}
 use Rattle.cbi_base.specs.declared.trap.Trap.TheVariants as trap
-use Rattle.cbi_base.specs.Kind.{least_of, greatest_of, LiesIn}
-use Rattle.cbi_base.specs.Objects.{Object, Objects, ◌>>=◌, live_or, of_pointers, within_one, in_order, compared, difference, elements, cell_limit}
+use Rattle.cbi_base.specs.Objects.{Object, Objects, ◌>>=◌, live_or, of_pointers, within_one, in_order, compared, difference, elements}
 
 abbrev pub checked : Scalar → Scalar → Result (Unit {0}) Trap
 checked left right = of_pointers left right (Ok tt)
@@ -90,10 +87,3 @@ difference_by left right size o r two is =
 
 both : (a b : Bool) → IsTrue a → IsTrue b → IsTrue (a && b)
 both a b p q = grind arith
-
--- so many cells as live at most fit an `int`
-pub near_fits : (value : ℤ) (i j : ℕ) → unsigned_abs value ≤ unsigned_abs (pos i -ℤ pos j) → i ≤ cell_limit → j ≤ cell_limit → LiesIn Int value
-near_fits value i j near first second =
-    let low : least_of Int ≤ℤ value = omega (arith, ints) in
-    let high : value ≤ℤ greatest_of Int = omega (arith, ints) in
-    both (int_le (least_of Int) value) (int_le value (greatest_of Int)) (grind (arith, ints)) (grind (arith, ints))

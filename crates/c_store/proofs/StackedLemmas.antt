@@ -1,7 +1,7 @@
 -- What the objects that are kept in order and apart answer, as the finite map of all does.
 use Rattle.std.proofs.Common.{◌≡◌, ℕ, zero, suc, ◌+◌, ◌-◌, ◌<◌, ◌≤◌, Bool, true, false, cond, List, [], ◌∷◌, ◌++◌, take, length, get_or, slice_set}
 use Rattle.std.proofs.Common.{slice_get, slice_index, Option, Some, None, is_some, OnErr, Result, Ok, Err, nat_eq, nat_lt, refl, ap, sym, ◌∙◌, subst}
-use Rattle.std.proofs.Common.{arith, length-append, length-set}
+use Rattle.std.proofs.Common.{arith, length-append}
 use Rattle.std.specs.List.{zip, remove}
 use Rattle.std.specs.Map.{lookup}
 use Rattle.std.specs.Ordering.{nat_cmp}
@@ -12,7 +12,7 @@ use Rattle.std.proofs.lemmas.Bool.Decides.{nat_tests}
 use Rattle.std.proofs.lemmas.List.Edits.{length-remove, get_or-remove_below, get_or-remove_above}
 use Rattle.cbi_base.specs.Objects.{Object}
 use Rattle.c_store.specs.Stacked.{IsRising, IsBelow, StandsAt, IsMissing, IsApart, IsStacked, map_of}
-use Rattle.c_store.specs.Written.{with_each, written, put_back, stored_in, filled_in, after}
+use Rattle.c_store.specs.Written.{with_each, written_at, put_back, stored_in, filled_map, after}
 use Rattle.c_store.proofs.Sums.{same_put}
 use Rattle.cbi_base.specs.declared.scalar.Scalar.{Scalar}
 use Rattle.cbi_base.specs.declared.trap.Trap.{Trap}
@@ -101,9 +101,6 @@ set_in_order ns bs es k i w kept there =
     ∙ first_changes (nat_eq k q) w (lookup (nat_eq q) (zip ns bs)) (lookup (nat_eq q) es)
     ∙ ap (cond (nat_eq k q) (Some w)) (sym (behind ns bs es q)))
 
-pub kept_by_set : (ns : List ℕ) (bs : List Object) (es : List (ℕ × Object)) (i : ℕ) (w : Object) → IsStacked ns bs es → IsStacked ns (slice_set bs i w) es
-kept_by_set ns bs es i w kept = record { even = kept.even ∙ sym (length-set bs i w); rising = kept.rising; apart = kept.apart }
-
 pub removed_in_order : (ns : List ℕ) (bs : List Object) (es : List (ℕ × Object)) (k i : ℕ) → IsStacked ns bs es → StandsAt ns k i →
     map_of (remove ns i) (remove bs i) es ≡ map.remove (map_of ns bs es) k
 removed_in_order ns bs es k i kept there =
@@ -172,17 +169,6 @@ kept_by_push ns bs es k b kept none above =
             λ i within. more_apart ns es k i kept.apart (nothing_behind (lookup (nat_eq k) (zip ns bs)) (lookup (nat_eq k) es) (neither ns bs es k none)) (omega (arith, length-append ns (k ∷ [])));
       };
     }
-
-below_last : (ns : List ℕ) (last k : ℕ) → IsRising ns → StandsAt ns last (length ns - 1) → last < k → (i : ℕ) → i < length ns → slice_index ns i < k
-below_last ns last k rising there less i within =
-    elim (nat_lt i (length ns - 1)) as (λ (t : Bool). nat_lt i (length ns - 1) ≡ t → slice_index ns i < k) [
-      | true ↦ λ is. let step = rising.step i (length ns - 1) (grind (arith, nat_tests)) there.within in omega (arith, step, there.at)
-      | false ↦ λ is. let same : i ≡ length ns - 1 = grind (arith, nat_tests) in rw same (omega (arith, there.at))
-    ] refl
-
--- numbers of which the last is below this one
-pub all_below : (ns : List ℕ) (last k : ℕ) → IsRising ns → StandsAt ns last (length ns - 1) → last < k → IsBelow ns k
-all_below ns last k rising there less = record { all = below_last ns last k rising there less }
 
 -- objects apart that differ at one number, which doesn't stand in order
 pub set_apart : (ns : List ℕ) (bs : List Object) (es fs : List (ℕ × Object)) (k : ℕ) (w : Object) → IsMissing ns k →
@@ -259,15 +245,15 @@ missing_of_search ns q i rising found =
 -- each cell filled in an object that lives
 pub filled_some : (m n : map.FinMap nat_cmp Object) (k : ℕ) (value : Scalar) (b w : Object) → map.get m k ≡ Some b → w ≡ with_each value b →
     n ≡ map.insert m k w →
-    n ≡ filled_in k value (map.get m k) m
-filled_some m n k value b w at is becomes = becomes ∙ ap (map.insert m k) is ∙ sym (ap (λ o. filled_in k value o m) at)
+    n ≡ filled_map k value (map.get m k) m
+filled_some m n k value b w at is becomes = becomes ∙ ap (map.insert m k) is ∙ sym (ap (λ o. filled_map k value o m) at)
 
-pub filled_none : (m : map.FinMap nat_cmp Object) (k : ℕ) (value : Scalar) → map.get m k ≡ None → m ≡ filled_in k value (map.get m k) m
-filled_none m k value at = sym (ap (λ o. filled_in k value o m) at)
+pub filled_none : (m : map.FinMap nat_cmp Object) (k : ℕ) (value : Scalar) → map.get m k ≡ None → m ≡ filled_map k value (map.get m k) m
+filled_none m k value at = sym (ap (λ o. filled_map k value o m) at)
 
 -- a value stored in an object that lives
 pub stored_some : {A : Type 0} (m n : map.FinMap nat_cmp Object) (k offset : ℕ) (value : Scalar) (b w : Object) (r : Result A Trap) →
-    map.get m k ≡ Some b → written offset value b ≡ after r w → n ≡ map.insert m k w →
+    map.get m k ≡ Some b → written_at offset value b ≡ after r w → n ≡ map.insert m k w →
     stored_in k offset value (map.get m k) m ≡ after r n
 stored_some m n k offset value b w (Ok done) at is becomes =
     ap (λ o. stored_in k offset value o m) at ∙ ap (put_back m k) is ∙ ap Ok (sym becomes)

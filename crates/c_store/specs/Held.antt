@@ -11,5 +11,5 @@ is_held (Place object offset) = nat_le offset cell_limit
 is_held value = true
 
 -- a number lies in its kind's range, and an offset is at most the most cells that live
-abbrev pub IsHeld : Scalar → Type 0
-IsHeld value = IsTrue (is_held value)
+abbrev pub IsHeldScalar : Scalar → Type 0
+IsHeldScalar value = IsTrue (is_held value)

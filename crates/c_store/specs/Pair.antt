@@ -5,8 +5,8 @@ use Rattle.cbi_base.specs.declared.scalar.Kind.{Kind}
 use Rattle.cbi_base.specs.declared.scalar.Kind.TheVariants.{Char, Int, Unsigned}
 use Rattle.cbi_base.specs.declared.scalar.Scalar.{Scalar}
 use Rattle.cbi_base.specs.declared.scalar.Scalar.TheVariants.{Number, Place, Null, Undefined}
-use Rattle.c_store.specs.Held.{IsHeld}
-use Rattle.c_store.specs.Place.{half, place_of}
+use Rattle.c_store.specs.Held.{IsHeldScalar}
+use Rattle.c_store.specs.Place.{half, place_from_bits}
 use Rattle.c_store.specs.declared.word.Word.TheInside.{Inside}
 
 abbrev pub tag_of : Kind → ℕ
@@ -21,7 +21,7 @@ scalar_of w =
     else if w.tag == 2 then Number Char w.bits
     else if w.tag == 3 then Number Int w.bits
     else if w.tag == 4 then Number Unsigned w.bits
-    else place_of w.tag w.bits
+    else place_from_bits w.tag w.bits
 
 abbrev pub pair_of_place : ℕ → ℕ → Inside
 pair_of_place object offset =
@@ -38,4 +38,4 @@ pair_of (Place object offset) = pair_of_place object offset
 -- a scalar has one pair, and it is one that a run can hold
 pub record IsPair (w : Inside) : Type 0 where
   pub same : pair_of (scalar_of w) ≡ w
-  pub held : IsHeld (scalar_of w)
+  pub held : IsHeldScalar (scalar_of w)

@@ -6,8 +6,8 @@ use Rattle.cbi_base.specs.declared.scalar.Scalar.TheVariants.{Place}
 abbrev pub half : ℕ
 half = 2 ^ 63
 
-abbrev pub place_of : ℕ → ℤ → Scalar
-place_of tag bits =
+abbrev pub place_from_bits : ℕ → ℤ → Scalar
+place_from_bits tag bits =
     if tag % 256 == 5
     then Place (unsigned_abs bits) (tag / 256)
     else Place (half + unsigned_abs bits) (tag / 256)

@@ -17,9 +17,9 @@ int_of (Number Int value) = Some value
 int_of value = None
 
 -- the value of a number of any kind
-abbrev pub number_of : Scalar → Option ℤ
-number_of (Number kind value) = Some value
-number_of value = None
+abbrev pub value_of_number : Scalar → Option ℤ
+value_of_number (Number kind value) = Some value
+value_of_number value = None
 
 -- the cell at a place
 abbrev pub cell_of : ℕ → ℕ → Objects → Option Scalar

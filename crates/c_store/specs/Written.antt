@@ -14,8 +14,8 @@ abbrev pub with_each : Scalar → Object → Object
 with_each value object = record object { cells = map (λ _. value) object.cells }
 
 -- a value stored at an offset into an object, or the trap
-abbrev pub written : ℕ → Scalar → Object → Result Object Trap
-written offset value object =
+abbrev pub written_at : ℕ → Scalar → Object → Result Object Trap
+written_at offset value object =
     if nat_lt offset (length object.cells)
     then (if is_text object.class then Err trap.ReadOnly else Ok (with_cell offset value object))
     else Err trap.Bounds
@@ -27,12 +27,12 @@ put_back m number (Err t) = Err t
 
 abbrev pub stored_in : ℕ → ℕ → Scalar → Option Object → FinMap nat_cmp Object → Result (FinMap nat_cmp Object) Trap
 stored_in number offset value None m = Err trap.Dead
-stored_in number offset value (Some object) m = put_back m number (written offset value object)
+stored_in number offset value (Some object) m = put_back m number (written_at offset value object)
 
 -- each cell of a number's object, where it lives, has this value
-abbrev pub filled_in : ℕ → Scalar → Option Object → FinMap nat_cmp Object → FinMap nat_cmp Object
-filled_in number value None m = m
-filled_in number value (Some object) m = insert m number (with_each value object)
+abbrev pub filled_map : ℕ → Scalar → Option Object → FinMap nat_cmp Object → FinMap nat_cmp Object
+filled_map number value None m = m
+filled_map number value (Some object) m = insert m number (with_each value object)
 
 -- what stands after a call that changes it, or its trap
 abbrev pub after : {A B : Type 0} → Result A Trap → B → Result B Trap

@@ -1,6 +1,6 @@
 ghost use Rattle.std.specs.Prelude.{◌≡◌, ◌-◌, [], ◌∷◌, length, replicate, slice_get, IfOk, OnErr, IsTrue, IsFalse, Ok};
 ghost use Rattle.cbi_base.specs.declared.scalar.Scalar.TheVariants.{Undefined};
-ghost use Rattle.c_store.specs.Written.{with_each, written, after};
+ghost use Rattle.c_store.specs.Written.{with_each, written_at, after};
 
 use crate::word::Word;
 use cbi_base::{Class, Memory, Trap};
@@ -119,7 +119,7 @@ impl Block {
     /// Stores a value at an offset.
     #[inline(always)]
     pub fn set(&mut self, offset: u32, value: Word) -> Result<(), Trap>
-        ensures value { written offset value self.old ≡ after result self.new }
+        ensures value { written_at offset value self.old ≡ after result self.new }
         ensures trap { OnErr result (self.new ≡ self.old) }
     {
         if offset as usize >= self.len() {
@@ -138,7 +138,7 @@ impl Block {
     /// Stores a value at an offset, where there is such a cell and it can be written; false where nothing was done.
     #[inline(always)]
     pub fn quick_set(&mut self, offset: u32, value: Word) -> bool
-        ensures done { IsTrue result → written offset value self.old ≡ Ok self.new }
+        ensures done { IsTrue result → written_at offset value self.old ≡ Ok self.new }
         ensures nothing { IsFalse result → self.new ≡ self.old }
     {
         if let Class::Text = self.class {

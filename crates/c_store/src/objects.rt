@@ -1,12 +1,13 @@
 ghost use Rattle.std.specs.Prelude.{◌≡◌, ◌≤◌, Ok, IfOk, ◌+◌, OnOk, OnErr, IfSome, IsTrue, IsFalse, Some, All, drop, length, option_map, replicate};
 ghost use Rattle.std.specs.FinMap.{get};
 ghost use Rattle.cbi_base.specs.declared.scalar.Scalar.TheVariants.{Undefined};
-ghost use Rattle.cbi_base.specs.Objects.{no_objects, has_room, one_more, made_with, killed, cleared, loaded, stored, released, moved, compared, difference, live_cells, cell_limit, found, within_one};
+ghost use Rattle.cbi_base.specs.Objects.{no_objects, has_room, one_object_more, made_with, killed, cleared, loaded, stored, released, moved, compared};
+ghost use Rattle.cbi_base.specs.Objects.{difference, live_cells, cell_limit, found_cell, within_one};
 ghost use Rattle.cbi_base.specs.Kind.{LiesIn};
 ghost use Rattle.cbi_base.specs.declared.scalar.Kind.TheVariants.{Int};
 ghost use Rattle.cbi_base.specs.declared.scalar.Class.TheVariants.{Local};
 ghost use Rattle.cbi_base.specs.Frames.{first_cells, all_made, all_killed, filled};
-ghost use Rattle.c_store.specs.Held.{IsHeld};
+ghost use Rattle.c_store.specs.Held.{IsHeldScalar};
 ghost use Rattle.c_store.specs.Made.{IsMade, IsObject, cells_at_start, undone, all_undone};
 ghost use Rattle.c_store.specs.Word.{cell_of};
 ghost use Rattle.c_store.specs.Written.{after};
@@ -48,7 +49,7 @@ pub struct Objects {
 impl Model for Objects {
     ghost use Rattle.cbi_base.specs.Objects.{Objects};
     ghost use Rattle.c_store.specs.Codes.{objects_code};
-    ghost use Rattle.c_store.specs.Kept.{IsKept};
+    ghost use Rattle.c_store.specs.Kept.{AreObjectsKept};
 
     ghost Value = { Objects };
 
@@ -56,12 +57,12 @@ impl Model for Objects {
 
     ghost view = { λ s. record { made = s.made; live = s.table } };
 
-    ghost invariant = { λ s. IsKept s.cells (record { made = s.made; live = s.table }) };
+    ghost invariant = { λ s. AreObjectsKept s.cells (record { made = s.made; live = s.table }) };
 }
 
 /// What a load finds in a cell, of the kind that it wants.
 fn find(want: Want, cell: Option<Word>) -> Result<Word, Trap>
-    ensures { result ≡ found want cell }
+    ensures { result ≡ found_cell want cell }
 {
     let Some(word) = cell else {
         return Err(Trap::Bounds);
@@ -76,7 +77,7 @@ fn find(want: Want, cell: Option<Word>) -> Result<Word, Trap>
 
 /// The words that hold these scalars.
 fn words_of(alloc: Global, values: &[Scalar]) -> Result<Vec<Word>, Memory>
-    requires { All IsHeld values.now }
+    requires { All IsHeldScalar values.now }
     ensures { IfOk result (λ words. words.items ≡ values.now) }
 {
     let mut words = Vec::with_capacity(alloc, values.len())?;
@@ -130,7 +131,7 @@ impl Objects {
     #[inline(always)]
     fn add(&mut self, block: Block) -> Result<Made, Memory>
         requires { IsTrue (has_room (length block.cells) self.old) }
-        ensures made { IfOk result (IsMade (Some (one_more block.class block.cells self.old)) self.old self.new) }
+        ensures made { IfOk result (IsMade (Some (one_object_more block.class block.cells self.old)) self.old self.new) }
         ensures back { OnOk result (undone self.new ≡ self.old) }
         ensures memory { OnErr result (self.new ≡ self.old) }
     {
@@ -171,7 +172,7 @@ impl Objects {
     /// A new object with these cells.
     pub fn make_fixed(&mut self, class: Class, values: &[Scalar]) -> Result<Made, Memory>
         requires some { 1 ≤ length values.now }
-        requires held { All IsHeld values.now }
+        requires held { All IsHeldScalar values.now }
         ensures made { IfOk result (IsMade (made_with class values.now self.old) self.old self.new) }
         ensures memory { OnErr result (self.new ≡ self.old) }
     {
@@ -401,7 +402,7 @@ impl Objects {
     /// The value at a pointer, of the kind that is wanted.
     pub fn load(&self, pointer: Scalar, want: Want) -> Result<Scalar, Trap>
         ensures value { result ≡ loaded want pointer self.now }
-        ensures held { IfOk result IsHeld }
+        ensures held { IfOk result IsHeldScalar }
     {
         let value = self.load_at(pointer, want)?;
         Ok(value.scalar())
@@ -491,7 +492,7 @@ impl Objects {
 
     /// Stores a value at a pointer.
     pub fn store(&mut self, pointer: Scalar, value: Scalar) -> Result<(), Trap>
-        requires { IsHeld value }
+        requires { IsHeldScalar value }
         ensures value { stored pointer value self.old ≡ after result self.new }
         ensures trap { OnErr result (self.new ≡ self.old) }
     {
@@ -581,7 +582,7 @@ impl Objects {
     /// The pointer moved by so many cells, within its object or to its end.
     pub fn move_pointer(&self, pointer: Scalar, cells: i64) -> Result<Scalar, Trap>
         ensures value { result ≡ moved pointer cells self.now }
-        ensures held { IfOk result IsHeld }
+        ensures held { IfOk result IsHeldScalar }
     {
         let place = self.move_at(pointer, cells)?;
         Ok(place.scalar())
@@ -601,7 +602,7 @@ impl Objects {
     /// The offsets of two places in one object.
     fn within_one(&self, left: Scalar, right: Scalar) -> Result<(u32, u32), Trap>
         ensures value { result ≡ within_one left right self.now (λ i j. Ok (i, j)) }
-        ensures near { IsHeld left → IsHeld right → IfOk result (λ p. (p.0 ≤ cell_limit) × (p.1 ≤ cell_limit)) }
+        ensures near { IsHeldScalar left → IsHeldScalar right → IfOk result (λ p. (p.0 ≤ cell_limit) × (p.1 ≤ cell_limit)) }
     {
         let (
             Scalar::Place { object, offset },
@@ -650,7 +651,7 @@ impl Objects {
     pub fn difference(&self, left: Scalar, right: Scalar, size: u32) -> Result<i64, Trap>
         requires { 1 ≤ size }
         ensures value { result ≡ difference left right size self.now }
-        ensures in_range { IsHeld left → IsHeld right → IfOk result (LiesIn Int) }
+        ensures in_range { IsHeldScalar left → IsHeldScalar right → IfOk result (LiesIn Int) }
     {
         check_pointers(left, right)?;
         let (first, second) = self.within_one(left, right)?;

@@ -3,7 +3,7 @@ ghost use Rattle.std.specs.Option.{option_copied};
 ghost use Rattle.std.specs.FinMap as map;
 ghost use Rattle.cbi_base.specs.Objects.{is_heap_start};
 ghost use Rattle.c_store.specs.Stacked.{IsRising, IsApart, StandsAt, IsMissing};
-ghost use Rattle.c_store.specs.Written.{stored_in, filled_in, after};
+ghost use Rattle.c_store.specs.Written.{stored_in, filled_map, after};
 
 use crate::block::Block;
 use crate::places::{Guess, Notes, is_above, place_by, search};
@@ -183,7 +183,7 @@ impl Table {
 
     /// Each cell of the object, where it lives, has this value from now on.
     pub fn fill(&mut self, number: u64, value: Word)
-        ensures { self.new ≡ filled_in number value (map.get self.old number) self.old }
+        ensures { self.new ≡ filled_map number value (map.get self.old number) self.old }
     {
         let Some(place) = place_of(self.numbers.as_slice(), &self.notes, &self.heap, number) else {
             let Some(block) = self.heap.get_mut(&number) else {

@@ -2,10 +2,10 @@ ghost use Rattle.std.specs.Prelude.{◌≡◌, ◌≤◌, ◌/◌, pos, ◌≤�
 ghost use Rattle.cbi_base.specs.Kind.{LiesIn};
 ghost use Rattle.cbi_base.specs.Scalars.{IsInRange, truth_of};
 ghost use Rattle.cbi_base.specs.Objects.{cell_limit, is_wanted, object_limit};
-ghost use Rattle.c_store.specs.Held.{IsHeld};
+ghost use Rattle.c_store.specs.Held.{IsHeldScalar};
 ghost use Rattle.c_store.specs.Pair.{tag_of};
-ghost use Rattle.c_store.specs.Place.{place_of};
-ghost use Rattle.c_store.specs.Word.{is_undefined, int_of, number_of};
+ghost use Rattle.c_store.specs.Place.{place_from_bits};
+ghost use Rattle.c_store.specs.Word.{is_undefined, int_of, value_of_number};
 
 use cbi_base::{Kind, Scalar, Trap, Want};
 use std::marker::Model;
@@ -17,7 +17,7 @@ const HALF: u64 = 1 << 63;
 fn place_in(tag: u64, bits: i64) -> Scalar
     requires tag { tag / 256 ≤ cell_limit }
     requires bits { pos 0 ≤ℤ bits }
-    ensures { result ≡ place_of tag bits }
+    ensures { result ≡ place_from_bits tag bits }
 {
     let object = if tag % 256 == 5 {
         bits as u64
@@ -130,7 +130,7 @@ impl Word {
 
     /// The word that holds this scalar.
     pub fn of(scalar: Scalar) -> Word
-        requires { IsHeld scalar }
+        requires { IsHeldScalar scalar }
         ensures { result ≡ scalar }
     {
         match scalar {
@@ -144,7 +144,7 @@ impl Word {
     /// The scalar that this word holds.
     pub fn scalar(self) -> Scalar
         ensures value { result ≡ self }
-        ensures held { IsHeld result }
+        ensures held { IsHeldScalar result }
         ensures in_range { IsInRange result }
     {
         match self.tag {
@@ -208,7 +208,7 @@ impl Word {
     /// The value of a number of any kind.
     #[inline(always)]
     pub fn number_value(self) -> Option<i64>
-        ensures { result ≡ number_of self }
+        ensures { result ≡ value_of_number self }
     {
         if 2 <= self.tag && self.tag <= 4 {
             Some(self.bits)

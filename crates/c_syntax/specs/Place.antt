@@ -23,15 +23,15 @@ abbrev pub EachAt : {A : Type 0} → (ℕ → A → Type 0) → (A → Kinds) �
 EachAt IsAt kinds gap at [] = Unit {0}
 EachAt IsAt kinds gap at (x ∷ xs) = IsAt at x × EachAt IsAt kinds gap (at + length (kinds x) + gap) xs
 
-abbrev pub token_of : Base → ℕ
-token_of (base.Void token) = token
-token_of (base.Char token) = token
-token_of (base.Int token) = token
-token_of (base.Unsigned token int) = token
-token_of (base.Struct token tag) = token
+abbrev pub base_token : Base → ℕ
+base_token (base.Void token) = token
+base_token (base.Char token) = token
+base_token (base.Int token) = token
+base_token (base.Unsigned token int) = token
+base_token (base.Struct token tag) = token
 
 abbrev pub BaseAt : ℕ → Base → Type 0
-BaseAt at b = token_of b ≡ at
+BaseAt at b = base_token b ≡ at
 
 abbrev pub DeclaratorAt : ℕ → Declarator → Type 0
 DeclaratorAt at d = (d.token ≡ at) × (d.name_token ≡ at + d.stars)

@@ -10,11 +10,11 @@ use Rattle.c_syntax.specs.declared.parts.Params.{Params}
 use Rattle.c_syntax.specs.StatementTree.{EntryList}
 use Rattle.c_syntax.specs.ItemTree as i
 use Rattle.c_syntax.specs.ItemTree.{ItemTree, SourceTree}
-use Rattle.c_rules.specs.declared.fault.FaultKind.{FaultKind}
-use Rattle.c_rules.specs.declared.fault.FaultKind.TheVariants as fault
-use Rattle.c_rules.specs.declared.function.FunctionType.{FunctionType}
-use Rattle.c_rules.specs.declared.layout.StructType.{StructType}
-use Rattle.c_rules.specs.Sizes.{empty_struct, most_cells}
+use Rattle.c_types_rules.specs.declared.fault.FaultKind.{FaultKind}
+use Rattle.c_types_rules.specs.declared.fault.FaultKind.TheVariants as fault
+use Rattle.c_types_rules.specs.declared.function.FunctionType.{FunctionType}
+use Rattle.c_types_rules.specs.declared.layout.StructType.{StructType}
+use Rattle.c_types_rules.specs.Sizes.{empty_struct, most_cells}
 use Rattle.c_types_expressions.specs.declared.names.Meaning.{Meaning}
 use Rattle.c_types_expressions.specs.declared.names.Meaning.TheVariants as meaning
 use Rattle.c_types_expressions.specs.declared.walk.Definition.{Definition}
@@ -26,9 +26,9 @@ use Rattle.c_types.specs.Answers.{noted}
 use Rattle.c_types_expressions.specs.ExprWalk.{base_type}
 use Rattle.c_types_expressions.specs.Beginning.{beginning}
 use Rattle.c_types.specs.Fault.{ends_with, last_fault, walk_tree}
-use Rattle.c_types_walk.specs.ItemWalk.{clashes, declares, entered, has_type, is_defined, known_as, listed, typed_function, walk_body, walk_item, walk_items, walk_params, walk_struct, with_definition, with_function, with_tag, walk_members, defined}
+use Rattle.c_types_walk.specs.ItemWalk.{clashes, declares, entered, has_type, is_defined, known_as, listed_params, typed_function, walk_body, walk_item, walk_items, walk_params, walk_struct, with_definition, with_function, with_tag, walk_members, defined}
 use Rattle.c_types_expressions.specs.Names.{found, is_here}
-use Rattle.c_types.specs.Numbers.{IsNumber, frame, frame_of, frames_from, function_of, locals_behind, variables_in}
+use Rattle.c_types.specs.Numbers.{HasNumber, frame, frame_of, frames_from, function_of, locals_behind, variables_in}
 use Rattle.c_types.specs.Parts.{Part, Expression, Use, Declared, Begins, declaration_parts, entries_parts, item_parts, params_parts}
 use Rattle.c_types_walk.specs.StatementWalk.{walk_declaration, walk_entries}
 use Rattle.c_types_expressions.specs.Walked.{Walked, Fine, Faulty, ◌>>=◌, Done, closing, replaced}
@@ -260,13 +260,13 @@ function_does : (token : ℕ) (b : Base) (stars : ℕ) (name : List ℕ) (ps : P
     Gives (λ _ v. Does (functions_of w) (frame_of (length w.variables) (i.Function token b stars name ps body)) v) (walk_item (i.Function token b stars name ps body) w)
 function_does token b stars name ps None w =
     gives_then (λ t v. Step [] (stage w) (stage v)) (λ _ v. Does (functions_of w) [] v) (base_type b w) _ (base_notes b w)
-    (λ t v same. gives_then (AreListed (stage w) (params_parts (listed ps))) (λ _ u. Does (functions_of w) [] u) (walk_params false (listed ps) [] v) _
-    (params_are false (listed ps) [] (stage w) (params_parts (listed ps)) v same refl) (λ xs u h. without_body_does token _ name xs w u h.0))
+    (λ t v same. gives_then (AreListed (stage w) (params_parts (listed_params ps))) (λ _ u. Does (functions_of w) [] u) (walk_params false (listed_params ps) [] v) _
+    (params_are false (listed_params ps) [] (stage w) (params_parts (listed_params ps)) v same refl) (λ xs u h. without_body_does token _ name xs w u h.0))
 function_does token b stars name ps (Some body) w =
-    let frames : List (ℕ × ℕ) = (length w.variables, locals_behind 0 (Begins ∷ params_parts (listed ps) ++ entries_parts body)) ∷ [] in
+    let frames : List (ℕ × ℕ) = (length w.variables, locals_behind 0 (Begins ∷ params_parts (listed_params ps) ++ entries_parts body)) ∷ [] in
     gives_then (λ t v. Step [] (stage w) (stage v)) (λ _ v. Does (functions_of w) frames v) (base_type b w) _ (base_notes b w)
-    (λ t v same. gives_then (AreListed (stage w) (params_parts (listed ps))) (λ _ u. Does (functions_of w) frames u) (walk_params true (listed ps) [] v) _
-    (params_are true (listed ps) [] (stage w) (params_parts (listed ps)) v same refl) (λ xs u h. with_body_does token _ name xs body (params_parts (listed ps)) w u h))
+    (λ t v same. gives_then (AreListed (stage w) (params_parts (listed_params ps))) (λ _ u. Does (functions_of w) frames u) (walk_params true (listed_params ps) [] v) _
+    (params_are true (listed_params ps) [] (stage w) (params_parts (listed_params ps)) v same refl) (λ xs u h. with_body_does token _ name xs body (params_parts (listed_params ps)) w u h))
 
 -- a struct declares no function
 struct_by : (b c : Bool) (token : ℕ) (s : StructType) (v : Walk) (q : Functions) → functions_of v ≡ q →
@@ -326,7 +326,7 @@ all_done t w is =
     (items_do t.items (beginning (length t.lines))) (λ _ v h. ends_do t (last_fault (length t.lines) v) v h))
 
 -- The number of a function is the place of its definition.
-pub functions_numbered : (t : SourceTree) (w : Walk) → walk_tree t ≡ Fine tt w → (place number : ℕ) → IsNumber w place number
+pub functions_numbered : (t : SourceTree) (w : Walk) → walk_tree t ≡ Fine tt w → (place number : ℕ) → HasNumber w place number
 functions_numbered t w is = ((all_done t w is).0 none_fit).1
 
 -- The definitions stand in their order, each with where its locals begin and how many they are.

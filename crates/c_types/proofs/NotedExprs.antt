@@ -4,26 +4,26 @@ use Rattle.c_syntax.specs.declared.parts.Base.{Base}
 use Rattle.c_syntax.specs.declared.parts.Base.TheVariants as base
 use Rattle.c_syntax.specs.ExprTree as e
 use Rattle.c_syntax.specs.ExprTree.{ExprTree, ExprList, LinkList, PostfixList}
-use Rattle.c_rules.specs.declared.fault.FaultKind.{FaultKind}
-use Rattle.c_rules.specs.declared.layout.Member.{Member}
-use Rattle.c_rules.specs.declared.operand.Operand.{Operand}
-use Rattle.c_rules.specs.TypeTree.{TypeTree}
-use Rattle.c_rules.specs.Faults.{Looked}
-use Rattle.c_rules.specs.TypeTree as t
-use Rattle.c_rules.specs.Conversions.{constant_of, enclosed, null_of, place_of, string_of, value_of}
-use Rattle.c_rules.specs.Functions as functions
-use Rattle.c_rules.specs.Library.{library_called}
+use Rattle.c_types_rules.specs.declared.fault.FaultKind.{FaultKind}
+use Rattle.c_types_rules.specs.declared.layout.Member.{Member}
+use Rattle.c_types_rules.specs.declared.operand.Operand.{Operand}
+use Rattle.c_types_rules.specs.TypeTree.{TypeTree}
+use Rattle.c_types_rules.specs.Faults.{Looked}
+use Rattle.c_types_rules.specs.TypeTree as t
+use Rattle.c_types_rules.specs.Conversions.{constant_of, enclosed, null_of, place_of, string_of, value_of}
+use Rattle.c_types_rules.specs.Functions as functions
+use Rattle.c_types_rules.specs.Library.{library_called}
 use Rattle.c_types_expressions.specs.declared.names.Meaning.{Meaning}
 use Rattle.c_types_expressions.specs.declared.names.Meaning.TheVariants as meaning
 use Rattle.c_types_expressions.specs.declared.walk.FunctionEntry.{FunctionEntry}
 use Rattle.c_types_expressions.specs.declared.walk.Walk.{Walk}
 use Rattle.c_types_expressions.specs.Names.{found, meaning_of}
 use Rattle.c_types_expressions.specs.Walked.{Walked, ◌>>=◌}
-use Rattle.c_types_expressions.specs.ExprWalk.{base_type, called, format_of, is_printf, looked, named, of_function, of_variable, selected, string_cells, tagged, walk_expr, walk_exprs, walk_links, walk_postfix, walk_whole, whole_call, with_call, with_offset, with_use}
+use Rattle.c_types_expressions.specs.ExprWalk.{base_type, called_name, format_of, is_printf, looked, named, of_function, of_variable, selected, string_cells, tagged_type, walk_expr, walk_exprs, walk_links, walk_postfix, walk_whole, whole_call, with_call, with_offset, with_use}
 use Rattle.c_types.specs.Parts.{Part, Expression, Use, expr_parts, exprs_parts, links_parts, postfix_parts}
 use Rattle.c_types.proofs.Noted.{Notes, behind, both, either, stage, then_on, typed_one, use_one}
 
-tagged_notes : (token : ℕ) (m : Option Meaning) (w : Walk) → Notes [] (stage w) (tagged token m w)
+tagged_notes : (token : ℕ) (m : Option Meaning) (w : Walk) → Notes [] (stage w) (tagged_type token m w)
 tagged_notes token None w = tt
 tagged_notes token (Some (meaning.Variable index)) w = tt
 tagged_notes token (Some (meaning.Function index)) w = tt
@@ -64,7 +64,7 @@ function_notes : (token index : ℕ) (f : Option FunctionEntry) (xs : List Opera
 function_notes token index None xs w = tt
 function_notes token index (Some f) xs w = looked_notes token (functions.called f.ctype xs) (with_call token index w)
 
-called_notes : (token : ℕ) (m : Option Meaning) (xs : List Operand) (w : Walk) → Notes (Expression token ∷ []) (stage w) (called token m xs w)
+called_notes : (token : ℕ) (m : Option Meaning) (xs : List Operand) (w : Walk) → Notes (Expression token ∷ []) (stage w) (called_name token m xs w)
 called_notes token None xs w = tt
 called_notes token (Some (meaning.Variable index)) xs w = tt
 called_notes token (Some (meaning.Function index)) xs w = function_notes token index (slice_get w.functions index) xs w
@@ -130,7 +130,7 @@ mutual
 
 whole_call_notes : (token : ℕ) (m : Option Meaning) (arguments : ExprList) (xs : List Operand) (w : Walk) → Notes (Expression token ∷ []) (stage w) (whole_call token m arguments xs w)
 whole_call_notes token m arguments xs w =
-    either (Expression token ∷ []) (stage w) (is_printf m) (looked token (format_of arguments xs) w) (called token m xs w) (looked_notes token (format_of arguments xs) w)
+    either (Expression token ∷ []) (stage w) (is_printf m) (looked token (format_of arguments xs) w) (called_name token m xs w) (looked_notes token (format_of arguments xs) w)
     (called_notes token m xs w)
 
 -- the whole expression of a statement

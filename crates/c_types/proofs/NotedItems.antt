@@ -11,14 +11,14 @@ use Rattle.c_syntax.specs.declared.parts.Params.{Params}
 use Rattle.c_syntax.specs.StatementTree.{DeclarationTree, EntryList}
 use Rattle.c_syntax.specs.ItemTree as i
 use Rattle.c_syntax.specs.ItemTree.{ItemTree, SourceTree}
-use Rattle.c_rules.specs.declared.fault.FaultKind.{FaultKind}
-use Rattle.c_rules.specs.declared.fault.FaultKind.TheVariants as fault
-use Rattle.c_rules.specs.declared.function.FunctionType.{FunctionType}
-use Rattle.c_rules.specs.declared.layout.StructType.{StructType}
-use Rattle.c_rules.specs.TypeTree.{TypeTree}
-use Rattle.c_rules.specs.Conversions.{is_scalar, is_struct}
-use Rattle.c_rules.specs.Selecting.{member_named}
-use Rattle.c_rules.specs.Sizes.{empty_struct, is_object, most_cells, with_member}
+use Rattle.c_types_rules.specs.declared.fault.FaultKind.{FaultKind}
+use Rattle.c_types_rules.specs.declared.fault.FaultKind.TheVariants as fault
+use Rattle.c_types_rules.specs.declared.function.FunctionType.{FunctionType}
+use Rattle.c_types_rules.specs.declared.layout.StructType.{StructType}
+use Rattle.c_types_rules.specs.TypeTree.{TypeTree}
+use Rattle.c_types_rules.specs.Conversions.{is_scalar, is_struct}
+use Rattle.c_types_rules.specs.Selecting.{member_named}
+use Rattle.c_types_rules.specs.Sizes.{empty_struct, is_object, most_cells, with_member}
 use Rattle.c_types_expressions.specs.declared.walk.Parameter.{Parameter}
 use Rattle.c_types_expressions.specs.declared.walk.Walk.{Walk}
 use Rattle.c_types_walk.specs.Declarators.{declared_type}
@@ -28,7 +28,7 @@ use Rattle.c_types_expressions.specs.Names.{found, is_here, is_reserved}
 use Rattle.c_types_expressions.specs.Walked.{Walked, Fine, Faulty, ◌>>=◌, Done, closing, opened}
 use Rattle.c_types_expressions.specs.ExprWalk.{base_type, with_stars}
 use Rattle.c_types_walk.specs.StatementWalk.{walk_declaration, walk_entries}
-use Rattle.c_types_walk.specs.ItemWalk.{clashes, declares, entered, has_length, is_among, is_defined, known_as, listed, looked_param, param_type, scalar_param, typed_function, typed_member, walk_body, walk_declarators, walk_item, walk_items, walk_member, walk_members, walk_param, walk_params, walk_struct, with_function, with_param, with_params, with_tag}
+use Rattle.c_types_walk.specs.ItemWalk.{clashes, declares, entered, has_length, is_among, is_defined, known_as, listed_params, looked_param, param_type, scalar_param, typed_function, typed_member, walk_body, walk_declarators, walk_item, walk_items, walk_member, walk_members, walk_param, walk_params, walk_struct, with_function, with_param, with_params, with_tag}
 use Rattle.c_types.specs.Parts.{Part, Declared, Begins, declaration_parts, entries_parts, item_parts, items_parts, named_parts, params_parts, parts_of}
 use Rattle.c_types.proofs.Noted.{Fits, Gives, Notes, Stage, Step, and_done, behind, declared_one, either, gives_more, gives_then, noting_all, noting_both, plainly, plainly_all, seen, stage, step_done, step_then, then_on}
 use Rattle.c_types.proofs.NotedExprs.{base_notes}
@@ -174,13 +174,13 @@ pub function_notes : (token : ℕ) (b : Base) (stars : ℕ) (name : List ℕ) (p
     Gives (λ _ v. Outer (item_parts (i.Function token b stars name ps body)) (stage w) (stage v)) (walk_item (i.Function token b stars name ps body) w)
 function_notes token b stars name ps None w =
     gives_then (λ t v. Step [] (stage w) (stage v)) (λ _ v. Outer [] (stage w) (stage v)) (base_type b w) _ (base_notes b w)
-    (λ t v same. gives_then (AreListed (stage w) (params_parts (listed ps))) (λ _ u. Outer [] (stage w) (stage u)) (walk_params false (listed ps) [] v) _
-    (params_are false (listed ps) [] (stage w) (params_parts (listed ps)) v same refl) (λ xs u h. without_body token _ name xs (stage w) u h.0))
+    (λ t v same. gives_then (AreListed (stage w) (params_parts (listed_params ps))) (λ _ u. Outer [] (stage w) (stage u)) (walk_params false (listed_params ps) [] v) _
+    (params_are false (listed_params ps) [] (stage w) (params_parts (listed_params ps)) v same refl) (λ xs u h. without_body token _ name xs (stage w) u h.0))
 function_notes token b stars name ps (Some body) w =
-    let parts : List Part = Begins ∷ params_parts (listed ps) ++ entries_parts body in
+    let parts : List Part = Begins ∷ params_parts (listed_params ps) ++ entries_parts body in
     gives_then (λ t v. Step [] (stage w) (stage v)) (λ _ v. Outer parts (stage w) (stage v)) (base_type b w) _ (base_notes b w)
-    (λ t v same. gives_then (AreListed (stage w) (params_parts (listed ps))) (λ _ u. Outer parts (stage w) (stage u)) (walk_params true (listed ps) [] v) _
-    (params_are true (listed ps) [] (stage w) (params_parts (listed ps)) v same refl) (λ xs u h. with_body token _ name xs body (params_parts (listed ps)) (stage w) u h))
+    (λ t v same. gives_then (AreListed (stage w) (params_parts (listed_params ps))) (λ _ u. Outer parts (stage w) (stage u)) (walk_params true (listed_params ps) [] v) _
+    (params_are true (listed_params ps) [] (stage w) (params_parts (listed_params ps)) v same refl) (λ xs u h. with_body token _ name xs body (params_parts (listed_params ps)) (stage w) u h))
 
 -- structs
 

@@ -4,20 +4,20 @@ use Rattle.c_syntax.specs.FirstToken.{first_token}
 use Rattle.c_syntax.specs.ExprTree.{ExprTree}
 use Rattle.c_syntax.specs.StatementTree as s
 use Rattle.c_syntax.specs.StatementTree.{InitialTree, StartTree, DeclarationTree, ForStartTree, StatementTree, EntryList}
-use Rattle.c_rules.specs.declared.fault.FaultKind.{FaultKind}
-use Rattle.c_rules.specs.declared.fault.FaultKind.TheVariants as fault
-use Rattle.c_rules.specs.TypeTree.{TypeTree}
-use Rattle.c_rules.specs.Assigning.{assignable}
-use Rattle.c_rules.specs.Conversions.{is_struct, is_void}
-use Rattle.c_rules.specs.Operators.{is_scalar_value}
-use Rattle.c_rules.specs.Sizes.{cells_of, is_object, most_cells}
+use Rattle.c_types_rules.specs.declared.fault.FaultKind.{FaultKind}
+use Rattle.c_types_rules.specs.declared.fault.FaultKind.TheVariants as fault
+use Rattle.c_types_rules.specs.TypeTree.{TypeTree}
+use Rattle.c_types_rules.specs.Assigning.{assignable}
+use Rattle.c_types_rules.specs.Conversions.{is_struct, is_void}
+use Rattle.c_types_rules.specs.Operators.{is_scalar_value}
+use Rattle.c_types_rules.specs.Sizes.{cells_of, is_object, most_cells}
 use Rattle.c_types_expressions.specs.declared.walk.Walk.{Walk}
-use Rattle.c_types_expressions.specs.Names.{is_taken}
+use Rattle.c_types_expressions.specs.Names.{is_name_taken}
 use Rattle.c_types_expressions.specs.Walked.{Walked, Fine, Faulty, Done, closing, opened, unless, with_variable}
 use Rattle.c_types_walk.specs.Declarators.{declared_type, is_open}
-use Rattle.c_types_walk.specs.Initialisers.{cells_of_string, completes, listed, valued, walk_initial}
+use Rattle.c_types_walk.specs.Initialisers.{cells_of_string, completes, listed_type, valued, walk_initial}
 use Rattle.c_types_expressions.specs.ExprWalk.{base_type, walk_expr, walk_exprs, walk_whole}
-use Rattle.c_types_walk.specs.StatementWalk.{counted, looped, sized, walk_closed, walk_declaration, walk_entries, walk_for_start, walk_open, walk_optional, walk_start, walk_starts, walk_statement, walk_typed}
+use Rattle.c_types_walk.specs.StatementWalk.{counted_cells, looped, sized, walk_closed, walk_declaration, walk_entries, walk_for_start, walk_open, walk_optional, walk_start, walk_starts, walk_statement, walk_typed}
 use Rattle.c_types.specs.Parts.{Declared, declaration_parts, entries_parts, expr_parts, exprs_parts, for_start_parts, initial_parts, optional_parts, starts_parts, statement_parts}
 use Rattle.c_types.proofs.Noted.{Notes, and_done, behind, both, declared_one, either, length_replaced, stage, then_on}
 use Rattle.c_types.proofs.NotedExprs.{base_notes, expr_notes, exprs_notes, whole_notes}
@@ -32,12 +32,12 @@ counted_by true c kind token cells w = (refl, (λ h. h), refl)
 counted_by false true kind token cells w = (refl, (λ h. h), refl)
 counted_by false false kind token cells w = tt
 
-counted_notes : (global : Bool) (token cells : ℕ) (w : Walk) → Notes [] (stage w) (counted global token cells w)
+counted_notes : (global : Bool) (token cells : ℕ) (w : Walk) → Notes [] (stage w) (counted_cells global token cells w)
 counted_notes global token cells w = counted_by (not global) (nat_le (w.global_cells + cells) most_cells) fault.Object token (w.global_cells + cells) w
 
 sized_notes : (global : Bool) (token : ℕ) (t : TypeTree) (w : Walk) → Notes [] (stage w) (sized global token t w)
 sized_notes global token t w =
-    either [] (stage w) (is_object w.structs t) (counted global token (cells_of w.structs t) w) (Faulty fault.Object token) (counted_notes global token (cells_of w.structs t) w) tt
+    either [] (stage w) (is_object w.structs t) (counted_cells global token (cells_of w.structs t) w) (Faulty fault.Object token) (counted_notes global token (cells_of w.structs t) w) tt
 
 completes_notes : (token : ℕ) (t : Option TypeTree) (w : Walk) → Notes [] (stage w) (completes token t w)
 completes_notes token None w = tt
@@ -48,7 +48,7 @@ initial_notes global t None w = (refl, (λ h. h), refl)
 initial_notes global t (Some (s.Value value)) w =
     and_done (expr_parts value) (stage w) (walk_expr value w) _ (expr_notes value w) (λ x v. completes_notes (first_token value) (valued global t value x (cells_of_string value)) v)
 initial_notes global t (Some (s.Braced token items comma)) w =
-    and_done (exprs_parts items) (stage w) (walk_exprs items [] w) _ (exprs_notes items [] w) (λ xs v. completes_notes token (listed global items xs t) v)
+    and_done (exprs_parts items) (stage w) (walk_exprs items [] w) _ (exprs_notes items [] w) (λ xs v. completes_notes token (listed_type global items xs t) v)
 
 -- the variable itself, and then its initialiser
 declared_first : {A : Type 0} (global : Bool) (x : StartTree) (t : TypeTree) (w : Walk) (r : Walked A) →
@@ -86,7 +86,7 @@ typed_notes global x (Some t) w =
 start_notes : (global : Bool) (b : TypeTree) (x : StartTree) (w : Walk) →
     Notes (Declared global x.declarator.name_token x.declarator.name ∷ initial_parts x.initial) (stage w) (walk_start global b x w)
 start_notes global b x w =
-    either (Declared global x.declarator.name_token x.declarator.name ∷ initial_parts x.initial) (stage w) (is_taken x.declarator.name w.names) (Faulty fault.Redeclared x.token)
+    either (Declared global x.declarator.name_token x.declarator.name ∷ initial_parts x.initial) (stage w) (is_name_taken x.declarator.name w.names) (Faulty fault.Redeclared x.token)
     (walk_typed global x (declared_type x.declarator b) w) tt (typed_notes global x (declared_type x.declarator b) w)
 
 starts_notes : (global : Bool) (b : TypeTree) (xs : List StartTree) (w : Walk) → Notes (starts_parts global xs) (stage w) (walk_starts global b xs w)

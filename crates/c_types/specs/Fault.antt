@@ -1,10 +1,10 @@
 -- The first fault of a text, and what is known of a text without one.
 use Rattle.std.specs.Prelude.{ℕ, ◌+◌, Bool, true, false, ◌&&◌, ◌==◌, if◌then◌else◌, List, [], ◌∷◌, length, Option, Some, None, slice_get, codes}
 use Rattle.c_syntax.specs.ItemTree.{SourceTree}
-use Rattle.c_rules.specs.declared.fault.FaultKind.{FaultKind}
-use Rattle.c_rules.specs.declared.fault.FaultKind.TheVariants as fault
-use Rattle.c_rules.specs.TypeTree.{Int, same_type}
-use Rattle.c_rules.specs.Faults.{number_of}
+use Rattle.c_types_rules.specs.declared.fault.FaultKind.{FaultKind}
+use Rattle.c_types_rules.specs.declared.fault.FaultKind.TheVariants as fault
+use Rattle.c_types_rules.specs.TypeTree.{Int, same_type}
+use Rattle.c_types_rules.specs.Faults.{fault_number}
 use Rattle.c_types_expressions.specs.declared.names.Meaning.{Meaning}
 use Rattle.c_types_expressions.specs.declared.names.Meaning.TheVariants as meaning
 use Rattle.c_types_expressions.specs.declared.walk.FunctionEntry.{FunctionEntry}
@@ -53,12 +53,12 @@ walk_tree t = walk_items t.items (beginning (length t.lines)) >>= λ _ w. ends_w
 
 abbrev pub fault_in : Walked Done → Option (ℕ × ℕ)
 fault_in (Fine value known) = None
-fault_in (Faulty kind index) = Some (number_of kind, index)
+fault_in (Faulty kind index) = Some (fault_number kind, index)
 
 -- what is known at the end, where no fault was met
-abbrev pub known_in : Walked Done → Option Walk
-known_in (Fine value known) = Some known
-known_in (Faulty kind index) = None
+abbrev pub known_at_end : Walked Done → Option Walk
+known_at_end (Fine value known) = Some known
+known_at_end (Faulty kind index) = None
 
 -- the first fault of a text: the number of its kind, and the index of the token at which it stands
 abbrev pub fault_of : SourceTree → Option (ℕ × ℕ)

@@ -1,9 +1,9 @@
 -- Sizes as sums: the members of a struct lie one behind another, and no cell is left out.
 use Rattle.std.specs.Prelude.{◌≡◌, ℕ, ◌+◌, true, List, [], ◌∷◌, sum_by}
 use Rattle.std.specs.List.{AllByRecursion}
-use Rattle.c_rules.specs.declared.layout.Member.{Member}
-use Rattle.c_rules.specs.declared.layout.StructType.{StructType}
-use Rattle.c_rules.specs.Sizes.{cells_of, is_complete}
+use Rattle.c_types_rules.specs.declared.layout.Member.{Member}
+use Rattle.c_types_rules.specs.declared.layout.StructType.{StructType}
+use Rattle.c_types_rules.specs.Sizes.{cells_of, is_complete}
 
 -- the members lie one behind another from the first cell on, and the last one ends before the cell `end`
 abbrev pub AreLaid : List StructType → ℕ → List Member → ℕ → Type 0

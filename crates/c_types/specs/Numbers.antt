@@ -28,8 +28,8 @@ abbrev pub function_of : Definition → ℕ
 function_of d = d.function
 
 -- The declared function at the place has the number exactly where the definition with this number is its own.
-abbrev pub IsNumber : Walk → ℕ → ℕ → Type 0
-IsNumber w place number = (noted w.defined_as place ≡ Some number) ↔ (option_map function_of (slice_get w.definitions number) ≡ Some place)
+abbrev pub HasNumber : Walk → ℕ → ℕ → Type 0
+HasNumber w place number = (noted w.defined_as place ≡ Some number) ↔ (option_map function_of (slice_get w.definitions number) ≡ Some place)
 
 -- how many variables the parts declare
 abbrev pub variables_in : List Part → ℕ

@@ -10,7 +10,7 @@ use Rattle.c_syntax.specs.StatementTree as s
 use Rattle.c_syntax.specs.StatementTree.{InitialTree, StartTree, DeclarationTree, ForStartTree, StatementTree, EntryList}
 use Rattle.c_syntax.specs.ItemTree as i
 use Rattle.c_syntax.specs.ItemTree.{ItemTree, SourceTree}
-use Rattle.c_types_walk.specs.ItemWalk.{listed}
+use Rattle.c_types_walk.specs.ItemWalk.{listed_params}
 
 pub data Part : Type 0 where
   -- an expression, at its own token
@@ -113,7 +113,7 @@ params_parts (p ∷ ps) = named_parts p.name ++ params_parts ps
 abbrev pub item_parts : ItemTree → List Part
 item_parts (i.Struct token tag members) = []
 item_parts (i.Function token b stars name ps None) = []
-item_parts (i.Function token b stars name ps (Some body)) = Begins ∷ params_parts (listed ps) ++ entries_parts body
+item_parts (i.Function token b stars name ps (Some body)) = Begins ∷ params_parts (listed_params ps) ++ entries_parts body
 item_parts (i.Declaration declaration) = declaration_parts true declaration
 
 abbrev pub items_parts : List ItemTree → List Part

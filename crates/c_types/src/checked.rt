@@ -2,9 +2,9 @@ ghost use Rattle.std.specs.Prelude.{◌≡◌, option_copied};
 ghost use Rattle.c_types.specs.Answers.{span_holds};
 
 use crate::answers::{ends_behind, note_at};
-use c_rules::{CType, StructType, Type, cells_of};
 use c_syntax::Tree;
 use c_types_expressions::{Definition, FunctionEntry, Meaning, Variable, VariableEntry, Walk};
+use c_types_rules::{CType, StructType, Type, cells_of};
 use cbi_base::Name;
 use std::marker::Model;
 
@@ -52,8 +52,8 @@ impl Checked {
     ghost use Rattle.std.specs.Prelude.{◌≡◌, ◌≤◌, IsTrue, option_copied, option_map};
     ghost use Rattle.c_syntax.specs.Kept.{IsKeptTree};
     ghost use Rattle.c_syntax.specs.Plain.{plain_tree};
-    ghost use Rattle.c_rules.specs.Plain.{plain_type};
-    ghost use Rattle.c_rules.specs.Sizes.{cells_of, is_complete, most_cells};
+    ghost use Rattle.c_types_rules.specs.Plain.{plain_type};
+    ghost use Rattle.c_types_rules.specs.Sizes.{cells_of, is_complete, most_cells};
     ghost use Rattle.c_types.specs.Answers.{IsChecked, declared_at, function_at, known_of, offset_at, place_at, scope_holds, tree_of, type_at, variable_at};
     ghost use Rattle.c_types.specs.Fault.{walk_tree};
     ghost use Rattle.c_types_expressions.specs.Names.{found};

@@ -5,9 +5,9 @@ ghost use Rattle.c_types.specs.Answers.{IsChecked, IsTypeFault, tree_of};
 ghost use Rattle.c_types.specs.Fault.{begins_program, fault_of, first_undefined, has_main, is_main, lacks_definition, last_fault};
 
 use crate::checked::{Checked, TypeFault};
-use c_rules::{CType, FaultKind};
 use c_syntax::Tree;
 use c_types_expressions::{FunctionEntry, Meaning, Stop, Walk};
+use c_types_rules::{CType, FaultKind};
 use c_types_walk::{is_defined, walk_items};
 use cbi_base::{Memory, Name};
 use std::alloc::Global;

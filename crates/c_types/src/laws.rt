@@ -1,15 +1,15 @@
 ghost use Rattle.std.specs.Prelude.{◌≡◌, ℕ, ◌*◌, ◌<◌, ◌≤◌, List, ◌∷◌, ◌++◌, length, map, is_some, None, Some};
 ghost use Rattle.std.specs.List.{AllByRecursion};
 ghost use Rattle.c_syntax.specs.ItemTree.{SourceTree};
-ghost use Rattle.c_rules.specs.declared.layout.StructType.{StructType};
-ghost use Rattle.c_rules.specs.Sizes.{cells_of};
-ghost use Rattle.c_rules.specs.TypeTree.{TypeTree, Array};
+ghost use Rattle.c_types_rules.specs.declared.layout.StructType.{StructType};
+ghost use Rattle.c_types_rules.specs.Sizes.{cells_of};
+ghost use Rattle.c_types_rules.specs.TypeTree.{TypeTree, Array};
 ghost use Rattle.c_types.specs.Answers.{type_at, variable_at};
 ghost use Rattle.c_types.specs.Fault.{walk_tree};
 ghost use Rattle.c_types.specs.Hiding.{declaration_of};
 ghost use Rattle.c_types.specs.Laid.{IsSummed};
 ghost use Rattle.c_types_expressions.specs.Names.{closed, found};
-ghost use Rattle.c_types.specs.Numbers.{IsNumber, frame, frames_from, variables_of};
+ghost use Rattle.c_types.specs.Numbers.{HasNumber, frame, frames_from, variables_of};
 ghost use Rattle.c_types.specs.Parts.{has_expression, has_variable};
 ghost use Rattle.c_types_expressions.specs.Walked.{Fine};
 ghost use Rattle.c_types_expressions.specs.declared.names.Meaning.{Meaning};
@@ -27,13 +27,15 @@ pub fn inner_names_hide()
 /// In a text without a fault, exactly the own tokens of expressions have a type: an operator's own token is its sign, a
 /// chain's are its operators, a postfix's is `[`, `.`, `->`, `++` or `--`, and a call's is the name.
 pub fn expressions_have_types()
-    ensures exact { (t : SourceTree) (known : Walk) → walk_tree t ≡ Fine tt known → (token : ℕ) → token < length t.lines → is_some (type_at known token) ≡ has_expression t token }
+    ensures exact { (t : SourceTree) (known : Walk) → walk_tree t ≡ Fine tt known → (token : ℕ) → token < length t.lines
+        → is_some (type_at known token) ≡ has_expression t token }
     ensures beyond { (t : SourceTree) (known : Walk) → walk_tree t ≡ Fine tt known → (token : ℕ) → length t.lines ≤ token → type_at known token ≡ None }
 {}
 
 /// In a text without a fault, exactly the names that declare or name a variable mean one.
 pub fn names_have_variables()
-    ensures exact { (t : SourceTree) (known : Walk) → walk_tree t ≡ Fine tt known → (token : ℕ) → token < length t.lines → is_some (variable_at known token) ≡ has_variable t token }
+    ensures exact { (t : SourceTree) (known : Walk) → walk_tree t ≡ Fine tt known → (token : ℕ) → token < length t.lines
+        → is_some (variable_at known token) ≡ has_variable t token }
     ensures beyond { (t : SourceTree) (known : Walk) → walk_tree t ≡ Fine tt known → (token : ℕ) → length t.lines ≤ token → variable_at known token ≡ None }
 {}
 
@@ -54,6 +56,6 @@ pub fn variables_are_numbered_in_order()
 /// exactly where the definition with this number is its own. The locals of each definition begin behind all variables that
 /// are declared before it.
 pub fn functions_are_numbered_in_order()
-    ensures numbers { (t : SourceTree) (known : Walk) → walk_tree t ≡ Fine tt known → (place number : ℕ) → IsNumber known place number }
+    ensures numbers { (t : SourceTree) (known : Walk) → walk_tree t ≡ Fine tt known → (place number : ℕ) → HasNumber known place number }
     ensures frames { (t : SourceTree) (known : Walk) → walk_tree t ≡ Fine tt known → map frame known.definitions ≡ frames_from 0 t.items }
 {}

@@ -4,25 +4,23 @@ use Rattle.c_syntax.specs.declared.parts.Base.{Base}
 use Rattle.c_syntax.specs.declared.parts.Base.TheVariants as base
 use Rattle.c_syntax.specs.ExprTree as e
 use Rattle.c_syntax.specs.ExprTree.{ExprTree, ExprList, LinkList, PostfixList}
-use Rattle.c_rules.specs.declared.fault.FaultKind.{FaultKind}
-use Rattle.c_rules.specs.declared.layout.Member.{Member}
-use Rattle.c_rules.specs.declared.operand.Operand.{Operand}
-use Rattle.c_rules.specs.TypeTree as t
-use Rattle.c_rules.specs.TypeTree.{TypeTree}
-use Rattle.c_rules.specs.Faults.{Looked}
-use Rattle.c_rules.specs.Conversions.{constant_of, enclosed, null_of, string_of, value_of}
-use Rattle.c_rules.specs.Functions as functions
-use Rattle.c_rules.specs.Library.{library_called}
-use Rattle.c_syntax.specs.Limits.{most_tokens}
-use Rattle.c_types_expressions.specs.Beginning.{beginning}
+use Rattle.c_types_rules.specs.declared.fault.FaultKind.{FaultKind}
+use Rattle.c_types_rules.specs.declared.layout.Member.{Member}
+use Rattle.c_types_rules.specs.declared.operand.Operand.{Operand}
+use Rattle.c_types_rules.specs.TypeTree as t
+use Rattle.c_types_rules.specs.TypeTree.{TypeTree}
+use Rattle.c_types_rules.specs.Faults.{Looked}
+use Rattle.c_types_rules.specs.Conversions.{constant_of, enclosed, null_of, string_of, value_of}
+use Rattle.c_types_rules.specs.Functions as functions
+use Rattle.c_types_rules.specs.Library.{library_called}
 use Rattle.c_types_expressions.specs.declared.names.Meaning.{Meaning}
 use Rattle.c_types_expressions.specs.declared.names.Meaning.TheVariants as meaning
 use Rattle.c_types_expressions.specs.declared.walk.FunctionEntry.{FunctionEntry}
 use Rattle.c_types_expressions.specs.declared.walk.Stop.{Stop}
 use Rattle.c_types_expressions.specs.declared.walk.Walk.{Walk}
-use Rattle.c_types_expressions.specs.ExprWalk.{base_type, called, format_of, is_printf, looked, named, of_function, of_variable, selected, string_cells, tagged, walk_expr, walk_exprs, walk_links, walk_postfix, walk_whole, whole_call, with_call}
+use Rattle.c_types_expressions.specs.ExprWalk.{base_type, called_name, format_of, is_printf, looked, named, of_function, of_variable, selected, string_cells, tagged_type, walk_expr, walk_exprs, walk_links, walk_postfix, walk_whole, whole_call, with_call}
 use Rattle.c_types_expressions.specs.Names.{found, meaning_of}
-use Rattle.c_types_expressions.specs.Room.{HasLeft, HasRoom, things_in}
+use Rattle.c_types_expressions.specs.Room.{HasLeft, things_in}
 use Rattle.c_types_expressions.specs.Walked.{Walked, ◌>>=◌, IsWalked}
 use Rattle.c_types_expressions.proofs.Giving.{Gives, gives_then}
 
@@ -58,7 +56,7 @@ module _ (n : Numbers) where
   looked_keeps token (Ok x) w h = h
   looked_keeps token (Err kind) w h = tt
 
-  tagged_keeps : (token : ℕ) (m : Option Meaning) (w : Walk) → numbers_of w ≡ n → Keeps (tagged token m w)
+  tagged_keeps : (token : ℕ) (m : Option Meaning) (w : Walk) → numbers_of w ≡ n → Keeps (tagged_type token m w)
   tagged_keeps token None w h = tt
   tagged_keeps token (Some (meaning.Variable index)) w h = tt
   tagged_keeps token (Some (meaning.Function index)) w h = tt
@@ -87,7 +85,7 @@ module _ (n : Numbers) where
   function_keeps token index None xs w h = tt
   function_keeps token index (Some f) xs w h = looked_keeps token (functions.called f.ctype xs) (with_call token index w) h
 
-  called_keeps : (token : ℕ) (m : Option Meaning) (xs : List Operand) (w : Walk) → numbers_of w ≡ n → Keeps (called token m xs w)
+  called_keeps : (token : ℕ) (m : Option Meaning) (xs : List Operand) (w : Walk) → numbers_of w ≡ n → Keeps (called_name token m xs w)
   called_keeps token None xs w h = tt
   called_keeps token (Some (meaning.Variable index)) xs w h = tt
   called_keeps token (Some (meaning.Function index)) xs w h = function_keeps token index (slice_get w.functions index) xs w h
@@ -145,7 +143,7 @@ module _ (n : Numbers) where
 
   call_keeps : (token : ℕ) (m : Option Meaning) (arguments : ExprList) (xs : List Operand) (w : Walk) → numbers_of w ≡ n → Keeps (whole_call token m arguments xs w)
   call_keeps token m arguments xs w h =
-      either (is_printf m) (looked token (format_of arguments xs) w) (called token m xs w) (looked_keeps token (format_of arguments xs) w h) (called_keeps token m xs w h)
+      either (is_printf m) (looked token (format_of arguments xs) w) (called_name token m xs w) (looked_keeps token (format_of arguments xs) w h) (called_keeps token m xs w h)
 
 left_by : {A : Type 0} (r : Walked A) (x : Result A Stop) (w v : Walk) → Keeps (numbers_of w) r → IsWalked r x v → OnOk x (HasLeft 0 0 w v)
 left_by r (Ok x) w v h is = left_same w v (subst (λ q. Keeps (numbers_of w) q) is h)
@@ -163,7 +161,3 @@ pub call_left : (token : ℕ) (name : List ℕ) (arguments : ExprList) (r : Resu
 call_left token name arguments r w v is =
     left_by (walk_whole (e.Call token name arguments) w) r w v
     (and_then (numbers_of w) (walk_exprs arguments [] w) _ (exprs_keep (numbers_of w) arguments [] w refl) (λ xs u k. call_keeps (numbers_of w) token _ arguments xs u k)) is
-
--- a text can declare as many things as it has tokens
-pub room_at_first : (count n : ℕ) → n ≤ most_tokens → HasRoom n (beginning count)
-room_at_first count n h = record { few = omega (arith, h); globals = omega arith; locals = omega arith }

@@ -1,5 +1,6 @@
 -- The walk through an expression: its parts from left to right, and then the expression itself.
-use Rattle.std.specs.Prelude.{ℕ, zero, suc, ◌+◌, Bool, true, false, List, [], ◌∷◌, ◌++◌, length, sum_by, Option, Some, None, Result, Ok, Err, if◌then◌else◌, slice_get}
+use Rattle.std.specs.Prelude.{ℕ, zero, suc, ◌+◌, Bool, true, false, List, [], ◌∷◌, ◌++◌, length, sum_by, Option, Some, None, Result, Ok, Err}
+use Rattle.std.specs.Prelude.{if◌then◌else◌, slice_get}
 use Rattle.cbi_base.specs.declared.operators.Binary.{Binary}
 use Rattle.cbi_base.specs.declared.operators.Binary.TheVariants as op
 use Rattle.cbi_base.specs.declared.operators.Unary.TheVariants as sole
@@ -11,21 +12,21 @@ use Rattle.c_syntax.specs.declared.expr.PrefixOperator.{PrefixOperator}
 use Rattle.c_syntax.specs.declared.expr.PrefixOperator.TheVariants as prefix
 use Rattle.c_syntax.specs.ExprTree as e
 use Rattle.c_syntax.specs.ExprTree.{ExprTree, ExprList, LinkList, PostfixList}
-use Rattle.c_rules.specs.declared.fault.FaultKind.{FaultKind}
-use Rattle.c_rules.specs.declared.fault.FaultKind.TheVariants as fault
-use Rattle.c_rules.specs.declared.layout.Member.{Member}
-use Rattle.c_rules.specs.declared.layout.StructType.{StructType}
-use Rattle.c_rules.specs.declared.library.Library.TheVariants as library
-use Rattle.c_rules.specs.declared.operand.Operand.{Operand}
-use Rattle.c_rules.specs.TypeTree as t
-use Rattle.c_rules.specs.TypeTree.{TypeTree}
-use Rattle.c_rules.specs.Faults.{Looked}
-use Rattle.c_rules.specs.Conversions.{value_of, place_of, value_type, constant_of, string_of, null_of, enclosed}
-use Rattle.c_rules.specs.Assigning.{assigned}
-use Rattle.c_rules.specs.Operators.{combined, joined, signed, turned, stepped, compounded, measured, cast_to}
-use Rattle.c_rules.specs.Selecting.{chosen, sequenced, pointed, addressed, indexed, member_of, member_behind}
-use Rattle.c_rules.specs.Functions as functions
-use Rattle.c_rules.specs.Library.{library_called, printed}
+use Rattle.c_types_rules.specs.declared.fault.FaultKind.{FaultKind}
+use Rattle.c_types_rules.specs.declared.fault.FaultKind.TheVariants as fault
+use Rattle.c_types_rules.specs.declared.layout.Member.{Member}
+use Rattle.c_types_rules.specs.declared.layout.StructType.{StructType}
+use Rattle.c_types_rules.specs.declared.library.Library.TheVariants as library
+use Rattle.c_types_rules.specs.declared.operand.Operand.{Operand}
+use Rattle.c_types_rules.specs.TypeTree as t
+use Rattle.c_types_rules.specs.TypeTree.{TypeTree}
+use Rattle.c_types_rules.specs.Faults.{Looked}
+use Rattle.c_types_rules.specs.Conversions.{value_of, place_of, value_type, constant_of, string_of, null_of, enclosed}
+use Rattle.c_types_rules.specs.Assigning.{assigned}
+use Rattle.c_types_rules.specs.Operators.{combined, joined_truths, signed, turned, stepped, compounded, measured, cast_to}
+use Rattle.c_types_rules.specs.Selecting.{chosen, sequenced, pointed, addressed, indexed, member_of, member_behind}
+use Rattle.c_types_rules.specs.Functions as functions
+use Rattle.c_types_rules.specs.Library.{library_called, printed}
 use Rattle.c_types_expressions.specs.declared.names.Meaning.{Meaning}
 use Rattle.c_types_expressions.specs.declared.names.Meaning.TheVariants as meaning
 use Rattle.c_types_expressions.specs.declared.walk.FunctionEntry.{FunctionEntry}
@@ -40,16 +41,16 @@ looked token (Err kind) w = Faulty kind token
 
 -- the base of a type
 
-abbrev pub tagged : ℕ → Option Meaning → Walk → Walked TypeTree
-tagged token (Some (meaning.Struct index)) w = Fine (t.Struct index) w
-tagged token m w = Faulty fault.Unknown token
+abbrev pub tagged_type : ℕ → Option Meaning → Walk → Walked TypeTree
+tagged_type token (Some (meaning.Struct index)) w = Fine (t.Struct index) w
+tagged_type token m w = Faulty fault.Unknown token
 
 abbrev pub base_type : Base → Walk → Walked TypeTree
 base_type (base.Void token) w = Fine t.Void w
 base_type (base.Char token) w = Fine t.Char w
 base_type (base.Int token) w = Fine t.Int w
 base_type (base.Unsigned token int) w = Fine t.Unsigned w
-base_type (base.Struct token tag) w = tagged token (found tag w.tags) w
+base_type (base.Struct token tag) w = tagged_type token (found tag w.tags) w
 
 -- the type with so many stars
 abbrev pub with_stars : ℕ → TypeTree → TypeTree
@@ -78,11 +79,11 @@ abbrev pub of_function : ℕ → ℕ → Option FunctionEntry → List Operand �
 of_function token index None arguments w = Faulty fault.Unknown token
 of_function token index (Some f) arguments w = looked token (functions.called f.ctype arguments) (with_call token index w)
 
-abbrev pub called : ℕ → Option Meaning → List Operand → Walk → Walked Operand
-called token None arguments w = Faulty fault.Unknown token
-called token (Some (meaning.Function index)) arguments w = of_function token index (slice_get w.functions index) arguments w
-called token (Some (meaning.Library function)) arguments w = looked token (library_called function arguments) w
-called token (Some m) arguments w = Faulty fault.Operands token
+abbrev pub called_name : ℕ → Option Meaning → List Operand → Walk → Walked Operand
+called_name token None arguments w = Faulty fault.Unknown token
+called_name token (Some (meaning.Function index)) arguments w = of_function token index (slice_get w.functions index) arguments w
+called_name token (Some (meaning.Library function)) arguments w = looked token (library_called function arguments) w
+called_name token (Some m) arguments w = Faulty fault.Operands token
 
 -- how many cells a string has: its bytes, and the closing zero
 abbrev pub string_cells : List (List ℕ) → ℕ
@@ -125,7 +126,7 @@ compound_of _ = None
 
 -- `&&` and `||` aside, an operator of a chain is one on two numbers
 abbrev pub chained : List StructType → Option Binary → Operand → Operand → Looked
-chained structs None x y = joined x y
+chained structs None x y = joined_truths x y
 chained structs (Some o) x y = combined structs o x y
 
 abbrev pub assigning : List StructType → Option Binary → Operand → Operand → Looked
@@ -168,7 +169,7 @@ abbrev mutual
   walk_expr (e.SizeOfType token b stars) w = base_type b w >>= λ named_type v. looked token (measured v.structs (with_stars stars named_type)) v
   walk_expr (e.Postfix primary operators) w = walk_expr primary w >>= λ x v. walk_postfix operators x v
   walk_expr (e.Name token name) w = named token (meaning_of name w.names) w
-  walk_expr (e.Call token name arguments) w = walk_exprs arguments [] w >>= λ xs v. called token (meaning_of name v.names) xs v
+  walk_expr (e.Call token name arguments) w = walk_exprs arguments [] w >>= λ xs v. called_name token (meaning_of name v.names) xs v
   walk_expr (e.Constant token kind value) w = looked token (Ok (constant_of kind value)) w
   walk_expr (e.Strings token parts) w = looked token (Ok (string_of (string_cells parts))) w
   walk_expr (e.Paren token inner) w = walk_expr inner w >>= λ x v. looked token (Ok (enclosed x)) v
@@ -208,12 +209,12 @@ abbrev pub flat : List (List ℕ) → List ℕ
 flat [] = []
 flat (part ∷ parts) = part ++ flat parts
 
-abbrev pub formatted : List (List ℕ) → List Operand → Looked
-formatted parts [] = Err fault.Arguments
-formatted parts (x ∷ xs) = printed (flat parts) xs
+abbrev pub formatted_call : List (List ℕ) → List Operand → Looked
+formatted_call parts [] = Err fault.Arguments
+formatted_call parts (x ∷ xs) = printed (flat parts) xs
 
 abbrev pub formatted_by : ExprTree → List Operand → Looked
-formatted_by (e.Strings token parts) xs = formatted parts xs
+formatted_by (e.Strings token parts) xs = formatted_call parts xs
 formatted_by x xs = Err fault.Arguments
 
 abbrev pub format_of : ExprList → List Operand → Looked
@@ -221,7 +222,7 @@ format_of e.no_exprs xs = Err fault.Arguments
 format_of (e.more_exprs x rest) xs = formatted_by x xs
 
 abbrev pub whole_call : ℕ → Option Meaning → ExprList → List Operand → Walk → Walked Operand
-whole_call token m arguments xs w = if is_printf m then looked token (format_of arguments xs) w else called token m xs w
+whole_call token m arguments xs w = if is_printf m then looked token (format_of arguments xs) w else called_name token m xs w
 
 -- the whole expression of a statement
 abbrev pub walk_whole : ExprTree → Walk → Walked Operand

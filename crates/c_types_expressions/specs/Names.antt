@@ -1,7 +1,7 @@
 -- The names in scope, the latest first, with a mark where each scope begins (C99 6.2.1).
 use Rattle.std.specs.Prelude.{ℕ, Bool, false, ◌||◌, if◌then◌else◌, List, [], ◌∷◌, Option, Some, None, option_map, is_some}
 use Rattle.std.specs.Str.{bytes_eq}
-use Rattle.c_rules.specs.Library.{library_named}
+use Rattle.c_types_rules.specs.Library.{library_named}
 use Rattle.c_types_expressions.specs.declared.names.ScopeEntry.{ScopeEntry}
 use Rattle.c_types_expressions.specs.declared.names.ScopeEntry.TheVariants.{Opens, Declares}
 use Rattle.c_types_expressions.specs.declared.names.Meaning.{Meaning}
@@ -34,8 +34,8 @@ is_here name (Declares other m ∷ rest) = bytes_eq other name || is_here name r
 abbrev pub is_reserved : List ℕ → Bool
 is_reserved name = is_some (library_named name)
 
-abbrev pub is_taken : List ℕ → List ScopeEntry → Bool
-is_taken name entries = is_reserved name || is_here name entries
+abbrev pub is_name_taken : List ℕ → List ScopeEntry → Bool
+is_name_taken name entries = is_reserved name || is_here name entries
 
 -- the names that are left when the latest scope ends
 abbrev pub closed : List ScopeEntry → List ScopeEntry

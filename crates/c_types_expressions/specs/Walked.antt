@@ -1,7 +1,7 @@
 -- The walk: what is known at a point, and how one part comes after another.
 use Rattle.std.specs.Prelude.{◌≡◌, ℕ, ◌+◌, max, nat_lt, Bool, if◌then◌else◌, List, [], ◌∷◌, ◌++◌, length, Option, Some, None, Result, Ok, Err, slice_set}
-use Rattle.c_rules.specs.declared.fault.FaultKind.{FaultKind}
-use Rattle.c_rules.specs.TypeTree.{TypeTree}
+use Rattle.c_types_rules.specs.declared.fault.FaultKind.{FaultKind}
+use Rattle.c_types_rules.specs.TypeTree.{TypeTree}
 use Rattle.c_types_expressions.specs.declared.names.ScopeEntry.{ScopeEntry}
 use Rattle.c_types_expressions.specs.declared.names.ScopeEntry.TheVariants.{Opens, Declares}
 use Rattle.c_types_expressions.specs.declared.names.Meaning.{Meaning}
@@ -70,11 +70,11 @@ with_end token (meaning.Variable index) ends = replaced ends index (Some token)
 with_end token m ends = ends
 
 -- the scopes of the variables that the latest scope declares end with the token
-abbrev pub ended : ℕ → List ScopeEntry → List (Option ℕ) → List (Option ℕ)
-ended token [] ends = ends
-ended token (Opens ∷ rest) ends = ends
-ended token (Declares name m ∷ rest) ends = ended token rest (with_end token m ends)
+abbrev pub ended_scopes : ℕ → List ScopeEntry → List (Option ℕ) → List (Option ℕ)
+ended_scopes token [] ends = ends
+ended_scopes token (Opens ∷ rest) ends = ends
+ended_scopes token (Declares name m ∷ rest) ends = ended_scopes token rest (with_end token m ends)
 
 -- the latest scope ends, with the latest token of an expression in it
 abbrev pub closing : Done → Walk → Walked Done
-closing _ w = Fine tt (record w { names = closed w.names; ends = ended w.latest w.names w.ends })
+closing _ w = Fine tt (record w { names = closed w.names; ends = ended_scopes w.latest w.names w.ends })

@@ -2,11 +2,13 @@ ghost use Rattle.std.specs.Prelude.{◌≡◌, ◌<◌, ◌++◌, ◌∷◌, [],
 ghost use Rattle.c_syntax.specs.Limits.{most_bytes};
 ghost use Rattle.c_syntax.specs.ExprTree as e;
 ghost use Rattle.c_syntax.specs.Plain.{plain_expr, plain_exprs, plain_links, plain_operators};
-ghost use Rattle.c_rules.specs.Conversions.{null_of, string_of, value_type};
-ghost use Rattle.c_rules.specs.Operators.{cast_to, measured};
-ghost use Rattle.c_rules.specs.Selecting.{chosen, member_behind, member_of, sequenced};
-ghost use Rattle.c_rules.specs.TypeTree.{Void};
-ghost use Rattle.c_types_expressions.specs.ExprWalk.{assigning, base_type, called, flat, format_of, is_printf, looked, named, of_function, of_variable, prefixed, selected, selected_as, string_cells, tagged, walk_expr, walk_exprs, walk_links, walk_postfix, walk_whole, with_stars};
+ghost use Rattle.c_types_rules.specs.Conversions.{null_of, string_of, value_type};
+ghost use Rattle.c_types_rules.specs.Operators.{cast_to, measured};
+ghost use Rattle.c_types_rules.specs.Selecting.{chosen, member_behind, member_of, sequenced};
+ghost use Rattle.c_types_rules.specs.TypeTree.{Void};
+ghost use Rattle.c_types_expressions.specs.ExprWalk.{assigning, base_type, called_name, flat, format_of, is_printf, looked, named, of_function};
+ghost use Rattle.c_types_expressions.specs.ExprWalk.{of_variable, prefixed, selected, selected_as, string_cells, tagged_type, walk_expr, walk_exprs};
+ghost use Rattle.c_types_expressions.specs.ExprWalk.{walk_links, walk_postfix, walk_whole, with_stars};
 ghost use Rattle.c_types_expressions.specs.Names.{meaning_of};
 ghost use Rattle.c_types_expressions.specs.Room.{HasLeft, expr_text, exprs_text, items_in, links_text, postfix_text};
 ghost use Rattle.c_types_expressions.specs.Walked.{IsWalked};
@@ -14,12 +16,12 @@ ghost use Rattle.c_types_expressions.specs.Walked.{IsWalked};
 use crate::names::Meaning;
 use crate::operators::{assigning, binary_of, chained, compound_of, prefixed};
 use crate::walk::{Stop, Walk, note_type};
-use c_rules::{
+use c_syntax::{Base, Expr, Link, PostfixOperator, PrefixOperator};
+use c_types_rules::{
     CType, FaultKind, Library, Looked, Operand, Type, called, cast_to, chosen, constant_of,
     enclosed, indexed, library_called, measured, member_behind, member_of, null_of, place_of,
     pointer_to, printed, sequenced, stepped, string_of, value_of,
 };
-use c_syntax::{Base, Expr, Link, PostfixOperator, PrefixOperator};
 use cbi_base::{Binary, Memory, Name, Seq};
 use std::alloc::Global;
 
@@ -38,7 +40,7 @@ fn looked(alloc: Global, walk: &mut Walk, token: u32, answer: Looked) -> Result<
 
 /// The struct that a tag means.
 fn tagged(walk: &mut Walk, token: u32, meaning: Option<Meaning>) -> Result<Type, Stop>
-    ensures walked { IsWalked (tagged token meaning walk.old) result walk.new }
+    ensures walked { IsWalked (tagged_type token meaning walk.old) result walk.new }
     ensures left { OnOk result (HasLeft 0 0 walk.old walk.new) }
 {
     match meaning {
@@ -131,7 +133,7 @@ fn called_as(
     meaning: Option<Meaning>,
     arguments: &[Operand],
 ) -> Result<Operand, Stop>
-    ensures { IsWalked (called token meaning arguments.now walk.old) result walk.new }
+    ensures { IsWalked (called_name token meaning arguments.now walk.old) result walk.new }
 {
     match meaning {
         None => Err(Stop::fault(FaultKind::Unknown, token)),
@@ -306,7 +308,7 @@ fn called_at(
     name: &Name,
     arguments: Seq<Operand>,
 ) -> Result<Operand, Stop>
-    ensures { IsWalked (called token (meaning_of name.now walk.old.names) arguments walk.old) result walk.new }
+    ensures { IsWalked (called_name token (meaning_of name.now walk.old.names) arguments walk.old) result walk.new }
 {
     let meaning = walk.names.meaning_of(name);
     called_as(alloc, walk, token, meaning, arguments.as_slice())

@@ -1,9 +1,9 @@
 ghost use Rattle.std.specs.Prelude.{◌≡◌, [], ◌∷◌, OnOk, MatchOption};
-ghost use Rattle.c_types_expressions.specs.Names.{found, meaning_of, is_here, is_reserved, is_taken};
+ghost use Rattle.c_types_expressions.specs.Names.{found, meaning_of, is_here, is_reserved, is_name_taken};
 ghost use Rattle.c_types_expressions.specs.declared.names.ScopeEntry.TheVariants.{Opens, Declares};
 
 use crate::index::Index;
-use c_rules::{Library, library_named};
+use c_types_rules::{Library, library_named};
 use cbi_base::{Memory, Name};
 use std::alloc::Global;
 use std::marker::Model;
@@ -90,7 +90,7 @@ impl Names {
 
     /// Whether the name is one of the library or declared in the latest scope.
     pub fn is_taken(&self, name: &Name) -> bool
-        ensures { result ≡ is_taken name.now self.now }
+        ensures { result ≡ is_name_taken name.now self.now }
     {
         is_reserved(name) || self.is_here(name)
     }

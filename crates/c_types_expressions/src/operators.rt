@@ -1,11 +1,11 @@
 ghost use Rattle.std.specs.Prelude.{◌≡◌, IfOk};
 ghost use Rattle.c_types_expressions.specs.ExprWalk.{assigning, binary_of, chained, compound_of, prefixed};
 
-use c_rules::{
+use c_syntax::{PrefixOperator, Sign};
+use c_types_rules::{
     Looked, Operand, StructType, addressed, assigned, combined, compounded, joined, measured,
     pointed, signed, stepped, turned,
 };
-use c_syntax::{PrefixOperator, Sign};
 use cbi_base::{Binary, Memory, Unary};
 use std::alloc::Global;
 

@@ -7,7 +7,7 @@ ghost use Rattle.c_types_expressions.specs.Walked.{Fine, IsWalked, closing, coun
 
 use crate::names::{Meaning, Names, ScopeEntry};
 use crate::table::{Table, blank};
-use c_rules::{FaultKind, FunctionType, StructType, Type};
+use c_types_rules::{FaultKind, FunctionType, StructType, Type};
 use cbi_base::{Memory, Name, Seq};
 use std::alloc::Global;
 

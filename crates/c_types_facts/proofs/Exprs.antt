@@ -4,23 +4,23 @@ use Rattle.std.specs.Prelude.{Option, Result, slice_get}
 use Rattle.c_syntax.specs.declared.parts.Base.{Base}
 use Rattle.c_syntax.specs.ExprTree as e
 use Rattle.c_syntax.specs.ExprTree.{ExprTree, ExprList, LinkList, PostfixList}
-use Rattle.c_rules.specs.declared.fault.FaultKind.{FaultKind}
-use Rattle.c_rules.specs.declared.layout.Member.{Member}
-use Rattle.c_rules.specs.declared.layout.StructType.{StructType}
-use Rattle.c_rules.specs.declared.operand.Operand.{Operand}
-use Rattle.c_rules.specs.TypeTree as t
-use Rattle.c_rules.specs.TypeTree.{TypeTree}
-use Rattle.c_rules.specs.Conversions.{constant_of, enclosed, null_of, place_of, string_of, value_of, value_type}
-use Rattle.c_rules.specs.Faults.{Looked}
-use Rattle.c_rules.specs.Functions as functions
-use Rattle.c_rules.specs.Library.{library_called}
-use Rattle.c_rules.specs.Operators.{cast_to, measured, stepped}
-use Rattle.c_rules.specs.Selecting.{chosen, indexed, member_behind, member_of, sequenced}
+use Rattle.c_types_rules.specs.declared.fault.FaultKind.{FaultKind}
+use Rattle.c_types_rules.specs.declared.layout.Member.{Member}
+use Rattle.c_types_rules.specs.declared.layout.StructType.{StructType}
+use Rattle.c_types_rules.specs.declared.operand.Operand.{Operand}
+use Rattle.c_types_rules.specs.TypeTree as t
+use Rattle.c_types_rules.specs.TypeTree.{TypeTree}
+use Rattle.c_types_rules.specs.Conversions.{constant_of, enclosed, null_of, place_of, string_of, value_of, value_type}
+use Rattle.c_types_rules.specs.Faults.{Looked}
+use Rattle.c_types_rules.specs.Functions as functions
+use Rattle.c_types_rules.specs.Library.{library_called}
+use Rattle.c_types_rules.specs.Operators.{cast_to, measured, stepped}
+use Rattle.c_types_rules.specs.Selecting.{chosen, indexed, member_behind, member_of, sequenced}
 use Rattle.c_types_expressions.specs.declared.names.Meaning.{Meaning}
 use Rattle.c_types_expressions.specs.declared.names.Meaning.TheVariants as meaning
 use Rattle.c_types_expressions.specs.declared.walk.FunctionEntry.{FunctionEntry}
 use Rattle.c_types_expressions.specs.declared.walk.Walk.{Walk}
-use Rattle.c_types_expressions.specs.ExprWalk.{assigning, base_type, binary_of, called, chained, compound_of, format_of, is_printf, looked, named}
+use Rattle.c_types_expressions.specs.ExprWalk.{assigning, base_type, binary_of, called_name, chained, compound_of, format_of, is_printf, looked, named}
 use Rattle.c_types_expressions.specs.ExprWalk.{of_function, of_variable, prefixed, selected, string_cells, walk_expr, walk_exprs, walk_links, walk_postfix}
 use Rattle.c_types_expressions.specs.ExprWalk.{walk_whole, whole_call, with_call, with_stars, with_use}
 use Rattle.c_types_expressions.specs.Names.{meaning_of}
@@ -29,7 +29,7 @@ use Rattle.c_types_laws.proofs.Ruled.{behind_stays, chained_is, indexed_is, memb
 use Rattle.c_types_laws.proofs.Scenes.{Stays}
 use Rattle.c_types_laws.proofs.Steps.{Gives, and_then, looks, weaker}
 use Rattle.c_meaning.specs.Trees.{token_of}
-use Rattle.c_types_notes.specs.Events.{Construct, Calls, Selects as Selecting, Other, Value, expr_events, exprs_events, links_events, postfix_events}
+use Rattle.c_types_faults.specs.Events.{Construct, Calls, Selects as Selecting, Other, Value, expr_events, exprs_events, links_events, postfix_events}
 use Rattle.c_types_faults.specs.Known.{Known}
 use Rattle.c_types_faults.specs.Exprs.{IsOperand, LinksGive, PostfixGives}
 use Rattle.c_types_faults.specs.Wholes.{IsWhole}
@@ -62,7 +62,7 @@ function_marks : (own index : ℕ) (name : List ℕ) (o : Option FunctionEntry) 
 function_marks own index name None xs w = record { by = tt }
 function_marks own index name (Some f) xs w = looked_logs own (Calls name) (functions.called f.ctype xs) w (with_call own index w) refl refl
 
-call_marks : (own : ℕ) (name : List ℕ) (m : Option Meaning) (xs : List Operand) (w : Walk) → Gives (called own m xs w) (Marks own (Calls name) w)
+call_marks : (own : ℕ) (name : List ℕ) (m : Option Meaning) (xs : List Operand) (w : Walk) → Gives (called_name own m xs w) (Marks own (Calls name) w)
 call_marks own name None xs w = record { by = tt }
 call_marks own name (Some (meaning.Variable index)) xs w = record { by = tt }
 call_marks own name (Some (meaning.Function index)) xs w = function_marks own index name (slice_get w.functions index) xs w
@@ -234,7 +234,7 @@ module _ (k : Known) where
   whole_marks : (own : ℕ) (name : List ℕ) (m : Option Meaning) (arguments : ExprList) (xs : List Operand) (w : Walk)
       → Gives (whole_call own m arguments xs w) (Marks own (Calls name) w)
   whole_marks own name m arguments xs w =
-      either (is_printf m) (looked own (format_of arguments xs) w) (called own m xs w)
+      either (is_printf m) (looked own (format_of arguments xs) w) (called_name own m xs w)
       (looked_logs own (Calls name) (format_of arguments xs) w w refl refl) (call_marks own name m xs w)
 
   abbrev pub WholeIs : ExprTree → Walk → Operand → Walk → Type 0

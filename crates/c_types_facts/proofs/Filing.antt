@@ -2,13 +2,13 @@
 use Rattle.std.proofs.Common.{◌≡◌, ℕ, ◌+◌, refl, ap, sym, ◌∙◌, arith, List, [], ◌++◌, length, map, Bool, append_assoc}
 use Rattle.std.specs.Prelude.{slice_get}
 use Rattle.std.proofs.lemmas.List.{append-nil, map-append}
-use Rattle.c_rules.specs.TypeTree.{TypeTree}
+use Rattle.c_types_rules.specs.TypeTree.{TypeTree}
 use Rattle.c_types_expressions.specs.declared.walk.Walk.{Walk}
 use Rattle.c_types_laws.proofs.Scenes.{Stays}
-use Rattle.c_types_notes.specs.Events.{Event}
-use Rattle.c_types_notes.specs.Scopes.{start_of}
+use Rattle.c_types_faults.specs.Events.{Event}
+use Rattle.c_types_faults.specs.Scopes.{start_of}
 use Rattle.c_types_facts.specs.Statements.{Typed}
-use Rattle.c_types_facts.specs.Texts.{token_of, type_of}
+use Rattle.c_types_facts.specs.Texts.{typed_token, typed_type}
 use Rattle.c_types_facts.proofs.Growing.{Both, Grown, joined}
 use Rattle.c_types_facts.proofs.Logs.{Log, Says, noting, noting_both, says_left, says_right, token, tokens_both, tokens_in}
 
@@ -36,15 +36,15 @@ pub record Filed (count : ℕ) (es : List Event) (P : Walk → List Typed → Ty
   pub log : Log
   pub types : v.types ≡ noting log w.types
   pub tokens : map token log ≡ tokens_in es
-  pub starts : map start_of v.variables ≡ map start_of w.variables ++ map token_of own
-  pub declared : v.declared_types ≡ w.declared_types ++ map type_of own
+  pub starts : map start_of v.variables ≡ map start_of w.variables ++ map typed_token own
+  pub declared : v.declared_types ≡ w.declared_types ++ map typed_type own
   pub functions : Stays w.functions v.functions
   pub definitions : Stays w.definitions v.definitions
   pub count_is : length v.definitions ≡ length w.definitions + count
   pub holds : (z : Walk) → Says log z.types → Follows v z → P z own
 
 pub filed_follows : {count : ℕ} {es : List Event} {P : Walk → List Typed → Type 0} {w v : Walk} → Filed count es P w v → Follows w v
-filed_follows a = record { functions = a.functions; definitions = a.definitions; more = map type_of a.own; declared = a.declared }
+filed_follows a = record { functions = a.functions; definitions = a.definitions; more = map typed_type a.own; declared = a.declared }
 
 pub filed_then : {n m : ℕ} {es fs : List Event} {P Q : Walk → List Typed → Type 0} {w v u : Walk} → Filed n es P w v → Filed m fs Q v u
     → Filed (n + m) (es ++ fs) (Both P Q) w u
@@ -53,8 +53,8 @@ filed_then {es = es} {fs = fs} {w = w} {v = v} {u = u} a b = record {
   log = a.log ++ b.log;
   types = b.types ∙ ap (noting b.log) a.types ∙ sym (noting_both a.log b.log w.types);
   tokens = map-append token a.log b.log ∙ ap (λ ks. ks ++ map token b.log) a.tokens ∙ ap (λ ks. tokens_in es ++ ks) b.tokens ∙ sym (tokens_both es fs);
-  starts = joined token_of (map start_of w.variables) (map start_of v.variables) (map start_of u.variables) a.own b.own a.starts b.starts;
-  declared = joined type_of w.declared_types v.declared_types u.declared_types a.own b.own a.declared b.declared;
+  starts = joined typed_token (map start_of w.variables) (map start_of v.variables) (map start_of u.variables) a.own b.own a.starts b.starts;
+  declared = joined typed_type w.declared_types v.declared_types u.declared_types a.own b.own a.declared b.declared;
   functions = λ i x h. b.functions i x (a.functions i x h);
   definitions = λ i x h. b.definitions i x (a.definitions i x h);
   count_is = omega (arith, a.count_is, b.count_is);

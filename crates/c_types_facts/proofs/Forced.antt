@@ -12,22 +12,22 @@ use Rattle.c_syntax.specs.ItemTree.{ItemTree, SourceTree}
 use Rattle.c_syntax.specs.Spelling.{declarator_kinds}
 use Rattle.c_syntax.specs.StatementTree as s
 use Rattle.c_syntax.specs.StatementTree.{DeclarationTree, EntryList, ForStartTree, InitialTree, StartTree, StatementTree}
-use Rattle.c_rules.specs.declared.function.FunctionType.{FunctionType}
-use Rattle.c_rules.specs.declared.operand.Operand.{Operand}
-use Rattle.c_rules.specs.TypeTree.{TypeTree}
+use Rattle.c_types_rules.specs.declared.function.FunctionType.{FunctionType}
+use Rattle.c_types_rules.specs.declared.operand.Operand.{Operand}
+use Rattle.c_types_rules.specs.TypeTree.{TypeTree}
 use Rattle.c_types.specs.Answers.{type_at}
 use Rattle.c_types_expressions.specs.declared.walk.Walk.{Walk}
-use Rattle.c_types_walk.specs.ItemWalk.{listed}
+use Rattle.c_types_walk.specs.ItemWalk.{listed_params}
 use Rattle.c_meaning.specs.Known.{signature_of}
 use Rattle.c_meaning.specs.Trees.{token_of}
-use Rattle.c_types_notes.specs.Events.{Calls, Other, Event, Value, Initialises, Variable, Opens, Closes, Struct, Names as Naming, Defines}
-use Rattle.c_types_notes.specs.Events.{construct_at, declaration_events, entries_events, events_of, expr_events, exprs_events, for_start_events, initial_events}
-use Rattle.c_types_notes.specs.Events.{item_events, items_events, links_events, optional_events, params_events, postfix_events, scoped, start_events}
-use Rattle.c_types_notes.specs.Events.{starts_events, statement_events}
-use Rattle.c_types_notes.proofs.Noting.{same_token}
+use Rattle.c_types_faults.specs.Events.{Calls, Other, Event, Value, Initialises, Variable, Opens, Closes, Struct, Names as Naming, Defines}
+use Rattle.c_types_faults.specs.Events.{construct_at, declaration_events, entries_events, events_of, expr_events, exprs_events, for_start_events, initial_events}
+use Rattle.c_types_faults.specs.Events.{item_events, items_events, links_events, optional_events, params_events, postfix_events, scoped, start_events}
+use Rattle.c_types_faults.specs.Events.{starts_events, statement_events}
+use Rattle.c_types_faults.proofs.Noting.{same_token}
 use Rattle.sites.specs.Table.{defined_by, defined_in}
 use Rattle.c_types_faults.specs.Known.{Known, Object}
-use Rattle.c_types_faults.specs.Context.{Context, declare, declared_in, inner, known, nothing}
+use Rattle.c_types_faults.specs.Context.{Context, declare, declared_in, empty_context, inner, known}
 use Rattle.c_types_faults.specs.Functions.{Formal, FunctionGives, with_formals}
 use Rattle.c_types_faults.proofs.Quiet.{one_type, variable_one, whole_one}
 use Rattle.c_types_faults.proofs.QuietItems.{formals_one, function_one, item_one, names_one, prototype_one}
@@ -289,13 +289,13 @@ module _ (w v : Walk) where
   item_forced number (i.Function token base stars name ps None) c p q a b h g =
       (item_one (i.Function token base stars name ps None) c p q h.0 g.0, (h.1 ∙ sym g.1, (tt, λ ss. none_signed number)))
   item_forced number (i.Function token base stars name ps (Some body)) c p q a b (f, (fs, (h0, (h1, h2)))) (y, (gs, (g0, (g1, g2)))) =
-      let one : y ≡ f = prototype_one base stars true (listed ps) c y f gs fs g0 h0 in
-      let two : gs ≡ fs = formals_one base stars true (listed ps) c y f gs fs g0 h0 in
-      let r = body_forced number name f fs body c a b (listed ps) h2
-      (subst (λ z. BodyTyped v number name (listed ps) z fs body c b) one (subst (λ z. BodyTyped v number name (listed ps) y z body c b) two g2)) in (
+      let one : y ≡ f = prototype_one base stars true (listed_params ps) c y f gs fs g0 h0 in
+      let two : gs ≡ fs = formals_one base stars true (listed_params ps) c y f gs fs g0 h0 in
+      let r = body_forced number name f fs body c a b (listed_params ps) h2
+      (subst (λ z. BodyTyped v number name (listed_params ps) z fs body c b) one (subst (λ z. BodyTyped v number name (listed_params ps) y z body c b) two g2)) in (
         function_one name f fs (Some body) c p q h1
             (subst (λ z. FunctionGives name z fs (Some body) c q) one (subst (λ z. FunctionGives name y z (Some body) c q) two g1)),
-        (r.0, (subst Agree (sym (event_tokens name (listed ps) body)) r.1.0, r.1.1)),
+        (r.0, (subst Agree (sym (event_tokens name (listed_params ps) body)) r.1.0, r.1.1)),
       )
   item_forced number (i.Declaration declaration) c p q a b h g =
       let r = declaration_forced true declaration c p q a b h g in (r.0, (r.1.0, (r.1.1, λ ss. none_signed number)))
@@ -339,7 +339,7 @@ module _ (w v : Walk) where
 
 pub forced : (t : SourceTree) (w v : Walk) (a b : List Typed) → TextTyped w t a → TextTyped v t b → AreAlike t w v a b
 forced t w v a b (c, h) (d, g) =
-    let r = items_forced w v 0 t.items nothing c d a b h.0 g.0 in
+    let r = items_forced w v 0 t.items empty_context c d a b h.0 g.0 in
     let structs : w.structs ≡ v.structs = h.1 ∙ ap (λ (y : Context). y.structs) r.0 ∙ sym g.1 in (
       r.1.0,
       structs,

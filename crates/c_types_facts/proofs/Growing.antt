@@ -2,19 +2,19 @@
 use Rattle.std.proofs.Common.{◌≡◌, ℕ, ◌+◌, refl, ap, subst, sym, ◌∙◌, arith, List, [], ◌∷◌, ◌++◌, length, length-append, map, Bool, true, false, append_assoc}
 use Rattle.std.specs.Prelude.{nat_le, not, if◌then◌else◌}
 use Rattle.std.proofs.lemmas.List.{append-nil, map-append}
-use Rattle.c_rules.specs.declared.fault.FaultKind.{FaultKind}
-use Rattle.c_rules.specs.declared.fault.FaultKind.TheVariants as fault
-use Rattle.c_rules.specs.Sizes.{cells_of, is_object, most_cells}
-use Rattle.c_rules.specs.TypeTree.{TypeTree}
+use Rattle.c_types_rules.specs.declared.fault.FaultKind.{FaultKind}
+use Rattle.c_types_rules.specs.declared.fault.FaultKind.TheVariants as fault
+use Rattle.c_types_rules.specs.Sizes.{cells_of, is_object, most_cells}
+use Rattle.c_types_rules.specs.TypeTree.{TypeTree}
 use Rattle.c_types_expressions.specs.declared.walk.Walk.{Walk}
 use Rattle.c_types_expressions.specs.Walked.{Fine, Faulty, Done, unless, with_variable}
-use Rattle.c_types_walk.specs.StatementWalk.{counted, sized}
+use Rattle.c_types_walk.specs.StatementWalk.{counted_cells, sized}
 use Rattle.c_types_laws.proofs.Leading.{either}
 use Rattle.c_types_laws.proofs.Steps.{Gives}
-use Rattle.c_types_notes.specs.Events.{Event, Closes, scoped}
-use Rattle.c_types_notes.specs.Scopes.{start_of}
+use Rattle.c_types_faults.specs.Events.{Event, Closes, scoped}
+use Rattle.c_types_faults.specs.Scopes.{start_of}
 use Rattle.c_types_facts.specs.Statements.{Typed}
-use Rattle.c_types_facts.specs.Texts.{token_of, type_of}
+use Rattle.c_types_facts.specs.Texts.{typed_token, typed_type}
 use Rattle.c_types_facts.proofs.Logs.{Log, Logged, Rest, Says, noting, noting_both, rest, says_left, says_right, token, tokens_both, tokens_in}
 
 abbrev pub locals_behind : Bool → List Typed → ℕ → ℕ
@@ -27,8 +27,8 @@ pub record Grown (global : Bool) (es : List Event) (P : Walk → List Typed → 
   pub log : Log
   pub types : v.types ≡ noting log w.types
   pub tokens : map token log ≡ tokens_in es
-  pub starts : map start_of v.variables ≡ map start_of w.variables ++ map token_of own
-  pub declared : v.declared_types ≡ w.declared_types ++ map type_of own
+  pub starts : map start_of v.variables ≡ map start_of w.variables ++ map typed_token own
+  pub declared : v.declared_types ≡ w.declared_types ++ map typed_type own
   pub functions : v.functions ≡ w.functions
   pub definitions : v.definitions ≡ w.definitions
   pub locals : v.locals ≡ locals_behind global own w.locals
@@ -58,8 +58,8 @@ grown_then {global = global} {es = es} {fs = fs} {w = w} {v = v} {u = u} a b = r
   log = a.log ++ b.log;
   types = b.types ∙ ap (noting b.log) a.types ∙ sym (noting_both a.log b.log w.types);
   tokens = map-append token a.log b.log ∙ ap (λ ks. ks ++ map token b.log) a.tokens ∙ ap (λ ks. tokens_in es ++ ks) b.tokens ∙ sym (tokens_both es fs);
-  starts = joined token_of (map start_of w.variables) (map start_of v.variables) (map start_of u.variables) a.own b.own a.starts b.starts;
-  declared = joined type_of w.declared_types v.declared_types u.declared_types a.own b.own a.declared b.declared;
+  starts = joined typed_token (map start_of w.variables) (map start_of v.variables) (map start_of u.variables) a.own b.own a.starts b.starts;
+  declared = joined typed_type w.declared_types v.declared_types u.declared_types a.own b.own a.declared b.declared;
   functions = b.functions ∙ a.functions;
   definitions = b.definitions ∙ a.definitions;
   locals = locals_then global a.own b.own w.locals v.locals u.locals a.locals b.locals;
@@ -89,8 +89,8 @@ grown_as {global = global} x y a rx tx ry ty = record {
   log = a.log;
   types = ty ∙ a.types ∙ ap (noting a.log) (sym tx);
   tokens = a.tokens;
-  starts = ap (λ (r : Rest). map start_of r.variables) ry ∙ a.starts ∙ ap (λ (r : Rest). map start_of r.variables ++ map token_of a.own) (sym rx);
-  declared = ap (λ (r : Rest). r.declared) ry ∙ a.declared ∙ ap (λ (r : Rest). r.declared ++ map type_of a.own) (sym rx);
+  starts = ap (λ (r : Rest). map start_of r.variables) ry ∙ a.starts ∙ ap (λ (r : Rest). map start_of r.variables ++ map typed_token a.own) (sym rx);
+  declared = ap (λ (r : Rest). r.declared) ry ∙ a.declared ∙ ap (λ (r : Rest). r.declared ++ map typed_type a.own) (sym rx);
   functions = ap (λ (r : Rest). r.functions) ry ∙ a.functions ∙ ap (λ (r : Rest). r.functions) (sym rx);
   definitions = ap (λ (r : Rest). r.definitions) ry ∙ a.definitions ∙ ap (λ (r : Rest). r.definitions) (sym rx);
   locals = ap (λ (r : Rest). r.locals) ry ∙ a.locals ∙ ap (λ (r : Rest). locals_behind global a.own r.locals) (sym rx);
@@ -174,7 +174,7 @@ counted_still false false kind own cells w = record { by = tt }
 
 pub sized_still : (global : Bool) (own : ℕ) (t : TypeTree) (w : Walk) → Gives (sized global own t w) (λ d v. Still w v)
 sized_still global own t w =
-    either (is_object w.structs t) (counted global own (cells_of w.structs t) w) (Faulty fault.Object own)
+    either (is_object w.structs t) (counted_cells global own (cells_of w.structs t) w) (Faulty fault.Object own)
     (counted_still (not global) (nat_le (w.global_cells + cells_of w.structs t) most_cells) fault.Object own (w.global_cells + cells_of w.structs t) w)
     (record { by = tt })
 

@@ -12,36 +12,36 @@ use Rattle.c_syntax.specs.declared.parts.ParamName.{ParamName}
 use Rattle.c_syntax.specs.StatementTree.{EntryList}
 use Rattle.c_syntax.specs.ItemTree as i
 use Rattle.c_syntax.specs.ItemTree.{ItemTree}
-use Rattle.c_rules.specs.declared.fault.FaultKind.TheVariants as fault
-use Rattle.c_rules.specs.declared.function.FunctionType.{FunctionType}
-use Rattle.c_rules.specs.declared.layout.StructType.{StructType}
-use Rattle.c_rules.specs.Conversions.{is_scalar, is_struct}
-use Rattle.c_rules.specs.Selecting.{member_named}
-use Rattle.c_rules.specs.Sizes.{cells_of, empty_struct, is_object, most_cells, with_member}
-use Rattle.c_rules.specs.TypeTree as t
-use Rattle.c_rules.specs.TypeTree.{TypeTree}
+use Rattle.c_types_rules.specs.declared.fault.FaultKind.TheVariants as fault
+use Rattle.c_types_rules.specs.declared.function.FunctionType.{FunctionType}
+use Rattle.c_types_rules.specs.declared.layout.StructType.{StructType}
+use Rattle.c_types_rules.specs.Conversions.{is_scalar, is_struct}
+use Rattle.c_types_rules.specs.Selecting.{member_named}
+use Rattle.c_types_rules.specs.Sizes.{cells_of, empty_struct, is_object, most_cells, with_member}
+use Rattle.c_types_rules.specs.TypeTree as t
+use Rattle.c_types_rules.specs.TypeTree.{TypeTree}
 use Rattle.c_types_expressions.specs.declared.names.Meaning.{Meaning}
 use Rattle.c_types_expressions.specs.declared.names.Meaning.TheVariants as meaning
 use Rattle.c_types_expressions.specs.declared.walk.Definition.{Definition}
 use Rattle.c_types_expressions.specs.declared.walk.FunctionEntry.{FunctionEntry}
 use Rattle.c_types_expressions.specs.declared.walk.Parameter.{Parameter}
 use Rattle.c_types_expressions.specs.declared.walk.Walk.{Walk}
-use Rattle.c_types_expressions.specs.ExprWalk.{base_type, tagged, with_stars}
+use Rattle.c_types_expressions.specs.ExprWalk.{base_type, tagged_type, with_stars}
 use Rattle.c_types_expressions.specs.Names.{found, is_here, is_reserved}
 use Rattle.c_types_expressions.specs.Walked.{Fine, Faulty, Done, opened, with_variable}
 use Rattle.c_types_walk.specs.Declarators.{declared_type}
-use Rattle.c_types_walk.specs.ItemWalk.{clashes, declares, has_length, is_among, is_defined, known_as, listed, looked_param, param_type}
+use Rattle.c_types_walk.specs.ItemWalk.{clashes, declares, has_length, is_among, is_defined, known_as, listed_params, looked_param, param_type}
 use Rattle.c_types_walk.specs.ItemWalk.{scalar_param, typed_function, typed_member, types_of, walk_body, walk_declarators, walk_item, walk_items}
 use Rattle.c_types_walk.specs.ItemWalk.{walk_members, walk_param, walk_params, walk_struct, with_definition, with_function, with_param, with_params, with_tag}
 use Rattle.c_types_walk.specs.StatementWalk.{walk_entries}
-use Rattle.c_meaning.specs.Known.{signature_of, signature_with, value_type}
+use Rattle.c_meaning.specs.Known.{computed_type, signature_of, signature_with}
 use Rattle.c_types_laws.proofs.Declaring.{get_last, more_stays}
 use Rattle.c_types_laws.proofs.Leading.{allowed, refused}
 use Rattle.c_types_laws.proofs.Scenes.{Stays}
 use Rattle.c_types_laws.proofs.Steps.{Gives, and_then, weaker}
-use Rattle.c_types_notes.specs.Events.{Event, Closes, Defines, Names as Naming, Struct, entries_events, item_events, items_events, named_events}
-use Rattle.c_types_notes.specs.Events.{params_events, scoped}
-use Rattle.c_types_notes.specs.Scopes.{start_of}
+use Rattle.c_types_faults.specs.Events.{Event, Closes, Defines, Names as Naming, Struct, entries_events, item_events, items_events, named_events}
+use Rattle.c_types_faults.specs.Events.{params_events, scoped}
+use Rattle.c_types_faults.specs.Scopes.{start_of}
 use Rattle.sites.specs.Table.{defined_by}
 use Rattle.c_types_faults.specs.Agrees.{Denotes, IsType}
 use Rattle.c_types_faults.specs.Known.{Entity, Function}
@@ -55,7 +55,7 @@ use Rattle.c_types_faults.proofs.Knowing.{Matches, agreed, entering_knows}
 use Rattle.c_types_faults.proofs.Prototypes.{formal_of, params_tell}
 use Rattle.c_types_faults.proofs.Telling.{agrees_on, shown}
 use Rattle.c_types_facts.specs.Statements.{EntriesTyped, Typed}
-use Rattle.c_types_facts.specs.Texts.{BodyTyped, ItemTyped, ItemsTyped, named, parameters, signature, token_of, type_of}
+use Rattle.c_types_facts.specs.Texts.{BodyTyped, ItemTyped, ItemsTyped, parameters, signature, typed_param, typed_token, typed_type}
 use Rattle.c_types_facts.proofs.Filing.{Filed, filed_none, filed_of, filed_so, filed_then}
 use Rattle.c_types_facts.proofs.Growing.{Grown, Same, grown_as, grown_so, grown_then, one_same, one_starts}
 use Rattle.c_types_facts.proofs.Logs.{Rest, both, noting, rest, told, tokens_both, tokens_in}
@@ -64,7 +64,7 @@ use Rattle.c_types_facts.proofs.Variables.{declaration_logs}
 
 -- structs
 
-tagged_same : (own : ℕ) (m : Option Meaning) (w : Walk) → Gives (tagged own m w) (λ t v. v ≡ w)
+tagged_same : (own : ℕ) (m : Option Meaning) (w : Walk) → Gives (tagged_type own m w) (λ t v. v ≡ w)
 tagged_same own None w = record { by = tt }
 tagged_same own (Some (meaning.Variable index)) w = record { by = tt }
 tagged_same own (Some (meaning.Function index)) w = record { by = tt }
@@ -119,7 +119,7 @@ typed_from [] = []
 typed_from (p ∷ ps) = one_typed p.token p.name p.ctype ++ typed_from ps
 
 abbrev IsNamed : Option ParamName → Parameter → Type 0
-IsNamed o p = one_typed p.token p.name p.ctype ≡ named o p.ctype
+IsNamed o p = one_typed p.token p.name p.ctype ≡ typed_param o p.ctype
 
 looked_named : (body : Bool) (own : ℕ) (o : Option ParamName) (t : TypeTree) (before : List Parameter) (w : Walk)
     → Gives (looked_param body own o t before w) (λ p v. IsNamed o p)
@@ -237,13 +237,13 @@ middle all xs ys zs first count e h k =
 
 -- the signature of a definition, by what is known at the end
 signature_is : (z : Walk) (number : ℕ) (d : Definition) (g : FunctionEntry) (f : FunctionType) (own : List Typed) → slice_get z.definitions number ≡ Some d
-    → slice_get z.functions d.function ≡ Some g → g.ctype ≡ f → take d.count (drop d.first z.declared_types) ≡ map type_of own
+    → slice_get z.functions d.function ≡ Some g → g.ctype ≡ f → take d.count (drop d.first z.declared_types) ≡ map typed_type own
     → signature_of z (slice_get z.definitions number) ≡ Some (signature z.structs f own)
 signature_is z number d g f own a b c e =
     ap (signature_of z) a ∙ ap (signature_with z d) b
     ∙ ap₂ (λ (h : FunctionType) (ts : List TypeTree). Some (record {
-      params = map (value_type z.structs) h.params;
-      result = value_type z.structs h.gives;
+      params = map (computed_type z.structs) h.params;
+      result = computed_type z.structs h.gives;
       locals = map (cells_of z.structs) ts;
     })) c e
 
@@ -317,14 +317,14 @@ module _ (number own : ℕ) (name : List ℕ) (f : FunctionType) (ps : List Para
       let d : Definition = record { function = index_of o w; first = length w.variables; count = v.locals } in
       let there = function_there name f w (found name w.names) (declared_in name c.scope) o denotes was in
       let definitions : v.definitions ≡ w.definitions = g.definitions ∙ b.definitions in
-      let declared : v.declared_types ≡ w.declared_types ++ map type_of g.own =
-      g.declared ∙ ap (λ ts. ts ++ map type_of g.own) b.declared in
+      let declared : v.declared_types ≡ w.declared_types ++ map typed_type g.own =
+      g.declared ∙ ap (λ ts. ts ++ map typed_type g.own) b.declared in
       record {
         own = g.own;
         log = g.log;
         types = g.types ∙ ap (noting g.log) b.types;
         tokens = g.tokens ∙ event_tokens;
-        starts = g.starts ∙ ap (λ vs. map start_of vs ++ map token_of g.own) b.variables;
+        starts = g.starts ∙ ap (λ vs. map start_of vs ++ map typed_token g.own) b.variables;
         declared = declared;
         functions = λ i x h. ap (λ fs. slice_get fs i) g.functions ∙ b.functions i x h;
         definitions = λ i x h. more_stays v.definitions d i x (ap (λ ds. slice_get ds i) definitions ∙ h);
@@ -344,9 +344,9 @@ module _ (number own : ℕ) (name : List ℕ) (f : FunctionType) (ps : List Para
                           (y.definitions number d (ap (slice_get (v.definitions ++ d ∷ [])) (is ∙ sym (ap length definitions)) ∙ get_last v.definitions d))
                           (y.functions (index_of o w) there.0 (ap (λ fs. slice_get fs (index_of o w)) g.functions ∙ there.1.0))
                           there.1.1
-                          (middle z.declared_types w.declared_types (map type_of g.own) y.more (length w.variables) v.locals
+                          (middle z.declared_types w.declared_types (map typed_type g.own) y.more (length w.variables) v.locals
                           (y.declared ∙ ap (λ ts. ts ++ y.more) declared) (sym k.knows.count)
-                          (omega (arith, g.locals, length-map g.own type_of))),
+                          (omega (arith, g.locals, length-map g.own typed_type))),
                     ),
                   ),
                 ),
@@ -398,7 +398,7 @@ item_logs (i.Struct own tag members) number c w k is =
 item_logs (i.Function own b stars name ps None) number c w k is =
     weaker (both {Q = λ (d : Done) v. Beside w v} (told (item_tells (i.Function own b stars name ps None) c w k))
     (and_then (told (base_tells (known c) b w (agreed k.knows))) (λ of v p.
-    and_then (told (params_tell c false (listed ps) [] v (agrees_on (agreed k.knows) (ap shown p.1)))) (λ xs u q.
+    and_then (told (params_tell c false (listed_params ps) [] v (agrees_on (agreed k.knows) (ap shown p.1)))) (λ xs u q.
     subst (λ y. Gives (typed_function own (made (with_stars stars of) (types_of xs)) name xs None u) (λ (d : Done) r. Beside y r)) (q.1 ∙ p.1)
     (prototype_same own (made (with_stars stars of) (types_of xs)) name xs u))))) (λ d v p. (
       p.0.0.0,
@@ -409,16 +409,16 @@ item_logs (i.Function own b stars name ps None) number c w k is =
     ))
 item_logs (i.Function own b stars name ps (Some body)) number c w k is =
     and_then (told (base_tells (known c) b w (agreed k.knows))) (λ of v p.
-    and_then (both (told (params_tell c true (listed ps) [] v (agrees_on (agreed k.knows) (ap shown p.1)))) (params_named true (listed ps) [] v)) (λ xs u q.
+    and_then (both (told (params_tell c true (listed_params ps) [] v (agrees_on (agreed k.knows) (ap shown p.1)))) (params_named true (listed_params ps) [] v)) (λ xs u q.
     let f : FunctionType = made (with_stars stars of) (types_of xs) in
-    let proto : PrototypeGives b stars true (listed ps) c f (map formal_of xs) =
+    let proto : PrototypeGives b stars true (listed_params ps) c f (map formal_of xs) =
     (of, (p.0, q.0.0, ap (made (with_stars stars of)) (types_same xs))) in
     let same : u ≡ w = q.0.1 ∙ p.1 in
-    let are : typed_from xs ≡ parameters (listed ps) (map formal_of xs) =
-    subst (λ ys. typed_from ys ≡ parameters (listed ps) (map formal_of ys)) (sym q.1.1.0) q.1.1.1 in
+    let are : typed_from xs ≡ parameters (listed_params ps) (map formal_of xs) =
+    subst (λ ys. typed_from ys ≡ parameters (listed_params ps) (map formal_of ys)) (sym q.1.1.0) q.1.1.1 in
     subst (λ y. Gives (typed_function own f name xs (Some body) u)
     (λ (d : Done) r. ItemFiled number c (i.Function own b stars name ps (Some body)) y r)) same
-    (weaker (function_logs number own name f (listed ps) xs body c u (subst (λ y. Files c (shown y)) (sym same) k)
+    (weaker (function_logs number own name f (listed_params ps) xs body c u (subst (λ y. Files c (shown y)) (sym same) k)
     (is ∙ ap (λ (y : Walk). length y.definitions) (sym same)) are)
     (λ d r n. (n.0.0, (n.0.1.1, filed_so n.1 (λ z own h. (f, (map formal_of xs, (proto, (n.0.1.0, h)))))))))))
 item_logs (i.Declaration declaration) number c w k is = weaker (declaration_logs true declaration c w k.knows) (λ d v p.

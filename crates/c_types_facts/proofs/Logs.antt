@@ -1,8 +1,8 @@
 -- What a part of the walk notes of types: at which tokens, in their order, and that this is what it says.
 use Rattle.std.proofs.Common.{◌⊎◌, inl, inr, ◌≡◌, ℕ, ◌<◌, refl, ap, subst, sym, ◌∙◌, arith, List, [], ◌∷◌, ◌++◌, length, map, Option, Some}
 use Rattle.std.proofs.lemmas.List.{map-append}
-use Rattle.c_rules.specs.TypeTree.{TypeTree}
-use Rattle.c_rules.specs.Faults.{Looked}
+use Rattle.c_types_rules.specs.TypeTree.{TypeTree}
+use Rattle.c_types_rules.specs.Faults.{Looked}
 use Rattle.c_types.specs.Answers.{noted}
 use Rattle.c_types_expressions.specs.declared.walk.Definition.{Definition}
 use Rattle.c_types_expressions.specs.declared.walk.FunctionEntry.{FunctionEntry}
@@ -12,9 +12,9 @@ use Rattle.c_types_expressions.specs.Walked.{Walked, Fine, Faulty, replaced}
 use Rattle.c_types_expressions.specs.ExprWalk.{looked}
 use Rattle.c_types_laws.proofs.Scenes.{replaced_long}
 use Rattle.c_types_laws.proofs.Steps.{Gives, GivesIn, looks, noted_other, noted_same}
-use Rattle.c_types_notes.specs.Events.{Construct, Event, Value, Initialises, Variable, Opens, Closes, Struct, Names, Defines}
-use Rattle.c_types_notes.proofs.Points.{Among, Once}
-use Rattle.c_rules.specs.declared.fault.FaultKind.{FaultKind}
+use Rattle.c_types_faults.specs.Events.{Construct, Event, Value, Initialises, Variable, Opens, Closes, Struct, Names, Defines}
+use Rattle.c_types_faults.proofs.Points.{Among, Once}
+use Rattle.c_types_rules.specs.declared.fault.FaultKind.{FaultKind}
 use Rattle.c_types_faults.proofs.Telling.{Tells, TellsIn}
 
 abbrev pub Log : Type 0

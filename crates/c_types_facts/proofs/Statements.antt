@@ -4,21 +4,21 @@ use Rattle.std.specs.Prelude.{not, ◌||◌}
 use Rattle.c_syntax.specs.ExprTree.{ExprTree}
 use Rattle.c_syntax.specs.StatementTree as s
 use Rattle.c_syntax.specs.StatementTree.{EntryList, ForStartTree, StatementTree}
-use Rattle.c_rules.specs.declared.fault.FaultKind.TheVariants as fault
-use Rattle.c_rules.specs.Assigning.{assignable}
-use Rattle.c_rules.specs.Conversions.{is_struct, is_void}
-use Rattle.c_rules.specs.Operators.{is_scalar_value}
-use Rattle.c_rules.specs.TypeTree.{TypeTree}
+use Rattle.c_types_rules.specs.declared.fault.FaultKind.TheVariants as fault
+use Rattle.c_types_rules.specs.Assigning.{assignable}
+use Rattle.c_types_rules.specs.Conversions.{is_struct, is_void}
+use Rattle.c_types_rules.specs.Operators.{is_scalar_value}
+use Rattle.c_types_rules.specs.TypeTree.{TypeTree}
 use Rattle.c_types_expressions.specs.declared.walk.Walk.{Walk}
 use Rattle.c_types_expressions.specs.Walked.{Faulty, Done, opened, unless}
 use Rattle.c_types_walk.specs.StatementWalk.{is_condition_part, is_struct_part, walk_entries, walk_for_start, walk_optional}
 use Rattle.c_types_walk.specs.StatementWalk.{walk_statement}
 use Rattle.c_types_laws.proofs.Leading.{either}
 use Rattle.c_types_laws.proofs.Steps.{Gives, and_then, weaker}
-use Rattle.c_types_notes.specs.Events.{entries_events, for_start_events, optional_events, statement_events}
+use Rattle.c_types_faults.specs.Events.{entries_events, for_start_events, optional_events, statement_events}
 use Rattle.c_types_faults.specs.Known.{Known}
 use Rattle.c_types_faults.specs.Context.{Context, inner, known}
-use Rattle.c_types_faults.specs.Statements.{StatementFits}
+use Rattle.c_types_faults.specs.Statements.{IsRuledStatement}
 use Rattle.c_types_faults.proofs.Knowing.{Knows, agreed, entering_knows}
 use Rattle.c_types_faults.proofs.Statements.{Beyond, statement_tells}
 use Rattle.c_types_faults.proofs.Telling.{Agreed, Shown, agrees_on, shown}
@@ -47,7 +47,7 @@ module _ (gives : TypeTree) where
   mutual
     pub statement_logs : (looping : Bool) (x : StatementTree) (c : Context) (w : Walk) → Knows c (shown w)
         → Gives (walk_statement gives looping x w)
-        (λ (d : Done) v. (Beyond c w v × StatementFits gives c looping x) × Grown false (statement_events x) (λ z own. StatementTyped z c x own) w v)
+        (λ (d : Done) v. (Beyond c w v × IsRuledStatement gives c looping x) × Grown false (statement_events x) (λ z own. StatementTyped z c x own) w v)
     statement_logs looping (s.Block token entries) c w k =
         both (told (statement_tells gives looping (s.Block token entries) c w k))
         (and_then (entries_logs looping entries (inner c) (opened w) (entering_knows k)) (λ d v p. record {

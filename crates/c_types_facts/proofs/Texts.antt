@@ -4,25 +4,25 @@ use Rattle.std.specs.Prelude.{is_some, option_and_then, option_map, slice_get}
 use Rattle.std.proofs.lemmas.List.{length-replicate}
 use Rattle.c_syntax.specs.ItemTree.{SourceTree}
 use Rattle.c_syntax.specs.WellFormed.{IsShaped}
-use Rattle.c_rules.specs.declared.fault.FaultKind.{FaultKind}
-use Rattle.c_rules.specs.TypeTree.{TypeTree}
+use Rattle.c_types_rules.specs.declared.fault.FaultKind.{FaultKind}
+use Rattle.c_types_rules.specs.TypeTree.{TypeTree}
 use Rattle.c_types.specs.Answers.{declared_at, place_at, variable_at, variable_of}
 use Rattle.c_types.specs.Fault.{ends_with, last_fault, walk_tree}
 use Rattle.c_types_expressions.specs.declared.walk.Walk.{Walk}
 use Rattle.c_types_expressions.specs.Beginning.{beginning}
 use Rattle.c_types_expressions.specs.Walked.{Walked, Fine, Done}
 use Rattle.c_types_laws.proofs.Steps.{Gives, GivesIn, and_then, weaker}
-use Rattle.c_types_notes.specs.Events.{events_of}
-use Rattle.c_types_notes.specs.Scopes.{scopes_of, start_of}
-use Rattle.c_types_notes.proofs.Leaving.{Left}
-use Rattle.c_types_notes.proofs.Paths.{view}
-use Rattle.c_types_notes.proofs.Texts.{before, text_left}
-use Rattle.c_types_faults.specs.Context.{Context, nothing}
+use Rattle.c_types_faults.specs.Events.{events_of}
+use Rattle.c_types_faults.specs.Scopes.{scopes_of, start_of}
+use Rattle.c_types_faults.proofs.Leaving.{Left}
+use Rattle.c_types_faults.proofs.Paths.{view}
+use Rattle.c_types_faults.proofs.NotedTexts.{before, text_left}
+use Rattle.c_types_faults.specs.Context.{Context, empty_context}
 use Rattle.c_types_faults.proofs.Files.{Files}
 use Rattle.c_types_faults.proofs.Telling.{shown}
 use Rattle.c_types_faults.proofs.Texts.{begins}
 use Rattle.c_types_facts.specs.Statements.{Typed}
-use Rattle.c_types_facts.specs.Texts.{ItemsTyped, TextTyped, token_of, type_in, type_of}
+use Rattle.c_types_facts.specs.Texts.{ItemsTyped, TextTyped, type_in, typed_token, typed_type}
 use Rattle.c_types_facts.proofs.Filing.{Filed, follows_here}
 use Rattle.c_types_facts.proofs.Items.{items_log}
 use Rattle.c_types_facts.proofs.Logs.{Says, log_stands}
@@ -33,10 +33,10 @@ ends_same (Some f) w = record { by = tt }
 
 abbrev Told : SourceTree → Walk → Type 0
 Told t v = (after : Context) × (Files after (shown v)
-    × ((n : ℕ) × Filed n (events_of t) (λ z own. ItemsTyped z 0 nothing t.items after own) (beginning (length t.lines)) v))
+    × ((n : ℕ) × Filed n (events_of t) (λ z own. ItemsTyped z 0 empty_context t.items after own) (beginning (length t.lines)) v))
 
 text_logs : (t : SourceTree) → Gives (walk_tree t) (λ (d : Done) v. Told t v)
-text_logs t = and_then (items_log t.items 0 nothing (beginning (length t.lines)) (begins (length t.lines)) refl) (λ d w p.
+text_logs t = and_then (items_log t.items 0 empty_context (beginning (length t.lines)) (begins (length t.lines)) refl) (λ d w p.
     weaker (ends_same (last_fault (length t.lines) w) w) (λ e v q. subst (Told t) (sym q) p))
 
 given : {A : Type 0} {Q : A → Walk → Type 0} {m : Walked A} {a : A} {v : Walk} → Gives m Q → m ≡ Fine a v → Q a v
@@ -46,8 +46,8 @@ given {Q = Q} h e = subst (GivesIn Q) e h.by
 pub record Whole (t : SourceTree) (known : Walk) : Type 0 where
   pub own : List Typed
   pub typed : TextTyped known t own
-  pub types : known.declared_types ≡ map type_of own
-  pub starts : map start_of known.variables ≡ map token_of own
+  pub types : known.declared_types ≡ map typed_type own
+  pub starts : map start_of known.variables ≡ map typed_token own
 
 pub whole : (t : SourceTree) (known : Walk) → IsShaped t → walk_tree t ≡ Fine tt known → Whole t known
 whole t known shaped e =
@@ -65,7 +65,7 @@ whole t known shaped e =
     }
 
 pub text_typed : (t : SourceTree) (known : Walk) → IsShaped t → walk_tree t ≡ Fine tt known
-    → (own : List Typed) × (TextTyped known t own × (known.declared_types ≡ map type_of own) × (map start_of known.variables ≡ map token_of own))
+    → (own : List Typed) × (TextTyped known t own × (known.declared_types ≡ map typed_type own) × (map start_of known.variables ≡ map typed_token own))
 text_typed t known shaped e = let w : Whole t known = whole t known shaped e in (w.own, (w.typed, w.types, w.starts))
 
 -- the declared type of a variable
@@ -80,15 +80,15 @@ is_some_map f None = refl
 is_some_map f (Some x) = refl
 
 pub variables_typed : (t : SourceTree) (known : Walk) → IsShaped t → walk_tree t ≡ Fine tt known → (own : List Typed) × (TextTyped known t own
-    × (map start_of known.variables ≡ map token_of own) × ((token : ℕ) → declared_at known token ≡ type_in own (place_at known token)))
+    × (map start_of known.variables ≡ map typed_token own) × ((token : ℕ) → declared_at known token ≡ type_in own (place_at known token)))
 variables_typed t known shaped e =
     let w : Whole t known = whole t known shaped e in
     (w.own, (w.typed, w.starts, λ token. by known w.own w.types (place_at known token)))
   where
-    by : (known : Walk) (own : List Typed) → known.declared_types ≡ map type_of own → (o : Option ℕ)
+    by : (known : Walk) (own : List Typed) → known.declared_types ≡ map typed_type own → (o : Option ℕ)
         → option_and_then (λ place. slice_get known.declared_types place) o ≡ type_in own o
     by known own h None = refl
-    by known own h (Some p) = ap (λ ts. slice_get ts p) h ∙ get_map type_of own p
+    by known own h (Some p) = ap (λ ts. slice_get ts p) h ∙ get_map typed_type own p
 
 pub types_exact : (t : SourceTree) (known : Walk) → walk_tree t ≡ Fine tt known → (token : ℕ)
     → is_some (declared_at known token) ≡ is_some (variable_at known token)
@@ -96,12 +96,12 @@ types_exact t known e token =
     let told : Told t known = given (text_logs t) e in
     by known told.1.1.1.own told.1.1.1.declared told.1.1.1.starts (place_at known token)
   where
-    by : (known : Walk) (own : List Typed) → known.declared_types ≡ map type_of own → map start_of known.variables ≡ map token_of own → (o : Option ℕ)
+    by : (known : Walk) (own : List Typed) → known.declared_types ≡ map typed_type own → map start_of known.variables ≡ map typed_token own → (o : Option ℕ)
         → is_some (option_and_then (λ place. slice_get known.declared_types place) o)
         ≡ is_some (option_and_then (λ place. option_map variable_of (slice_get known.variables place)) o)
     by known own h k None = refl
     by known own h k (Some p) =
-        ap (λ ts. is_some (slice_get ts p)) h ∙ ap is_some (get_map type_of own p) ∙ is_some_map type_of (slice_get own p)
+        ap (λ ts. is_some (slice_get ts p)) h ∙ ap is_some (get_map typed_type own p) ∙ is_some_map typed_type (slice_get own p)
         ∙ sym (is_some_map variable_of (slice_get known.variables p) ∙ sym (is_some_map start_of (slice_get known.variables p))
         ∙ sym (ap is_some (get_map start_of known.variables p)) ∙ ap (λ ss. is_some (slice_get ss p)) k
-        ∙ ap is_some (get_map token_of own p) ∙ is_some_map token_of (slice_get own p))
+        ∙ ap is_some (get_map typed_token own p) ∙ is_some_map typed_token (slice_get own p))

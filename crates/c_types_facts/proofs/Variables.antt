@@ -7,27 +7,27 @@ use Rattle.std.proofs.Common.{length-append}
 use Rattle.c_syntax.specs.FirstToken.{first_token}
 use Rattle.c_syntax.specs.StatementTree as s
 use Rattle.c_syntax.specs.StatementTree.{InitialTree, StartTree, DeclarationTree}
-use Rattle.c_rules.specs.declared.fault.FaultKind.TheVariants as fault
-use Rattle.c_rules.specs.Sizes.{cells_of}
-use Rattle.c_rules.specs.TypeTree.{TypeTree}
+use Rattle.c_types_rules.specs.declared.fault.FaultKind.TheVariants as fault
+use Rattle.c_types_rules.specs.Sizes.{cells_of}
+use Rattle.c_types_rules.specs.TypeTree.{TypeTree}
 use Rattle.c_types_expressions.specs.declared.names.Meaning.TheVariants as meaning
 use Rattle.c_types_expressions.specs.declared.names.ScopeEntry.{ScopeEntry}
 use Rattle.c_types_expressions.specs.declared.names.ScopeEntry.TheVariants as entry
 use Rattle.c_types_expressions.specs.declared.walk.FunctionEntry.{FunctionEntry}
 use Rattle.c_types_expressions.specs.declared.walk.Walk.{Walk}
-use Rattle.c_types_expressions.specs.Names.{is_taken}
+use Rattle.c_types_expressions.specs.Names.{is_name_taken}
 use Rattle.c_types_expressions.specs.Walked.{Done, replaced, with_variable}
 use Rattle.c_types_walk.specs.Declarators.{declared_type, is_open}
-use Rattle.c_types_walk.specs.Initialisers.{cells_of_string, completes, listed, valued, walk_initial}
+use Rattle.c_types_walk.specs.Initialisers.{cells_of_string, completes, listed_type, valued, walk_initial}
 use Rattle.c_types_walk.specs.StatementWalk.{walk_closed, walk_declaration, walk_open, walk_start, walk_starts, walk_typed, with_declared_type}
 use Rattle.c_types_laws.proofs.Declaring.{get_last}
 use Rattle.c_types_laws.proofs.Leading.{either, refused}
 use Rattle.c_types_laws.proofs.Steps.{Gives, and_then, weaker}
-use Rattle.c_types_notes.specs.Events.{Event, declaration_events, expr_events, exprs_events, initial_events, start_events, starts_events}
+use Rattle.c_types_faults.specs.Events.{Event, declaration_events, expr_events, exprs_events, initial_events, start_events, starts_events}
 use Rattle.c_syntax.specs.Spelling.{declarator_kinds}
 use Rattle.c_types_faults.specs.Known.{Entity, Known, Object}
 use Rattle.c_types_faults.specs.Context.{Context, Declared, counting, declare, declared_in, known}
-use Rattle.c_types_faults.specs.Declarators.{Declares}
+use Rattle.c_types_faults.specs.Declarators.{DeclaresAs}
 use Rattle.c_types_faults.specs.Declarations.{DeclarationGives, VariableGives, VariablesGive}
 use Rattle.c_types_faults.proofs.Bounds.{declared_is, some_is}
 use Rattle.c_types_faults.proofs.Declaring.{Behind, behind_here, behind_on, variable_tells}
@@ -59,7 +59,7 @@ initial_logs k global of (Some (s.Value value)) w g = and_then (expr_logs k valu
     weaker (completes_still (first_token value) (valued global of value x (cells_of_string value)) v)
     (λ u y q. subst (λ r. (shown r ≡ shown w) × Logged (expr_events value) (λ z. InitialTyped z k (Some (s.Value value))) w r) (sym q) (p.0.1, p.1)))
 initial_logs k global of (Some (s.Braced own items comma)) w g = and_then (exprs_logs k items [] w g) (λ xs v p.
-    weaker (completes_still own (listed global items xs of) v)
+    weaker (completes_still own (listed_type global items xs of) v)
     (λ u y q. subst (λ r. (shown r ≡ shown w) × Logged (exprs_events items) (λ z. InitialTyped z k (Some (s.Braced own items comma))) w r) (sym q) p))
 
 -- the last of several types
@@ -77,7 +77,7 @@ replaced_last xs t u i h = ap (λ n. replaced (xs ++ t ∷ []) n u) h ∙ rw (in
 -- what a declared variable adds
 pub record Started (global : Bool) (base : TypeTree) (c : Context) (x : StartTree) (w v : Walk) : Type 0 where
   pub first : TypeTree
-  pub is : Declares x.declarator base first
+  pub is : DeclaresAs x.declarator base first
   pub of : TypeTree
   pub declared : v.declared_types ≡ w.declared_types ++ of ∷ []
   pub names : v.names ≡ entry.Declares x.declarator.name (meaning.Variable (length w.variables)) ∷ w.names
@@ -104,7 +104,7 @@ module _ (global : Bool) (base : TypeTree) (x : StartTree) (c : Context) (w : Wa
   start_grown v u g = grown_events (parts_of x.initial) (start_events x)
       (parts_are (x.declarator.token + length (declarator_kinds x.declarator)) x.initial) g
 
-  open_starts : (t : TypeTree) → Declares x.declarator base t → Gives (walk_open global x t w) Starts
+  open_starts : (t : TypeTree) → DeclaresAs x.declarator base t → Gives (walk_open global x t w) Starts
   open_starts t h =
       let one : Walk = with_name t w in
       let g : Agreed (known (declare name (Object t) c)) (shown one) =
@@ -128,7 +128,7 @@ module _ (global : Bool) (base : TypeTree) (x : StartTree) (c : Context) (w : Wa
         };
       }))
 
-  closed_starts : (t : TypeTree) → Declares x.declarator base t → Gives (walk_closed global x t w) Starts
+  closed_starts : (t : TypeTree) → DeclaresAs x.declarator base t → Gives (walk_closed global x t w) Starts
   closed_starts t h = and_then (both (told (sized_tells global x.token t c w k)) (sized_still global x.token t w)) (λ d v p.
       let n : ℕ = cells_of c.structs t in
       let kv : Knows (counting global n c) (shown v) = subst (Knows (counting global n c)) (sym p.0.1) (grown_knows global n k) in
@@ -159,7 +159,7 @@ module _ (global : Bool) (base : TypeTree) (x : StartTree) (c : Context) (w : Wa
       (open_starts t (declared_is x.declarator base t e)) (closed_starts t (declared_is x.declarator base t e))
 
   start_logs : Gives (walk_start global base x w) Starts
-  start_logs = refused (is_taken name w.names) fault.Redeclared x.token (walk_typed global x (declared_type x.declarator base) w)
+  start_logs = refused (is_name_taken name w.names) fault.Redeclared x.token (walk_typed global x (declared_type x.declarator base) w)
       (λ e. typed_starts (declared_type x.declarator base) refl)
 
   declared_here : (y : Entity) (ds : List Declared) → declared_in name (record { name = name; entity = y } ∷ ds) ≡ Some y

@@ -2,7 +2,7 @@
 use Rattle.std.specs.Prelude.{◌≡◌, ℕ, Some}
 use Rattle.c_syntax.specs.ExprTree as e
 use Rattle.c_syntax.specs.ExprTree.{ExprTree, ExprList, LinkList, PostfixList}
-use Rattle.c_rules.specs.declared.operand.Operand.{Operand}
+use Rattle.c_types_rules.specs.declared.operand.Operand.{Operand}
 use Rattle.c_meaning.specs.Trees.{token_of}
 use Rattle.c_types.specs.Answers.{type_at}
 use Rattle.c_types_expressions.specs.declared.walk.Walk.{Walk}

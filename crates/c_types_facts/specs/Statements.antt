@@ -4,11 +4,11 @@ use Rattle.std.specs.Prelude.{◌≡◌, ℕ, Bool, false, List, [], ◌∷◌, 
 use Rattle.c_syntax.specs.ExprTree.{ExprTree}
 use Rattle.c_syntax.specs.StatementTree as s
 use Rattle.c_syntax.specs.StatementTree.{InitialTree, StartTree, DeclarationTree, ForStartTree, StatementTree, EntryList}
-use Rattle.c_rules.specs.TypeTree.{TypeTree}
+use Rattle.c_types_rules.specs.TypeTree.{TypeTree}
 use Rattle.c_types_expressions.specs.declared.walk.Walk.{Walk}
 use Rattle.c_types_faults.specs.Known.{Known, Object}
 use Rattle.c_types_faults.specs.Context.{Context, declare, declared_in, inner, known}
-use Rattle.c_types_faults.specs.Declarators.{Declares}
+use Rattle.c_types_faults.specs.Declarators.{DeclaresAs}
 use Rattle.c_types_faults.specs.Declarations.{VariableGives}
 use Rattle.c_types_faults.specs.Types.{IsBase}
 use Rattle.c_types_facts.specs.Exprs.{ExprTyped, ExprsTyped, WholeTyped}
@@ -32,7 +32,7 @@ module _ (w : Walk) where
   -- of the declarator (6.2.1p7).
   abbrev pub VariableTyped : Bool → TypeTree → Context → StartTree → Context → TypeTree → Type 0
   VariableTyped global base c x after of = VariableGives global base c x after × ((declared_in x.declarator.name after.scope ≡ Some (Object of))
-      × ((t : TypeTree) × (Declares x.declarator base t × InitialTyped (known (declare x.declarator.name (Object t) c)) x.initial)))
+      × ((t : TypeTree) × (DeclaresAs x.declarator base t × InitialTyped (known (declare x.declarator.name (Object t) c)) x.initial)))
 
   -- from one context to the next, with these variables
   abbrev pub VariablesTyped : Bool → TypeTree → Context → List StartTree → Context → List Typed → Type 0

@@ -5,43 +5,43 @@ use Rattle.c_syntax.specs.declared.parts.ParamName.{ParamName}
 use Rattle.c_syntax.specs.StatementTree.{EntryList}
 use Rattle.c_syntax.specs.ItemTree as i
 use Rattle.c_syntax.specs.ItemTree.{ItemTree, SourceTree}
-use Rattle.c_rules.specs.declared.function.FunctionType.{FunctionType}
-use Rattle.c_rules.specs.declared.layout.StructType.{StructType}
-use Rattle.c_rules.specs.Sizes.{cells_of}
-use Rattle.c_rules.specs.TypeTree.{TypeTree}
+use Rattle.c_types_rules.specs.declared.function.FunctionType.{FunctionType}
+use Rattle.c_types_rules.specs.declared.layout.StructType.{StructType}
+use Rattle.c_types_rules.specs.Sizes.{cells_of}
+use Rattle.c_types_rules.specs.TypeTree.{TypeTree}
 use Rattle.c_types_expressions.specs.declared.walk.Walk.{Walk}
-use Rattle.c_types_walk.specs.ItemWalk.{listed}
+use Rattle.c_types_walk.specs.ItemWalk.{listed_params}
 use Rattle.c_meaning.specs.Facts.{Signature}
-use Rattle.c_meaning.specs.Known.{signature_of, value_type}
+use Rattle.c_meaning.specs.Known.{computed_type, signature_of}
 use Rattle.sites.specs.Table.{defined_by, functions_of}
 use Rattle.c_types.specs.Answers.{type_at}
-use Rattle.c_types_notes.specs.Events.{construct_at, events_of}
-use Rattle.c_types_faults.specs.Context.{Context, inner, nothing}
+use Rattle.c_types_faults.specs.Events.{construct_at, events_of}
+use Rattle.c_types_faults.specs.Context.{Context, empty_context, inner}
 use Rattle.c_types_faults.specs.Functions.{Formal, FunctionGives, Names, PrototypeGives, with_formals}
 use Rattle.c_types_faults.specs.Items.{ItemGives}
 use Rattle.c_types_facts.specs.Statements.{DeclarationTyped, EntriesTyped, Typed}
 
-abbrev pub type_of : Typed → TypeTree
-type_of v = v.of
+abbrev pub typed_type : Typed → TypeTree
+typed_type v = v.of
 
-abbrev pub token_of : Typed → ℕ
-token_of v = v.token
+abbrev pub typed_token : Typed → ℕ
+typed_token v = v.token
 
 -- a parameter with a name is a variable of its type
-abbrev pub named : Option ParamName → TypeTree → List Typed
-named None of = []
-named (Some n) of = record { token = n.token; of = of } ∷ []
+abbrev pub typed_param : Option ParamName → TypeTree → List Typed
+typed_param None of = []
+typed_param (Some n) of = record { token = n.token; of = of } ∷ []
 
 abbrev pub parameters : List Param → List Formal → List Typed
-parameters (p ∷ ps) (f ∷ fs) = named p.name f.of ++ parameters ps fs
+parameters (p ∷ ps) (f ∷ fs) = typed_param p.name f.of ++ parameters ps fs
 parameters ps fs = []
 
 -- of a function of this type, with these variables, the parameters first
 abbrev pub signature : List StructType → FunctionType → List Typed → Signature
 signature structs f own = record {
-  params = map (value_type structs) f.params;
-  result = value_type structs f.gives;
-  locals = map (cells_of structs) (map type_of own);
+  params = map (computed_type structs) f.params;
+  result = computed_type structs f.gives;
+  locals = map (cells_of structs) (map typed_type own);
 }
 
 module _ (w : Walk) where
@@ -53,8 +53,8 @@ module _ (w : Walk) where
 
   abbrev pub ItemTyped : ℕ → Context → ItemTree → Context → List Typed → Type 0
   ItemTyped number c (i.Function token b stars name ps (Some body)) after own = (f : FunctionType) × ((formals : List Formal)
-      × (PrototypeGives b stars true (listed ps) c f formals × (FunctionGives name f formals (Some body) c after
-      × BodyTyped number name (listed ps) f formals body c own)))
+      × (PrototypeGives b stars true (listed_params ps) c f formals × (FunctionGives name f formals (Some body) c after
+      × BodyTyped number name (listed_params ps) f formals body c own)))
   ItemTyped number c (i.Declaration d) after own = DeclarationTyped w true c d after own
   ItemTyped number c x after own = ItemGives c x after × (own ≡ [])
 
@@ -64,13 +64,13 @@ module _ (w : Walk) where
   ItemsTyped number c (x ∷ xs) after own = (next : Context) × ((a : List Typed) × ((b : List Typed) × (ItemTyped number c x next a
       × (ItemsTyped (number + length (defined_by x)) next xs after b × (own ≡ a ++ b)))))
 
--- Behind `nothing` the items declare these variables, the types noted are those of the declarations, and the structs are those that are defined.
+-- Behind `empty_context` the items declare these variables, the types noted are those of the declarations, and the structs are those that are defined.
 abbrev pub TextTyped : Walk → SourceTree → List Typed → Type 0
-TextTyped w t own = (c : Context) × (ItemsTyped w 0 nothing t.items c own × (w.structs ≡ c.structs))
+TextTyped w t own = (c : Context) × (ItemsTyped w 0 empty_context t.items c own × (w.structs ≡ c.structs))
 
 -- the type of the variable at the place, if there is one
 abbrev pub type_in : List Typed → Option ℕ → Option TypeTree
-type_in own place = option_and_then (λ p. option_map type_of (slice_get own p)) place
+type_in own place = option_and_then (λ p. option_map typed_type (slice_get own p)) place
 
 -- Two notes agree: on the variables, the structs, the types of expressions, and the signatures of the functions that are defined.
 abbrev pub AreAlike : SourceTree → Walk → Walk → List Typed → List Typed → Type 0

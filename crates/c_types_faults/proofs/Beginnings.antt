@@ -9,23 +9,23 @@ use Rattle.c_syntax.specs.ExprTree.{ExprTree, ExprList}
 use Rattle.c_syntax.specs.FirstToken.{first_token}
 use Rattle.c_syntax.specs.StatementTree as s
 use Rattle.c_syntax.specs.StatementTree.{InitialTree}
-use Rattle.c_rules.specs.declared.fault.FaultKind.{FaultKind}
-use Rattle.c_rules.specs.declared.fault.FaultKind.TheVariants as fault
-use Rattle.c_rules.specs.declared.layout.StructType.{StructType}
-use Rattle.c_rules.specs.declared.operand.Operand.{Operand}
-use Rattle.c_rules.specs.TypeTree.{TypeTree, Void, Char, Int, Unsigned, Pointer, Array, Struct}
-use Rattle.c_rules.specs.Assigning.{assignable}
-use Rattle.c_rules.specs.Conversions.{is_scalar}
-use Rattle.c_rules.specs.Sizes.{is_complete}
+use Rattle.c_types_rules.specs.declared.fault.FaultKind.{FaultKind}
+use Rattle.c_types_rules.specs.declared.fault.FaultKind.TheVariants as fault
+use Rattle.c_types_rules.specs.declared.layout.StructType.{StructType}
+use Rattle.c_types_rules.specs.declared.operand.Operand.{Operand}
+use Rattle.c_types_rules.specs.TypeTree.{TypeTree, Void, Char, Int, Unsigned, Pointer, Array, Struct}
+use Rattle.c_types_rules.specs.Assigning.{assignable}
+use Rattle.c_types_rules.specs.Conversions.{is_scalar}
+use Rattle.c_types_rules.specs.Sizes.{is_complete}
 use Rattle.c_types_expressions.specs.declared.walk.Walk.{Walk}
 use Rattle.c_types_expressions.specs.ExprWalk.{string_cells}
 use Rattle.c_types_expressions.specs.Walked.{Walked}
-use Rattle.c_types_walk.specs.Initialisers.{all_initialise, cells_of_string, completes, expressed, initialises, is_constant, is_number, known_length, listed}
+use Rattle.c_types_walk.specs.Initialisers.{all_initialise, cells_of_string, completes, expressed, initialises, is_constant, is_number, known_length, listed_type}
 use Rattle.c_types_walk.specs.Initialisers.{spelled, takes_items, valued, walk_initial}
 use Rattle.c_types_laws.proofs.Ruled.{accepts}
 use Rattle.c_types_faults.specs.Known.{Known}
 use Rattle.c_types_faults.specs.Exprs.{AreOperands}
-use Rattle.c_types_faults.specs.Initialisers.{AllInitialise, Begins, Completes, InitialBreaks, Initialises, IsConstant, IsKept, IsNumber, Lists, Measures}
+use Rattle.c_types_faults.specs.Initialisers.{AllInitialise, Completes, InitialBreaks, Initialises, IsConstant, IsConstantIfGlobal, IsNumberTree, Lists, Measures, ObjectBegins}
 use Rattle.c_types_faults.specs.Initialisers.{Spells, SpellsIn}
 use Rattle.c_types_faults.proofs.Bounds.{none_some, some_is}
 use Rattle.c_types_faults.proofs.Exprs.{expr_tells, exprs_tells}
@@ -34,7 +34,7 @@ use Rattle.c_types_faults.proofs.Telling.{Agreed, Tells, and_then, shown, weaker
 
 -- constants
 
-number_is : (x : ExprTree) → is_number x ≡ true → IsNumber x
+number_is : (x : ExprTree) → is_number x ≡ true → IsNumberTree x
 number_is (e.Comma token operands) h = absurd (false≢true h)
 number_is (e.Assign token s target value) h = absurd (false≢true h)
 number_is (e.Conditional token condition first second) h = absurd (false≢true h)
@@ -51,7 +51,7 @@ number_is (e.Paren token inner) h = absurd (false≢true h)
 number_is (e.Null token) h = absurd (false≢true h)
 number_is (e.EndOfFile token) h = absurd (false≢true h)
 
-number_back : (x : ExprTree) → IsNumber x → is_number x ≡ true
+number_back : (x : ExprTree) → IsNumberTree x → is_number x ≡ true
 number_back (e.Comma token operands) h = absurd h
 number_back (e.Assign token s target value) h = absurd h
 number_back (e.Conditional token condition first second) h = absurd h
@@ -118,11 +118,11 @@ constant_back (e.Paren token inner) h = absurd h
 constant_back (e.Null token) h = refl
 constant_back (e.EndOfFile token) h = absurd h
 
-kept_is : (global : Bool) (x : ExprTree) → (not global || is_constant x) ≡ true → IsKept global x
+kept_is : (global : Bool) (x : ExprTree) → (not global || is_constant x) ≡ true → IsConstantIfGlobal global x
 kept_is true x h = constant_is x h
 kept_is false x h = tt
 
-kept_back : (global : Bool) (x : ExprTree) → IsKept global x → (not global || is_constant x) ≡ true
+kept_back : (global : Bool) (x : ExprTree) → IsConstantIfGlobal global x → (not global || is_constant x) ≡ true
 kept_back true x h = constant_back x h
 kept_back false x h = refl
 
@@ -186,7 +186,7 @@ module _ (global : Bool) where
       )
   list_by false element size items xs u e h = absurd (cc)
 
-  lists_is : (of : TypeTree) (items : ExprList) (xs : List Operand) (u : TypeTree) → listed global items xs of ≡ Some u → Lists global of items xs u
+  lists_is : (of : TypeTree) (items : ExprList) (xs : List Operand) (u : TypeTree) → listed_type global items xs of ≡ Some u → Lists global of items xs u
   lists_is (Array element size) items xs u h =
       list_by (is_scalar element && (takes_items size (length xs) && all_initialise global element items xs)) element size items xs u refl h
   lists_is Void items xs u h = absurd (cc)
@@ -196,7 +196,7 @@ module _ (global : Bool) where
   lists_is (Pointer to) items xs u h = absurd (cc)
   lists_is (Struct tag) items xs u h = absurd (cc)
 
-  pub lists_back : (of : TypeTree) (items : ExprList) (xs : List Operand) (u : TypeTree) → Lists global of items xs u → listed global items xs of ≡ Some u
+  pub lists_back : (of : TypeTree) (items : ExprList) (xs : List Operand) (u : TypeTree) → Lists global of items xs u → listed_type global items xs of ≡ Some u
   lists_back (Array element known) items xs u h =
       if_true (is_scalar element && (takes_items known (length xs) && all_initialise global element items xs))
       (Some (Array element (known_length known (length xs)))) None
@@ -213,11 +213,11 @@ module _ (global : Bool) where
 
   -- a value
   express_by : (b : Bool) (of u : TypeTree) (value : ExprTree) (x : Operand) → initialises global of value x ≡ b → (if b then Some of else None) ≡ Some u
-      → Begins global of value x u
+      → ObjectBegins global of value x u
   express_by true of u value x e h = inr (initialises_is of value x e, sym (some_is of u h))
   express_by false of u value x e h = absurd (cc)
 
-  expressed_is : (of u : TypeTree) (value : ExprTree) (x : Operand) → expressed global of value x ≡ Some u → Begins global of value x u
+  expressed_is : (of u : TypeTree) (value : ExprTree) (x : Operand) → expressed global of value x ≡ Some u → ObjectBegins global of value x u
   expressed_is of u value x h = express_by (initialises global of value x) of u value x refl h
 
   expressed_back : (of u : TypeTree) (value : ExprTree) (x : Operand) → (Initialises global of value x × (u ≡ of)) → expressed global of value x ≡ Some u
@@ -240,7 +240,7 @@ module _ (global : Bool) where
       ∙ ap (λ n. Some (Array Char n)) (if_false (known == 0) cells known (is_not_zero known (known == 0) refl h.0)) ∙ ap Some (sym h.2)
 
   string_is : (token : ℕ) (parts : List (List ℕ)) (of u : TypeTree) (x : Operand)
-      → valued global of (e.Strings token parts) x (Some (string_cells parts)) ≡ Some u → Begins global of (e.Strings token parts) x u
+      → valued global of (e.Strings token parts) x (Some (string_cells parts)) ≡ Some u → ObjectBegins global of (e.Strings token parts) x u
   string_is token parts Void u x h = expressed_is Void u (e.Strings token parts) x h
   string_is token parts Char u x h = expressed_is Char u (e.Strings token parts) x h
   string_is token parts Int u x h = expressed_is Int u (e.Strings token parts) x h
@@ -256,7 +256,7 @@ module _ (global : Bool) where
   string_is token parts (Array (Struct tag) size) u x h = expressed_is (Array (Struct tag) size) u (e.Strings token parts) x h
   string_is token parts (Struct tag) u x h = expressed_is (Struct tag) u (e.Strings token parts) x h
 
-  string_back : (token : ℕ) (parts : List (List ℕ)) (of u : TypeTree) (x : Operand) → Begins global of (e.Strings token parts) x u
+  string_back : (token : ℕ) (parts : List (List ℕ)) (of u : TypeTree) (x : Operand) → ObjectBegins global of (e.Strings token parts) x u
       → valued global of (e.Strings token parts) x (Some (string_cells parts)) ≡ Some u
   string_back token parts Void u x (inl h) = absurd h
   string_back token parts Void u x (inr h) = expressed_back Void u (e.Strings token parts) x h
@@ -285,7 +285,7 @@ module _ (global : Bool) where
   string_back token parts (Struct tag) u x (inl h) = absurd h
   string_back token parts (Struct tag) u x (inr h) = expressed_back (Struct tag) u (e.Strings token parts) x h
 
-  begins_is : (value : ExprTree) (of u : TypeTree) (x : Operand) → valued global of value x (cells_of_string value) ≡ Some u → Begins global of value x u
+  begins_is : (value : ExprTree) (of u : TypeTree) (x : Operand) → valued global of value x (cells_of_string value) ≡ Some u → ObjectBegins global of value x u
   begins_is (e.Strings token parts) of u x h = string_is token parts of u x h
   begins_is (e.Comma token operands) of u x h = expressed_is of u (e.Comma token operands) x h
   begins_is (e.Assign token s target value) of u x h = expressed_is of u (e.Assign token s target value) x h
@@ -302,7 +302,7 @@ module _ (global : Bool) where
   begins_is (e.Null token) of u x h = expressed_is of u (e.Null token) x h
   begins_is (e.EndOfFile token) of u x h = expressed_is of u (e.EndOfFile token) x h
 
-  pub begins_back : (value : ExprTree) (of u : TypeTree) (x : Operand) → Begins global of value x u → valued global of value x (cells_of_string value) ≡ Some u
+  pub begins_back : (value : ExprTree) (of u : TypeTree) (x : Operand) → ObjectBegins global of value x u → valued global of value x (cells_of_string value) ≡ Some u
   begins_back (e.Strings token parts) of u x h = string_back token parts of u x h
   begins_back (e.Comma token operands) of u x (inl h) = absurd h
   begins_back (e.Comma token operands) of u x (inr h) = expressed_back of u (e.Comma token operands) x h
@@ -346,18 +346,18 @@ module _ (k : Known) (global : Bool) where
       → Tells (walk_initial global of initial w) (λ u v. Completes k global of initial u × (shown v ≡ shown w)) (InitialBreaks k global of initial)
   initial_tells of None w g = record { by = (refl, refl) }
   initial_tells of (Some (s.Value value)) w g = and_then (expr_tells k value w g) (λ j at h. inl h) (λ x v p.
-      onwards (completes_tells {P = Begins global of value x} (first_token value) (valued global of value x (cells_of_string value)) v
+      onwards (completes_tells {P = ObjectBegins global of value x} (first_token value) (valued global of value x (cells_of_string value)) v
       (λ u h. begins_is global value of u x h)
       (λ h. inr (x, (p.0, (refl, refl, λ u b. none_some (valued global of value x (cells_of_string value)) u h (begins_back global value of u x b))))))
       (λ u z q. ((x, (p.0, q.0)), q.1 ∙ p.1)))
   initial_tells of (Some (s.Braced token items comma)) w g = and_then (exprs_tells k items [] w g) (λ j at h. inl h) (λ xs v p.
-      onwards (completes_tells {P = Lists global of items xs} token (listed global items xs of) v
+      onwards (completes_tells {P = Lists global of items xs} token (listed_type global items xs of) v
       (λ u h. lists_is global of items xs u h)
       (λ h. inr (
         xs,
         (
           subst (AreOperands k items) (sym p.0.1.0) p.0.1.1,
-          (refl, refl, λ u b. none_some (listed global items xs of) u h (lists_back global of items xs u b)),
+          (refl, refl, λ u b. none_some (listed_type global items xs of) u h (lists_back global of items xs u b)),
         ),
       )))
       (λ u z q. ((xs, (subst (AreOperands k items) (sym p.0.1.0) p.0.1.1, q.0)), q.1 ∙ p.1)))
@@ -427,7 +427,7 @@ lists_so global (Struct tag) items xs u h = absurd h
 pub completes_so : (k : Known) (global : Bool) (of : TypeTree) (initial : InitialTree) (u : TypeTree) → Completes k global of (Some initial) u → SameOrOpen of u
 completes_so k global of (s.Value value) u (x, h) = by h.1
   where
-    by : Begins global of value x u → SameOrOpen of u
+    by : ObjectBegins global of value x u → SameOrOpen of u
     by (inl b) = string_so value of u b
     by (inr b) = same_type_here of u b.1
 completes_so k global of (s.Braced token items comma) u (xs, h) = lists_so global of items xs u h.1

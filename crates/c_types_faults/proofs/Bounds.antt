@@ -7,11 +7,11 @@ use Rattle.std.specs.Prelude.{Option, ℤ, pos, negsuc, int_le, unsigned_abs, �
 use Rattle.c_syntax.specs.declared.parts.Bound.{Bound}
 use Rattle.c_syntax.specs.declared.parts.Constant.{Constant}
 use Rattle.c_syntax.specs.declared.parts.Declarator.{Declarator}
-use Rattle.c_rules.specs.TypeTree.{TypeTree, Array}
-use Rattle.c_rules.specs.Sizes.{most_cells}
+use Rattle.c_types_rules.specs.TypeTree.{TypeTree, Array}
+use Rattle.c_types_rules.specs.Sizes.{most_cells}
 use Rattle.c_types_expressions.specs.ExprWalk.{with_stars}
 use Rattle.c_types_walk.specs.Declarators.{array_of, bounded, bounded_by, declared_type, first_bounded, is_bound, with_bounds}
-use Rattle.c_types_faults.specs.Declarators.{Declares, HasBounds, HasFirstBounds, IsArray, IsFirstArray, IsLength}
+use Rattle.c_types_faults.specs.Declarators.{DeclaresAs, HasBounds, HasFirstBounds, IsArray, IsFirstArray, IsLength}
 use Rattle.c_types_faults.proofs.Fitting.{if_true}
 
 pub some_is : {A : Type 0} (x y : A) → Some x ≡ Some y → x ≡ y
@@ -84,11 +84,11 @@ firsts_back : (bs : List Bound) (of t : TypeTree) → HasFirstBounds bs of t →
 firsts_back [] of t h = ap Some (sym h)
 firsts_back (b ∷ bs) of t (inner, h) = ap (first_bounded b.length) (bounded_back bs of inner h.0) ∙ first_back b.length inner t h.1
 
-pub declared_is : (d : Declarator) (of t : TypeTree) → declared_type d of ≡ Some t → Declares d of t
+pub declared_is : (d : Declarator) (of t : TypeTree) → declared_type d of ≡ Some t → DeclaresAs d of t
 declared_is d of t h = firsts_is d.bounds (with_stars d.stars of) t h
 
-pub declared_back : (d : Declarator) (of t : TypeTree) → Declares d of t → declared_type d of ≡ Some t
+pub declared_back : (d : Declarator) (of t : TypeTree) → DeclaresAs d of t → declared_type d of ≡ Some t
 declared_back d of t h = firsts_back d.bounds (with_stars d.stars of) t h
 
-pub no_type : (d : Declarator) (of : TypeTree) → declared_type d of ≡ None → (t : TypeTree) → Declares d of t → ⊥
+pub no_type : (d : Declarator) (of : TypeTree) → declared_type d of ≡ None → (t : TypeTree) → DeclaresAs d of t → ⊥
 no_type d of h t k = none_some (declared_type d of) t h (declared_back d of t k)

@@ -4,8 +4,8 @@ use Rattle.c_types_faults.proofs.Bounds.{some_is}
 use Rattle.std.proofs.Common.{None, Bool, true, false, option_map}
 use Rattle.std.proofs.lemmas.Bool.{cases_eq, cases_lt, ltb-true}
 use Rattle.std.specs.Prelude.{slice_get, slice_set, nat_lt, if◌then◌else◌}
-use Rattle.c_rules.specs.declared.library.Library.{Library}
-use Rattle.c_rules.specs.Library.{library_named}
+use Rattle.c_types_rules.specs.declared.library.Library.{Library}
+use Rattle.c_types_rules.specs.Library.{library_named}
 use Rattle.c_types.specs.Answers.{noted}
 use Rattle.c_types.proofs.Noted.{Gives}
 use Rattle.c_types_expressions.specs.declared.names.Meaning.{Meaning}
@@ -13,11 +13,11 @@ use Rattle.c_types_expressions.specs.declared.names.Meaning.TheVariants as meani
 use Rattle.c_types_expressions.specs.declared.walk.Walk.{Walk}
 use Rattle.c_types_expressions.specs.Names.{found, meaning_of, or_before}
 use Rattle.c_types_expressions.specs.Walked.{Walked, Fine, Faulty, replaced}
-use Rattle.c_rules.specs.declared.fault.FaultKind.{FaultKind}
+use Rattle.c_types_rules.specs.declared.fault.FaultKind.{FaultKind}
 use Rattle.c_types_laws.proofs.Steps.{noted_other, noted_same}
-use Rattle.c_types_notes.specs.Events.{Calls, Selects, Other, Event, Value, Initialises, Variable, Opens, Closes, Struct, Names, Defines}
-use Rattle.c_types_notes.proofs.Noting.{FoundAs, Named, found_is, path_onward, step_onward}
-use Rattle.c_types_notes.proofs.Paths.{CalledAs, Path, Step, View}
+use Rattle.c_types_faults.specs.Events.{Calls, Selects, Other, Event, Value, Initialises, Variable, Opens, Closes, Struct, Names, Defines}
+use Rattle.c_types_faults.proofs.Noting.{FoundAs, Named, found_is, path_onward, step_onward}
+use Rattle.c_types_faults.proofs.Paths.{CalledAs, Path, Step, View}
 use Rattle.c_types_faults.specs.Texts.{HasCall}
 use Rattle.c_types_faults.proofs.Telling.{Tells, TellsIn}
 

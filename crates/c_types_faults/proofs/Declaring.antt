@@ -3,20 +3,20 @@ use Rattle.std.proofs.Common.{◌⊎◌, inl, inr, ⊎_elim, ◌≡◌, ℕ, ref
 use Rattle.c_types_faults.proofs.Fitting.{either_true}
 use Rattle.std.specs.Prelude.{Option, is_some, ◌&&◌, if◌then◌else◌}
 use Rattle.c_syntax.specs.StatementTree.{DeclarationTree, StartTree}
-use Rattle.c_rules.specs.declared.fault.FaultKind.{FaultKind}
-use Rattle.c_rules.specs.declared.fault.FaultKind.TheVariants as fault
-use Rattle.c_rules.specs.Sizes.{cells_of}
-use Rattle.c_rules.specs.TypeTree.{TypeTree}
+use Rattle.c_types_rules.specs.declared.fault.FaultKind.{FaultKind}
+use Rattle.c_types_rules.specs.declared.fault.FaultKind.TheVariants as fault
+use Rattle.c_types_rules.specs.Sizes.{cells_of}
+use Rattle.c_types_rules.specs.TypeTree.{TypeTree}
 use Rattle.c_types_expressions.specs.declared.walk.Walk.{Walk}
-use Rattle.c_types_expressions.specs.Names.{is_here, is_reserved, is_taken}
+use Rattle.c_types_expressions.specs.Names.{is_here, is_name_taken, is_reserved}
 use Rattle.c_types_expressions.specs.Walked.{Faulty, Done, with_variable}
 use Rattle.c_types_walk.specs.Declarators.{declared_type, is_open}
 use Rattle.c_types_walk.specs.StatementWalk.{walk_closed, walk_declaration, walk_open, walk_start, walk_starts, walk_typed}
 use Rattle.c_types_faults.specs.Known.{Entity, Object}
 use Rattle.c_types_faults.specs.Context.{Context, counting, declare, known, IsTaken}
-use Rattle.c_types_faults.specs.Declarators.{Declares}
+use Rattle.c_types_faults.specs.Declarators.{DeclaresAs}
 use Rattle.c_types_faults.specs.Initialisers.{Completes, InitialBreaks}
-use Rattle.c_types_faults.specs.Declarations.{BeginningBreaks, DeclarationBreaks, DeclarationGives, ElementBreaks, Finishes, HasRoom, IsObject, IsOpen, SizeBreaks}
+use Rattle.c_types_faults.specs.Declarations.{BeginningBreaks, DeclarationBreaks, DeclarationGives, ElementBreaks, Finishes, GlobalsHaveRoom, IsObject, IsOpen, SizeBreaks}
 use Rattle.c_types_faults.specs.Declarations.{VariableBreaks, VariableGives, VariablesBreak, VariablesGive}
 use Rattle.c_types_faults.proofs.Beginnings.{completes_same, initial_tells}
 use Rattle.c_types_faults.proofs.Bounds.{declared_is, no_type}
@@ -41,11 +41,11 @@ behind_on ps m b = record { knows = b.knows; names = joined b.names ps; moves = 
 pub behind_here : {c : Context} {w : Walk} → Knows c (shown w) → Behind c w w
 behind_here {w = w} k = record { knows = k; names = []; moves = still (shown w) (shown w) refl }
 
-room_declared : (global : Bool) (name : List ℕ) (x : Entity) (c : Context) (t : TypeTree) → HasRoom global c t → HasRoom global (declare name x c) t
+room_declared : (global : Bool) (name : List ℕ) (x : Entity) (c : Context) (t : TypeTree) → GlobalsHaveRoom global c t → GlobalsHaveRoom global (declare name x c) t
 room_declared true name x c t h = h
 room_declared false name x c t h = tt
 
-room_around : (global : Bool) (name : List ℕ) (x : Entity) (c : Context) (t : TypeTree) → HasRoom global (declare name x c) t → HasRoom global c t
+room_around : (global : Bool) (name : List ℕ) (x : Entity) (c : Context) (t : TypeTree) → GlobalsHaveRoom global (declare name x c) t → GlobalsHaveRoom global c t
 room_around true name x c t h = h
 room_around false name x c t h = tt
 
@@ -58,7 +58,7 @@ module _ (global : Bool) (base : TypeTree) (x : StartTree) (c : Context) (w : Wa
   BehindBreaks t j at = InitialBreaks (known (declare x.declarator.name (Object t) c)) global t x.initial j at
       ⊎ ((u : TypeTree) × (Finishes global base c x t u × ((at ≡ x.token) × (j ≡ fault.Object) × SizeBreaks global base c u)))
 
-  open_tells : (t : TypeTree) → (IsTaken x.declarator.name c → ⊥) → Declares x.declarator base t → IsOpen t x.initial
+  open_tells : (t : TypeTree) → (IsTaken x.declarator.name c → ⊥) → DeclaresAs x.declarator base t → IsOpen t x.initial
       → Tells (walk_open global x t w) (λ (d : Done) v. VariableTold v) (BehindBreaks t)
   open_tells t new h o =
       let name : List ℕ = x.declarator.name in
@@ -96,11 +96,11 @@ module _ (global : Bool) (base : TypeTree) (x : StartTree) (c : Context) (w : Wa
   size_breaks t (inr f) h = inr f
 
   -- the type of the declarator is none that the variable may have
-  type_breaks : (t : TypeTree) → Declares x.declarator base t → BeginningBreaks global base c x t → (u : TypeTree) → Declares x.declarator base u
+  type_breaks : (t : TypeTree) → DeclaresAs x.declarator base t → BeginningBreaks global base c x t → (u : TypeTree) → DeclaresAs x.declarator base u
       → BeginningBreaks global base c x u
   type_breaks t h b u d = subst (BeginningBreaks global base c x) (one_type x.declarator base t u h d) b
 
-  fits_closed : (t : TypeTree) → IsObject c.structs t → HasRoom global c t → BeginningBreaks global base c x t → ⊥
+  fits_closed : (t : TypeTree) → IsObject c.structs t → GlobalsHaveRoom global c t → BeginningBreaks global base c x t → ⊥
   fits_closed t o r (inl (f, h)) = ⊎_elim (λ n. n o) (λ n. n r) h
   fits_closed t o r (inr (f, h)) = object_elements c.structs t o h
 
@@ -108,7 +108,7 @@ module _ (global : Bool) (base : TypeTree) (x : StartTree) (c : Context) (w : Wa
   fits_open t e (inl (f, h)) = f (opens_by c.structs t x.initial e)
   fits_open t e (inr (f, h)) = opens_elements c.structs t x.initial e h
 
-  closed_tells : (t : TypeTree) → (IsTaken x.declarator.name c → ⊥) → Declares x.declarator base t → ((IsOpen t x.initial
+  closed_tells : (t : TypeTree) → (IsTaken x.declarator.name c → ⊥) → DeclaresAs x.declarator base t → ((IsOpen t x.initial
       → ⊥) ⊎ (IsOpen t x.initial × ElementBreaks c.structs t))
       → Tells (walk_closed global x t w) (λ (d : Done) v. VariableTold v) (VariableBreaks global base c x)
   closed_tells t new h o =
@@ -116,7 +116,7 @@ module _ (global : Bool) (base : TypeTree) (x : StartTree) (c : Context) (w : Wa
       let n : ℕ = cells_of c.structs t in
       and_then (sized_tells global x.token t c w k) (λ j at f. inl (
         f.0,
-        least_second (IsTaken name c) ((u : TypeTree) → Declares x.declarator base u → BeginningBreaks global base c x u) fault.Redeclared fault.Object j new f.1
+        least_second (IsTaken name c) ((u : TypeTree) → DeclaresAs x.declarator base u → BeginningBreaks global base c x u) fault.Redeclared fault.Object j new f.1
             (type_breaks t h (size_breaks t o f.2)),
       ))
       (λ d v p.
@@ -159,7 +159,7 @@ module _ (global : Bool) (base : TypeTree) (x : StartTree) (c : Context) (w : Wa
         );
       }))
 
-  by_type : (b : Bool) (t : TypeTree) → (IsTaken x.declarator.name c → ⊥) → Declares x.declarator base t → (is_some x.initial && is_open c.structs t) ≡ b
+  by_type : (b : Bool) (t : TypeTree) → (IsTaken x.declarator.name c → ⊥) → DeclaresAs x.declarator base t → (is_some x.initial && is_open c.structs t) ≡ b
       → Tells (if b then walk_open global x t w else walk_closed global x t w) (λ (d : Done) v. VariableTold v) (VariableBreaks global base c x)
   by_type true t new h e = weaker (open_tells t new h (opens_by c.structs t x.initial e)) (λ j at b. inr (t, ((new, h, fits_open t e), b))) (λ d v p. p)
   by_type false t new h e = closed_tells t new h (closes_by c.structs t x.initial e)
@@ -170,20 +170,20 @@ module _ (global : Bool) (base : TypeTree) (x : StartTree) (c : Context) (w : Wa
   typed_tells None new e = record {
     by = inl (
       refl,
-      least_second (IsTaken x.declarator.name c) ((u : TypeTree) → Declares x.declarator base u → BeginningBreaks global base c x u) fault.Redeclared
+      least_second (IsTaken x.declarator.name c) ((u : TypeTree) → DeclaresAs x.declarator base u → BeginningBreaks global base c x u) fault.Redeclared
           fault.Object fault.Object new refl (λ u d. absurd (no_type x.declarator base e u d)),
     );
   }
   typed_tells (Some t) new e = by_type (is_some x.initial && is_open w.structs t) t new (declared_is x.declarator base t e)
       (ap (λ ss. is_some x.initial && is_open ss t) k.structs)
 
-  taken_tells : (b : Bool) → is_taken x.declarator.name w.names ≡ b
+  taken_tells : (b : Bool) → is_name_taken x.declarator.name w.names ≡ b
       → Tells (if b then Faulty fault.Redeclared x.token else walk_typed global x (declared_type x.declarator base) w) (λ (d : Done) v. VariableTold v)
       (VariableBreaks global base c x)
   taken_tells true e = record {
     by = inl (
       refl,
-      least_first (IsTaken x.declarator.name c) ((u : TypeTree) → Declares x.declarator base u → BeginningBreaks global base c x u) fault.Redeclared
+      least_first (IsTaken x.declarator.name c) ((u : TypeTree) → DeclaresAs x.declarator base u → BeginningBreaks global base c x u) fault.Redeclared
           fault.Object fault.Redeclared (omega arith) refl
           (taken_by x.declarator.name c (shown w) k (either_true (is_reserved x.declarator.name) (is_here x.declarator.name w.names) e)),
     );
@@ -191,7 +191,7 @@ module _ (global : Bool) (base : TypeTree) (x : StartTree) (c : Context) (w : Wa
   taken_tells false e = typed_tells (declared_type x.declarator base) (not_taken x.declarator.name c (shown w) k e) refl
 
   pub variable_tells : Tells (walk_start global base x w) (λ (d : Done) v. VariableTold v) (VariableBreaks global base c x)
-  variable_tells = taken_tells (is_taken x.declarator.name w.names) refl
+  variable_tells = taken_tells (is_name_taken x.declarator.name w.names) refl
 
 pub variables_tell : (global : Bool) (base : TypeTree) (xs : List StartTree) (c : Context) (w : Walk) → Knows c (shown w)
     → Tells (walk_starts global base xs w) (λ (d : Done) v. (after : Context) × (VariablesGive global base c xs after × Behind after w v))

@@ -8,9 +8,9 @@ use Rattle.std.proofs.lemmas.List.{length-replicate}
 use Rattle.std.specs.Prelude.{Option, slice_get, if◌then◌else◌, is_some, unwrap_or}
 use Rattle.c_syntax.specs.ItemTree.{SourceTree}
 use Rattle.c_syntax.specs.WellFormed.{IsShaped}
-use Rattle.c_rules.specs.declared.library.Library.{Library}
-use Rattle.c_rules.specs.Library.{library_named}
-use Rattle.c_rules.specs.TypeTree.{TypeTree}
+use Rattle.c_types_rules.specs.declared.library.Library.{Library}
+use Rattle.c_types_rules.specs.Library.{library_named}
+use Rattle.c_types_rules.specs.TypeTree.{TypeTree}
 use Rattle.c_types.specs.Answers.{noted}
 use Rattle.c_types.specs.Fault.{first_undefined, lacks_definition}
 use Rattle.c_types_expressions.specs.declared.names.Meaning.{Meaning}
@@ -23,22 +23,22 @@ use Rattle.c_types_expressions.specs.Names.{found, meaning_of, or_before}
 use Rattle.c_types_walk.specs.ItemWalk.{is_defined}
 use Rattle.c_types_laws.proofs.Steps.{noted_same}
 use Rattle.sites.specs.Table.{functions_of}
-use Rattle.c_types_notes.specs.Events.{Construct, Calls, Selects, Other, Event, Value, Initialises, Variable, Opens, Closes, Struct, Names, Defines}
-use Rattle.c_types_notes.specs.Events.{construct_at, events_of}
-use Rattle.c_types_notes.specs.Scopes.{scopes_of}
-use Rattle.c_types_notes.proofs.Functions.{Known, items_known}
-use Rattle.c_types_notes.proofs.Leaving.{Left}
-use Rattle.c_types_notes.proofs.LeavingItems.{items_leave}
-use Rattle.c_types_notes.proofs.Noting.{Found, FoundAs, Listed, Named, alone_after, finds, found_is, path_onward, stays}
-use Rattle.c_types_notes.proofs.PathItems.{ItemsDo, items_path}
-use Rattle.c_types_notes.proofs.Paths.{CalledAs, Path, View, called_name, view}
-use Rattle.c_types_notes.proofs.Points.{Among, Once}
-use Rattle.c_types_notes.proofs.Texts.{before, nothing_known}
+use Rattle.c_types_faults.specs.Events.{Construct, Calls, Selects, Other, Event, Value, Initialises, Variable, Opens, Closes, Struct, Names, Defines}
+use Rattle.c_types_faults.specs.Events.{construct_at, events_of}
+use Rattle.c_types_faults.specs.Scopes.{scopes_of}
+use Rattle.c_types_faults.proofs.NotedFunctions.{Known, items_known}
+use Rattle.c_types_faults.proofs.Leaving.{Left}
+use Rattle.c_types_faults.proofs.LeavingItems.{items_leave}
+use Rattle.c_types_faults.proofs.Noting.{Found, FoundAs, Listed, Named, alone_after, finds, found_is, path_onward, stays}
+use Rattle.c_types_faults.proofs.PathItems.{ItemsDo, items_path}
+use Rattle.c_types_faults.proofs.Paths.{CalledAs, Path, View, called_name, view}
+use Rattle.c_types_faults.proofs.Points.{Among, Once}
+use Rattle.c_types_faults.proofs.NotedTexts.{before, nothing_known}
 use Rattle.c_types_faults.specs.Known.{Entity, Object, Function, Standard}
 use Rattle.c_types_faults.specs.Agrees.{Means}
 use Rattle.c_types_faults.specs.Context.{Context, Declared}
 use Rattle.c_types_faults.specs.Functions.{is_listed}
-use Rattle.c_types_faults.specs.Texts.{HasCall, HasFunction, IsFunction}
+use Rattle.c_types_faults.specs.Texts.{HasCall, HasFunction, IsFunctionEntity}
 use Rattle.c_types_faults.proofs.Files.{Files, Funs}
 use Rattle.c_types_faults.proofs.Knowing.{Matches}
 use Rattle.c_types_faults.proofs.Telling.{shown}
@@ -133,7 +133,7 @@ function_place types fs name vb fb (entry.Opens ∷ rest) (d ∷ ds) h q = absur
 function_place types fs name vb fb (entry.Declares n m ∷ rest) [] h q = absurd h
 function_place types fs name vb fb (entry.Declares n (meaning.Variable i) ∷ rest) (d ∷ ds) h (inl q) = absurd (no_object d.entity h.2 q.1)
   where
-    no_object : (x : Entity) → Means types fs (meaning.Variable i) x → IsFunction x → ⊥
+    no_object : (x : Entity) → Means types fs (meaning.Variable i) x → IsFunctionEntity x → ⊥
     no_object (Object of) m f = f
     no_object (Function g) m f = m
     no_object (Standard g) m f = m

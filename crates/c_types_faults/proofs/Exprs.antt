@@ -7,25 +7,25 @@ use Rattle.c_syntax.specs.declared.parts.Base.{Base}
 use Rattle.c_syntax.specs.declared.parts.Base.TheVariants as base
 use Rattle.c_syntax.specs.ExprTree as e
 use Rattle.c_syntax.specs.ExprTree.{ExprTree, ExprList, LinkList, PostfixList}
-use Rattle.c_rules.specs.declared.fault.FaultKind.{FaultKind}
-use Rattle.c_rules.specs.declared.function.FunctionType.{FunctionType}
-use Rattle.c_rules.specs.declared.layout.Member.{Member}
-use Rattle.c_rules.specs.declared.layout.StructType.{StructType}
-use Rattle.c_rules.specs.declared.operand.Operand.{Operand}
-use Rattle.c_rules.specs.TypeTree as t
-use Rattle.c_rules.specs.TypeTree.{TypeTree}
-use Rattle.c_rules.specs.Conversions.{place_of, value_type}
-use Rattle.c_rules.specs.Faults.{Looked}
-use Rattle.c_rules.specs.Functions as functions
-use Rattle.c_rules.specs.Library.{library_called}
-use Rattle.c_rules.specs.Operators.{cast_to, measured, stepped}
-use Rattle.c_rules.specs.Selecting.{chosen, indexed, member_behind, member_of, sequenced}
+use Rattle.c_types_rules.specs.declared.fault.FaultKind.{FaultKind}
+use Rattle.c_types_rules.specs.declared.function.FunctionType.{FunctionType}
+use Rattle.c_types_rules.specs.declared.layout.Member.{Member}
+use Rattle.c_types_rules.specs.declared.layout.StructType.{StructType}
+use Rattle.c_types_rules.specs.declared.operand.Operand.{Operand}
+use Rattle.c_types_rules.specs.TypeTree as t
+use Rattle.c_types_rules.specs.TypeTree.{TypeTree}
+use Rattle.c_types_rules.specs.Conversions.{place_of, value_type}
+use Rattle.c_types_rules.specs.Faults.{Looked}
+use Rattle.c_types_rules.specs.Functions as functions
+use Rattle.c_types_rules.specs.Library.{library_called}
+use Rattle.c_types_rules.specs.Operators.{cast_to, measured, stepped}
+use Rattle.c_types_rules.specs.Selecting.{chosen, indexed, member_behind, member_of, sequenced}
 use Rattle.c_types_expressions.specs.declared.names.Meaning.{Meaning}
 use Rattle.c_types_expressions.specs.declared.names.Meaning.TheVariants as meaning
 use Rattle.c_types_expressions.specs.declared.walk.FunctionEntry.{FunctionEntry}
 use Rattle.c_types_expressions.specs.declared.walk.Walk.{Walk}
-use Rattle.c_types_expressions.specs.ExprWalk.{assigning, base_type, binary_of, called, chained, compound_of, looked, named, of_function, of_variable}
-use Rattle.c_types_expressions.specs.ExprWalk.{prefixed, selected, tagged, walk_expr, walk_exprs, walk_links, walk_postfix, with_call}
+use Rattle.c_types_expressions.specs.ExprWalk.{assigning, base_type, binary_of, called_name, chained, compound_of, looked, named, of_function, of_variable}
+use Rattle.c_types_expressions.specs.ExprWalk.{prefixed, selected, tagged_type, walk_expr, walk_exprs, walk_links, walk_postfix, with_call}
 use Rattle.c_types_expressions.specs.ExprWalk.{with_stars}
 use Rattle.c_types_expressions.specs.Names.{found, meaning_of}
 use Rattle.c_types_expressions.specs.Walked.{Fine, Faulty}
@@ -53,7 +53,7 @@ same_structs ss i x h = h
 
 module _ (k : Known) where
   tag_tells : (token number : ℕ) (tag : List ℕ) (m : Option Meaning) (n : Option ℕ) (w : Walk) → IsTag m n → k.tags tag ≡ n
-      → Tells (tagged token m w) (λ t v. IsBase k (base.Struct token tag) t × (v ≡ w)) (BaseBreaks k (base.Struct token tag))
+      → Tells (tagged_type token m w) (λ t v. IsBase k (base.Struct token tag) t × (v ≡ w)) (BaseBreaks k (base.Struct token tag))
   tag_tells token number tag None None w h q = record { by = (refl, refl, q) }
   tag_tells token number tag None (Some n) w h q = absurd h
   tag_tells token number tag (Some (meaning.Struct index)) None w h q = absurd h
@@ -108,7 +108,7 @@ module _ (k : Known) where
       (λ j r. (refl, called_breaks f xs j (ap (λ u. functions.called u xs) (sym h) ∙ r)))
 
   pub call_tells : (token : ℕ) (xs : List Operand) (m : Option Meaning) (x : Option Entity) (w : Walk) → Denotes w.declared_types w.functions m x
-      → Tells (called token m xs w) (λ d v. AsValue (Calls x xs) d × (shown v ≡ shown w)) (λ j at. (at ≡ token) × CallBreaks x xs j)
+      → Tells (called_name token m xs w) (λ d v. AsValue (Calls x xs) d × (shown v ≡ shown w)) (λ j at. (at ≡ token) × CallBreaks x xs j)
   call_tells token xs None None w h = record { by = (refl, refl) }
   call_tells token xs None (Some x) w h = absurd h
   call_tells token xs (Some (meaning.Function index)) (Some (Function f)) w h = function_tells token index xs f (slice_get w.functions index) w h

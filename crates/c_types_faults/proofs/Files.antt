@@ -7,10 +7,10 @@ use Rattle.std.proofs.lemmas.List.{length-map, map-append}
 use Rattle.std.proofs.lemmas.Slice.Eq.{bytes_eq-Decides}
 use Rattle.std.specs.Prelude.{Option, is_some, slice_get, ◌||◌, if◌then◌else◌, unwrap_or}
 use Rattle.std.specs.Str.{bytes_eq}
-use Rattle.c_rules.specs.declared.function.FunctionType.{FunctionType}
-use Rattle.c_rules.specs.Functions.{same_function}
-use Rattle.c_rules.specs.TypeTree.{TypeTree, same_type, same_types}
-use Rattle.c_rules.proofs.Same.{equal, same_self}
+use Rattle.c_types_rules.specs.declared.function.FunctionType.{FunctionType}
+use Rattle.c_types_rules.specs.Functions.{same_function}
+use Rattle.c_types_rules.specs.TypeTree.{TypeTree, same_type, same_types}
+use Rattle.c_types_rules.proofs.Same.{equal, same_self}
 use Rattle.c_types_expressions.specs.declared.names.Meaning.{Meaning}
 use Rattle.c_types_expressions.specs.declared.names.Meaning.TheVariants as meaning
 use Rattle.c_types_expressions.specs.declared.names.ScopeEntry.{ScopeEntry}
@@ -22,8 +22,8 @@ use Rattle.c_types_expressions.specs.Walked.{replaced}
 use Rattle.c_types_walk.specs.ItemWalk.{is_defined}
 use Rattle.c_types_laws.proofs.Declaring.{get_either, get_last, get_more, more_stays}
 use Rattle.c_types_laws.proofs.Scenes.{replaced_other, replaced_same}
-use Rattle.c_types_notes.proofs.Noting.{Listed, Named, NoLibrary}
-use Rattle.c_types_notes.proofs.Paths.{called_name, view}
+use Rattle.c_types_faults.proofs.Noting.{Listed, Named, NoLibrary}
+use Rattle.c_types_faults.proofs.Paths.{called_name, view}
 use Rattle.c_types_faults.specs.Known.{Entity, Object, Function, Standard}
 use Rattle.c_types_faults.specs.Agrees.{Denotes, IsType, Means}
 use Rattle.c_types_faults.specs.Context.{Context, Declared, declared_in}

@@ -1,6 +1,6 @@
 -- A rule that is broken first is one: of one kind, at one token.
 use Rattle.std.proofs.Common.{◌⊎◌, inl, inr, ◌≡◌, ℕ, subst, sym, ◌∙◌}
-use Rattle.c_rules.specs.declared.fault.FaultKind.{FaultKind}
+use Rattle.c_types_rules.specs.declared.fault.FaultKind.{FaultKind}
 use Rattle.c_types_faults.specs.Least.{IsLeast}
 use Rattle.c_types_faults.proofs.Least.{least_one}
 

@@ -7,24 +7,24 @@ use Rattle.c_syntax.specs.ExprTree.{ExprTree, ExprList}
 use Rattle.c_syntax.specs.FirstToken.{first_token}
 use Rattle.c_syntax.specs.StatementTree as s
 use Rattle.c_syntax.specs.StatementTree.{DeclarationTree, EntryList, ForStartTree, InitialTree, StartTree, StatementTree}
-use Rattle.c_rules.specs.declared.fault.FaultKind.{FaultKind}
-use Rattle.c_rules.specs.declared.fault.FaultKind.TheVariants as fault
-use Rattle.c_rules.specs.declared.library.Library.TheVariants as library
-use Rattle.c_rules.specs.declared.operand.Operand.{Operand}
-use Rattle.c_rules.specs.Conversions.{is_struct}
-use Rattle.c_rules.specs.TypeTree.{TypeTree}
+use Rattle.c_types_rules.specs.declared.fault.FaultKind.{FaultKind}
+use Rattle.c_types_rules.specs.declared.fault.FaultKind.TheVariants as fault
+use Rattle.c_types_rules.specs.declared.library.Library.TheVariants as library
+use Rattle.c_types_rules.specs.declared.operand.Operand.{Operand}
+use Rattle.c_types_rules.specs.Conversions.{is_struct}
+use Rattle.c_types_rules.specs.TypeTree.{TypeTree}
 use Rattle.c_types_faults.specs.Known.{Entity, Object, Function, Standard, Known}
 use Rattle.c_types_faults.specs.Context.{Context, declare, inner, known}
 use Rattle.c_types_faults.specs.Types.{BaseBreaks, IsBase}
 use Rattle.c_types_faults.specs.Exprs.{AreOperands, IsOperand}
 use Rattle.c_types_faults.specs.ExprBreaks.{Breaks, ListBreaks}
-use Rattle.c_types_faults.specs.Initialisers.{Begins, InitialBreaks, Lists}
+use Rattle.c_types_faults.specs.Initialisers.{InitialBreaks, Lists, ObjectBegins}
 use Rattle.c_types_faults.specs.Declarations.{DeclarationBreaks, DeclarationGives, DeclaratorFits, DeclaratorRule, Finishes, SizeBreaks}
 use Rattle.c_types_faults.specs.Declarations.{VariableBreaks, VariableGives, VariablesBreak}
 use Rattle.c_types_faults.specs.Least.{IsLeast}
 use Rattle.c_types_faults.specs.Wholes.{IsWhole, WholeBreaks, WholeCallBreaks}
 use Rattle.c_types_faults.specs.Statements.{EntriesBreak, ForBreaks, GivesUpStruct, IfPart, IsSomeOperand, JumpBreaks, NoCondition, OfPart, ReturnBreaks}
-use Rattle.c_types_faults.specs.Statements.{StartBreaks, StartLeaves, StatementBreaks, StatementFits, computed}
+use Rattle.c_types_faults.specs.Statements.{IsRuledStatement, StartBreaks, StartLeaves, StatementBreaks, computed}
 use Rattle.c_types_faults.proofs.First.{Next, OneKind, Single, Then, at_single, kind_single, least_single, next_single, none_single, then_single}
 use Rattle.c_types_faults.proofs.FirstExprs.{base_single, call_kind, expr_single, list_single}
 use Rattle.c_types_faults.proofs.Quiet.{completes_one, declaration_one, declaration_silent, initial_silent, one_type, part_silent, statement_silent}
@@ -37,9 +37,9 @@ use Rattle.c_types_faults.proofs.Single.{one_base, one_list, one_operand}
 initial_single : (k : Known) (global : Bool) (of : TypeTree) (initial : Option InitialTree) → Single (InitialBreaks k global of initial)
 initial_single k global of None = none_single
 initial_single k global of (Some (s.Value value)) = then_single (IsOperand k value) (Breaks k value)
-    (λ x j at. (at ≡ first_token value) × (j ≡ fault.Initialiser) × ((t : TypeTree) → Begins global of value x t → ⊥))
+    (λ x j at. (at ≡ first_token value) × (j ≡ fault.Initialiser) × ((t : TypeTree) → ObjectBegins global of value x t → ⊥))
     (one_operand k value) (expr_silent k value) (expr_single k value) (λ x h.
-    kind_single ((t : TypeTree) → Begins global of value x t → ⊥) (first_token value) fault.Initialiser)
+    kind_single ((t : TypeTree) → ObjectBegins global of value x t → ⊥) (first_token value) fault.Initialiser)
 initial_single k global of (Some (s.Braced token items comma)) = then_single (AreOperands k items) (ListBreaks k items)
     (λ xs j at. (at ≡ token) × (j ≡ fault.Initialiser) × ((t : TypeTree) → Lists global of items xs t → ⊥))
     (one_list k items) (list_silent k items) (list_single k items) (λ xs h.
@@ -163,15 +163,15 @@ module _ (gives : TypeTree) where
       (some_silent (known c) condition) (expr_single (known c) condition) (λ o. n)
 
   stated_single : (c : Context) (looping : Bool) (x : StatementTree) (N : FaultKind → ℕ → Type 0) → Single (StatementBreaks gives c looping x) → Single N
-      → Single (Next (StatementFits gives c looping x) (StatementBreaks gives c looping x) N)
-  stated_single c looping x N f n = next_single (StatementFits gives c looping x) (StatementBreaks gives c looping x) N
+      → Single (Next (IsRuledStatement gives c looping x) (StatementBreaks gives c looping x) N)
+  stated_single c looping x N f n = next_single (IsRuledStatement gives c looping x) (StatementBreaks gives c looping x) N
       (statement_silent gives looping x c) f (λ o. n)
 
   for_single : (start : ForStartTree) (condition step : Option ExprTree) (body : StatementTree) (c d : Context) (token : ℕ)
       → Single (StatementBreaks gives d true body) → Single (λ j at. ForRest gives d start condition step body c j at token)
   for_single start condition step body c d token f =
       let own : FaultKind → ℕ → Type 0 = λ j at. (at ≡ token) × ForBreaks (known (inner c)) (known d) start condition step j in
-      let behind : FaultKind → ℕ → Type 0 = Next (StatementFits gives d true body) (StatementBreaks gives d true body) own in
+      let behind : FaultKind → ℕ → Type 0 = Next (IsRuledStatement gives d true body) (StatementBreaks gives d true body) own in
       next_single (IfPart (IsSomeOperand (known d)) condition) (λ j at. OfPart (λ x. Breaks (known d) x j at) condition)
       (Next (IfPart (IsSomeOperand (known d)) step) (λ j at. OfPart (λ x. Breaks (known d) x j at) step) behind)
       (some_part_silent (known d) condition) (part_single (known d) condition) (λ p.
@@ -190,17 +190,17 @@ module _ (gives : TypeTree) where
         (whole_single (known c) x) (λ a h. kind_single (is_struct a.ctype ≡ true) token fault.Operands)
     statement_single looping (s.If token condition first) c =
         let own : FaultKind → ℕ → Type 0 = λ j at. (at ≡ token) × NoCondition (known c) condition j in
-        decided_single c condition (Next (StatementFits gives c looping first) (StatementBreaks gives c looping first) own)
+        decided_single c condition (Next (IsRuledStatement gives c looping first) (StatementBreaks gives c looping first) own)
         (stated_single c looping first own (statement_single looping first c) (condition_single (known c) token condition))
     statement_single looping (s.IfElse token condition first second) c =
         let own : FaultKind → ℕ → Type 0 = λ j at. (at ≡ token) × NoCondition (known c) condition j in
-        let last : FaultKind → ℕ → Type 0 = Next (StatementFits gives c looping second) (StatementBreaks gives c looping second) own in
-        decided_single c condition (Next (StatementFits gives c looping first) (StatementBreaks gives c looping first) last)
+        let last : FaultKind → ℕ → Type 0 = Next (IsRuledStatement gives c looping second) (StatementBreaks gives c looping second) own in
+        decided_single c condition (Next (IsRuledStatement gives c looping first) (StatementBreaks gives c looping first) last)
         (stated_single c looping first last (statement_single looping first c)
         (stated_single c looping second own (statement_single looping second c) (condition_single (known c) token condition)))
     statement_single looping (s.While token condition body) c =
         let own : FaultKind → ℕ → Type 0 = λ j at. (at ≡ token) × NoCondition (known c) condition j in
-        decided_single c condition (Next (StatementFits gives c true body) (StatementBreaks gives c true body) own)
+        decided_single c condition (Next (IsRuledStatement gives c true body) (StatementBreaks gives c true body) own)
         (stated_single c true body own (statement_single true body c) (condition_single (known c) token condition))
     statement_single looping (s.Do token body condition) c =
         let own : FaultKind → ℕ → Type 0 = λ j at. (at ≡ token) × NoCondition (known c) condition j in

@@ -10,31 +10,31 @@ use Rattle.c_syntax.specs.ItemTree as i
 use Rattle.c_syntax.specs.ItemTree.{ItemTree, SourceTree}
 use Rattle.c_syntax.specs.StatementTree.{EntryList}
 use Rattle.c_syntax.specs.WellFormed.{IsShaped}
-use Rattle.c_rules.specs.declared.fault.FaultKind.{FaultKind}
-use Rattle.c_rules.specs.declared.fault.FaultKind.TheVariants as fault
-use Rattle.c_rules.specs.declared.function.FunctionType.{FunctionType}
-use Rattle.c_rules.specs.declared.layout.StructType.{StructType}
-use Rattle.c_rules.specs.declared.operand.Operand.{Operand}
-use Rattle.c_rules.specs.Faults.{number_of}
-use Rattle.c_rules.specs.Sizes.{empty_struct, most_cells}
-use Rattle.c_rules.specs.TypeTree.{TypeTree}
+use Rattle.c_types_rules.specs.declared.fault.FaultKind.{FaultKind}
+use Rattle.c_types_rules.specs.declared.fault.FaultKind.TheVariants as fault
+use Rattle.c_types_rules.specs.declared.function.FunctionType.{FunctionType}
+use Rattle.c_types_rules.specs.declared.layout.StructType.{StructType}
+use Rattle.c_types_rules.specs.declared.operand.Operand.{Operand}
+use Rattle.c_types_rules.specs.Faults.{fault_number}
+use Rattle.c_types_rules.specs.Sizes.{empty_struct, most_cells}
+use Rattle.c_types_rules.specs.TypeTree.{TypeTree}
 use Rattle.c_types.specs.Fault.{fault_in, fault_of, walk_tree}
 use Rattle.c_types_expressions.specs.declared.walk.Walk.{Walk}
 use Rattle.c_types_expressions.specs.ExprWalk.{walk_expr, with_stars}
 use Rattle.c_types_expressions.specs.Walked.{Done, Fine, Faulty, Walked}
-use Rattle.c_types_walk.specs.ItemWalk.{listed}
+use Rattle.c_types_walk.specs.ItemWalk.{listed_params}
 use Rattle.c_types_faults.specs.Known.{Known}
 use Rattle.c_types_faults.specs.Agrees.{Agrees}
-use Rattle.c_types_faults.specs.Context.{Context, inner, known, nothing}
+use Rattle.c_types_faults.specs.Context.{Context, empty_context, inner, known}
 use Rattle.c_types_faults.specs.Least.{IsLeast}
 use Rattle.c_types_faults.specs.Types.{BaseBreaks, IsBase}
 use Rattle.c_types_faults.specs.Declarations.{IsObject}
-use Rattle.c_types_faults.specs.Declarators.{Declares}
+use Rattle.c_types_faults.specs.Declarators.{DeclaresAs}
 use Rattle.c_types_faults.specs.ExprBreaks.{Breaks}
 use Rattle.c_types_faults.specs.Functions.{Clashes, Formal, FunctionBreaks, FunctionRule, IsDefinedBefore, ParamBreaks, ParamGives, ParamRule}
 use Rattle.c_types_faults.specs.Functions.{ParamsBreak, ParamsGive, prototype, with_formals}
 use Rattle.c_types_faults.specs.Items.{ItemBreaks, ItemGives, ItemsBreak, ItemsGive}
-use Rattle.c_types_faults.specs.Statements.{EntriesBreak, EntriesFit}
+use Rattle.c_types_faults.specs.Statements.{AreRuledEntries, EntriesBreak}
 use Rattle.c_types_faults.specs.Structs.{HasMember, HasTag, LineBreaks, LineGives, MemberGives, MembersBreak, MembersGive, NewMemberBreaks, StructBreaks, tagging}
 use Rattle.c_types_faults.specs.Texts.{EndBreaks, TextBreaks}
 use Rattle.c_types_faults.proofs.Exprs.{accepted_expr, refused_expr}
@@ -56,7 +56,7 @@ module _ (c : Context) where
   line_single base (d ∷ ds) s = then_single (MemberGives c base d s) (NewMemberBreaks c base d s) (λ next. LineBreaks c base ds next)
       (member_one c base d s) (member_silent c base d s)
       (least_single (λ j. ((j ≡ fault.Redeclared) × HasMember d.name s.members)
-      ⊎ ((j ≡ fault.Object) × ((t : TypeTree) → Declares d base t → IsObject c.structs t → ⊥))) d.token)
+      ⊎ ((j ≡ fault.Object) × ((t : TypeTree) → DeclaresAs d base t → IsObject c.structs t → ⊥))) d.token)
       (λ next h. line_single base ds next)
 
   members_single : (ms : List Members) (s : StructType) → Single (MembersBreak c ms s)
@@ -93,12 +93,12 @@ module _ (c : Context) (body : Bool) where
 
 module _ (token : ℕ) (name : List ℕ) (f : FunctionType) (formals : List Formal) (c : Context) where
   abbrev InBody : EntryList → Context → FaultKind → ℕ → Type 0
-  InBody body next = Next (EntriesFit f.gives (with_formals formals (inner next)) false body)
+  InBody body next = Next (AreRuledEntries f.gives (with_formals formals (inner next)) false body)
       (EntriesBreak f.gives (with_formals formals (inner next)) false body)
       (λ j at. (at ≡ token) × IsLeast (FunctionRule (Clashes name f c ⊎ IsDefinedBefore name f c) f) j)
 
   body_single : (body : EntryList) (next : Context) → Single (InBody body next)
-  body_single body next = next_single (EntriesFit f.gives (with_formals formals (inner next)) false body)
+  body_single body next = next_single (AreRuledEntries f.gives (with_formals formals (inner next)) false body)
       (EntriesBreak f.gives (with_formals formals (inner next)) false body)
       (λ j at. (at ≡ token) × IsLeast (FunctionRule (Clashes name f c ⊎ IsDefinedBefore name f c) f) j)
       (entries_silent f.gives false body (with_formals formals (inner next))) (entries_single f.gives false body (with_formals formals (inner next)))
@@ -120,10 +120,10 @@ item_single (i.Function token b stars name ps body) c =
     let last : TypeTree → List Formal → FaultKind → ℕ → Type 0 = λ base formals.
     FunctionBreaks token name (prototype (with_stars stars base) formals) formals body c in
     then_single (IsBase (known c) b) (BaseBreaks (known c) b)
-    (λ base. Then (ParamsGive c (is_some body) [] (listed ps)) (ParamsBreak c (is_some body) [] (listed ps)) (last base))
+    (λ base. Then (ParamsGive c (is_some body) [] (listed_params ps)) (ParamsBreak c (is_some body) [] (listed_params ps)) (last base))
     (one_base (known c) b) (base_silent (known c) b) (base_single (known c) b) (λ base h.
-    then_single (ParamsGive c (is_some body) [] (listed ps)) (ParamsBreak c (is_some body) [] (listed ps)) (last base)
-    (params_one c (is_some body) (listed ps) []) (params_silent c (is_some body) (listed ps) []) (params_single c (is_some body) (listed ps) [])
+    then_single (ParamsGive c (is_some body) [] (listed_params ps)) (ParamsBreak c (is_some body) [] (listed_params ps)) (last base)
+    (params_one c (is_some body) (listed_params ps) []) (params_silent c (is_some body) (listed_params ps) []) (params_single c (is_some body) (listed_params ps) [])
     (λ formals g. function_single token name (prototype (with_stars stars base) formals) formals c body))
 item_single (i.Declaration declaration) c = declaration_single true declaration c
 
@@ -146,19 +146,19 @@ end_single t c s i j a b (inr h) (inr g) =
     (h.1.0 ∙ sym g.1.0, none_less a b (λ less. g.1.1.1 s a less h.1.1.0) (λ less. h.1.1.1 s b less g.1.1.0))
 
 pub text_single : (t : SourceTree) → IsShaped t → Single (TextBreaks t)
-text_single t s = then_single (ItemsGive nothing t.items) (ItemsBreak nothing t.items) (λ c. EndBreaks t c)
-    (items_one t.items nothing) (items_silent t.items nothing) (items_single t.items nothing) (λ c h. end_single t c s)
+text_single t s = then_single (ItemsGive empty_context t.items) (ItemsBreak empty_context t.items) (λ c. EndBreaks t c)
+    (items_one t.items empty_context) (items_silent t.items empty_context) (items_single t.items empty_context) (λ c h. end_single t c s)
 
 -- the walk tells it
 
-pub text_told : (t : SourceTree) (kind : FaultKind) (at : ℕ) → IsShaped t → TextBreaks t kind at → fault_of t ≡ Some (number_of kind, at)
+pub text_told : (t : SourceTree) (kind : FaultKind) (at : ℕ) → IsShaped t → TextBreaks t kind at → fault_of t ≡ Some (fault_number kind, at)
 text_told t kind at s h = by (walk_tree t) refl
   where
-    by : (m : Walked Done) → walk_tree t ≡ m → fault_of t ≡ Some (number_of kind, at)
+    by : (m : Walked Done) → walk_tree t ≡ m → fault_of t ≡ Some (fault_number kind, at)
     by (Fine d known) e = absurd (text_silent t kind at (accepted_text t known s e) h)
     by (Faulty j n) e =
         let one : (j ≡ kind) × (n ≡ at) = text_single t s j kind n at (refused_text t j n e) h in
-        ap fault_in e ∙ ap₂ (λ k m. Some (number_of k, m)) one.0 one.1
+        ap fault_in e ∙ ap₂ (λ k m. Some (fault_number k, m)) one.0 one.1
 
 pub expr_told : (k : Known) (w : Walk) (x : ExprTree) (kind : FaultKind) (at : ℕ) → Agrees k w → Breaks k x kind at → walk_expr x w ≡ Faulty kind at
 expr_told k w x kind at g h = by (walk_expr x w) refl

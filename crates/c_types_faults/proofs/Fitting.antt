@@ -5,18 +5,18 @@ use Rattle.std.specs.Prelude.{Option, ◌&&◌, ◌||◌, if◌then◌else◌, n
 use Rattle.std.proofs.lemmas.Bool.{and_from, false≢true}
 use Rattle.cbi_base.specs.declared.operators.Binary.{Binary}
 use Rattle.cbi_base.specs.declared.operators.Binary.TheVariants as op
-use Rattle.c_rules.specs.declared.fault.FaultKind.TheVariants as fault
-use Rattle.c_rules.specs.declared.layout.StructType.{StructType}
-use Rattle.c_rules.specs.declared.operand.Operand.{Operand}
-use Rattle.c_rules.specs.TypeTree.{TypeTree, Void, Char, Int, Unsigned, Pointer, Array, Struct, same_type}
-use Rattle.c_rules.specs.Assigning.{assignable, is_left_side, pointers_join, pointers_meet}
-use Rattle.c_rules.specs.Conversions.{common, decayed, is_arithmetic, is_array, is_pointer, is_void, is_void_pointer, place_of, promoted, value_of, value_type}
-use Rattle.c_rules.specs.Faults.{Looked, ◌>>=◌}
-use Rattle.c_rules.specs.Operators.{added, both_arithmetic, cast_to, combined, equated, gives, is_movable, is_scalar_value, ordered, subtracted}
-use Rattle.c_rules.specs.Selecting.{chosen, either, indexed, joined_pointer, pointed, pointed_type}
-use Rattle.c_rules.proofs.Same.{same_self}
+use Rattle.c_types_rules.specs.declared.fault.FaultKind.TheVariants as fault
+use Rattle.c_types_rules.specs.declared.layout.StructType.{StructType}
+use Rattle.c_types_rules.specs.declared.operand.Operand.{Operand}
+use Rattle.c_types_rules.specs.TypeTree.{TypeTree, Void, Char, Int, Unsigned, Pointer, Array, Struct, same_type}
+use Rattle.c_types_rules.specs.Assigning.{assignable, is_left_side, pointers_join, pointers_meet}
+use Rattle.c_types_rules.specs.Conversions.{common, decayed, is_arithmetic, is_array, is_pointer, is_void, is_void_pointer, place_of, promoted, value_of, value_type}
+use Rattle.c_types_rules.specs.Faults.{Looked, ◌>>=◌}
+use Rattle.c_types_rules.specs.Operators.{added, both_arithmetic, cast_to, combined, equated, gives, is_movable, is_scalar_value, ordered, subtracted}
+use Rattle.c_types_rules.specs.Selecting.{chosen, either, indexed, joined_pointer, pointed, pointed_type}
+use Rattle.c_types_rules.proofs.Same.{same_self}
 use Rattle.c_types_expressions.specs.ExprWalk.{chained}
-use Rattle.c_types_laws.specs.Operands.{Accepts, Adds, AreArithmetic, Calculates, Casts, Chooses, Equates, Indexes, IsModifiable, Joins, LeadsTo}
+use Rattle.c_types_laws.specs.Operands.{Accepts, Adds, AreArithmetic, Calculates, Casts, Chooses, Equates, Indexes, IsModifiable, Joins, LeadsToObject}
 use Rattle.c_types_laws.specs.Operands.{IsPointer, Operates, Orders, PointersJoin, PointersMeet, PointsToObject, Shifts, Subtracts}
 
 -- tests
@@ -219,10 +219,10 @@ module _ (ss : List StructType) where
   chained_back (Some o) x y t h = combined_back o x y t h
 
   -- places
-  leads_back : (a t : TypeTree) → LeadsTo a t → pointed_type a ≡ Ok (place_of t)
+  leads_back : (a t : TypeTree) → LeadsToObject a t → pointed_type a ≡ Ok (place_of t)
   leads_back a t h = ap pointed_type h.0 ∙ if_false (is_void t) (Err fault.Operands) (Ok (place_of t)) h.1
 
-  pub pointed_back : (x : Operand) (t : TypeTree) → LeadsTo (value_type x) t → pointed x ≡ Ok (place_of t)
+  pub pointed_back : (x : Operand) (t : TypeTree) → LeadsToObject (value_type x) t → pointed x ≡ Ok (place_of t)
   pointed_back x t h = leads_back (value_type x) t h
 
   pub indexed_back : (x y : Operand) (t : TypeTree) → Indexes ss x y t → indexed ss x y ≡ Ok (place_of t)

@@ -3,7 +3,7 @@ use Rattle.std.proofs.Common.{◌⊎◌, inl, inr, ⊎_elim, ◌≡◌, ℕ, ◌
 use Rattle.c_types_faults.proofs.Bounds.{some_is}
 use Rattle.std.proofs.Common.{false, length}
 use Rattle.c_types_walk.specs.StatementWalk.{walk_entries}
-use Rattle.c_types_faults.specs.Statements.{EntriesBreak, EntriesFit}
+use Rattle.c_types_faults.specs.Statements.{AreRuledEntries, EntriesBreak}
 use Rattle.std.proofs.Common.{length-append}
 use Rattle.std.proofs.lemmas.Bool.{and_parts, false≢true}
 use Rattle.std.proofs.lemmas.Option.{slice_get_past}
@@ -11,13 +11,13 @@ use Rattle.std.proofs.lemmas.Slice.Eq.{bytes_eq-Decides}
 use Rattle.std.specs.Str.{bytes_eq}
 use Rattle.std.specs.Prelude.{Option, is_none, is_some, slice_get, ◌&&◌, ◌||◌, if◌then◌else◌, unwrap_or}
 use Rattle.c_syntax.specs.StatementTree.{EntryList}
-use Rattle.c_rules.specs.declared.fault.FaultKind.{FaultKind}
-use Rattle.c_rules.specs.declared.fault.FaultKind.TheVariants as fault
-use Rattle.c_rules.specs.declared.function.FunctionType.{FunctionType}
-use Rattle.c_rules.specs.Conversions.{is_struct}
-use Rattle.c_rules.specs.Functions.{same_function}
-use Rattle.c_rules.specs.Library.{library_named}
-use Rattle.c_rules.specs.TypeTree.{TypeTree}
+use Rattle.c_types_rules.specs.declared.fault.FaultKind.{FaultKind}
+use Rattle.c_types_rules.specs.declared.fault.FaultKind.TheVariants as fault
+use Rattle.c_types_rules.specs.declared.function.FunctionType.{FunctionType}
+use Rattle.c_types_rules.specs.Conversions.{is_struct}
+use Rattle.c_types_rules.specs.Functions.{same_function}
+use Rattle.c_types_rules.specs.Library.{library_named}
+use Rattle.c_types_rules.specs.TypeTree.{TypeTree}
 use Rattle.c_types_expressions.specs.declared.names.Meaning.{Meaning}
 use Rattle.c_types_expressions.specs.declared.names.Meaning.TheVariants as meaning
 use Rattle.c_types_expressions.specs.declared.names.ScopeEntry.{ScopeEntry}
@@ -32,12 +32,12 @@ use Rattle.c_types_walk.specs.ItemWalk.{with_definition, with_function, with_par
 use Rattle.c_types_laws.proofs.Declaring.{get_last, get_more}
 use Rattle.c_types_laws.proofs.Scenes.{replaced_long}
 use Rattle.c_types.specs.Answers.{noted}
-use Rattle.c_types_notes.specs.Events as event
-use Rattle.c_types_notes.specs.Events.{Event, entries_events, scoped}
-use Rattle.c_types_notes.proofs.Noting.{Named, path_onward, step_onward}
-use Rattle.c_types_notes.proofs.PathItems.{function_step}
-use Rattle.c_types_notes.proofs.PathStatements.{entries_goes}
-use Rattle.c_types_notes.proofs.Paths.{Path, called_name, variable_step, view}
+use Rattle.c_types_faults.specs.Events as event
+use Rattle.c_types_faults.specs.Events.{Event, entries_events, scoped}
+use Rattle.c_types_faults.proofs.Noting.{Named, path_onward, step_onward}
+use Rattle.c_types_faults.proofs.PathItems.{function_step}
+use Rattle.c_types_faults.proofs.PathStatements.{entries_goes}
+use Rattle.c_types_faults.proofs.Paths.{Path, called_name, variable_step, view}
 use Rattle.c_types_faults.specs.Texts.{HasCall}
 use Rattle.c_types_faults.proofs.Calling.{CallsIn, both_tell, has_left, has_right, path_calls}
 use Rattle.c_types_faults.specs.Known.{Entity, Object, Function, Standard}
@@ -428,8 +428,8 @@ module _ (token : ℕ) (name : List ℕ) (f : FunctionType) (c : Context) (w : W
       let first : Walk = with_params xs (opened begun) in
       let moved = params_move xs (opened begun) in
       let es : List Event = entries_events body in
-      and_then (and_then {Q = λ (d : Done) v. Beyond next begun v × Notes es w v × EntriesFit f.gives (with_formals fs (inner next)) false body}
-      (both_tell (λ (d : Done) v. Within (with_formals fs (inner next)) first v × EntriesFit f.gives (with_formals fs (inner next)) false body) (λ
+      and_then (and_then {Q = λ (d : Done) v. Beyond next begun v × Notes es w v × AreRuledEntries f.gives (with_formals fs (inner next)) false body}
+      (both_tell (λ (d : Done) v. Within (with_formals fs (inner next)) first v × AreRuledEntries f.gives (with_formals fs (inner next)) false body) (λ
       (d : Done) v. Path es (view first) (view v) × Unit {0})
       (EntriesBreak f.gives (with_formals fs (inner next)) false body) (walk_entries f.gives false body first)
       (entries_tell f.gives false body (with_formals fs (inner next)) first (params_know xs (inner next) (opened begun) (entering_knows here)))

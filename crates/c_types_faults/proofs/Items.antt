@@ -8,29 +8,29 @@ use Rattle.c_syntax.specs.declared.parts.Members.{Members}
 use Rattle.c_syntax.specs.ItemTree as i
 use Rattle.c_syntax.specs.ItemTree.{ItemTree}
 use Rattle.c_syntax.specs.StatementTree.{StartTree, EntryList}
-use Rattle.c_rules.specs.declared.function.FunctionType.{FunctionType}
-use Rattle.c_rules.specs.TypeTree.{TypeTree}
-use Rattle.c_rules.specs.Sizes.{cells_of}
+use Rattle.c_types_rules.specs.declared.function.FunctionType.{FunctionType}
+use Rattle.c_types_rules.specs.TypeTree.{TypeTree}
+use Rattle.c_types_rules.specs.Sizes.{cells_of}
 use Rattle.c_types_expressions.specs.declared.names.ScopeEntry.{ScopeEntry}
 use Rattle.c_types_expressions.specs.declared.walk.Parameter.{Parameter}
 use Rattle.c_types_expressions.specs.declared.walk.Walk.{Walk}
 use Rattle.c_types_expressions.specs.ExprWalk.{with_stars}
 use Rattle.c_types_expressions.specs.Names.{is_here}
 use Rattle.c_types_expressions.specs.Walked.{Done}
-use Rattle.c_types_walk.specs.ItemWalk.{listed, types_of, walk_item, walk_items}
+use Rattle.c_types_walk.specs.ItemWalk.{listed_params, types_of, walk_item, walk_items}
 use Rattle.c_syntax.specs.declared.parts.Params.{Params}
 use Rattle.c_types.specs.Answers.{noted}
 use Rattle.c_types_expressions.specs.declared.walk.FunctionEntry.{FunctionEntry}
 use Rattle.c_types_walk.specs.StatementWalk.{walk_declaration}
-use Rattle.c_types_notes.specs.Events.{Event, declaration_events, entries_events, item_events, items_events, params_events}
-use Rattle.c_types_notes.proofs.Noting.{Listed, Named, NoLibrary, path_onward}
-use Rattle.c_types_notes.proofs.PathStatements.{declaration_goes}
-use Rattle.c_types_notes.proofs.Paths.{Path, called_name, view}
+use Rattle.c_types_faults.specs.Events.{Event, declaration_events, entries_events, item_events, items_events, params_events}
+use Rattle.c_types_faults.proofs.Noting.{Listed, Named, NoLibrary, path_onward}
+use Rattle.c_types_faults.proofs.PathStatements.{declaration_goes}
+use Rattle.c_types_faults.proofs.Paths.{Path, called_name, view}
 use Rattle.c_types_faults.proofs.Calling.{both_tell, calls_then, path_calls}
-use Rattle.c_types_faults.specs.Context.{Context, counting, known, nothing}
+use Rattle.c_types_faults.specs.Context.{Context, counting, empty_context, known}
 use Rattle.c_types_faults.specs.Declarations.{VariableGives, VariablesGive, DeclarationGives, DeclarationBreaks}
 use Rattle.c_types_faults.specs.Structs.{StructGives}
-use Rattle.c_types_faults.specs.Functions.{FunctionBreaks, PrototypeGives, is_listed, type_of, Names}
+use Rattle.c_types_faults.specs.Functions.{FunctionBreaks, PrototypeGives, is_listed, formal_type, Names}
 use Rattle.c_types_faults.specs.Items.{ItemBreaks, ItemGives, ItemsBreak, ItemsGive}
 use Rattle.c_types_faults.proofs.Declaring.{Behind, declaration_tells}
 use Rattle.c_types_faults.proofs.Exprs.{base_tells}
@@ -132,7 +132,7 @@ behind_files {c = c} after w v outer defined k b = record {
 
 -- functions
 
-pub types_same : (ps : List Parameter) → types_of ps ≡ map type_of (map formal_of ps)
+pub types_same : (ps : List Parameter) → types_of ps ≡ map formal_type (map formal_of ps)
 types_same [] = refl
 types_same (p ∷ ps) = ap (λ ts. p.ctype ∷ ts) (types_same ps)
 
@@ -162,7 +162,7 @@ function_notes : (token : ℕ) (b : Base) (stars : ℕ) (name : List ℕ) (ps : 
 function_notes token b stars name ps None w v n = record { calls = λ t j h. ⊎_elim (λ e. inl e) (λ e. absurd e.1.0) (n.calls t j h); grows = n.grows }
 function_notes token b stars name ps (Some body) w v n = record {
   calls = λ t j h. ⊎_elim (λ e. inl e)
-      (λ e. inr (e.0, (in_function t e.0 name (params_events (listed ps)) (entries_events body) e.1.0, e.1.1))) (n.calls t j h);
+      (λ e. inr (e.0, (in_function t e.0 name (params_events (listed_params ps)) (entries_events body) e.1.0, e.1.1))) (n.calls t j h);
   grows = n.grows;
 }
 
@@ -173,10 +173,10 @@ item_tells (i.Struct token tag members) c w k = weaker (struct_tells token tag m
       no_calls (item_events (i.Struct token tag members)) w v p.1.1.calls p.1.1.functions,
     ))
 item_tells (i.Function token b stars name ps body) c w k = and_then (base_tells (known c) b w (agreed k.knows)) (λ j at h. inl h) (λ of v p.
-    and_then (params_tell c (is_some body) (listed ps) [] v (agrees_on (agreed k.knows) (ap shown p.1))) (λ j at h. inr (of, (p.0, inl h)))
+    and_then (params_tell c (is_some body) (listed_params ps) [] v (agrees_on (agreed k.knows) (ap shown p.1))) (λ j at h. inr (of, (p.0, inl h)))
     (λ xs u q.
     let f : FunctionType = record { gives = with_stars stars of; params = types_of xs } in
-    let is : PrototypeGives b stars (is_some body) (listed ps) c f (map formal_of xs) = (of, (p.0, q.0, ap (made (with_stars stars of)) (types_same xs))) in
+    let is : PrototypeGives b stars (is_some body) (listed_params ps) c f (map formal_of xs) = (of, (p.0, q.0, ap (made (with_stars stars of)) (types_same xs))) in
     weaker (function_tells token name f c u (subst (λ z. Files c (shown z)) (sym (q.1 ∙ p.1)) k) xs body)
     (λ j at h. inr (
       of,
@@ -248,6 +248,6 @@ defined_so (i.Function token b stars own ps (Some body) ∷ xs) c after (n, h) n
     ∙ ap (λ ds. (bytes_eq own name || is_listed name ds) || is_listed name (defined_in xs)) (names_keep own h.0.0 c h.0.1.1.1.2.0 h.0.1.1.1.2.1.0)
     ∙ or_swapped (bytes_eq own name) (is_listed name c.defined) (is_listed name (defined_in xs))
 
-pub defined_as_listed : (xs : List ItemTree) (after : Context) → ItemsGive nothing xs after → (name : List ℕ)
+pub defined_as_listed : (xs : List ItemTree) (after : Context) → ItemsGive empty_context xs after → (name : List ℕ)
     → is_listed name after.defined ≡ is_listed name (defined_in xs)
-defined_as_listed xs after h name = defined_so xs nothing after h name
+defined_as_listed xs after h name = defined_so xs empty_context after h name

@@ -26,3 +26,20 @@ pub mod First
 pub mod FirstExprs
 pub mod FirstStatements
 pub mod FirstTexts
+pub mod Paths
+pub mod PathExprs
+pub mod PathStatements
+pub mod PathItems
+pub mod Points
+pub mod SpreadExprs
+pub mod Leaving
+pub mod LeavingStatements
+pub mod LeavingItems
+pub mod Noting
+pub mod NotedFunctions
+pub mod NotedTexts
+pub mod Offsets
+pub mod Calls
+pub mod Scopes
+pub mod Types
+mod Examples

@@ -9,11 +9,11 @@ use Rattle.c_syntax.specs.declared.parts.Bound.{Bound}
 use Rattle.c_syntax.specs.declared.parts.Constant.{Constant}
 use Rattle.c_syntax.specs.declared.parts.Param.{Param}
 use Rattle.c_syntax.specs.declared.parts.ParamName.{ParamName}
-use Rattle.c_rules.specs.declared.fault.FaultKind.{FaultKind}
-use Rattle.c_rules.specs.declared.fault.FaultKind.TheVariants as fault
-use Rattle.c_rules.specs.Conversions.{is_scalar}
-use Rattle.c_rules.specs.Library.{library_named}
-use Rattle.c_rules.specs.TypeTree.{TypeTree}
+use Rattle.c_types_rules.specs.declared.fault.FaultKind.{FaultKind}
+use Rattle.c_types_rules.specs.declared.fault.FaultKind.TheVariants as fault
+use Rattle.c_types_rules.specs.Conversions.{is_scalar}
+use Rattle.c_types_rules.specs.Library.{library_named}
+use Rattle.c_types_rules.specs.TypeTree.{TypeTree}
 use Rattle.c_types_expressions.specs.declared.walk.Parameter.{Parameter}
 use Rattle.c_types_expressions.specs.declared.walk.Walk.{Walk}
 use Rattle.c_types_expressions.specs.ExprWalk.{with_stars}
@@ -21,8 +21,8 @@ use Rattle.c_types_expressions.specs.Names.{is_reserved}
 use Rattle.c_types_expressions.specs.Walked.{Fine, Faulty}
 use Rattle.c_types_walk.specs.ItemWalk.{has_length, is_among, is_length, is_named, looked_param, param_type, scalar_param, walk_param, walk_params}
 use Rattle.c_types_faults.specs.Context.{Context, IsReserved, known}
-use Rattle.c_types_faults.specs.Functions.{Formal, HasLength, IsFormal, IsPositive, ParamBreaks, ParamGives, ParamRule, ParamsBreak, ParamsGive}
-use Rattle.c_types_faults.specs.Functions.{adjusted, formal, ParamFits}
+use Rattle.c_types_faults.specs.Functions.{Formal, HasLength, IsFormal, IsPositiveLength, ParamBreaks, ParamGives, ParamRule, ParamsBreak, ParamsGive}
+use Rattle.c_types_faults.specs.Functions.{adjusted, formal, IsRuledParam}
 use Rattle.c_types_faults.specs.Least.{IsLeast}
 use Rattle.c_types_faults.proofs.Exprs.{base_tells}
 use Rattle.c_types_faults.proofs.Least.{least_first, least_second}
@@ -36,7 +36,7 @@ adjusted_is : (b : Option Bound) (t : TypeTree) → param_type b t ≡ adjusted 
 adjusted_is None t = refl
 adjusted_is (Some bound) t = refl
 
-positive_back : (o : Option Constant) → IsPositive o → is_length o ≡ true
+positive_back : (o : Option Constant) → IsPositiveLength o → is_length o ≡ true
 positive_back None h = refl
 positive_back (Some c) h = h
 
@@ -44,7 +44,7 @@ length_back : (b : Option Bound) → HasLength b → has_length b ≡ true
 length_back None h = refl
 length_back (Some bound) h = positive_back bound.length h
 
-is_positive : (o : Option Constant) → is_length o ≡ true → IsPositive o
+is_positive : (o : Option Constant) → is_length o ≡ true → IsPositiveLength o
 is_positive None h = tt
 is_positive (Some c) h = h
 
@@ -79,7 +79,7 @@ module _ (c : Context) (body : Bool) (token : ℕ) where
 
   no_name : (b : Bool) (t : TypeTree) (before : List Parameter) (w : Walk) → body ≡ b
       → Tells (if b then Faulty fault.Unknown token else scalar_param token None t (record { token = token; name = None; ctype = t }) w)
-      (λ x v. (formal_of x ≡ formal None t) × (v ≡ w) × ParamFits body (map formal_of before) None t) (Rule before None t)
+      (λ x v. (formal_of x ≡ formal None t) × (v ≡ w) × IsRuledParam body (map formal_of before) None t) (Rule before None t)
   no_name true t before w e = record {
     by = (refl, least_first (body ≡ true) (is_scalar t ≡ true → ⊥) fault.Unknown fault.Object fault.Unknown (omega arith) refl e);
   }
@@ -94,7 +94,7 @@ module _ (c : Context) (body : Bool) (token : ℕ) where
   named_by : (b : Bool) (n : ParamName) (t : TypeTree) (before : List Parameter) (w : Walk) → (is_reserved n.name || is_among n.name before) ≡ b
       → Tells (if b then Faulty fault.Redeclared token
       else scalar_param token n.bound (param_type n.bound t) (record { token = n.token; name = Some n.name; ctype = param_type n.bound t }) w)
-      (λ x v. (formal_of x ≡ formal (Some n) t) × (v ≡ w) × ParamFits body (map formal_of before) (Some n) t) (Rule before (Some n) t)
+      (λ x v. (formal_of x ≡ formal (Some n) t) × (v ≡ w) × IsRuledParam body (map formal_of before) (Some n) t) (Rule before (Some n) t)
   named_by true n t before w e = record {
     by = (
       refl,
@@ -134,7 +134,7 @@ module _ (c : Context) (body : Bool) (token : ℕ) where
 
   looked_tells : (name : Option ParamName) (t : TypeTree) (before : List Parameter) (w : Walk)
       → Tells (looked_param body token name t before w)
-      (λ x v. (formal_of x ≡ formal name t) × (v ≡ w) × ParamFits body (map formal_of before) name t) (Rule before name t)
+      (λ x v. (formal_of x ≡ formal name t) × (v ≡ w) × IsRuledParam body (map formal_of before) name t) (Rule before name t)
   looked_tells None t before w = no_name body t before w refl
   looked_tells (Some n) t before w = named_by (is_reserved n.name || is_among n.name before) n t before w refl
 

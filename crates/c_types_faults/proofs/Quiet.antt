@@ -7,35 +7,35 @@ use Rattle.c_syntax.specs.ExprTree as e
 use Rattle.c_syntax.specs.ExprTree.{ExprTree, ExprList}
 use Rattle.c_syntax.specs.StatementTree as s
 use Rattle.c_syntax.specs.StatementTree.{DeclarationTree, EntryList, ForStartTree, InitialTree, StartTree, StatementTree}
-use Rattle.c_rules.specs.declared.fault.FaultKind.{FaultKind}
-use Rattle.c_rules.specs.declared.fault.FaultKind.TheVariants as fault
-use Rattle.c_rules.specs.declared.layout.StructType.{StructType}
-use Rattle.c_rules.specs.declared.library.Library.TheVariants as library
-use Rattle.c_rules.specs.declared.operand.Operand.{Operand}
-use Rattle.c_rules.specs.Conversions.{is_struct}
-use Rattle.c_rules.specs.Sizes.{cells_of}
-use Rattle.c_rules.specs.TypeTree.{TypeTree, Void, Char, Int, Unsigned, Pointer, Array, Struct}
+use Rattle.c_types_rules.specs.declared.fault.FaultKind.{FaultKind}
+use Rattle.c_types_rules.specs.declared.fault.FaultKind.TheVariants as fault
+use Rattle.c_types_rules.specs.declared.layout.StructType.{StructType}
+use Rattle.c_types_rules.specs.declared.library.Library.TheVariants as library
+use Rattle.c_types_rules.specs.declared.operand.Operand.{Operand}
+use Rattle.c_types_rules.specs.Conversions.{is_struct}
+use Rattle.c_types_rules.specs.Sizes.{cells_of}
+use Rattle.c_types_rules.specs.TypeTree.{TypeTree, Void, Char, Int, Unsigned, Pointer, Array, Struct}
 use Rattle.c_types_walk.specs.Declarators.{declared_type}
-use Rattle.c_types_walk.specs.Initialisers.{cells_of_string, listed as list_of, valued}
+use Rattle.c_types_walk.specs.Initialisers.{cells_of_string, listed_type as list_of, valued}
 use Rattle.c_types_laws.specs.Operands.{Accepts, IsScalar}
 use Rattle.c_types_faults.specs.Known.{Entity, Object, Function, Standard, Known}
 use Rattle.c_types_faults.specs.Calls.{Calls}
 use Rattle.c_types_faults.specs.Context.{Context, counting, declare, inner, known}
-use Rattle.c_types_faults.specs.Declarators.{Declares}
-use Rattle.c_types_faults.specs.Initialisers.{Begins, Completes, InitialBreaks, Lists}
-use Rattle.c_types_faults.specs.Declarations.{BeginningBreaks, DeclarationBreaks, DeclarationGives, ElementBreaks, Finishes, HasRoom, IsObject, IsOpen, SizeBreaks}
+use Rattle.c_types_faults.specs.Declarators.{DeclaresAs}
+use Rattle.c_types_faults.specs.Initialisers.{Completes, InitialBreaks, Lists, ObjectBegins}
+use Rattle.c_types_faults.specs.Declarations.{BeginningBreaks, DeclarationBreaks, DeclarationGives, ElementBreaks, Finishes, GlobalsHaveRoom, IsObject, IsOpen, SizeBreaks}
 use Rattle.c_types_faults.specs.Declarations.{VariableBreaks, VariableGives, VariablesBreak, VariablesGive}
 use Rattle.c_types_faults.specs.ExprBreaks.{Breaks}
 use Rattle.c_types_faults.specs.Wholes.{IsFormatted, IsWhole, WholeBreaks, WholeCallBreaks}
-use Rattle.c_types_faults.specs.Statements.{EntriesBreak, EntriesFit, ForBreaks, GivesUpStruct, IfPart, IsCondition, IsGivenUp, IsSomeOperand, NoCondition, OfPart}
-use Rattle.c_types_faults.specs.Statements.{ReturnBreaks, Returns, StartBreaks, StartGives, StartLeaves, StatementBreaks, StatementFits, computed}
+use Rattle.c_types_faults.specs.Statements.{AreRuledEntries, EntriesBreak, ForBreaks, GivesUpStruct, IfPart, IsCondition, IsGivenUp, IsSomeOperand, NoCondition, OfPart}
+use Rattle.c_types_faults.specs.Statements.{IsRuledStatement, ReturnBreaks, Returns, StartBreaks, StartGives, StartLeaves, StatementBreaks, computed}
 use Rattle.c_types_faults.proofs.Beginnings.{begins_back, lists_back, completes_so, SameOrOpen}
 use Rattle.c_types_faults.proofs.Bounds.{declared_back, one_some}
 use Rattle.c_types_faults.proofs.Variables.{element_object}
 use Rattle.c_types_faults.proofs.Silent.{base_silent, call_silent, expr_silent, list_silent}
 use Rattle.c_types_faults.proofs.Single.{one_base, one_list, one_operand}
 
-pub one_type : (d : Declarator) (base t u : TypeTree) → Declares d base t → Declares d base u → t ≡ u
+pub one_type : (d : Declarator) (base t u : TypeTree) → DeclaresAs d base t → DeclaresAs d base u → t ≡ u
 one_type d base t u h k = one_some (declared_type d base) t u (declared_back d base t h) (declared_back d base u k)
 
 -- initialisers
@@ -46,7 +46,7 @@ module _ (k : Known) (global : Bool) where
   completes_one of None t u h g = h ∙ sym g
   completes_one of (Some (s.Value value)) t u (x, h) (y, g) =
       one_some (valued global of value x (cells_of_string value)) t u (begins_back global value of t x h.1)
-      (begins_back global value of u x (subst (λ z. Begins global of value z u) (sym (one_operand k value x y h.0 g.0)) g.1))
+      (begins_back global value of u x (subst (λ z. ObjectBegins global of value z u) (sym (one_operand k value x y h.0 g.0)) g.1))
   completes_one of (Some (s.Braced token items comma)) t u (xs, h) (ys, g) =
       one_some (list_of global items xs of) t u (lists_back global of items xs t h.1)
       (lists_back global of items xs u (subst (λ zs. Lists global of items zs u) (sym (one_list k items xs ys h.0 g.0)) g.1))
@@ -56,7 +56,7 @@ module _ (k : Known) (global : Bool) where
   initial_silent of None t j at h b = b
   initial_silent of (Some (s.Value value)) t j at (x, h) (inl b) = expr_silent k value x j at h.0 b
   initial_silent of (Some (s.Value value)) t j at (x, h) (inr (y, b)) =
-      b.1.2 t (subst (λ z. Begins global of value z t) (one_operand k value x y h.0 b.0) h.1)
+      b.1.2 t (subst (λ z. ObjectBegins global of value z t) (one_operand k value x y h.0 b.0) h.1)
   initial_silent of (Some (s.Braced token items comma)) t j at (xs, h) (inl b) = list_silent k items xs j at h.0 b
   initial_silent of (Some (s.Braced token items comma)) t j at (xs, h) (inr (ys, b)) =
       b.1.2 t (subst (λ zs. Lists global of items zs t) (one_list k items xs ys h.0 b.0) h.1)
@@ -110,11 +110,11 @@ module _ (global : Bool) (base : TypeTree) where
       (subst (λ z. Finishes global base c x z u2) is g.1) in
       h.4 ∙ ap (λ v. declare x.declarator.name (Object v) (counting global (cells_of c.structs v) c)) same ∙ sym g.4
 
-  beginning_silent : (x : StartTree) (c : Context) (t u : TypeTree) → Finishes global base c x t u → IsObject c.structs u → HasRoom global c u
+  beginning_silent : (x : StartTree) (c : Context) (t u : TypeTree) → Finishes global base c x t u → IsObject c.structs u → GlobalsHaveRoom global c u
       → BeginningBreaks global base c x t → ⊥
   beginning_silent x c t u f o r (inl (closed, bad)) =
       let is : u ≡ t = completes_closed (known (declare x.declarator.name (Object t) c)) global t x.initial u f closed in
-      ⊎_elim (λ n. n (subst (IsObject c.structs) is o)) (λ n. n (subst (HasRoom global c) is r)) bad
+      ⊎_elim (λ n. n (subst (IsObject c.structs) is o)) (λ n. n (subst (GlobalsHaveRoom global c) is r)) bad
   beginning_silent x c t u f o r (inr (opens, b)) =
       completes_elements (known (declare x.declarator.name (Object t) c)) global c.structs t x.initial u f o opens b
 
@@ -130,7 +130,7 @@ module _ (global : Bool) (base : TypeTree) where
       by t2 e (inr (v, b)) =
           let is : u ≡ v = completes_one (known (declare x.declarator.name (Object t2) c)) global t2 x.initial u v
           (subst (λ z. Finishes global base c x z u) e h.1) b.0 in
-          ⊎_elim (λ n. n (subst (IsObject c.structs) is h.2)) (λ n. n (subst (HasRoom global c) is h.3)) b.1.2
+          ⊎_elim (λ n. n (subst (IsObject c.structs) is h.2)) (λ n. n (subst (GlobalsHaveRoom global c) is h.3)) b.1.2
 
   pub variables_one : (xs : List StartTree) (c a b : Context) → VariablesGive global base c xs a → VariablesGive global base c xs b → a ≡ b
   variables_one [] c a b h g = h ∙ sym g
@@ -271,10 +271,10 @@ module _ (gives : TypeTree) where
   ForRest d start condition step body c j at token = OfPart (λ x. Breaks (known d) x j at) condition
       ⊎ (IfPart (IsSomeOperand (known d)) condition × (OfPart (λ x. Breaks (known d) x j at) step
       ⊎ (IfPart (IsSomeOperand (known d)) step × (StatementBreaks gives d true body j at
-      ⊎ (StatementFits gives d true body × ((at ≡ token) × ForBreaks (known (inner c)) (known d) start condition step j))))))
+      ⊎ (IsRuledStatement gives d true body × ((at ≡ token) × ForBreaks (known (inner c)) (known d) start condition step j))))))
 
   for_silent : (start : ForStartTree) (condition step : Option ExprTree) (body : StatementTree) (c d : Context) (j : FaultKind) (at token : ℕ)
-      → (StartGives (inner c) start d × IfPart (IsCondition (known d)) condition × IfPart (IsGivenUp (known d)) step × StatementFits gives d true body)
+      → (StartGives (inner c) start d × IfPart (IsCondition (known d)) condition × IfPart (IsGivenUp (known d)) step × IsRuledStatement gives d true body)
       → (StatementBreaks gives d true body j at → ⊥)
       → ForRest d start condition step body c j at token → ⊥
   for_silent start condition step body c d j at token h f (inl b) =
@@ -289,7 +289,7 @@ module _ (gives : TypeTree) where
       part_silent (IsGivenUp (known d)) (λ x. GivesUpStruct (known d) x j) step (λ y. given_silent (known d) y j) h.2 b
 
   mutual
-    pub statement_silent : (looping : Bool) (x : StatementTree) (c : Context) (j : FaultKind) (at : ℕ) → StatementFits gives c looping x
+    pub statement_silent : (looping : Bool) (x : StatementTree) (c : Context) (j : FaultKind) (at : ℕ) → IsRuledStatement gives c looping x
         → StatementBreaks gives c looping x j at → ⊥
     statement_silent looping (s.Block token entries) c j at h b = entries_silent looping entries (inner c) j at h b
     statement_silent looping (s.Empty token) c j at h b = b
@@ -318,7 +318,7 @@ module _ (gives : TypeTree) where
     statement_silent looping (s.Break token) c j at h b = false≢true (sym b.1.1 ∙ h)
     statement_silent looping (s.Continue token) c j at h b = false≢true (sym b.1.1 ∙ h)
 
-    pub entries_silent : (looping : Bool) (xs : EntryList) (c : Context) (j : FaultKind) (at : ℕ) → EntriesFit gives c looping xs
+    pub entries_silent : (looping : Bool) (xs : EntryList) (c : Context) (j : FaultKind) (at : ℕ) → AreRuledEntries gives c looping xs
         → EntriesBreak gives c looping xs j at → ⊥
     entries_silent looping s.no_entries c j at h b = b
     entries_silent looping (s.declared declaration rest) c j at (n, h) (inl b) = declaration_silent false declaration c n j at h.0 b

@@ -10,21 +10,21 @@ use Rattle.c_syntax.specs.declared.parts.ParamName.{ParamName}
 use Rattle.c_syntax.specs.ItemTree as i
 use Rattle.c_syntax.specs.ItemTree.{ItemTree, SourceTree}
 use Rattle.c_syntax.specs.StatementTree.{EntryList}
-use Rattle.c_rules.specs.declared.fault.FaultKind.{FaultKind}
-use Rattle.c_rules.specs.declared.function.FunctionType.{FunctionType}
-use Rattle.c_rules.specs.declared.layout.StructType.{StructType}
-use Rattle.c_rules.specs.Sizes.{empty_struct, with_member, most_cells}
-use Rattle.c_rules.specs.TypeTree.{TypeTree}
+use Rattle.c_types_rules.specs.declared.fault.FaultKind.{FaultKind}
+use Rattle.c_types_rules.specs.declared.function.FunctionType.{FunctionType}
+use Rattle.c_types_rules.specs.declared.layout.StructType.{StructType}
+use Rattle.c_types_rules.specs.Sizes.{empty_struct, with_member, most_cells}
+use Rattle.c_types_rules.specs.TypeTree.{TypeTree}
 use Rattle.c_types_expressions.specs.ExprWalk.{with_stars}
-use Rattle.c_types_walk.specs.ItemWalk.{listed}
-use Rattle.c_types_faults.specs.Context.{Context, inner, known, nothing}
-use Rattle.c_types_faults.specs.Functions.{Clashes, Formal, FunctionBreaks, FunctionFits, FunctionGives, FunctionRule, IsDefinedBefore, Names, ParamBreaks, ParamFits}
+use Rattle.c_types_walk.specs.ItemWalk.{listed_params}
+use Rattle.c_types_faults.specs.Context.{Context, empty_context, inner, known}
+use Rattle.c_types_faults.specs.Functions.{Clashes, Formal, FunctionBreaks, FunctionFits, FunctionGives, FunctionRule, IsDefinedBefore, IsRuledParam, Names, ParamBreaks}
 use Rattle.c_types_faults.specs.Functions.{ParamGives, ParamRule}
-use Rattle.c_types_faults.specs.Functions.{ParamsBreak, ParamsGive, PrototypeGives, formal, prototype, type_of, with_formals}
+use Rattle.c_types_faults.specs.Functions.{ParamsBreak, ParamsGive, PrototypeGives, formal, formal_type, prototype, with_formals}
 use Rattle.c_types_faults.specs.Items.{ItemBreaks, ItemGives, ItemsBreak, ItemsGive}
 use Rattle.c_types_faults.specs.Statements.{EntriesBreak}
 use Rattle.c_types_faults.specs.Structs.{LineBreaks, LineGives, NewMemberBreaks, MemberGives, MembersBreak, MembersGive, StructBreaks, StructGives, tagging}
-use Rattle.c_types_faults.specs.Texts.{TextBreaks, TextKeepsRules, HasMain, CallsUndefined}
+use Rattle.c_types_faults.specs.Texts.{TextBreaks, TextKeepsRules, DefinesMain, CallsUndefined}
 use Rattle.c_types_faults.proofs.Quiet.{declaration_one, declaration_silent, entries_silent, one_type}
 use Rattle.c_types_faults.proofs.Silent.{base_silent}
 use Rattle.c_types_faults.proofs.Single.{one_base}
@@ -80,7 +80,7 @@ struct_silent token tag members c a j at (s, h) (inr (r, (g, (q, (inr b, least))
 
 -- parameters
 
-rule_silent : (body : Bool) (before : List Formal) (name : Option ParamName) (t : TypeTree) (j : FaultKind) → ParamFits body before name t
+rule_silent : (body : Bool) (before : List Formal) (name : Option ParamName) (t : TypeTree) (j : FaultKind) → IsRuledParam body before name t
     → ParamRule body before name t j → ⊥
 rule_silent body before None t j h (inl b) = false≢true (sym h.0 ∙ b.1)
 rule_silent body before None t j h (inr b) = b.1 h.1
@@ -117,7 +117,7 @@ names_one name f c a b (inr h) (inl g) = absurd (h.0 g.0)
 names_one name f c a b (inr h) (inr g) = h.1 ∙ sym g.1
 
 abbrev made : TypeTree → List Formal → FunctionType
-made t fs = record { gives = t; params = map type_of fs }
+made t fs = record { gives = t; params = map formal_type fs }
 
 pub formals_one : (b : Base) (stars : ℕ) (body : Bool) (ps : List Param) (c : Context) (f g : FunctionType) (fs gs : List Formal)
     → PrototypeGives b stars body ps c f fs → PrototypeGives b stars body ps c g gs → fs ≡ gs
@@ -160,21 +160,21 @@ pub item_one : (x : ItemTree) (c a b : Context) → ItemGives c x a → ItemGive
 item_one (i.Struct token tag members) c a b h g = struct_one tag members c a b h g
 item_one (i.Function token base stars name ps body) c a b (f, (fs, h)) (g, (gs, k)) =
     function_one name f fs body c a b h.1
-    (subst (λ z. FunctionGives name z fs body c b) (sym (prototype_one base stars (is_some body) (listed ps) c f g fs gs h.0 k.0))
-    (subst (λ z. FunctionGives name g z body c b) (sym (formals_one base stars (is_some body) (listed ps) c f g fs gs h.0 k.0)) k.1))
+    (subst (λ z. FunctionGives name z fs body c b) (sym (prototype_one base stars (is_some body) (listed_params ps) c f g fs gs h.0 k.0))
+    (subst (λ z. FunctionGives name g z body c b) (sym (formals_one base stars (is_some body) (listed_params ps) c f g fs gs h.0 k.0)) k.1))
 item_one (i.Declaration declaration) c a b h g = declaration_one true declaration c a b h g
 
 pub item_silent : (x : ItemTree) (c a : Context) (j : FaultKind) (at : ℕ) → ItemGives c x a → ItemBreaks c x j at → ⊥
 item_silent (i.Struct token tag members) c a j at h b = struct_silent token tag members c a j at h b
 item_silent (i.Function token base stars name ps body) c a j at (f, (fs, h)) (inl b) = base_silent (known c) base h.0.0 j at h.0.1.0 b
 item_silent (i.Function token base stars name ps body) c a j at (f, (fs, h)) (inr (of, (g, inl b))) =
-    params_silent c (is_some body) (listed ps) [] fs j at h.0.1.1 b
+    params_silent c (is_some body) (listed_params ps) [] fs j at h.0.1.1 b
 item_silent (i.Function token base stars name ps body) c a j at (f, (fs, h)) (inr (of, (g, inr (gs, (k, b))))) =
     let own : FunctionType = prototype (with_stars stars of) gs in
-    let is : PrototypeGives base stars (is_some body) (listed ps) c own gs = (of, (g, k, refl)) in
+    let is : PrototypeGives base stars (is_some body) (listed_params ps) c own gs = (of, (g, k, refl)) in
     function_silent token name f fs body c a j at h.1
-    (subst (λ z. FunctionBreaks token name z fs body c j at) (prototype_one base stars (is_some body) (listed ps) c own f gs fs is h.0)
-    (subst (λ z. FunctionBreaks token name own z body c j at) (formals_one base stars (is_some body) (listed ps) c own f gs fs is h.0) b))
+    (subst (λ z. FunctionBreaks token name z fs body c j at) (prototype_one base stars (is_some body) (listed_params ps) c own f gs fs is h.0)
+    (subst (λ z. FunctionBreaks token name own z body c j at) (formals_one base stars (is_some body) (listed_params ps) c own f gs fs is h.0) b))
 item_silent (i.Declaration declaration) c a j at h b = declaration_silent true declaration c a j at h b
 
 pub items_one : (xs : List ItemTree) (c a b : Context) → ItemsGive c xs a → ItemsGive c xs b → a ≡ b
@@ -188,9 +188,9 @@ items_silent (x ∷ xs) c a j at (n, h) (inr (m, b)) =
     items_silent xs n a j at h.1 (subst (λ z. ItemsBreak z xs j at) (item_one x c m n b.0 h.0) b.1)
 
 pub text_silent : (t : SourceTree) (kind : FaultKind) (token : ℕ) → TextKeepsRules t → TextBreaks t kind token → ⊥
-text_silent t kind token (c, h) (inl b) = items_silent t.items nothing c kind token h.0 b
-text_silent t kind token (c, h) (inr (d, (g, inl b))) = b.2 (subst (HasMain t) (items_one t.items nothing c d h.0 g) h.1)
-text_silent t kind token (c, h) (inr (d, (g, inr (m, b)))) = undefined (subst (λ z. CallsUndefined t z token) (items_one t.items nothing d c g h.0) b.1.0)
+text_silent t kind token (c, h) (inl b) = items_silent t.items empty_context c kind token h.0 b
+text_silent t kind token (c, h) (inr (d, (g, inl b))) = b.2 (subst (DefinesMain t) (items_one t.items empty_context c d h.0 g) h.1)
+text_silent t kind token (c, h) (inr (d, (g, inr (m, b)))) = undefined (subst (λ z. CallsUndefined t z token) (items_one t.items empty_context d c g h.0) b.1.0)
   where
     undefined : CallsUndefined t c token → ⊥
     undefined u = false≢true (sym u.1.2 ∙ h.2 token u.0 u.1.0 u.1.1)

@@ -7,29 +7,29 @@ use Rattle.cbi_base.specs.declared.operators.Binary.{Binary}
 use Rattle.cbi_base.specs.declared.operators.Binary.TheVariants as op
 use Rattle.c_syntax.specs.declared.expr.PrefixOperator.{PrefixOperator}
 use Rattle.c_syntax.specs.declared.expr.PrefixOperator.TheVariants as prefix
-use Rattle.c_rules.specs.declared.fault.FaultKind.{FaultKind}
-use Rattle.c_rules.specs.declared.fault.FaultKind.TheVariants as fault
-use Rattle.c_rules.specs.declared.function.FunctionType.{FunctionType}
-use Rattle.c_rules.specs.declared.layout.Member.{Member}
-use Rattle.c_rules.specs.declared.layout.StructType.{StructType}
-use Rattle.c_rules.specs.declared.library.Library.{Library}
-use Rattle.c_rules.specs.declared.library.Library.TheVariants as library
-use Rattle.c_rules.specs.declared.operand.Operand.{Operand}
-use Rattle.c_rules.specs.TypeTree.{TypeTree, Void, Char, Int, Unsigned, Pointer, Array, Struct, same_type}
-use Rattle.c_rules.specs.Assigning.{assignable, assigned, fits_parameters, is_left_side, pointers_join}
-use Rattle.c_rules.specs.Conversions.{common, is_arithmetic, is_pointer, is_struct, is_void, place_of, promoted, value_of, value_type}
-use Rattle.c_rules.specs.Faults.{Looked, ◌>>=◌}
-use Rattle.c_rules.specs.Functions.{called}
-use Rattle.c_rules.specs.Library.{library_called, one_scalar}
-use Rattle.c_rules.specs.Operators.{added, both_arithmetic, cast_to, combined, gives, is_movable, is_scalar_value, measured, signed, stepped, subtracted}
-use Rattle.c_rules.specs.Selecting.{chosen, either, indexed, joined_pointer, known_member, member_behind, member_in, member_named, member_of, pointed}
-use Rattle.c_rules.specs.Selecting.{pointed_type, sequenced}
-use Rattle.c_rules.specs.Sizes.{is_complete}
+use Rattle.c_types_rules.specs.declared.fault.FaultKind.{FaultKind}
+use Rattle.c_types_rules.specs.declared.fault.FaultKind.TheVariants as fault
+use Rattle.c_types_rules.specs.declared.function.FunctionType.{FunctionType}
+use Rattle.c_types_rules.specs.declared.layout.Member.{Member}
+use Rattle.c_types_rules.specs.declared.layout.StructType.{StructType}
+use Rattle.c_types_rules.specs.declared.library.Library.{Library}
+use Rattle.c_types_rules.specs.declared.library.Library.TheVariants as library
+use Rattle.c_types_rules.specs.declared.operand.Operand.{Operand}
+use Rattle.c_types_rules.specs.TypeTree.{TypeTree, Void, Char, Int, Unsigned, Pointer, Array, Struct, same_type}
+use Rattle.c_types_rules.specs.Assigning.{assignable, assigned, fits_parameters, is_left_side, pointers_join}
+use Rattle.c_types_rules.specs.Conversions.{common, is_arithmetic, is_pointer, is_struct, is_void, place_of, promoted, value_of, value_type}
+use Rattle.c_types_rules.specs.Faults.{Looked, ◌>>=◌}
+use Rattle.c_types_rules.specs.Functions.{called}
+use Rattle.c_types_rules.specs.Library.{library_called, one_scalar}
+use Rattle.c_types_rules.specs.Operators.{added, both_arithmetic, cast_to, combined, gives, is_movable, is_scalar_value, measured, signed, stepped, subtracted}
+use Rattle.c_types_rules.specs.Selecting.{chosen, either, indexed, joined_pointer, known_member, member_behind, member_in, member_named, member_of, pointed}
+use Rattle.c_types_rules.specs.Selecting.{pointed_type, sequenced}
+use Rattle.c_types_rules.specs.Sizes.{is_complete}
 use Rattle.c_types_expressions.specs.ExprWalk.{assigning, chained, prefixed}
 use Rattle.c_types_laws.specs.Operands.{Accepts, Casts, Chooses, Indexes, IsArithmetic, IsModifiable, Joins, Operates, PointsToObject, Prefixes}
 use Rattle.c_types_laws.proofs.Ruled.{Is, accepts, combined_is, is_value, value_is}
 use Rattle.c_types_faults.specs.Least.{IsLeast}
-use Rattle.c_types_faults.specs.Calls.{CallsAs, CallsStandard, IsLoneScalar, Passes}
+use Rattle.c_types_faults.specs.Calls.{ArgumentsPass, CallsAs, CallsStandard, IsLoneScalar}
 use Rattle.c_types_faults.specs.Operands.{AsValue, Sequence}
 use Rattle.c_types_faults.specs.ExprRules.{ArrowBreaks, AssignBreaks, Counts, HasStruct, MemberBreaks, Misfits, PrefixBreaks, StepBreaks, Stores, Unmodifiable}
 use Rattle.c_types_faults.proofs.Least.{least_first, least_second}
@@ -205,13 +205,13 @@ sequence_breaks before (x ∷ xs) k h = step_breaks x xs k (is_struct x.ctype) r
 
 -- calls
 
-pub passes : (ts : List TypeTree) (xs : List Operand) → fits_parameters ts xs ≡ true → Passes ts xs
+pub passes : (ts : List TypeTree) (xs : List Operand) → fits_parameters ts xs ≡ true → ArgumentsPass ts xs
 passes [] [] h = tt
 passes [] (x ∷ xs) h = absurd (omega (arith, eqb-true (suc (length xs)) 0 h))
 passes (t ∷ ts) [] h = absurd (false≢true h)
 passes (t ∷ ts) (x ∷ xs) h = let l = and_parts (assignable t x) (fits_parameters ts xs) h in (accepts t x l.0, passes ts xs l.1)
 
-pub passes_back : (ts : List TypeTree) (xs : List Operand) → Passes ts xs → fits_parameters ts xs ≡ true
+pub passes_back : (ts : List TypeTree) (xs : List Operand) → ArgumentsPass ts xs → fits_parameters ts xs ≡ true
 passes_back [] [] h = refl
 passes_back [] (x ∷ xs) h = absurd h
 passes_back (t ∷ ts) [] h = absurd h
@@ -230,11 +230,11 @@ passing_breaks true t P k f h = absurd (cc)
 passing_breaks false t P k f h = (fault_is fault.Arguments k h, λ u p. false≢true (f p.0))
 
 pub called_is : (f : FunctionType) (xs : List Operand) (d : Operand) → called f xs ≡ Ok d → AsValue (CallsAs f xs) d
-called_is f xs d h = passing_is (fits_parameters f.params xs) f.gives (Passes f.params xs) d (passes f.params xs) h
+called_is f xs d h = passing_is (fits_parameters f.params xs) f.gives (ArgumentsPass f.params xs) d (passes f.params xs) h
 
 pub called_breaks : (f : FunctionType) (xs : List Operand) (k : FaultKind) → called f xs ≡ Err k
     → (k ≡ fault.Arguments) × ((t : TypeTree) → CallsAs f xs t → ⊥)
-called_breaks f xs k h = passing_breaks (fits_parameters f.params xs) f.gives (Passes f.params xs) k (passes_back f.params xs) h
+called_breaks f xs k h = passing_breaks (fits_parameters f.params xs) f.gives (ArgumentsPass f.params xs) k (passes_back f.params xs) h
 
 lone_is : (xs : List Operand) → one_scalar xs ≡ true → IsLoneScalar xs
 lone_is [] h = absurd (false≢true h)

@@ -6,13 +6,13 @@ use Rattle.std.specs.Prelude.{Option, not, ◌||◌, if◌then◌else◌}
 use Rattle.c_syntax.specs.ExprTree.{ExprTree}
 use Rattle.c_syntax.specs.StatementTree as s
 use Rattle.c_syntax.specs.StatementTree.{DeclarationTree, EntryList, ForStartTree, StartTree, StatementTree}
-use Rattle.c_rules.specs.declared.fault.FaultKind.{FaultKind}
-use Rattle.c_rules.specs.declared.fault.FaultKind.TheVariants as fault
-use Rattle.c_rules.specs.declared.operand.Operand.{Operand}
-use Rattle.c_rules.specs.Assigning.{assignable}
-use Rattle.c_rules.specs.Conversions.{is_struct, is_void}
-use Rattle.c_rules.specs.Operators.{is_scalar_value}
-use Rattle.c_rules.specs.TypeTree.{TypeTree}
+use Rattle.c_types_rules.specs.declared.fault.FaultKind.{FaultKind}
+use Rattle.c_types_rules.specs.declared.fault.FaultKind.TheVariants as fault
+use Rattle.c_types_rules.specs.declared.operand.Operand.{Operand}
+use Rattle.c_types_rules.specs.Assigning.{assignable}
+use Rattle.c_types_rules.specs.Conversions.{is_struct, is_void}
+use Rattle.c_types_rules.specs.Operators.{is_scalar_value}
+use Rattle.c_types_rules.specs.TypeTree.{TypeTree}
 use Rattle.c_types_expressions.specs.declared.walk.Walk.{Walk}
 use Rattle.c_types_expressions.specs.Names.{closed}
 use Rattle.c_types_expressions.specs.Walked.{Faulty, Done, closing, opened, unless}
@@ -25,7 +25,7 @@ use Rattle.c_types_faults.specs.Exprs.{IsOperand}
 use Rattle.c_types_faults.specs.ExprBreaks.{Breaks}
 use Rattle.c_types_faults.specs.Declarations.{DeclarationGives, VariableGives, VariablesGive}
 use Rattle.c_types_faults.specs.Statements.{EntriesBreak, ForBreaks, GivesUpStruct, NoCondition, OfPart, ReturnBreaks, StartBreaks, StartGives}
-use Rattle.c_types_faults.specs.Statements.{EntriesFit, StatementFits, IsCondition, IsGivenUp, IsSomeOperand, IfPart, Returns, StartLeaves}
+use Rattle.c_types_faults.specs.Statements.{AreRuledEntries, IsRuledStatement, IsCondition, IsGivenUp, IsSomeOperand, IfPart, Returns, StartLeaves}
 use Rattle.c_types_faults.specs.Statements.{StatementBreaks, computed}
 use Rattle.c_types_faults.proofs.Exprs.{expr_tells}
 use Rattle.c_types_faults.proofs.Wholes.{whole_tells}
@@ -236,7 +236,7 @@ within_of c d w v e b = record { scope = d.scope; knows = subst (λ z. Knows z (
 module _ (gives : TypeTree) where
   mutual
     pub statement_tells : (looping : Bool) (x : StatementTree) (c : Context) (w : Walk) → Knows c (shown w)
-        → Tells (walk_statement gives looping x w) (λ (d : Done) v. Beyond c w v × StatementFits gives c looping x) (StatementBreaks gives c looping x)
+        → Tells (walk_statement gives looping x w) (λ (d : Done) v. Beyond c w v × IsRuledStatement gives c looping x) (StatementBreaks gives c looping x)
     statement_tells looping (s.Block token entries) c w k = and_then (entries_tell looping entries (inner c) (opened w) (entering_knows k)) (λ j at h. h)
         (λ d v p. weaker (closing_tells {B = EntriesBreak gives (inner c) looping entries} c w v d p.0) (λ j at b. b) (λ e u q. (q, p.1)))
     statement_tells looping (s.Empty token) c w k = record { by = (beyond_here k refl, tt) }
@@ -289,7 +289,7 @@ module _ (gives : TypeTree) where
         (λ j at b. b) (λ d v p. (p.0, is_true looping p.1))
 
     pub entries_tell : (looping : Bool) (xs : EntryList) (c : Context) (w : Walk) → Knows c (shown w)
-        → Tells (walk_entries gives looping xs w) (λ (d : Done) v. Within c w v × EntriesFit gives c looping xs) (EntriesBreak gives c looping xs)
+        → Tells (walk_entries gives looping xs w) (λ (d : Done) v. Within c w v × AreRuledEntries gives c looping xs) (EntriesBreak gives c looping xs)
     entries_tell looping s.no_entries c w k = record {
       by = (record { scope = c.scope; knows = k; names = []; moves = still (shown w) (shown w) refl }, tt);
     }

@@ -7,12 +7,12 @@ use Rattle.std.specs.Prelude.{Option, is_some, nat_le, if◌then◌else◌}
 use Rattle.std.specs.Str.{bytes_eq}
 use Rattle.c_syntax.specs.declared.parts.Declarator.{Declarator}
 use Rattle.c_syntax.specs.declared.parts.Members.{Members}
-use Rattle.c_rules.specs.declared.fault.FaultKind.TheVariants as fault
-use Rattle.c_rules.specs.declared.layout.Member.{Member}
-use Rattle.c_rules.specs.declared.layout.StructType.{StructType}
-use Rattle.c_rules.specs.TypeTree.{TypeTree}
-use Rattle.c_rules.specs.Selecting.{member_named}
-use Rattle.c_rules.specs.Sizes.{empty_struct, is_object, most_cells, with_member}
+use Rattle.c_types_rules.specs.declared.fault.FaultKind.TheVariants as fault
+use Rattle.c_types_rules.specs.declared.layout.Member.{Member}
+use Rattle.c_types_rules.specs.declared.layout.StructType.{StructType}
+use Rattle.c_types_rules.specs.TypeTree.{TypeTree}
+use Rattle.c_types_rules.specs.Selecting.{member_named}
+use Rattle.c_types_rules.specs.Sizes.{empty_struct, is_object, most_cells, with_member}
 use Rattle.c_types_expressions.specs.declared.names.Meaning.TheVariants as meaning
 use Rattle.c_types_expressions.specs.declared.names.ScopeEntry.{ScopeEntry}
 use Rattle.c_types_expressions.specs.declared.names.ScopeEntry.TheVariants.{Opens, Declares}
@@ -78,7 +78,7 @@ has_tag tag (Declares t (meaning.Function i) ∷ rest) (d ∷ ds) h e = absurd h
 has_tag tag (Declares t (meaning.Library f) ∷ rest) (d ∷ ds) h e = absurd h
 
 module _ (c : Context) where
-  no_member_type : (base t u : TypeTree) (d : Declarator) → declared_type d base ≡ Some t → is_object c.structs t ≡ false → law.Declares d base u
+  no_member_type : (base t u : TypeTree) (d : Declarator) → declared_type d base ≡ Some t → is_object c.structs t ≡ false → law.DeclaresAs d base u
       → IsObject c.structs u → ⊥
   no_member_type base t u d e h k o = no_object c.structs t h (subst (IsObject c.structs) (some_is u t (sym (declared_back d base u k) ∙ e)) o)
 
@@ -93,7 +93,7 @@ module _ (c : Context) where
   typed_by false base t d s w new k e h = record {
     by = (
       refl,
-      least_second (HasMember d.name s.members) ((u : TypeTree) → law.Declares d base u → IsObject c.structs u → ⊥) fault.Redeclared fault.Object
+      least_second (HasMember d.name s.members) ((u : TypeTree) → law.DeclaresAs d base u → IsObject c.structs u → ⊥) fault.Redeclared fault.Object
           fault.Object new refl (λ u q. no_member_type base t u d e (ap (λ ss. is_object ss t) k ∙ h) q),
     );
   }
@@ -104,7 +104,7 @@ module _ (c : Context) where
   typed_tells None base d s w new k e = record {
     by = (
       refl,
-      least_second (HasMember d.name s.members) ((u : TypeTree) → law.Declares d base u → IsObject c.structs u → ⊥) fault.Redeclared fault.Object
+      least_second (HasMember d.name s.members) ((u : TypeTree) → law.DeclaresAs d base u → IsObject c.structs u → ⊥) fault.Redeclared fault.Object
           fault.Object new refl (λ u q i. no_type d base e u q),
     );
   }
@@ -117,7 +117,7 @@ module _ (c : Context) where
   member_by true base d s w k e = record {
     by = (
       refl,
-      least_first (HasMember d.name s.members) ((u : TypeTree) → law.Declares d base u → IsObject c.structs u → ⊥) fault.Redeclared fault.Object
+      least_first (HasMember d.name s.members) ((u : TypeTree) → law.DeclaresAs d base u → IsObject c.structs u → ⊥) fault.Redeclared fault.Object
           fault.Redeclared (omega arith) refl (has_member d.name s.members e),
     );
   }

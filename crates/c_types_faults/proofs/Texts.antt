@@ -1,18 +1,18 @@
 -- A text at which the walk stops breaks a rule.
 use Rattle.std.proofs.Common.{inl, inr, ⊎_elim, ◌≡◌, ℕ, suc, ◌+◌, ◌<◌, refl, ap, subst, sym, ◌∙◌, arith, List, [], ◌∷◌, Some, None, Bool, true, false, length}
-use Rattle.c_rules.specs.Faults.{number_of}
+use Rattle.c_types_rules.specs.Faults.{fault_number}
 use Rattle.c_types_faults.proofs.Bounds.{some_is, none_some}
 use Rattle.c_types_faults.proofs.Calling.{both_tell}
 use Rattle.c_types_faults.proofs.Defining.{calls_defined, defined_before, listed_defined}
 use Rattle.c_syntax.specs.WellFormed.{IsShaped}
-use Rattle.c_rules.proofs.Same.{equal}
-use Rattle.c_rules.specs.declared.function.FunctionType.{FunctionType}
+use Rattle.c_types_rules.proofs.Same.{equal}
+use Rattle.c_types_rules.specs.declared.function.FunctionType.{FunctionType}
 use Rattle.std.proofs.lemmas.Bool.{and_from, false≢true, and_parts, eqb-true}
 use Rattle.std.specs.Prelude.{Option, slice_get, if◌then◌else◌, unwrap_or, codes, ◌==◌}
 use Rattle.c_syntax.specs.ItemTree.{SourceTree}
-use Rattle.c_rules.specs.declared.fault.FaultKind.{FaultKind}
-use Rattle.c_rules.specs.declared.fault.FaultKind.TheVariants as fault
-use Rattle.c_rules.specs.TypeTree.{TypeTree, Int, same_type}
+use Rattle.c_types_rules.specs.declared.fault.FaultKind.{FaultKind}
+use Rattle.c_types_rules.specs.declared.fault.FaultKind.TheVariants as fault
+use Rattle.c_types_rules.specs.TypeTree.{TypeTree, Int, same_type}
 use Rattle.c_types.specs.Answers.{noted}
 use Rattle.c_types.specs.Fault.{begins_program, ends_with, first_undefined, has_main, is_main, lacks_definition, undefined_at, walk_tree, fault_in, fault_of}
 use Rattle.c_types_expressions.specs.Beginning.{beginning}
@@ -25,24 +25,24 @@ use Rattle.c_types_expressions.specs.declared.walk.Walk.{Walk}
 use Rattle.c_types_expressions.specs.Names.{found}
 use Rattle.c_types_expressions.specs.Walked.{Faulty, Done, Fine, Walked}
 use Rattle.c_types_walk.specs.ItemWalk.{is_defined, walk_items}
-use Rattle.c_types_notes.specs.Events.{events_of}
-use Rattle.c_types_notes.proofs.Noting.{Listed}
-use Rattle.c_types_notes.proofs.PathItems.{ItemsDo, items_do}
-use Rattle.c_types_notes.proofs.Paths.{view}
-use Rattle.c_types_notes.proofs.Texts.{before, none_noted}
+use Rattle.c_types_faults.specs.Events.{events_of}
+use Rattle.c_types_faults.proofs.Noting.{Listed}
+use Rattle.c_types_faults.proofs.PathItems.{ItemsDo, items_do}
+use Rattle.c_types_faults.proofs.Paths.{view}
+use Rattle.c_types_faults.proofs.NotedTexts.{before, none_noted}
 use Rattle.c_types_faults.specs.Known.{Entity, Object, Function, Standard}
 use Rattle.c_types_faults.specs.Agrees.{Denotes, IsType, Means}
-use Rattle.c_types_faults.specs.Context.{Context, Declared, nothing, declared_in}
+use Rattle.c_types_faults.specs.Context.{Context, Declared, empty_context, declared_in}
 use Rattle.c_types_faults.specs.Functions.{is_listed, IsKnownAs}
 use Rattle.c_types_faults.specs.Items.{ItemsBreak, ItemsGive}
-use Rattle.c_types_faults.specs.Texts.{CallsUndefined, HasFunction, HasMain, IsFunction, TextBreaks, main_type, TextKeepsRules}
+use Rattle.c_types_faults.specs.Texts.{CallsUndefined, HasFunction, DefinesMain, IsFunctionEntity, TextBreaks, main_type, TextKeepsRules}
 use Rattle.c_types_faults.proofs.Files.{Files, listed_is, text_found}
 use Rattle.c_types_faults.proofs.Functions.{Notes}
 use Rattle.c_types_faults.proofs.Items.{items_tell, defined_as_listed}
 use Rattle.c_types_faults.proofs.Knowing.{Matches}
 use Rattle.c_types_faults.proofs.Telling.{Tells, and_then, shown, told_fault, told_fine}
 
-pub begins : (n : ℕ) → Files nothing (shown (beginning n))
+pub begins : (n : ℕ) → Files empty_context (shown (beginning n))
 begins n = record {
   knows = record { names = tt; tags = tt; structs = refl; count = refl; cells = refl };
   outer = refl;
@@ -137,7 +137,7 @@ undefined_by n (call ∷ calls) defs token h = by (lacks_definition call defs) r
     by true e h f = let l = lacks_by call defs e in (0, (l.0, (omega (arith, some_is n token h), ap Some l.1.0, l.1.1)))
     by false e h f = let u = f h in (suc u.0, (u.1.0, (omega (arith, u.1.1.0), u.1.1.1, u.1.1.2)))
 
-function_entity : (types : List TypeTree) (fs : List FunctionEntry) (i : ℕ) (x : Entity) → Means types fs (meaning.Function i) x → IsFunction x
+function_entity : (types : List TypeTree) (fs : List FunctionEntry) (i : ℕ) (x : Entity) → Means types fs (meaning.Function i) x → IsFunctionEntity x
 function_entity types fs i (Function f) h = tt
 function_entity types fs i (Object of) h = absurd h
 function_entity types fs i (Standard f) h = absurd h
@@ -156,22 +156,22 @@ module _ (name : List ℕ) (index : ℕ) where
   declared_function types fs vb fb (Declares n (meaning.Library f) ∷ rest) (d ∷ ds) h l = absurd h
   declared_function types fs vb fb (Declares n (meaning.Struct i) ∷ rest) (d ∷ ds) h l = absurd h
 
-main_of : (t : SourceTree) (c : Context) → ItemsGive nothing t.items c
-    → IsKnownAs (codes "main") main_type c × (is_listed (codes "main") c.defined ≡ true) → HasMain t c
+main_of : (t : SourceTree) (c : Context) → ItemsGive empty_context t.items c
+    → IsKnownAs (codes "main") main_type c × (is_listed (codes "main") c.defined ≡ true) → DefinesMain t c
 main_of t c g m = (m.0, sym (defined_as_listed t.items c g (codes "main")) ∙ m.1)
 
 -- what is known behind a text without a fault
 pub record Ends (t : SourceTree) (w : Walk) : Type 0 where
   pub after : Context
-  pub gives : ItemsGive nothing t.items after
-  pub has : HasMain t after
+  pub gives : ItemsGive empty_context t.items after
+  pub has : DefinesMain t after
   pub files : Files after (shown w)
   pub defined : first_undefined 0 w.functions_at w.defined_as ≡ None
   pub does : ItemsDo t.items (before t) (view w)
 
 module _ (t : SourceTree) (c : Context) (w : Walk) (k : Files c (shown w)) (n : Notes (events_of t) (beginning (length t.lines)) w)
     (does : ItemsDo t.items (before t) (view w)) where
-  call_at : (token index : ℕ) → ItemsGive nothing t.items c → noted w.functions_at token ≡ Some index → is_defined index w.defined_as ≡ false
+  call_at : (token index : ℕ) → ItemsGive empty_context t.items c → noted w.functions_at token ≡ Some index → is_defined index w.defined_as ≡ false
       → CallsUndefined t c token
   call_at token index g h d = ⊎_elim
       (λ e. none_some (noted (beginning (length t.lines)).functions_at token) index (none_noted (length t.lines) token) e)
@@ -185,7 +185,7 @@ module _ (t : SourceTree) (c : Context) (w : Walk) (k : Files c (shown w)) (n : 
         ),
       )) (n.calls token index h)
 
-  calls_undefined : (token : ℕ) → ItemsGive nothing t.items c → first_undefined 0 w.functions_at w.defined_as ≡ Some token → CallsUndefined t c token
+  calls_undefined : (token : ℕ) → ItemsGive empty_context t.items c → first_undefined 0 w.functions_at w.defined_as ≡ Some token → CallsUndefined t c token
   calls_undefined token g h =
       let u : Undefined 0 w.functions_at w.defined_as token = undefined_by 0 w.functions_at w.defined_as token h in
       call_at token u.1.0 g (ap (noted w.functions_at) (the_same token u.0 u.1.1.0) ∙ ap (λ o. unwrap_or o None) u.1.1.1) u.1.1.2
@@ -194,17 +194,17 @@ module _ (t : SourceTree) (c : Context) (w : Walk) (k : Files c (shown w)) (n : 
       the_same i j h = omega (arith, h)
 
   -- no call before it is one
-  none_before : (token : ℕ) → ItemsGive nothing t.items c → first_undefined 0 w.functions_at w.defined_as ≡ Some token → IsShaped t → (earlier : ℕ)
+  none_before : (token : ℕ) → ItemsGive empty_context t.items c → first_undefined 0 w.functions_at w.defined_as ≡ Some token → IsShaped t → (earlier : ℕ)
       → earlier < token → CallsUndefined t c earlier → ⊥
   none_before token g e s earlier less u = false≢true (sym u.1.2 ∙ sym (defined_as_listed t.items c g u.0)
       ∙ defined_before t w s does c k token e earlier u.0 less u.1.0 u.1.1)
 
-  undefined_tells : (o : Option ℕ) → first_undefined 0 w.functions_at w.defined_as ≡ o → ItemsGive nothing t.items c → HasMain t c
+  undefined_tells : (o : Option ℕ) → first_undefined 0 w.functions_at w.defined_as ≡ o → ItemsGive empty_context t.items c → DefinesMain t c
       → Tells (ends_with (undefined_at o) w) (λ (d : Done) v. Ends t v) (TextBreaks t)
   undefined_tells None e g m = record { by = record { after = c; gives = g; has = m; files = k; defined = e; does = does } }
   undefined_tells (Some token) e g m = record { by = inr (c, (g, inr (m, (refl, (calls_undefined token g e, none_before token g e))))) }
 
-  main_tells : (b : Bool) → has_main w ≡ b → ItemsGive nothing t.items c
+  main_tells : (b : Bool) → has_main w ≡ b → ItemsGive empty_context t.items c
       → Tells (ends_with (if b then undefined_at (first_undefined 0 w.functions_at w.defined_as) else Some (fault.NoMain, length t.lines)) w)
       (λ (d : Done) v. Ends t v) (TextBreaks t)
   main_tells true e g = undefined_tells (first_undefined 0 w.functions_at w.defined_as) refl g (main_of t c g (has_its_main c w k e))
@@ -212,23 +212,23 @@ module _ (t : SourceTree) (c : Context) (w : Walk) (k : Files c (shown w)) (n : 
 
 text_tells : (t : SourceTree) → Tells (walk_tree t) (λ (d : Done) v. Ends t v) (TextBreaks t)
 text_tells t = and_then (both_tell
-    (λ (d : Done) v. ((after : Context) × (ItemsGive nothing t.items after × Files after (shown v))) × Notes (events_of t) (beginning (length t.lines)) v)
-    (λ (d : Done) v. ItemsDo t.items (before t) (view v)) (ItemsBreak nothing t.items) (walk_items t.items (beginning (length t.lines)))
-    (items_tell t.items nothing (beginning (length t.lines)) (begins (length t.lines))) (items_do t.items (beginning (length t.lines))))
+    (λ (d : Done) v. ((after : Context) × (ItemsGive empty_context t.items after × Files after (shown v))) × Notes (events_of t) (beginning (length t.lines)) v)
+    (λ (d : Done) v. ItemsDo t.items (before t) (view v)) (ItemsBreak empty_context t.items) (walk_items t.items (beginning (length t.lines)))
+    (items_tell t.items empty_context (beginning (length t.lines)) (begins (length t.lines))) (items_do t.items (beginning (length t.lines))))
     (λ j at h. inl h) (λ d w p. main_tells t p.0.0.0 w p.0.0.1.1 p.0.1 p.1 (has_main w) refl p.0.0.1.0)
 
 pub refused_text : (t : SourceTree) (kind : FaultKind) (token : ℕ) → walk_tree t ≡ Faulty kind token → TextBreaks t kind token
 refused_text t kind token h = told_fault (text_tells t) h
 
 fault_by : (m : Walked Done) (number token : ℕ) → fault_in m ≡ Some (number, token)
-    → (kind : FaultKind) × ((number_of kind ≡ number) × (m ≡ Faulty kind token))
+    → (kind : FaultKind) × ((fault_number kind ≡ number) × (m ≡ Faulty kind token))
 fault_by (Fine value known) number token h = absurd (cc)
 fault_by (Faulty kind index) number token h =
-    let e : (number_of kind, index) ≡ (number, token) = some_is (number_of kind, index) (number, token) h in
+    let e : (fault_number kind, index) ≡ (number, token) = some_is (fault_number kind, index) (number, token) h in
     (kind, (ap (λ (p : ℕ × ℕ). p.0) e, ap (λ (p : ℕ × ℕ). Faulty kind p.1) e))
 
 pub told_text : (t : SourceTree) (number token : ℕ) → fault_of t ≡ Some (number, token)
-    → (kind : FaultKind) × ((number_of kind ≡ number) × TextBreaks t kind token)
+    → (kind : FaultKind) × ((fault_number kind ≡ number) × TextBreaks t kind token)
 told_text t number token h =
     let f = fault_by (walk_tree t) number token h in (f.0, (f.1.0, refused_text t f.0 token f.1.1))
 

@@ -6,24 +6,24 @@ use Rattle.std.proofs.lemmas.Nat.{mul-le}
 use Rattle.std.specs.Prelude.{Option, nat_lt, ◌*◌, nat_le, is_some, ◌&&◌, ◌==◌, if◌then◌else◌, IsSome}
 use Rattle.std.proofs.lemmas.Bool.{and_from, and_parts, eq-eqb, eqb-true, false≢true}
 use Rattle.c_syntax.specs.StatementTree.{InitialTree}
-use Rattle.c_rules.specs.declared.fault.FaultKind.{FaultKind}
-use Rattle.c_rules.specs.declared.fault.FaultKind.TheVariants as fault
-use Rattle.c_rules.specs.declared.layout.StructType.{StructType}
-use Rattle.c_rules.specs.declared.library.Library.{Library}
-use Rattle.c_rules.specs.Library.{library_named}
-use Rattle.c_rules.specs.Sizes.{cells_of, is_complete, is_object, most_cells}
-use Rattle.c_rules.specs.TypeTree.{TypeTree, Void, Char, Int, Unsigned, Pointer, Array, Struct}
+use Rattle.c_types_rules.specs.declared.fault.FaultKind.{FaultKind}
+use Rattle.c_types_rules.specs.declared.fault.FaultKind.TheVariants as fault
+use Rattle.c_types_rules.specs.declared.layout.StructType.{StructType}
+use Rattle.c_types_rules.specs.declared.library.Library.{Library}
+use Rattle.c_types_rules.specs.Library.{library_named}
+use Rattle.c_types_rules.specs.Sizes.{cells_of, is_complete, is_object, most_cells}
+use Rattle.c_types_rules.specs.TypeTree.{TypeTree, Void, Char, Int, Unsigned, Pointer, Array, Struct}
 use Rattle.c_types_expressions.specs.declared.names.Meaning.TheVariants as meaning
 use Rattle.c_types_expressions.specs.declared.names.ScopeEntry.{ScopeEntry}
 use Rattle.c_types_expressions.specs.declared.names.ScopeEntry.TheVariants.{Opens, Declares}
 use Rattle.c_types_expressions.specs.declared.walk.Walk.{Walk}
-use Rattle.c_types_expressions.specs.Names.{closed, is_here, is_reserved, is_taken}
+use Rattle.c_types_expressions.specs.Names.{closed, is_here, is_name_taken, is_reserved}
 use Rattle.c_types_expressions.specs.Walked.{Fine, Faulty, Done}
 use Rattle.c_types_walk.specs.Declarators.{is_open}
-use Rattle.c_types_walk.specs.StatementWalk.{counted, sized}
+use Rattle.c_types_walk.specs.StatementWalk.{counted_cells, sized}
 use Rattle.c_types_faults.specs.Known.{Object}
 use Rattle.c_types_faults.specs.Context.{Context, IsTaken, counting, declare, known, IsReserved}
-use Rattle.c_types_faults.specs.Declarations.{ElementBreaks, HasRoom, IsObject, IsOpen}
+use Rattle.c_types_faults.specs.Declarations.{ElementBreaks, GlobalsHaveRoom, IsObject, IsOpen}
 use Rattle.c_types_faults.proofs.Knowing.{Knows, completed, grown, here_named, with_object, named_here}
 use Rattle.c_types_faults.proofs.Telling.{Shown, Tells, shown, weaker}
 
@@ -80,7 +80,7 @@ no_object ss t h o = false≢true (sym h ∙ object_back ss t o)
 room_tells : (b : Bool) (token n : ℕ) (c : Context) (t : TypeTree) (w : Walk) → Knows c (shown w) → cells_of c.structs t ≡ n
     → nat_le (w.global_cells + n) most_cells ≡ b
     → Tells (if b then Fine tt (record w { global_cells = w.global_cells + n }) else Faulty fault.Object token)
-    (λ (d : Done) v. HasRoom true c t × (shown v ≡ grown true n (shown w))) (λ j at. (at ≡ token) × (j ≡ fault.Object) × (HasRoom true c t → ⊥))
+    (λ (d : Done) v. GlobalsHaveRoom true c t × (shown v ≡ grown true n (shown w))) (λ j at. (at ≡ token) × (j ≡ fault.Object) × (GlobalsHaveRoom true c t → ⊥))
 room_tells true token n c t w k e h = record {
   by = (
     subst (λ m. m ≤ most_cells) (sym (ap (λ x. x + cells_of c.structs t) k.cells
@@ -98,17 +98,17 @@ room_tells false token n c t w k e h = record {
 }
 
 counted_tells : (global : Bool) (token n : ℕ) (c : Context) (t : TypeTree) (w : Walk) → Knows c (shown w) → cells_of c.structs t ≡ n
-    → Tells (counted global token n w) (λ (d : Done) v. HasRoom global c t × (shown v ≡ grown global n (shown w)))
-    (λ j at. (at ≡ token) × (j ≡ fault.Object) × (HasRoom global c t → ⊥))
+    → Tells (counted_cells global token n w) (λ (d : Done) v. GlobalsHaveRoom global c t × (shown v ≡ grown global n (shown w)))
+    (λ j at. (at ≡ token) × (j ≡ fault.Object) × (GlobalsHaveRoom global c t → ⊥))
 counted_tells true token n c t w k e = room_tells (nat_le (w.global_cells + n) most_cells) token n c t w k e refl
 counted_tells false token n c t w k e = record { by = (tt, refl) }
 
 abbrev pub BadSize : Bool → Context → TypeTree → ℕ → FaultKind → ℕ → Type 0
-BadSize global c t token j at = (at ≡ token) × (j ≡ fault.Object) × ((IsObject c.structs t → ⊥) ⊎ (HasRoom global c t → ⊥))
+BadSize global c t token j at = (at ≡ token) × (j ≡ fault.Object) × ((IsObject c.structs t → ⊥) ⊎ (GlobalsHaveRoom global c t → ⊥))
 
 size_by : (b : Bool) (global : Bool) (token : ℕ) (t : TypeTree) (c : Context) (w : Walk) → Knows c (shown w) → is_object w.structs t ≡ b
-    → Tells (if b then counted global token (cells_of w.structs t) w else Faulty fault.Object token)
-    (λ (d : Done) v. IsObject c.structs t × (shown v ≡ grown global (cells_of c.structs t) (shown w)) × HasRoom global c t) (BadSize global c t token)
+    → Tells (if b then counted_cells global token (cells_of w.structs t) w else Faulty fault.Object token)
+    (λ (d : Done) v. IsObject c.structs t × (shown v ≡ grown global (cells_of c.structs t) (shown w)) × GlobalsHaveRoom global c t) (BadSize global c t token)
 size_by true global token t c w k h = weaker (counted_tells global token (cells_of w.structs t) c t w k (ap (λ ss. cells_of ss t) k.structs))
     (λ j at f. (f.0, f.1, inr f.2))
     (λ d v p. (
@@ -120,7 +120,7 @@ size_by false global token t c w k h = record { by = (refl, refl, inl (no_object
 
 pub sized_tells : (global : Bool) (token : ℕ) (t : TypeTree) (c : Context) (w : Walk) → Knows c (shown w)
     → Tells (sized global token t w)
-    (λ (d : Done) v. IsObject c.structs t × (shown v ≡ grown global (cells_of c.structs t) (shown w)) × HasRoom global c t)
+    (λ (d : Done) v. IsObject c.structs t × (shown v ≡ grown global (cells_of c.structs t) (shown w)) × GlobalsHaveRoom global c t)
     (BadSize global c t token)
 sized_tells global token t c w k = size_by (is_object w.structs t) global token t c w k refl
 
@@ -201,7 +201,7 @@ pub reserved_true : (name : List ℕ) → IsReserved name → is_reserved name �
 reserved_true name h = reserved_back (library_named name) h
 
 -- a name that isn't taken
-pub not_taken : (name : List ℕ) (c : Context) (s : Shown) → Knows c s → is_taken name s.names ≡ false → IsTaken name c → ⊥
+pub not_taken : (name : List ℕ) (c : Context) (s : Shown) → Knows c s → is_name_taken name s.names ≡ false → IsTaken name c → ⊥
 not_taken name c s k h (inl r) = false≢true (sym h ∙ or_left (is_reserved name) (is_here name s.names) (reserved_true name r))
 not_taken name c s k h (inr r) = false≢true (sym h ∙ or_right (is_reserved name) (is_here name s.names)
     (named_here s.types s.functions s.count (length s.functions) s.names c.scope c.outer k.names name r))
@@ -215,10 +215,6 @@ pub declare_counted : (global : Bool) (n : ℕ) (name : List ℕ) (t : TypeTree)
     → declare name (Object t) (counting global n c) ≡ counting global n (declare name (Object t) c)
 declare_counted true n name t c = refl
 declare_counted false n name t c = refl
-
-pub structs_counted : (global : Bool) (n : ℕ) (c : Context) → (counting global n c).structs ≡ c.structs
-structs_counted true n c = refl
-structs_counted false n c = refl
 
 -- behind the size, the type completed
 pub completed_grown : (global : Bool) (n i : ℕ) (u : TypeTree) (s : Shown) → completed i u (grown global n s) ≡ grown global n (completed i u s)

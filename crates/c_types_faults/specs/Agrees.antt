@@ -1,7 +1,7 @@
 -- What the walk knows at a point, in the terms of C: which entity the meaning of a name is.
 use Rattle.std.specs.Prelude.{◌≡◌, ℕ, List, Option, Some, None, slice_get}
-use Rattle.c_rules.specs.declared.layout.StructType.{StructType}
-use Rattle.c_rules.specs.TypeTree.{TypeTree}
+use Rattle.c_types_rules.specs.declared.layout.StructType.{StructType}
+use Rattle.c_types_rules.specs.TypeTree.{TypeTree}
 use Rattle.c_types_expressions.specs.declared.names.Meaning.{Meaning}
 use Rattle.c_types_expressions.specs.declared.names.Meaning.TheVariants as meaning
 use Rattle.c_types_expressions.specs.declared.names.ScopeEntry.{ScopeEntry}

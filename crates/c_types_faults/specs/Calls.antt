@@ -1,22 +1,22 @@
 -- Which arguments a call takes, and what it gives (C99 6.5.2.2, 7.2, 7.19, 7.20).
 use Rattle.std.specs.Prelude.{◌≡◌, List, [], ◌∷◌, Option, Some, None}
-use Rattle.c_rules.specs.declared.function.FunctionType.{FunctionType}
-use Rattle.c_rules.specs.declared.library.Library.{Library}
-use Rattle.c_rules.specs.declared.library.Library.TheVariants as library
-use Rattle.c_rules.specs.declared.operand.Operand.{Operand}
-use Rattle.c_rules.specs.TypeTree.{TypeTree, Void, Char, Int, Unsigned, Pointer}
+use Rattle.c_types_rules.specs.declared.function.FunctionType.{FunctionType}
+use Rattle.c_types_rules.specs.declared.library.Library.{Library}
+use Rattle.c_types_rules.specs.declared.library.Library.TheVariants as library
+use Rattle.c_types_rules.specs.declared.operand.Operand.{Operand}
+use Rattle.c_types_rules.specs.TypeTree.{TypeTree, Void, Char, Int, Unsigned, Pointer}
 use Rattle.c_types_laws.specs.Operands.{Accepts, IsScalar}
 use Rattle.c_types_faults.specs.Known.{Entity, Object, Function, Standard}
 
 -- an argument for each parameter, which may be assigned to it (6.5.2.2p2)
-abbrev pub Passes : List TypeTree → List Operand → Type 0
-Passes [] [] = Unit {0}
-Passes [] (x ∷ xs) = ⊥
-Passes (t ∷ ts) [] = ⊥
-Passes (t ∷ ts) (x ∷ xs) = Accepts t x × Passes ts xs
+abbrev pub ArgumentsPass : List TypeTree → List Operand → Type 0
+ArgumentsPass [] [] = Unit {0}
+ArgumentsPass [] (x ∷ xs) = ⊥
+ArgumentsPass (t ∷ ts) [] = ⊥
+ArgumentsPass (t ∷ ts) (x ∷ xs) = Accepts t x × ArgumentsPass ts xs
 
 abbrev pub CallsAs : FunctionType → List Operand → TypeTree → Type 0
-CallsAs f xs t = Passes f.params xs × (t ≡ f.gives)
+CallsAs f xs t = ArgumentsPass f.params xs × (t ≡ f.gives)
 
 abbrev pub IsLoneScalar : List Operand → Type 0
 IsLoneScalar (x ∷ []) = IsScalar x

@@ -1,8 +1,8 @@
 -- The declarations that stand before a point of a text and whose scopes hold there (C99 6.2.1).
 use Rattle.std.specs.Prelude.{◌≡◌, ◌⊎◌, ℕ, ◌+◌, Bool, if◌then◌else◌, IsSome, List, [], ◌∷◌, Option, Some, None, option_map}
 use Rattle.std.specs.Str.{bytes_eq}
-use Rattle.c_rules.specs.declared.layout.StructType.{StructType}
-use Rattle.c_rules.specs.Library.{library_named}
+use Rattle.c_types_rules.specs.declared.layout.StructType.{StructType}
+use Rattle.c_types_rules.specs.Library.{library_named}
 use Rattle.c_types_faults.specs.Known.{Entity, Standard, Known}
 
 pub record Declared : Type 0 where
@@ -24,8 +24,8 @@ pub record Context : Type 0 where
   pub defined : List (List ℕ)
 
 -- before a text
-abbrev pub nothing : Context
-nothing = record { scope = []; outer = []; tags = []; structs = []; cells = 0; defined = [] }
+abbrev pub empty_context : Context
+empty_context = record { scope = []; outer = []; tags = []; structs = []; cells = 0; defined = [] }
 
 abbrev pub or_else : {A : Type 0} → Option A → Option A → Option A
 or_else None other = other

@@ -1,16 +1,16 @@
 -- Declarations of variables (C99 6.7): what is declared behind one, and which rule one breaks first.
 use Rattle.std.specs.Prelude.{◌≡◌, ◌⊎◌, ℕ, ◌+◌, ◌≤◌, Bool, true, false, List, [], ◌∷◌, Option, Some}
 use Rattle.c_syntax.specs.StatementTree.{DeclarationTree, InitialTree, StartTree}
-use Rattle.c_rules.specs.declared.fault.FaultKind.{FaultKind}
-use Rattle.c_rules.specs.declared.fault.FaultKind.TheVariants as fault
-use Rattle.c_rules.specs.declared.layout.StructType.{StructType}
-use Rattle.c_rules.specs.TypeTree.{TypeTree, Array}
-use Rattle.c_rules.specs.Sizes.{cells_of, is_complete, most_cells}
+use Rattle.c_types_rules.specs.declared.fault.FaultKind.{FaultKind}
+use Rattle.c_types_rules.specs.declared.fault.FaultKind.TheVariants as fault
+use Rattle.c_types_rules.specs.declared.layout.StructType.{StructType}
+use Rattle.c_types_rules.specs.TypeTree.{TypeTree, Array}
+use Rattle.c_types_rules.specs.Sizes.{cells_of, is_complete, most_cells}
 use Rattle.c_types_faults.specs.Known.{Object}
 use Rattle.c_types_faults.specs.Least.{IsLeast}
 use Rattle.c_types_faults.specs.Context.{Context, IsTaken, counting, declare, known}
 use Rattle.c_types_faults.specs.Types.{BaseBreaks, IsBase}
-use Rattle.c_types_faults.specs.Declarators.{Declares}
+use Rattle.c_types_faults.specs.Declarators.{DeclaresAs}
 use Rattle.c_types_faults.specs.Initialisers.{Completes, InitialBreaks}
 
 -- a complete type (6.7p7), of no more cells than an object may have
@@ -18,9 +18,9 @@ abbrev pub IsObject : List StructType → TypeTree → Type 0
 IsObject structs t = (is_complete structs t ≡ true) × (cells_of structs t ≤ most_cells)
 
 -- all globals together have no more cells than that either
-abbrev pub HasRoom : Bool → Context → TypeTree → Type 0
-HasRoom true c t = c.cells + cells_of c.structs t ≤ most_cells
-HasRoom false c t = Unit {0}
+abbrev pub GlobalsHaveRoom : Bool → Context → TypeTree → Type 0
+GlobalsHaveRoom true c t = c.cells + cells_of c.structs t ≤ most_cells
+GlobalsHaveRoom false c t = Unit {0}
 
 -- an array whose length its initialiser gives (6.7.8p22)
 abbrev pub IsOpen : TypeTree → Option InitialTree → Type 0
@@ -39,12 +39,12 @@ module _ (global : Bool) (base : TypeTree) where
 
   -- A variable keeps the rules, and this is declared behind it: its name is new, and its type, completed by its initialiser, is an object's.
   abbrev pub VariableGives : Context → StartTree → Context → Type 0
-  VariableGives c x after = (IsTaken x.declarator.name c → ⊥) × ((t : TypeTree) × ((u : TypeTree) × (Declares x.declarator base t × Finishes c x t u
-      × IsObject c.structs u × HasRoom global c u × (after ≡ declare x.declarator.name (Object u) (counting global (cells_of c.structs u) c)))))
+  VariableGives c x after = (IsTaken x.declarator.name c → ⊥) × ((t : TypeTree) × ((u : TypeTree) × (DeclaresAs x.declarator base t × Finishes c x t u
+      × IsObject c.structs u × GlobalsHaveRoom global c u × (after ≡ declare x.declarator.name (Object u) (counting global (cells_of c.structs u) c)))))
 
   -- the type is no object's, or the globals would have too many cells with it
   abbrev pub SizeBreaks : Context → TypeTree → Type 0
-  SizeBreaks c t = (IsObject c.structs t → ⊥) ⊎ (HasRoom global c t → ⊥)
+  SizeBreaks c t = (IsObject c.structs t → ⊥) ⊎ (GlobalsHaveRoom global c t → ⊥)
 
   -- before its initialiser: where that gives the length, the elements alone decide
   abbrev pub BeginningBreaks : Context → StartTree → TypeTree → Type 0
@@ -53,11 +53,11 @@ module _ (global : Bool) (base : TypeTree) where
   -- The name of a declarator is taken, or it gives no type that the variable may have.
   abbrev pub DeclaratorRule : Context → StartTree → FaultKind → Type 0
   DeclaratorRule c x kind = ((kind ≡ fault.Redeclared) × IsTaken x.declarator.name c)
-      ⊎ ((kind ≡ fault.Object) × ((t : TypeTree) → Declares x.declarator base t → BeginningBreaks c x t))
+      ⊎ ((kind ≡ fault.Object) × ((t : TypeTree) → DeclaresAs x.declarator base t → BeginningBreaks c x t))
 
   -- one that keeps these rules
   abbrev pub DeclaratorFits : Context → StartTree → TypeTree → Type 0
-  DeclaratorFits c x t = (IsTaken x.declarator.name c → ⊥) × Declares x.declarator base t × (BeginningBreaks c x t → ⊥)
+  DeclaratorFits c x t = (IsTaken x.declarator.name c → ⊥) × DeclaresAs x.declarator base t × (BeginningBreaks c x t → ⊥)
 
   -- The declarator breaks a rule, then the initialiser, and then the type that this completed. The first and the last stand where the declarator begins.
   abbrev pub VariableBreaks : Context → StartTree → FaultKind → ℕ → Type 0

@@ -3,12 +3,12 @@ use Rattle.std.specs.Prelude.{◌≡◌, ◌⊎◌, ℕ, true, List, [], ◌∷�
 use Rattle.cbi_base.specs.declared.operators.Binary.{Binary}
 use Rattle.c_syntax.specs.declared.expr.PrefixOperator.{PrefixOperator}
 use Rattle.c_syntax.specs.declared.expr.PrefixOperator.TheVariants as prefix
-use Rattle.c_rules.specs.declared.fault.FaultKind.{FaultKind}
-use Rattle.c_rules.specs.declared.fault.FaultKind.TheVariants as fault
-use Rattle.c_rules.specs.declared.layout.StructType.{StructType}
-use Rattle.c_rules.specs.declared.operand.Operand.{Operand}
-use Rattle.c_rules.specs.TypeTree.{TypeTree, Pointer}
-use Rattle.c_rules.specs.Conversions.{is_struct, value_of, value_type}
+use Rattle.c_types_rules.specs.declared.fault.FaultKind.{FaultKind}
+use Rattle.c_types_rules.specs.declared.fault.FaultKind.TheVariants as fault
+use Rattle.c_types_rules.specs.declared.layout.StructType.{StructType}
+use Rattle.c_types_rules.specs.declared.operand.Operand.{Operand}
+use Rattle.c_types_rules.specs.TypeTree.{TypeTree, Pointer}
+use Rattle.c_types_rules.specs.Conversions.{is_struct, value_of, value_type}
 use Rattle.c_types_laws.specs.Operands.{Accepts, IsArithmetic, IsModifiable, Operates, PointsToObject, Prefixes, Selects}
 use Rattle.c_types_faults.specs.Known.{Entity, Object, Function, Standard}
 use Rattle.c_types_faults.specs.Least.{IsLeast}

@@ -7,17 +7,17 @@ use Rattle.c_syntax.specs.declared.parts.Constant.{Constant}
 use Rattle.c_syntax.specs.declared.parts.Param.{Param}
 use Rattle.c_syntax.specs.declared.parts.ParamName.{ParamName}
 use Rattle.c_syntax.specs.StatementTree.{EntryList}
-use Rattle.c_rules.specs.declared.fault.FaultKind.{FaultKind}
-use Rattle.c_rules.specs.declared.fault.FaultKind.TheVariants as fault
-use Rattle.c_rules.specs.declared.function.FunctionType.{FunctionType}
-use Rattle.c_rules.specs.TypeTree.{TypeTree, Pointer}
-use Rattle.c_rules.specs.Conversions.{is_scalar, is_struct}
+use Rattle.c_types_rules.specs.declared.fault.FaultKind.{FaultKind}
+use Rattle.c_types_rules.specs.declared.fault.FaultKind.TheVariants as fault
+use Rattle.c_types_rules.specs.declared.function.FunctionType.{FunctionType}
+use Rattle.c_types_rules.specs.TypeTree.{TypeTree, Pointer}
+use Rattle.c_types_rules.specs.Conversions.{is_scalar, is_struct}
 use Rattle.c_types_expressions.specs.ExprWalk.{with_stars}
 use Rattle.c_types_faults.specs.Known.{Object, Function}
 use Rattle.c_types_faults.specs.Least.{IsLeast}
 use Rattle.c_types_faults.specs.Context.{Context, HasName, IsReserved, declare, declared_in, inner, known}
 use Rattle.c_types_faults.specs.Types.{BaseBreaks, IsBase}
-use Rattle.c_types_faults.specs.Statements.{EntriesBreak, EntriesFit}
+use Rattle.c_types_faults.specs.Statements.{AreRuledEntries, EntriesBreak}
 
 -- parameters
 
@@ -25,8 +25,8 @@ pub record Formal : Type 0 where
   pub name : Option (List ℕ)
   pub of : TypeTree
 
-abbrev pub type_of : Formal → TypeTree
-type_of f = f.of
+abbrev pub formal_type : Formal → TypeTree
+formal_type f = f.of
 
 -- a parameter that is declared as an array is a pointer (6.7.5.3p7)
 abbrev pub adjusted : Option Bound → TypeTree → TypeTree
@@ -42,13 +42,13 @@ IsFormal name [] = ⊥
 IsFormal name (f ∷ fs) = (f.name ≡ Some name) ⊎ IsFormal name fs
 
 -- a length is from 1 on, and may be missing (6.7.5.2p1)
-abbrev pub IsPositive : Option Constant → Type 0
-IsPositive None = Unit {0}
-IsPositive (Some c) = int_le (pos 1) c.value ≡ true
+abbrev pub IsPositiveLength : Option Constant → Type 0
+IsPositiveLength None = Unit {0}
+IsPositiveLength (Some c) = int_le (pos 1) c.value ≡ true
 
 abbrev pub HasLength : Option Bound → Type 0
 HasLength None = Unit {0}
-HasLength (Some bound) = IsPositive bound.length
+HasLength (Some bound) = IsPositiveLength bound.length
 
 -- A parameter needs a name where the function has a body (6.9.1p5). A name is none of the library and no other parameter's (6.7p3). It is a scalar: no
 -- incomplete type (6.7.5.3p4), and here no struct.
@@ -58,14 +58,14 @@ ParamRule body before (Some n) t kind = ((kind ≡ fault.Redeclared) × (IsReser
     ⊎ ((kind ≡ fault.Object) × (((is_scalar (adjusted n.bound t) ≡ true) × HasLength n.bound) → ⊥))
 
 -- one that keeps these rules
-abbrev pub ParamFits : Bool → List Formal → Option ParamName → TypeTree → Type 0
-ParamFits body before None t = (body ≡ false) × (is_scalar t ≡ true)
-ParamFits body before (Some n) t = (IsReserved n.name ⊎ IsFormal n.name before → ⊥) × (is_scalar (adjusted n.bound t) ≡ true) × HasLength n.bound
+abbrev pub IsRuledParam : Bool → List Formal → Option ParamName → TypeTree → Type 0
+IsRuledParam body before None t = (body ≡ false) × (is_scalar t ≡ true)
+IsRuledParam body before (Some n) t = (IsReserved n.name ⊎ IsFormal n.name before → ⊥) × (is_scalar (adjusted n.bound t) ≡ true) × HasLength n.bound
 
 -- behind the parameters before it, in a context, of a function with a body or without one
 module _ (c : Context) (body : Bool) where
   abbrev pub ParamGives : List Formal → Param → Formal → Type 0
-  ParamGives before p f = (base : TypeTree) × (IsBase (known c) p.base base × ParamFits body before p.name (with_stars p.stars base)
+  ParamGives before p f = (base : TypeTree) × (IsBase (known c) p.base base × IsRuledParam body before p.name (with_stars p.stars base)
       × (f ≡ formal p.name (with_stars p.stars base)))
 
   abbrev pub ParamBreaks : List Formal → Param → FaultKind → ℕ → Type 0
@@ -124,7 +124,7 @@ FunctionFits name f c = (IsReserved name → ⊥) × (HasName name c.scope → I
 abbrev pub FunctionGives : List ℕ → FunctionType → List Formal → Option EntryList → Context → Context → Type 0
 FunctionGives name f formals None c after = FunctionFits name f c × Names name f c after
 FunctionGives name f formals (Some body) c after = FunctionFits name f c × (IsKnownAs name f c → is_listed name c.defined ≡ false)
-    × ((next : Context) × (Names name f c next × EntriesFit f.gives (with_formals formals (inner next)) false body
+    × ((next : Context) × (Names name f c next × AreRuledEntries f.gives (with_formals formals (inner next)) false body
     × (after ≡ record next { defined = name ∷ next.defined })))
 
 -- A part of the body breaks a rule; or, where none does, the function, at its first token.
@@ -132,12 +132,12 @@ abbrev pub FunctionBreaks : ℕ → List ℕ → FunctionType → List Formal �
 FunctionBreaks token name f formals None c kind at = (at ≡ token) × IsLeast (FunctionRule (Clashes name f c) f) kind
 FunctionBreaks token name f formals (Some body) c kind at = (next : Context) × (Names name f c next
     × (EntriesBreak f.gives (with_formals formals (inner next)) false body kind at
-    ⊎ (EntriesFit f.gives (with_formals formals (inner next)) false body
+    ⊎ (AreRuledEntries f.gives (with_formals formals (inner next)) false body
     × ((at ≡ token) × IsLeast (FunctionRule (Clashes name f c ⊎ IsDefinedBefore name f c) f) kind))))
 
 -- the type of a function with this result and these parameters
 abbrev pub prototype : TypeTree → List Formal → FunctionType
-prototype gives formals = record { gives = gives; params = map type_of formals }
+prototype gives formals = record { gives = gives; params = map formal_type formals }
 
 -- from its base on
 abbrev pub PrototypeGives : Base → ℕ → Bool → List Param → Context → FunctionType → List Formal → Type 0

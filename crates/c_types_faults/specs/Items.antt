@@ -2,11 +2,11 @@
 use Rattle.std.specs.Prelude.{◌≡◌, ◌⊎◌, ℕ, true, List, [], ◌∷◌, is_some}
 use Rattle.c_syntax.specs.ItemTree as i
 use Rattle.c_syntax.specs.ItemTree.{ItemTree}
-use Rattle.c_rules.specs.declared.fault.FaultKind.{FaultKind}
-use Rattle.c_rules.specs.declared.function.FunctionType.{FunctionType}
-use Rattle.c_rules.specs.TypeTree.{TypeTree}
+use Rattle.c_types_rules.specs.declared.fault.FaultKind.{FaultKind}
+use Rattle.c_types_rules.specs.declared.function.FunctionType.{FunctionType}
+use Rattle.c_types_rules.specs.TypeTree.{TypeTree}
 use Rattle.c_types_expressions.specs.ExprWalk.{with_stars}
-use Rattle.c_types_walk.specs.ItemWalk.{listed}
+use Rattle.c_types_walk.specs.ItemWalk.{listed_params}
 use Rattle.c_types_faults.specs.Context.{Context, known}
 use Rattle.c_types_faults.specs.Types.{BaseBreaks, IsBase}
 use Rattle.c_types_faults.specs.Declarations.{DeclarationBreaks, DeclarationGives}
@@ -16,13 +16,13 @@ use Rattle.c_types_faults.specs.Functions.{Formal, FunctionBreaks, FunctionGives
 abbrev pub ItemGives : Context → ItemTree → Context → Type 0
 ItemGives c (i.Struct token tag members) after = StructGives c tag members after
 ItemGives c (i.Function token b stars name ps body) after = (f : FunctionType) × ((formals : List Formal)
-    × (PrototypeGives b stars (is_some body) (listed ps) c f formals × FunctionGives name f formals body c after))
+    × (PrototypeGives b stars (is_some body) (listed_params ps) c f formals × FunctionGives name f formals body c after))
 ItemGives c (i.Declaration declaration) after = DeclarationGives true c declaration after
 
 abbrev pub ItemBreaks : Context → ItemTree → FaultKind → ℕ → Type 0
 ItemBreaks c (i.Struct token tag members) kind at = StructBreaks c token tag members kind at
 ItemBreaks c (i.Function token b stars name ps body) kind at = BaseBreaks (known c) b kind at ⊎ ((base : TypeTree) × (IsBase (known c) b base
-    × (ParamsBreak c (is_some body) [] (listed ps) kind at ⊎ ((formals : List Formal) × (ParamsGive c (is_some body) [] (listed ps) formals
+    × (ParamsBreak c (is_some body) [] (listed_params ps) kind at ⊎ ((formals : List Formal) × (ParamsGive c (is_some body) [] (listed_params ps) formals
     × FunctionBreaks token name (prototype (with_stars stars base) formals) formals body c kind at)))))
 ItemBreaks c (i.Declaration declaration) kind at = DeclarationBreaks true c declaration kind at
 

@@ -1,9 +1,9 @@
 -- What the identifiers of a text denote at a point of it (C99 6.2.1p1, 6.2.3).
 use Rattle.std.specs.Prelude.{ℕ, List, Option}
-use Rattle.c_rules.specs.declared.function.FunctionType.{FunctionType}
-use Rattle.c_rules.specs.declared.layout.StructType.{StructType}
-use Rattle.c_rules.specs.declared.library.Library.{Library}
-use Rattle.c_rules.specs.TypeTree.{TypeTree}
+use Rattle.c_types_rules.specs.declared.function.FunctionType.{FunctionType}
+use Rattle.c_types_rules.specs.declared.layout.StructType.{StructType}
+use Rattle.c_types_rules.specs.declared.library.Library.{Library}
+use Rattle.c_types_rules.specs.TypeTree.{TypeTree}
 
 -- an object, a function of the text, or one of the library
 pub data Entity : Type 0 where

@@ -17,3 +17,7 @@ pub mod Structs
 pub mod Functions
 pub mod Items
 pub mod Texts
+pub mod Events
+pub mod Scopes
+pub mod Offsets
+pub mod NotedCalls

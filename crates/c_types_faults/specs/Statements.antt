@@ -4,11 +4,11 @@ use Rattle.std.specs.Prelude.{◌≡◌, ◌⊎◌, ℕ, Bool, true, false, Opti
 use Rattle.c_syntax.specs.ExprTree.{ExprTree}
 use Rattle.c_syntax.specs.StatementTree as s
 use Rattle.c_syntax.specs.StatementTree.{EntryList, ForStartTree, StatementTree}
-use Rattle.c_rules.specs.declared.fault.FaultKind.{FaultKind}
-use Rattle.c_rules.specs.declared.fault.FaultKind.TheVariants as fault
-use Rattle.c_rules.specs.declared.operand.Operand.{Operand}
-use Rattle.c_rules.specs.TypeTree.{TypeTree}
-use Rattle.c_rules.specs.Conversions.{is_struct, is_void}
+use Rattle.c_types_rules.specs.declared.fault.FaultKind.{FaultKind}
+use Rattle.c_types_rules.specs.declared.fault.FaultKind.TheVariants as fault
+use Rattle.c_types_rules.specs.declared.operand.Operand.{Operand}
+use Rattle.c_types_rules.specs.TypeTree.{TypeTree}
+use Rattle.c_types_rules.specs.Conversions.{is_struct, is_void}
 use Rattle.c_types_laws.specs.Operands.{Accepts, IsScalar}
 use Rattle.c_types_faults.specs.Known.{Known}
 use Rattle.c_types_faults.specs.Context.{Context, inner, known}
@@ -88,26 +88,26 @@ JumpBreaks looping kind = (kind ≡ fault.Jump) × (looping ≡ false)
 -- in a function that gives this, and within a loop or not
 module _ (gives : TypeTree) where
   abbrev mutual
-    pub StatementFits : Context → Bool → StatementTree → Type 0
-    StatementFits c looping (s.Block token entries) = EntriesFit (inner c) looping entries
-    StatementFits c looping (s.Empty token) = Unit {0}
-    StatementFits c looping (s.Expr token x) = (a : Operand) × (IsWhole (known c) x a × (is_struct a.ctype ≡ false))
-    StatementFits c looping (s.If token condition first) = IsCondition (known c) condition × StatementFits c looping first
-    StatementFits c looping (s.IfElse token condition first second) =
-        IsCondition (known c) condition × StatementFits c looping first × StatementFits c looping second
-    StatementFits c looping (s.While token condition body) = IsCondition (known c) condition × StatementFits c true body
-    StatementFits c looping (s.Do token body condition) = StatementFits c true body × IsCondition (known c) condition
-    StatementFits c looping (s.For token start condition step body) = (d : Context) × (StartGives (inner c) start d
-        × IfPart (IsCondition (known d)) condition × IfPart (IsGivenUp (known d)) step × StatementFits d true body)
-    StatementFits c looping (s.Return token value) = Returns (known c) gives value
-    StatementFits c looping (s.Break token) = looping ≡ true
-    StatementFits c looping (s.Continue token) = looping ≡ true
+    pub IsRuledStatement : Context → Bool → StatementTree → Type 0
+    IsRuledStatement c looping (s.Block token entries) = AreRuledEntries (inner c) looping entries
+    IsRuledStatement c looping (s.Empty token) = Unit {0}
+    IsRuledStatement c looping (s.Expr token x) = (a : Operand) × (IsWhole (known c) x a × (is_struct a.ctype ≡ false))
+    IsRuledStatement c looping (s.If token condition first) = IsCondition (known c) condition × IsRuledStatement c looping first
+    IsRuledStatement c looping (s.IfElse token condition first second) =
+        IsCondition (known c) condition × IsRuledStatement c looping first × IsRuledStatement c looping second
+    IsRuledStatement c looping (s.While token condition body) = IsCondition (known c) condition × IsRuledStatement c true body
+    IsRuledStatement c looping (s.Do token body condition) = IsRuledStatement c true body × IsCondition (known c) condition
+    IsRuledStatement c looping (s.For token start condition step body) = (d : Context) × (StartGives (inner c) start d
+        × IfPart (IsCondition (known d)) condition × IfPart (IsGivenUp (known d)) step × IsRuledStatement d true body)
+    IsRuledStatement c looping (s.Return token value) = Returns (known c) gives value
+    IsRuledStatement c looping (s.Break token) = looping ≡ true
+    IsRuledStatement c looping (s.Continue token) = looping ≡ true
 
-    pub EntriesFit : Context → Bool → EntryList → Type 0
-    EntriesFit c looping s.no_entries = Unit {0}
-    EntriesFit c looping (s.declared declaration rest) =
-        (next : Context) × (DeclarationGives false c declaration next × EntriesFit next looping rest)
-    EntriesFit c looping (s.stated statement rest) = StatementFits c looping statement × EntriesFit c looping rest
+    pub AreRuledEntries : Context → Bool → EntryList → Type 0
+    AreRuledEntries c looping s.no_entries = Unit {0}
+    AreRuledEntries c looping (s.declared declaration rest) =
+        (next : Context) × (DeclarationGives false c declaration next × AreRuledEntries next looping rest)
+    AreRuledEntries c looping (s.stated statement rest) = IsRuledStatement c looping statement × AreRuledEntries c looping rest
 
   abbrev mutual
     pub StatementBreaks : Context → Bool → StatementTree → FaultKind → ℕ → Type 0
@@ -117,23 +117,23 @@ module _ (gives : TypeTree) where
         ⊎ ((a : Operand) × (IsWhole (known c) x a × ((at ≡ token) × (kind ≡ fault.Operands) × (is_struct a.ctype ≡ true))))
     StatementBreaks c looping (s.If token condition first) kind at = Breaks (known c) condition kind at
         ⊎ (IsSomeOperand (known c) condition × (StatementBreaks c looping first kind at
-        ⊎ (StatementFits c looping first × ((at ≡ token) × NoCondition (known c) condition kind))))
+        ⊎ (IsRuledStatement c looping first × ((at ≡ token) × NoCondition (known c) condition kind))))
     StatementBreaks c looping (s.IfElse token condition first second) kind at = Breaks (known c) condition kind at
         ⊎ (IsSomeOperand (known c) condition × (StatementBreaks c looping first kind at
-        ⊎ (StatementFits c looping first × (StatementBreaks c looping second kind at
-        ⊎ (StatementFits c looping second × ((at ≡ token) × NoCondition (known c) condition kind))))))
+        ⊎ (IsRuledStatement c looping first × (StatementBreaks c looping second kind at
+        ⊎ (IsRuledStatement c looping second × ((at ≡ token) × NoCondition (known c) condition kind))))))
     StatementBreaks c looping (s.While token condition body) kind at = Breaks (known c) condition kind at
         ⊎ (IsSomeOperand (known c) condition × (StatementBreaks c true body kind at
-        ⊎ (StatementFits c true body × ((at ≡ token) × NoCondition (known c) condition kind))))
+        ⊎ (IsRuledStatement c true body × ((at ≡ token) × NoCondition (known c) condition kind))))
     StatementBreaks c looping (s.Do token body condition) kind at = StatementBreaks c true body kind at
-        ⊎ (StatementFits c true body × (Breaks (known c) condition kind at
+        ⊎ (IsRuledStatement c true body × (Breaks (known c) condition kind at
         ⊎ (IsSomeOperand (known c) condition × ((at ≡ token) × NoCondition (known c) condition kind))))
     -- a `for` is a scope (6.8.5p5)
     StatementBreaks c looping (s.For token start condition step body) kind at = StartBreaks (inner c) start kind at
         ⊎ ((d : Context) × (StartLeaves (inner c) start d × (OfPart (λ x. Breaks (known d) x kind at) condition
         ⊎ (IfPart (IsSomeOperand (known d)) condition × (OfPart (λ x. Breaks (known d) x kind at) step
         ⊎ (IfPart (IsSomeOperand (known d)) step × (StatementBreaks d true body kind at
-        ⊎ (StatementFits d true body × ((at ≡ token) × ForBreaks (known (inner c)) (known d) start condition step kind)))))))))
+        ⊎ (IsRuledStatement d true body × ((at ≡ token) × ForBreaks (known (inner c)) (known d) start condition step kind)))))))))
     StatementBreaks c looping (s.Return token value) kind at = OfPart (λ x. Breaks (known c) x kind at) value
         ⊎ (IfPart (IsSomeOperand (known c)) value × ((at ≡ token) × ReturnBreaks (known c) gives value kind))
     StatementBreaks c looping (s.Break token) kind at = (at ≡ token) × JumpBreaks looping kind
@@ -144,4 +144,4 @@ module _ (gives : TypeTree) where
     EntriesBreak c looping (s.declared declaration rest) kind at = DeclarationBreaks false c declaration kind at
         ⊎ ((next : Context) × (DeclarationGives false c declaration next × EntriesBreak next looping rest kind at))
     EntriesBreak c looping (s.stated statement rest) kind at = StatementBreaks c looping statement kind at
-        ⊎ (StatementFits c looping statement × EntriesBreak c looping rest kind at)
+        ⊎ (IsRuledStatement c looping statement × EntriesBreak c looping rest kind at)

@@ -2,16 +2,16 @@
 use Rattle.std.specs.Prelude.{◌≡◌, ◌⊎◌, ℕ, ◌≤◌, List, [], ◌∷◌, ◌++◌, length}
 use Rattle.c_syntax.specs.declared.parts.Declarator.{Declarator}
 use Rattle.c_syntax.specs.declared.parts.Members.{Members}
-use Rattle.c_rules.specs.declared.fault.FaultKind.{FaultKind}
-use Rattle.c_rules.specs.declared.fault.FaultKind.TheVariants as fault
-use Rattle.c_rules.specs.declared.layout.Member.{Member}
-use Rattle.c_rules.specs.declared.layout.StructType.{StructType}
-use Rattle.c_rules.specs.TypeTree.{TypeTree}
-use Rattle.c_rules.specs.Sizes.{empty_struct, most_cells, with_member}
+use Rattle.c_types_rules.specs.declared.fault.FaultKind.{FaultKind}
+use Rattle.c_types_rules.specs.declared.fault.FaultKind.TheVariants as fault
+use Rattle.c_types_rules.specs.declared.layout.Member.{Member}
+use Rattle.c_types_rules.specs.declared.layout.StructType.{StructType}
+use Rattle.c_types_rules.specs.TypeTree.{TypeTree}
+use Rattle.c_types_rules.specs.Sizes.{empty_struct, most_cells, with_member}
 use Rattle.c_types_faults.specs.Least.{IsLeast}
 use Rattle.c_types_faults.specs.Context.{Context, Tagged, known}
 use Rattle.c_types_faults.specs.Types.{BaseBreaks, IsBase}
-use Rattle.c_types_faults.specs.Declarators.{Declares}
+use Rattle.c_types_faults.specs.Declarators.{DeclaresAs}
 use Rattle.c_types_faults.specs.Declarations.{IsObject}
 
 -- A tag is in scope from its own token on (6.2.1p7); its struct isn't complete before the end of the definition (6.7.2.3p4).
@@ -29,13 +29,13 @@ HasMember name (m ∷ ms) = (m.name ≡ name) ⊎ HasMember name ms
 module _ (c : Context) where
   -- A member more, which lies behind the others (6.7.2.1p13): its name is new in the struct, and its type an object's.
   abbrev pub MemberGives : TypeTree → Declarator → StructType → StructType → Type 0
-  MemberGives base d s after = (t : TypeTree) × ((HasMember d.name s.members → ⊥) × Declares d base t × IsObject c.structs t
+  MemberGives base d s after = (t : TypeTree) × ((HasMember d.name s.members → ⊥) × DeclaresAs d base t × IsObject c.structs t
       × (after ≡ with_member c.structs d.name t s))
 
   -- The struct has a member of the name already (6.7.2.1, 6.2.3), or the member has no type that an object may have (6.7.2.1p2).
   abbrev pub NewMemberBreaks : TypeTree → Declarator → StructType → FaultKind → ℕ → Type 0
   NewMemberBreaks base d s kind at = (at ≡ d.token) × IsLeast (λ j. ((j ≡ fault.Redeclared) × HasMember d.name s.members)
-      ⊎ ((j ≡ fault.Object) × ((t : TypeTree) → Declares d base t → IsObject c.structs t → ⊥))) kind
+      ⊎ ((j ≡ fault.Object) × ((t : TypeTree) → DeclaresAs d base t → IsObject c.structs t → ⊥))) kind
 
   abbrev pub LineGives : TypeTree → List Declarator → StructType → StructType → Type 0
   LineGives base [] s after = after ≡ s

@@ -3,14 +3,14 @@
 use Rattle.std.specs.Prelude.{◌≡◌, ◌⊎◌, ℕ, ◌<◌, Bool, true, false, List, [], ◌∷◌, length, codes}
 use Rattle.c_syntax.specs.ItemTree.{SourceTree}
 use Rattle.c_syntax.specs.WellFormed.{IsShaped}
-use Rattle.c_rules.specs.declared.fault.FaultKind.{FaultKind}
-use Rattle.c_rules.specs.declared.fault.FaultKind.TheVariants as fault
-use Rattle.c_rules.specs.declared.function.FunctionType.{FunctionType}
-use Rattle.c_rules.specs.TypeTree.{Int}
+use Rattle.c_types_rules.specs.declared.fault.FaultKind.{FaultKind}
+use Rattle.c_types_rules.specs.declared.fault.FaultKind.TheVariants as fault
+use Rattle.c_types_rules.specs.declared.function.FunctionType.{FunctionType}
+use Rattle.c_types_rules.specs.TypeTree.{Int}
 use Rattle.sites.specs.Table.{functions_of}
-use Rattle.c_types_notes.specs.Events.{Event, Calls, Value, events_of}
+use Rattle.c_types_faults.specs.Events.{Event, Calls, Value, events_of}
 use Rattle.c_types_faults.specs.Known.{Entity, Function}
-use Rattle.c_types_faults.specs.Context.{Context, Declared, nothing}
+use Rattle.c_types_faults.specs.Context.{Context, Declared, empty_context}
 use Rattle.c_types_faults.specs.Functions.{IsKnownAs, is_listed}
 use Rattle.c_types_faults.specs.Items.{ItemsBreak, ItemsGive}
 
@@ -20,14 +20,14 @@ HasCall token name [] = ⊥
 HasCall token name (Value own (Calls other) ∷ rest) = ((own ≡ token) × (other ≡ name)) ⊎ HasCall token name rest
 HasCall token name (event ∷ rest) = HasCall token name rest
 
-abbrev pub IsFunction : Entity → Type 0
-IsFunction (Function f) = Unit {0}
-IsFunction x = ⊥
+abbrev pub IsFunctionEntity : Entity → Type 0
+IsFunctionEntity (Function f) = Unit {0}
+IsFunctionEntity x = ⊥
 
 -- the name of a function is among these
 abbrev pub HasFunction : List ℕ → List Declared → Type 0
 HasFunction name [] = ⊥
-HasFunction name (d ∷ ds) = ((d.name ≡ name) × IsFunction d.entity) ⊎ HasFunction name ds
+HasFunction name (d ∷ ds) = ((d.name ≡ name) × IsFunctionEntity d.entity) ⊎ HasFunction name ds
 
 -- `int main(void)`
 abbrev pub main_type : FunctionType
@@ -38,8 +38,8 @@ abbrev pub is_defined_in : SourceTree → List ℕ → Bool
 is_defined_in t name = is_listed name (functions_of t)
 
 -- it is declared so, and defined (5.1.2.2.1)
-abbrev pub HasMain : SourceTree → Context → Type 0
-HasMain t c = IsKnownAs (codes "main") main_type c × (is_defined_in t (codes "main") ≡ true)
+abbrev pub DefinesMain : SourceTree → Context → Type 0
+DefinesMain t c = IsKnownAs (codes "main") main_type c × (is_defined_in t (codes "main") ≡ true)
 
 -- each function of the text that is called is defined by an item (6.9p5)
 abbrev pub CallsDefined : SourceTree → Context → Type 0
@@ -47,7 +47,7 @@ CallsDefined t c = (token : ℕ) (name : List ℕ) → HasCall token name (event
 
 -- Each item keeps the rules by the declarations before it, of which there are none before the first one; `main` is defined, and so is what is called.
 abbrev pub TextKeepsRules : SourceTree → Type 0
-TextKeepsRules t = (c : Context) × (ItemsGive nothing t.items c × HasMain t c × CallsDefined t c)
+TextKeepsRules t = (c : Context) × (ItemsGive empty_context t.items c × DefinesMain t c × CallsDefined t c)
 
 -- a function of the text that no item defines is called there (6.9p5)
 abbrev pub CallsUndefined : SourceTree → Context → ℕ → Type 0
@@ -59,9 +59,9 @@ FirstUndefined t c at = CallsUndefined t c at × (IsShaped t → (earlier : ℕ)
 
 -- behind the last item
 abbrev pub EndBreaks : SourceTree → Context → FaultKind → ℕ → Type 0
-EndBreaks t c kind at = ((kind ≡ fault.NoMain) × (at ≡ length t.lines) × (HasMain t c → ⊥))
-    ⊎ (HasMain t c × ((kind ≡ fault.NoDefinition) × FirstUndefined t c at))
+EndBreaks t c kind at = ((kind ≡ fault.NoMain) × (at ≡ length t.lines) × (DefinesMain t c → ⊥))
+    ⊎ (DefinesMain t c × ((kind ≡ fault.NoDefinition) × FirstUndefined t c at))
 
--- `nothing` is declared before the first item.
+-- Before the first item the context is `empty_context`.
 abbrev pub TextBreaks : SourceTree → FaultKind → ℕ → Type 0
-TextBreaks t kind at = ItemsBreak nothing t.items kind at ⊎ ((c : Context) × (ItemsGive nothing t.items c × EndBreaks t c kind at))
+TextBreaks t kind at = ItemsBreak empty_context t.items kind at ⊎ ((c : Context) × (ItemsGive empty_context t.items c × EndBreaks t c kind at))

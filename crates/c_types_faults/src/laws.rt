@@ -1,12 +1,12 @@
 ghost use Rattle.std.specs.Prelude.{◌≡◌, ℕ, Bool, Some};
-ghost use Rattle.c_rules.specs.declared.fault.FaultKind.{FaultKind};
-ghost use Rattle.c_rules.specs.declared.operand.Operand.{Operand};
-ghost use Rattle.c_rules.specs.TypeTree.{TypeTree};
+ghost use Rattle.c_types_rules.specs.declared.fault.FaultKind.{FaultKind};
+ghost use Rattle.c_types_rules.specs.declared.operand.Operand.{Operand};
+ghost use Rattle.c_types_rules.specs.TypeTree.{TypeTree};
 ghost use Rattle.c_syntax.specs.ExprTree.{ExprTree};
 ghost use Rattle.c_syntax.specs.ItemTree.{ItemTree, SourceTree};
 ghost use Rattle.c_syntax.specs.StatementTree.{StatementTree};
 ghost use Rattle.c_syntax.specs.WellFormed.{IsShaped};
-ghost use Rattle.c_rules.specs.Faults.{number_of};
+ghost use Rattle.c_types_rules.specs.Faults.{fault_number};
 ghost use Rattle.c_types.specs.Fault.{fault_of, walk_tree};
 ghost use Rattle.c_types_expressions.specs.ExprWalk.{walk_expr};
 ghost use Rattle.c_types_expressions.specs.Walked.{Fine, Faulty};
@@ -39,7 +39,7 @@ pub fn an_operand_breaks_no_rule()
 /// `check` tells of it.
 pub fn a_refused_text_breaks_a_rule()
     ensures refused { (t : SourceTree) (kind : FaultKind) (token : ℕ) → walk_tree t ≡ Faulty kind token → TextBreaks t kind token }
-    ensures told { (t : SourceTree) (n at : ℕ) → fault_of t ≡ Some (n, at) → (kind : FaultKind) × ((number_of kind ≡ n) × TextBreaks t kind at) }
+    ensures told { (t : SourceTree) (n at : ℕ) → fault_of t ≡ Some (n, at) → (kind : FaultKind) × ((fault_number kind ≡ n) × TextBreaks t kind at) }
 {}
 
 /// A tree of the grammar without a fault keeps the rules, and a text that keeps them breaks none. So of the trees of the grammar
@@ -63,5 +63,5 @@ pub fn a_part_has_one_first_fault()
 /// its refusals the walk need not be believed.
 pub fn a_text_has_one_first_fault()
     ensures single { (t : SourceTree) (i j : FaultKind) (a b : ℕ) → IsShaped t → TextBreaks t i a → TextBreaks t j b → (i ≡ j) × (a ≡ b) }
-    ensures told { (t : SourceTree) (kind : FaultKind) (at : ℕ) → IsShaped t → TextBreaks t kind at → fault_of t ≡ Some (number_of kind, at) }
+    ensures told { (t : SourceTree) (kind : FaultKind) (at : ℕ) → IsShaped t → TextBreaks t kind at → fault_of t ≡ Some (fault_number kind, at) }
 {}

@@ -4,7 +4,7 @@ use Rattle.std.proofs.Common.{true, false, length, length-append}
 use Rattle.std.specs.Prelude.{slice_get, MatchOption}
 use Rattle.std.proofs.lemmas.Bool.{cases_lt}
 use Rattle.std.proofs.lemmas.Option.{slice_get_past, slice_get_within}
-use Rattle.c_rules.specs.TypeTree.{TypeTree}
+use Rattle.c_types_rules.specs.TypeTree.{TypeTree}
 use Rattle.c_types_expressions.specs.declared.names.Meaning.TheVariants as meaning
 use Rattle.c_types_expressions.specs.declared.names.ScopeEntry.TheVariants.{Opens}
 use Rattle.c_types_expressions.specs.declared.names.ScopeEntry.TheVariants as entry
@@ -13,8 +13,8 @@ use Rattle.c_types_expressions.specs.declared.walk.VariableEntry.{VariableEntry}
 use Rattle.c_types_expressions.specs.declared.walk.Walk.{Walk}
 use Rattle.c_types.specs.Answers.{noted}
 use Rattle.c_types_expressions.specs.Names.{closed}
-use Rattle.c_types_expressions.specs.Walked.{ended, numbered, opened, replaced, with_variable}
-use Rattle.c_types_laws.specs.Naming.{BeginsAt, Declares, IsNamed}
+use Rattle.c_types_expressions.specs.Walked.{ended_scopes, numbered, opened, replaced, with_variable}
+use Rattle.c_types_laws.specs.Naming.{BeginsAt, DeclaresVariable, IsNamed}
 use Rattle.c_types_laws.proofs.Scenes.{EndsOn, IsBefore, Scene, Sound, Stays, closes_ended, ended_long, ends_ended, ends_here, opens_ended, replaced_long}
 use Rattle.c_types_laws.proofs.Scenes.{scene, some_is, some_none, stack_ended, stack_same}
 use Rattle.c_types_laws.proofs.Steps.{IsFlat, Later, Part, Ready, Same, later_then, noted_other, noted_same, sound_later}
@@ -88,7 +88,7 @@ more_later at token l name number s low long =
 
 -- what is known where the latest scope has ended
 abbrev pub left : Walk → Walk
-left w = record w { names = closed w.names; ends = ended w.latest w.names w.ends }
+left w = record w { names = closed w.names; ends = ended_scopes w.latest w.names w.ends }
 
 left_later : (at : ℕ) (w : Walk) → Sound at w.latest (scene w) → (lo : ℕ) → Later lo (scene w) w.latest (scene (left w)) w.latest
 left_later at w s lo = record {
@@ -122,7 +122,7 @@ module _ {z : Walk} where
   -- a variable's declaration
   declared_by : (lo hi token : ℕ) (name : List ℕ) (number : Variable) (w v : Walk) → Ready lo hi w → lo ≤ token → token < hi
       → v.types ≡ w.types → v.functions_at ≡ w.functions_at → v.variables_at ≡ replaced w.variables_at token (Some (length w.variables))
-      → scene v ≡ more token name number (scene w) → v.latest ≡ w.latest → Part z lo hi w v (Declares z token name)
+      → scene v ≡ more token name number (scene w) → v.latest ≡ w.latest → Part z lo hi w v (DeclaresVariable z token name)
   declared_by lo hi token name number w v r low high t f n s l =
       let entry : VariableEntry = record { name = name; variable = number; from = token } in
       record {
@@ -154,7 +154,7 @@ module _ {z : Walk} where
       }
 
   pub declared : (lo hi : ℕ) (global : Bool) (token : ℕ) (name : List ℕ) (t : TypeTree) (w : Walk) → Ready lo hi w → lo ≤ token → token < hi
-      → Part z lo hi w (with_variable global token name t w) (Declares z token name)
+      → Part z lo hi w (with_variable global token name t w) (DeclaresVariable z token name)
   declared lo hi true token name t w r low high =
       declared_by lo hi token name (numbered true w) w (with_variable true token name t w) r low high refl refl refl refl refl
   declared lo hi false token name t w r low high =

@@ -9,26 +9,26 @@ use Rattle.c_syntax.specs.ExprTree.{ExprTree, ExprList, LinkList, PostfixList}
 use Rattle.c_syntax.specs.Place.{ExprAt, ExprsAt, LinksAt, PostfixAt}
 use Rattle.c_syntax.specs.Shape.{ShapedExpr, ShapedExprs, ShapedLinks, ShapedPostfix}
 use Rattle.c_syntax.specs.Spelling.{a_sign, expr_kinds, exprs_kinds, link_kinds, more_exprs_kinds, parenthesized, postfix_kinds, type_kinds}
-use Rattle.c_rules.specs.declared.fault.FaultKind.TheVariants as fault
-use Rattle.c_rules.specs.declared.library.Library.TheVariants as library
+use Rattle.c_types_rules.specs.declared.fault.FaultKind.TheVariants as fault
+use Rattle.c_types_rules.specs.declared.library.Library.TheVariants as library
 use Rattle.c_meaning.specs.Trees.{token_of}
-use Rattle.c_rules.specs.declared.operand.Operand.{Operand}
-use Rattle.c_rules.specs.TypeTree as t
-use Rattle.c_rules.specs.TypeTree.{TypeTree}
-use Rattle.c_rules.specs.Conversions as rule
-use Rattle.c_rules.specs.Conversions.{constant_of, enclosed, is_struct, null_of, place_of, string_of, value_of}
-use Rattle.c_rules.specs.Library.{fits_format, library_named}
-use Rattle.c_rules.specs.Operators.{cast_to, measured, stepped}
-use Rattle.c_rules.specs.Selecting.{chosen, indexed, member_behind, member_of, sequenced}
+use Rattle.c_types_rules.specs.declared.operand.Operand.{Operand}
+use Rattle.c_types_rules.specs.TypeTree as t
+use Rattle.c_types_rules.specs.TypeTree.{TypeTree}
+use Rattle.c_types_rules.specs.Conversions as rule
+use Rattle.c_types_rules.specs.Conversions.{constant_of, enclosed, is_struct, null_of, place_of, string_of, value_of}
+use Rattle.c_types_rules.specs.Library.{fits_format, library_named}
+use Rattle.c_types_rules.specs.Operators.{cast_to, measured, stepped}
+use Rattle.c_types_rules.specs.Selecting.{chosen, indexed, member_behind, member_of, sequenced}
 use Rattle.c_types_expressions.specs.declared.names.Meaning.{Meaning}
 use Rattle.c_types_expressions.specs.declared.names.Meaning.TheVariants as meaning
 use Rattle.c_types_expressions.specs.declared.walk.Walk.{Walk}
 use Rattle.c_types.specs.Answers.{noted}
-use Rattle.c_types_expressions.specs.ExprWalk.{assigning, binary_of, called, chained, compound_of, flat, format_of, looked}
+use Rattle.c_types_expressions.specs.ExprWalk.{assigning, binary_of, called_name, chained, compound_of, flat, format_of, looked}
 use Rattle.c_types_expressions.specs.ExprWalk.{prefixed, string_cells, walk_expr, walk_exprs, walk_links, walk_postfix, walk_whole, whole_call}
 use Rattle.c_types_expressions.specs.ExprWalk.{with_stars}
 use Rattle.c_types_expressions.specs.Names.{meaning_of}
-use Rattle.c_types_laws.specs.Fits.{IsFormatted, Operands}
+use Rattle.c_types_laws.specs.Fits.{FormatFits, Operands}
 use Rattle.c_types_laws.specs.Fits.{WholeFits, operand}
 use Rattle.c_types_laws.specs.Operands.{Steps}
 use Rattle.c_types_laws.proofs.Ruled.{Is}
@@ -271,13 +271,13 @@ module _ (z : Walk) where
   string_format : (token : ℕ) (parts : List (List ℕ)) (rest : ExprList) (own : List Operand) (d : Operand)
       → Operands z (e.more_exprs (e.Strings token parts) rest) own
       → Is (format_of (e.more_exprs (e.Strings token parts) rest) own) d
-      → IsFormatted z (e.more_exprs (e.Strings token parts) rest) × (value_of t.Int ≡ d)
+      → FormatFits z (e.more_exprs (e.Strings token parts) rest) × (value_of t.Int ≡ d)
   string_format token parts rest [] d h k = absurd h
   string_format token parts rest (a ∷ more) d h k =
       let i = is_int (fits_format (flat parts) more) d k in ((more, (h.1, i.0)), i.1)
 
   formatted_is : (arguments : ExprList) (own : List Operand) (d : Operand) → Operands z arguments own → Is (format_of arguments own) d
-      → IsFormatted z arguments × (value_of t.Int ≡ d)
+      → FormatFits z arguments × (value_of t.Int ≡ d)
   formatted_is e.no_exprs own d h k = absurd (cc)
   formatted_is (e.more_exprs (e.Strings token parts) rest) own d h k = string_format token parts rest own d h k
   formatted_is (e.more_exprs x rest) own d h k = absurd (cc)
@@ -293,7 +293,7 @@ module _ (z : Walk) where
   called_whole : {mid hi : ℕ} (at token : ℕ) (name : List ℕ) (arguments : ExprList) (w v : Walk) (xs : List Operand) (m : Option Meaning)
       → token ≡ at → at < mid → mid ≤ hi → Ready at hi w → Leads z true mid hi w (GoodList z arguments []) xs v
       → Means v.functions v.variables v.ends at name m v.names
-      → Gives (called token m xs v) (Leads z true at hi w (WholeGood (e.Call token name arguments)))
+      → Gives (called_name token m xs v) (Leads z true at hi w (WholeGood (e.Call token name arguments)))
   called_whole at token name arguments w v xs m p less high r g h =
       leads_so (called_leads z at token name arguments w v xs m p less high r g h) (λ d f. (inl f.0, f.1))
 

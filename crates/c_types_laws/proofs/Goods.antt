@@ -14,37 +14,37 @@ use Rattle.c_syntax.specs.ExprTree as e
 use Rattle.c_syntax.specs.ExprTree.{ExprTree, ExprList, LinkList, PostfixList}
 use Rattle.c_syntax.specs.Shape.{HasLink, HasOne, HasPostfix}
 use Rattle.c_syntax.specs.Spelling.{Kinds, a_sign, expr_kinds, exprs_kinds, parenthesized, text_kinds}
-use Rattle.c_rules.specs.declared.fault.FaultKind.{FaultKind}
-use Rattle.c_rules.specs.declared.fault.FaultKind.TheVariants as fault
-use Rattle.c_rules.specs.declared.library.Library.{Library}
-use Rattle.c_rules.specs.declared.library.Library.TheVariants as library
-use Rattle.c_rules.specs.Assigning.{assignable, fits_parameters}
+use Rattle.c_types_rules.specs.declared.fault.FaultKind.{FaultKind}
+use Rattle.c_types_rules.specs.declared.fault.FaultKind.TheVariants as fault
+use Rattle.c_types_rules.specs.declared.library.Library.{Library}
+use Rattle.c_types_rules.specs.declared.library.Library.TheVariants as library
+use Rattle.c_types_rules.specs.Assigning.{assignable, fits_parameters}
 use Rattle.c_meaning.specs.Conversions.{is_null_constant}
 use Rattle.c_meaning.specs.Trees.{link_token, postfix_token, token_of}
-use Rattle.c_rules.specs.declared.layout.Member.{Member}
-use Rattle.c_rules.specs.declared.operand.Operand.{Operand}
-use Rattle.c_rules.specs.TypeTree as t
-use Rattle.c_rules.specs.TypeTree.{TypeTree}
-use Rattle.c_rules.specs.Conversions as rule
-use Rattle.c_rules.specs.Conversions.{constant_of, enclosed, is_struct, null_of, place_of, string_of, value_of}
-use Rattle.c_rules.specs.Faults.{Looked}
-use Rattle.c_rules.specs.Functions as functions
-use Rattle.c_rules.specs.Library.{library_called, library_named, one_scalar}
-use Rattle.c_rules.specs.Operators.{cast_to, measured}
-use Rattle.c_rules.specs.Selecting.{chosen, indexed, member_behind, member_of, sequenced}
+use Rattle.c_types_rules.specs.declared.layout.Member.{Member}
+use Rattle.c_types_rules.specs.declared.operand.Operand.{Operand}
+use Rattle.c_types_rules.specs.TypeTree as t
+use Rattle.c_types_rules.specs.TypeTree.{TypeTree}
+use Rattle.c_types_rules.specs.Conversions as rule
+use Rattle.c_types_rules.specs.Conversions.{constant_of, enclosed, is_struct, null_of, place_of, string_of, value_of}
+use Rattle.c_types_rules.specs.Faults.{Looked}
+use Rattle.c_types_rules.specs.Functions as functions
+use Rattle.c_types_rules.specs.Library.{library_called, library_named, one_scalar}
+use Rattle.c_types_rules.specs.Operators.{cast_to, measured}
+use Rattle.c_types_rules.specs.Selecting.{chosen, indexed, member_behind, member_of, sequenced}
 use Rattle.c_types_expressions.specs.declared.names.Meaning.{Meaning}
 use Rattle.c_types_expressions.specs.declared.names.Meaning.TheVariants as meaning
 use Rattle.c_types_expressions.specs.declared.walk.FunctionEntry.{FunctionEntry}
 use Rattle.c_types_expressions.specs.declared.walk.Walk.{Walk}
 use Rattle.c_types.specs.Answers.{noted, type_at}
-use Rattle.c_types_expressions.specs.ExprWalk.{assigning, base_type, binary_of, called, chained, compound_of, looked, named, of_function, of_variable}
-use Rattle.c_types_expressions.specs.ExprWalk.{prefixed, selected, tagged}
+use Rattle.c_types_expressions.specs.ExprWalk.{assigning, base_type, binary_of, called_name, chained, compound_of, looked, named, of_function, of_variable}
+use Rattle.c_types_expressions.specs.ExprWalk.{prefixed, selected, tagged_type}
 use Rattle.c_types_expressions.specs.ExprWalk.{with_call}
 use Rattle.c_types_expressions.specs.Names.{found, meaning_of}
 use Rattle.c_types_expressions.specs.Walked.{with_type}
 use Rattle.c_types_laws.specs.Naming.{IsInnermost, NamesNone}
-use Rattle.c_types_laws.specs.Fits.{Callee, Calls, ExprFits, ExprsFit, Gives as GivesType, IsSequence, LinksFit, Of, Operands, Passes}
-use Rattle.c_types_laws.specs.Fits.{PostfixFits, ends_as_lvalue, is_lvalue, lvalue_at, operand, selected as selected_operand, value_at}
+use Rattle.c_types_laws.specs.Fits.{ArgumentsFit, CallFits, CalleeFits, ExprFits, ExprsFit, Gives as GivesType, IsSequence, LinksFit, Of, Operands}
+use Rattle.c_types_laws.specs.Fits.{PostfixFits, ends_as_lvalue, is_lvalue, lvalue_at, operand, selected_operand, value_at}
 use Rattle.c_types_laws.specs.Operands.{Accepts, Assigns, Casts, Chooses, Indexes, Joins, Prefixes, Selects, SelectsBehind, Steps}
 use Rattle.c_types_laws.proofs.Ruled.{Is, IsPlace, IsValue, accepts, assigning_is, behind_stays, cast_is, chained_is, chosen_is, indexed_is, is_value}
 use Rattle.c_types_laws.proofs.Ruled.{leads_to_place, measured_is, member_stays, prefixed_is, value_is}
@@ -77,7 +77,7 @@ conditional_long condition first second = omega (
 
 module _ (z : Walk) where
   -- the base of a type notes nothing
-  pub tagged_leads : (token lo hi : ℕ) (m : Option Meaning) (w : Walk) → Ready lo hi w → Gives (tagged token m w) (Leads z true lo lo w (λ t. Unit {0}))
+  pub tagged_leads : (token lo hi : ℕ) (m : Option Meaning) (w : Walk) → Ready lo hi w → Gives (tagged_type token m w) (Leads z true lo lo w (λ t. Unit {0}))
   tagged_leads token lo hi None w r = record { by = tt }
   tagged_leads token lo hi (Some (meaning.Variable index)) w r = record { by = tt }
   tagged_leads token lo hi (Some (meaning.Function index)) w r = record { by = tt }
@@ -132,7 +132,7 @@ module _ (z : Walk) where
   abbrev pub GoodList : ExprList → List Operand → List Operand → Type 0
   GoodList xs before all = (own : List Operand) × ((all ≡ before ++ own) × (ExprsFit z xs × Operands z xs own))
 
-  pub passes : (ts : List TypeTree) (xs : ExprList) (own : List Operand) → Operands z xs own → fits_parameters ts own ≡ true → Passes z ts xs
+  pub passes : (ts : List TypeTree) (xs : ExprList) (own : List Operand) → Operands z xs own → fits_parameters ts own ≡ true → ArgumentsFit z ts xs
   passes [] e.no_exprs [] h k = tt
   passes [] e.no_exprs (a ∷ own) h k = absurd h
   passes [] (e.more_exprs x rest) [] h k = absurd h
@@ -268,7 +268,7 @@ module _ (z : Walk) where
         (
           h.1,
           h.0.1.1.0,
-          gives_type (Calls z token name arguments) token d.ctype h.2
+          gives_type (CallFits z token name arguments) token d.ctype h.2
               (inl (f, (e, (xs, (subst (Operands z arguments) (sym h.0.1.0) h.0.1.1.1, called))))),
         ),
         record { typed = h.2; place = sym k.1; null = sym k.2 },
@@ -281,11 +281,11 @@ module _ (z : Walk) where
         (
           h.1,
           h.0.1.1.0,
-          gives_type (Calls z token name arguments) token d.ctype h.2 (inr (
+          gives_type (CallFits z token name arguments) token d.ctype h.2 (inr (
             index,
             (
               h.3,
-              subst (λ o. Callee o name (λ g. Passes z g.params arguments × (d.ctype ≡ g.gives))) (sym h.4)
+              subst (λ o. CalleeFits o name (λ g. ArgumentsFit z g.params arguments × (d.ctype ≡ g.gives))) (sym h.4)
                   (e, (passes f.ctype.params arguments xs (subst (Operands z arguments) (sym h.0.1.0) h.0.1.1.1) k.0, k.1.0)),
             ),
           )),
@@ -306,7 +306,7 @@ module _ (z : Walk) where
   pub called_leads : {mid hi : ℕ} (at token : ℕ) (name : List ℕ) (arguments : ExprList) (w v : Walk) (xs : List Operand) (m : Option Meaning) → token ≡ at
       → at < mid → mid ≤ hi
       → Ready at hi w → Leads z true mid hi w (GoodList arguments []) xs v → Means v.functions v.variables v.ends at name m v.names
-      → Gives (called token m xs v) (Leads z true at hi w (Good (e.Call token name arguments)))
+      → Gives (called_name token m xs v) (Leads z true at hi w (Good (e.Call token name arguments)))
   called_leads at token name arguments w v xs None p less high r g h = record { by = tt }
   called_leads at token name arguments w v xs (Some (meaning.Variable index)) p less high r g h = record { by = tt }
   called_leads at token name arguments w v xs (Some (meaning.Struct index)) p less high r g h = record { by = tt }

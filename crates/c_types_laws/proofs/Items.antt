@@ -24,15 +24,15 @@ use Rattle.c_syntax.specs.Shape.{ShapedEntries, ShapedItem}
 use Rattle.c_syntax.specs.Spelling.{a_name, a_sign, body_kinds, entry_kinds, item_kinds, optional, param_kinds, param_name_kinds, params_kinds}
 use Rattle.c_syntax.specs.Spelling.{parenthesized, type_kinds, with_commas}
 use Rattle.c_syntax.specs.WellFormed.{IsShaped}
-use Rattle.c_rules.specs.declared.fault.FaultKind.{FaultKind}
-use Rattle.c_rules.specs.declared.fault.FaultKind.TheVariants as fault
-use Rattle.c_rules.specs.declared.function.FunctionType.{FunctionType}
-use Rattle.c_rules.specs.declared.layout.StructType.{StructType}
-use Rattle.c_rules.specs.TypeTree.{TypeTree, same_type, same_types}
-use Rattle.c_rules.specs.Conversions.{is_scalar, is_struct}
-use Rattle.c_rules.specs.Selecting.{member_named}
-use Rattle.c_rules.specs.Sizes.{empty_struct, is_object, most_cells, with_member}
-use Rattle.c_rules.proofs.Same.{equal}
+use Rattle.c_types_rules.specs.declared.fault.FaultKind.{FaultKind}
+use Rattle.c_types_rules.specs.declared.fault.FaultKind.TheVariants as fault
+use Rattle.c_types_rules.specs.declared.function.FunctionType.{FunctionType}
+use Rattle.c_types_rules.specs.declared.layout.StructType.{StructType}
+use Rattle.c_types_rules.specs.TypeTree.{TypeTree, same_type, same_types}
+use Rattle.c_types_rules.specs.Conversions.{is_scalar, is_struct}
+use Rattle.c_types_rules.specs.Selecting.{member_named}
+use Rattle.c_types_rules.specs.Sizes.{empty_struct, is_object, most_cells, with_member}
+use Rattle.c_types_rules.proofs.Same.{equal}
 use Rattle.c_types_expressions.specs.declared.names.Meaning.{Meaning}
 use Rattle.c_types_expressions.specs.declared.names.Meaning.TheVariants as meaning
 use Rattle.c_types_expressions.specs.declared.names.ScopeEntry.{ScopeEntry}
@@ -42,17 +42,17 @@ use Rattle.c_types_expressions.specs.declared.walk.FunctionEntry.{FunctionEntry}
 use Rattle.c_types_expressions.specs.declared.walk.Parameter.{Parameter}
 use Rattle.c_types_expressions.specs.declared.walk.Walk.{Walk}
 use Rattle.c_types_walk.specs.Declarators.{declared_type}
-use Rattle.c_types_expressions.specs.ExprWalk.{base_type, tagged, with_stars}
+use Rattle.c_types_expressions.specs.ExprWalk.{base_type, tagged_type, with_stars}
 use Rattle.c_types_expressions.specs.Beginning.{beginning}
 use Rattle.c_types.specs.Fault.{ends_with, last_fault, walk_tree}
-use Rattle.c_types_walk.specs.ItemWalk.{clashes, has_type, declares, defined, entered, has_length, is_among, is_defined, known_as, listed, looked_param}
+use Rattle.c_types_walk.specs.ItemWalk.{clashes, has_type, declares, defined, entered, has_length, is_among, is_defined, known_as, listed_params, looked_param}
 use Rattle.c_types_walk.specs.ItemWalk.{param_type, scalar_param, typed_function, typed_member, types_of, walk_body, walk_declarators, walk_item, walk_items}
 use Rattle.c_types_walk.specs.ItemWalk.{walk_members, walk_param, walk_params, walk_struct, with_definition, with_function, with_param, with_params, with_tag}
 use Rattle.c_types_expressions.specs.Names.{found, is_here, is_reserved}
 use Rattle.c_types_walk.specs.StatementWalk.{walk_entries}
 use Rattle.c_types_expressions.specs.Walked.{Walked, Fine, Faulty, ◌>>=◌, Done, closing, opened, with_variable}
-use Rattle.c_types_laws.specs.Naming.{Declares}
-use Rattle.c_types_laws.specs.Fits.{BodyFits, Callee, EntriesFit, ItemFits, NameFits, ParamFits, TextFits}
+use Rattle.c_types_laws.specs.Naming.{DeclaresVariable}
+use Rattle.c_types_laws.specs.Fits.{BodyFits, CalleeFits, EntriesFit, ItemFits, ParamFits, ParamNameFits, TextFits}
 use Rattle.c_types_laws.proofs.Scenes.{Finds, FunctionNamed, NoVariable, Sound, Stays, finds, other_bytes, scene, stack_same}
 use Rattle.c_types_laws.proofs.Steps.{Gives, GivesIn, IsFlat, Part, Ready, and_then, knowing, later_here, nothing_noted, ready_after, ready_in, rightwards}
 use Rattle.c_types_laws.proofs.Steps.{same_here, so, sound_later, weaker, wider}
@@ -65,7 +65,7 @@ use Rattle.c_types_laws.proofs.Statements.{commas_long, commas_one, declaration_
 abbrev Keeping : {A : Type 0} → Walk → (A → Type 0) → A → Walk → Type 0
 Keeping w P a v = (v ≡ w) × P a
 
-tagged_keeps : (token : ℕ) (m : Option Meaning) (w : Walk) → Gives (tagged token m w) (Keeping w (λ t. Unit {0}))
+tagged_keeps : (token : ℕ) (m : Option Meaning) (w : Walk) → Gives (tagged_type token m w) (Keeping w (λ t. Unit {0}))
 tagged_keeps token None w = record { by = tt }
 tagged_keeps token (Some (meaning.Variable index)) w = record { by = tt }
 tagged_keeps token (Some (meaning.Function index)) w = record { by = tt }
@@ -178,12 +178,12 @@ members_keep (m ∷ ms) s w = and_then (base_keeps m.base w) (λ b v h. and_then
 
 -- where the parts of an item stand
 
-params_within : (ps : Params) → length (with_commas param_kinds (listed ps)) ≤ length (params_kinds ps)
+params_within : (ps : Params) → length (with_commas param_kinds (listed_params ps)) ≤ length (params_kinds ps)
 params_within params.Empty = omega arith
 params_within params.Void = omega arith
 params_within (params.List list) = omega arith
 
-params_at : (ps : Params) (at : ℕ) → ParamsAt at ps → EachAt ParamAt param_kinds 1 at (listed ps)
+params_at : (ps : Params) (at : ℕ) → ParamsAt at ps → EachAt ParamAt param_kinds 1 at (listed_params ps)
 params_at params.Empty at h = tt
 params_at params.Void at h = tt
 params_at (params.List list) at h = h
@@ -205,9 +205,9 @@ body_long entries = omega (arith, length-append (entry_kinds entries) (a_sign si
 -- the function was declared before with this name and result
 abbrev Knows : List ℕ → FunctionType → Walk → Option ℕ → Type 0
 Knows name f w None = Unit {0}
-Knows name f w (Some index) = Callee (slice_get w.functions index) name (λ g. g.gives ≡ f.gives)
+Knows name f w (Some index) = CalleeFits (slice_get w.functions index) name (λ g. g.gives ≡ f.gives)
 
-callee_by : (name : List ℕ) (f : FunctionType) (g : Option FunctionEntry) → FunctionNamed name g → has_type f g ≡ true → Callee g name (λ h. h.gives ≡ f.gives)
+callee_by : (name : List ℕ) (f : FunctionType) (g : Option FunctionEntry) → FunctionNamed name g → has_type f g ≡ true → CalleeFits g name (λ h. h.gives ≡ f.gives)
 callee_by name f None h k = absurd h
 callee_by name f (Some g) h k = (h, equal g.ctype.gives f.gives (and_parts (same_type g.ctype.gives f.gives) (same_types g.ctype.params f.params) k).0)
 
@@ -226,20 +226,20 @@ knows at name f (Some (meaning.Library function)) w h = tt
 knows at name f (Some (meaning.Struct index)) w h = tt
 
 callee_stays : (name : List ℕ) (f : FunctionType) (fs gs : List FunctionEntry) (index : ℕ) → Stays fs gs → (g : Option FunctionEntry) → slice_get fs index ≡ g
-    → Callee g name (λ h. h.gives ≡ f.gives) → Callee (slice_get gs index) name (λ h. h.gives ≡ f.gives)
+    → CalleeFits g name (λ h. h.gives ≡ f.gives) → CalleeFits (slice_get gs index) name (λ h. h.gives ≡ f.gives)
 callee_stays name f fs gs index s None e h = absurd h
-callee_stays name f fs gs index s (Some g) e h = subst (λ o. Callee o name (λ h. h.gives ≡ f.gives)) (sym (s index g e)) h
+callee_stays name f fs gs index s (Some g) e h = subst (λ o. CalleeFits o name (λ h. h.gives ≡ f.gives)) (sym (s index g e)) h
 
 -- the body of a function with this result
 body_fits : (z : Walk) (name : List ℕ) (f : FunctionType) (body : EntryList) (place : ℕ) (g : Option FunctionEntry) → slice_get z.functions place ≡ g
-    → Callee g name (λ h. h.gives ≡ f.gives) → EntriesFit z f.gives false body → BodyFits z name body
+    → CalleeFits g name (λ h. h.gives ≡ f.gives) → EntriesFit z f.gives false body → BodyFits z name body
 body_fits z name f body place None e h k = absurd h
 body_fits z name f body place (Some g) e h k =
-    (place, subst (λ o. Callee o name (λ h. EntriesFit z h.gives false body)) (sym e) (h.0, subst (λ t. EntriesFit z t false body) (sym h.1) k))
+    (place, subst (λ o. CalleeFits o name (λ h. EntriesFit z h.gives false body)) (sym e) (h.0, subst (λ t. EntriesFit z t false body) (sym h.1) k))
 
 -- a function of the name is known at the end, with this result
 abbrev Has : Walk → List ℕ → FunctionType → Type 0
-Has z name f = (place : ℕ) × Callee (slice_get z.functions place) name (λ g. g.gives ≡ f.gives)
+Has z name f = (place : ℕ) × CalleeFits (slice_get z.functions place) name (λ g. g.gives ≡ f.gives)
 
 module _ {z : Walk} where
   function_part : (lo hi : ℕ) (name : List ℕ) (f : FunctionType) (known : Option ℕ) (w : Walk) → Ready lo hi w → IsFlat w.names → Knows name f w known
@@ -280,19 +280,19 @@ module _ {z : Walk} where
         };
         holds = λ g. (
           length w.functions,
-          subst (λ o. Callee o name (λ h. h.gives ≡ f.gives))
+          subst (λ o. CalleeFits o name (λ h. h.gives ≡ f.gives))
               (sym (g.later.functions (length w.functions) new (get_last w.functions new))) (refl, refl),
         );
       }
 
   -- the parameters of a function are its first variables
   param_part : (lo hi : ℕ) (n : Option ParamName) (x : Parameter) (w : Walk) → IsFor n x → Ready lo hi w → IfSome n (λ m. (lo ≤ m.token) × (m.token < hi))
-      → lo ≤ hi → Part z lo hi w (with_param x.token x.name x.ctype w) (IfSome n (NameFits z))
+      → lo ≤ hi → Part z lo hi w (with_param x.token x.name x.ctype w) (IfSome n (ParamNameFits z))
   param_part lo hi None x w h r p high =
       subst (λ o. Part z lo hi w (with_param x.token o x.ctype w) (Unit {0})) (sym h) (quiet lo hi w w refl refl refl refl refl high r.sound tt)
   param_part lo hi (Some n) x w h r p high =
-      subst (λ o. Part z lo hi w (with_param x.token o x.ctype w) (Declares z n.token n.name)) (sym h.1)
-      (subst (λ t. Part z lo hi w (with_variable false t n.name x.ctype w) (Declares z n.token n.name)) (sym h.0)
+      subst (λ o. Part z lo hi w (with_param x.token o x.ctype w) (DeclaresVariable z n.token n.name)) (sym h.1)
+      (subst (λ t. Part z lo hi w (with_variable false t n.name x.ctype w) (DeclaresVariable z n.token n.name)) (sym h.0)
       (declared lo hi false n.token n.name x.ctype w r p.0 p.1))
 
   params_part : (ps : List Param) (xs : List Parameter) (at : ℕ) (w : Walk) → AreFor ps xs → EachAt ParamAt param_kinds 1 at ps
@@ -436,7 +436,7 @@ module _ (z : Walk) where
       struct_leads at (at + length (item_kinds (i.Struct token tag members))) token tag members w r (omega arith)
   item_leads (i.Declaration d) at w h p flat r = declaration_leads z true d at w h p r
   item_leads (i.Function token b stars name ps None) at w h p flat r =
-      and_then (base_keeps b w) (λ t v k. and_then (params_keep false (listed ps) [] v) (λ xs u l.
+      and_then (base_keeps b w) (λ t v k. and_then (params_keep false (listed_params ps) [] v) (λ xs u l.
       subst (λ x. ItemLeads at (i.Function token b stars name ps None) w
       (typed_function token (record { gives = with_stars stars t; params = types_of xs }) name xs None x)) (sym (l.0 ∙ k.0))
       (declared_leads at (at + length (item_kinds (i.Function token b stars name ps None))) token
@@ -447,13 +447,13 @@ module _ (z : Walk) where
   item_leads (i.Function token b stars name ps (Some body)) at w h p flat r =
       let pa : ℕ = at + length (type_kinds b stars) + 2 in
       let pb : ℕ = at + length (type_kinds b stars) + 2 + length (params_kinds ps) + 2 in
-      and_then (base_keeps b w) (λ t v k. and_then (params_keep true (listed ps) [] v) (λ xs u l.
+      and_then (base_keeps b w) (λ t v k. and_then (params_keep true (listed_params ps) [] v) (λ xs u l.
       subst (λ x. ItemLeads at (i.Function token b stars name ps (Some body)) w
       (typed_function token (record { gives = with_stars stars t; params = types_of xs }) name xs (Some body) x)) (sym (l.0 ∙ k.0))
       (walk_body_leads at pa pb (at + length (item_kinds (i.Function token b stars name ps (Some body)))) token
       (record { gives = with_stars stars t; params = types_of xs }) name
-      (listed ps) xs body (known_as (record { gives = with_stars stars t; params = types_of xs }) (found name w.names) w) w
-      (subst (AreFor (listed ps)) (sym l.1.1) l.1.2) (params_at ps pa p.2) h.1 p.3 r flat
+      (listed_params ps) xs body (known_as (record { gives = with_stars stars t; params = types_of xs }) (found name w.names) w) w
+      (subst (AreFor (listed_params ps)) (sym l.1.1) l.1.2) (params_at ps pa p.2) h.1 p.3 r flat
       (knows at name (record { gives = with_stars stars t; params = types_of xs }) (found name w.names) w
       (finds w.functions w.variables w.ends at name (length w.variables) w.names r.sound.stack)) (omega arith) (omega (arith, params_within ps))
       (omega (arith, function_long token b stars name ps (Some body), body_long body)))))

@@ -9,24 +9,24 @@ use Rattle.cbi_base.specs.declared.operators.Binary.{Binary}
 use Rattle.cbi_base.specs.declared.operators.Binary.TheVariants as op
 use Rattle.c_syntax.specs.declared.expr.PrefixOperator.{PrefixOperator}
 use Rattle.c_syntax.specs.declared.expr.PrefixOperator.TheVariants as prefix
-use Rattle.c_rules.specs.declared.fault.FaultKind.{FaultKind}
-use Rattle.c_rules.specs.declared.fault.FaultKind.TheVariants as fault
-use Rattle.c_rules.specs.declared.layout.Member.{Member}
-use Rattle.c_rules.specs.declared.layout.StructType.{StructType}
-use Rattle.c_rules.specs.declared.operand.Operand.{Operand}
-use Rattle.c_rules.specs.TypeTree.{TypeTree, Void, Char, Int, Unsigned, Pointer, Array, Struct, same_type}
-use Rattle.c_rules.specs.Assigning.{assignable, assigned, is_left_side, pointers_join, pointers_meet}
-use Rattle.c_rules.specs.Conversions.{common, decayed, is_arithmetic, is_array, is_pointer, is_unsigned, is_void, is_void_pointer, place_of, promoted}
-use Rattle.c_rules.specs.Conversions.{value_of, value_type}
-use Rattle.c_rules.specs.Faults.{Looked, ◌>>=◌}
-use Rattle.c_rules.specs.Operators.{added, both_arithmetic, cast_to, combined, equated, gives, is_movable, is_scalar_value, measured, ordered, signed}
-use Rattle.c_rules.specs.Operators.{stepped, subtracted}
-use Rattle.c_rules.specs.Selecting.{addressed, chosen, indexed, joined_pointer, member_behind, member_in, member_of, pointed, pointed_type}
-use Rattle.c_rules.specs.Sizes.{is_complete}
-use Rattle.c_rules.proofs.Same.{equal}
+use Rattle.c_types_rules.specs.declared.fault.FaultKind.{FaultKind}
+use Rattle.c_types_rules.specs.declared.fault.FaultKind.TheVariants as fault
+use Rattle.c_types_rules.specs.declared.layout.Member.{Member}
+use Rattle.c_types_rules.specs.declared.layout.StructType.{StructType}
+use Rattle.c_types_rules.specs.declared.operand.Operand.{Operand}
+use Rattle.c_types_rules.specs.TypeTree.{TypeTree, Void, Char, Int, Unsigned, Pointer, Array, Struct, same_type}
+use Rattle.c_types_rules.specs.Assigning.{assignable, assigned, is_left_side, pointers_join, pointers_meet}
+use Rattle.c_types_rules.specs.Conversions.{common, decayed, is_arithmetic, is_array, is_pointer, is_unsigned, is_void, is_void_pointer, place_of, promoted}
+use Rattle.c_types_rules.specs.Conversions.{value_of, value_type}
+use Rattle.c_types_rules.specs.Faults.{Looked, ◌>>=◌}
+use Rattle.c_types_rules.specs.Operators.{added, both_arithmetic, cast_to, combined, equated, gives, is_movable, is_scalar_value, measured, ordered, signed}
+use Rattle.c_types_rules.specs.Operators.{stepped, subtracted}
+use Rattle.c_types_rules.specs.Selecting.{addressed, chosen, indexed, joined_pointer, member_behind, member_in, member_of, pointed, pointed_type}
+use Rattle.c_types_rules.specs.Sizes.{is_complete}
+use Rattle.c_types_rules.proofs.Same.{equal}
 use Rattle.c_types_expressions.specs.ExprWalk.{assigning, chained, prefixed}
 use Rattle.c_types_laws.specs.Operands.{Accepts, Adds, Assigns, Calculates, Casts, Chooses, Equates, Indexes, IsArithmetic, IsModifiable, IsScalar, Joins}
-use Rattle.c_types_laws.specs.Operands.{LeadsTo, Operates, Orders, PointersJoin, PointersMeet, PointsToObject, Prefixes, Selects, SelectsBehind, Shifts, Steps}
+use Rattle.c_types_laws.specs.Operands.{LeadsToObject, Operates, Orders, PointersJoin, PointersMeet, PointsToObject, Prefixes, Selects, SelectsBehind, Shifts, Steps}
 use Rattle.c_types_laws.specs.Operands.{Subtracts}
 use Rattle.c_types_laws.proofs.Scenes.{Stays}
 
@@ -244,12 +244,12 @@ module _ (ss zs : List StructType) (f : Stays ss zs) where
       by false q i j h = no_ok fault.Operands d h
 
   -- places
-  pointed_is : (a : TypeTree) (d : Operand) → Is (pointed_type a) d → IsPlace (LeadsTo a) d
+  pointed_is : (a : TypeTree) (d : Operand) → Is (pointed_type a) d → IsPlace (LeadsToObject a) d
   pointed_is (Pointer to) d h = by (is_void to) refl h
     where
-      by : (p : Bool) → is_void to ≡ p → Is (if p then Err fault.Operands else Ok (place_of to)) d → IsPlace (LeadsTo (Pointer to)) d
+      by : (p : Bool) → is_void to ≡ p → Is (if p then Err fault.Operands else Ok (place_of to)) d → IsPlace (LeadsToObject (Pointer to)) d
       by true i h = no_ok fault.Operands d h
-      by false i h = subst (IsPlace (LeadsTo (Pointer to))) (ok_is (place_of to) d h) ((refl, i), refl, refl)
+      by false i h = subst (IsPlace (LeadsToObject (Pointer to))) (ok_is (place_of to) d h) ((refl, i), refl, refl)
   pointed_is Void d h = no_ok fault.Operands d h
   pointed_is Char d h = no_ok fault.Operands d h
   pointed_is Int d h = no_ok fault.Operands d h
@@ -324,8 +324,8 @@ module _ (ss zs : List StructType) (f : Stays ss zs) where
   indexed_by x y d (Err k) e h = no_ok k d h
   indexed_by x y d (Ok m) e h =
       let k : IsValue (Adds zs (value_type x) (value_type y)) m = added_is (value_type x) (value_type y) m e in
-      let l : IsPlace (LeadsTo (value_type m)) d = pointed_is (value_type m) d h in
-      ((m.ctype, (k.0, subst (λ u. LeadsTo u d.ctype) (sum_decays x y m.ctype k.0) l.0)), l.1, l.2)
+      let l : IsPlace (LeadsToObject (value_type m)) d = pointed_is (value_type m) d h in
+      ((m.ctype, (k.0, subst (λ u. LeadsToObject u d.ctype) (sum_decays x y m.ctype k.0) l.0)), l.1, l.2)
 
   pub indexed_is : (x y d : Operand) → Is (indexed ss x y) d → IsPlace (Indexes zs x y) d
   indexed_is x y d h = indexed_by x y d (added ss (value_type x) (value_type y)) refl h

@@ -8,9 +8,9 @@ use Rattle.std.proofs.lemmas.Bool.{false≢true, cases_eq}
 use Rattle.std.proofs.lemmas.Bool.Decides.{nat_tests}
 use Rattle.std.proofs.lemmas.Slice.Eq.{bytes_eq-Decides}
 use Rattle.std.proofs.lemmas.Option.{slice_get_within}
-use Rattle.c_rules.specs.declared.layout.StructType.{StructType}
-use Rattle.c_rules.specs.declared.library.Library.{Library}
-use Rattle.c_rules.specs.Library.{library_named}
+use Rattle.c_types_rules.specs.declared.layout.StructType.{StructType}
+use Rattle.c_types_rules.specs.declared.library.Library.{Library}
+use Rattle.c_types_rules.specs.Library.{library_named}
 use Rattle.c_types_expressions.specs.declared.names.Meaning.{Meaning}
 use Rattle.c_types_expressions.specs.declared.names.Meaning.TheVariants as meaning
 use Rattle.c_types_expressions.specs.declared.names.ScopeEntry.{ScopeEntry}
@@ -19,7 +19,7 @@ use Rattle.c_types_expressions.specs.declared.walk.FunctionEntry.{FunctionEntry}
 use Rattle.c_types_expressions.specs.declared.walk.VariableEntry.{VariableEntry}
 use Rattle.c_types_expressions.specs.declared.walk.Walk.{Walk}
 use Rattle.c_types_expressions.specs.Names.{closed, found, meaning_of, or_before}
-use Rattle.c_types_expressions.specs.Walked.{ended, replaced}
+use Rattle.c_types_expressions.specs.Walked.{ended_scopes, replaced}
 use Rattle.c_types_laws.specs.Naming.{IsNamed}
 
 -- the parts of what is known that tell which variables names mean
@@ -317,7 +317,7 @@ replaced_here xs i l e h = by (nat_lt i (length xs)) refl h
     by true n h = inl (some_is e l (some_is (Some e) (Some l) (sym h ∙ set_same xs i (Some l) (grind (arith, nat_tests, n)))))
     by false n h = inr h
 
-pub ended_long : (l : ℕ) (names : List ScopeEntry) (es : List (Option ℕ)) → length (ended l names es) ≡ length es
+pub ended_long : (l : ℕ) (names : List ScopeEntry) (es : List (Option ℕ)) → length (ended_scopes l names es) ≡ length es
 ended_long l [] es = refl
 ended_long l (Opens ∷ rest) es = refl
 ended_long l (Declares name (meaning.Variable place) ∷ rest) es = ended_long l rest (replaced es place (Some l)) ∙ replaced_long es place (Some l)
@@ -349,11 +349,11 @@ ends_then l m (Some (Some d)) y t n h k = subst (λ o. EndsOn m o t) h k
 
 module _ (fs : List FunctionEntry) (vs : List VariableEntry) (at l : ℕ) where
   pub stack_ended : (bound : ℕ) (names : List ScopeEntry) (es : List (Option ℕ)) → Stack fs vs es at bound names
-      → Stack fs vs (ended l names es) at bound (closed names)
+      → Stack fs vs (ended_scopes l names es) at bound (closed names)
   stack_ended bound [] es k = tt
   stack_ended bound (Opens ∷ rest) es k = k
   stack_ended bound (Declares name (meaning.Variable place) ∷ rest) es k =
-      stack_wider fs vs (ended l rest (replaced es place (Some l))) at place bound (closed rest) (omega (arith, k.0))
+      stack_wider fs vs (ended_scopes l rest (replaced es place (Some l))) at place bound (closed rest) (omega (arith, k.0))
       (stack_ended place rest (replaced es place (Some l))
       (stack_same fs fs vs vs es (replaced es place (Some l)) at place rest (λ i x h. h) (λ q h. refl)
       (λ q h. replaced_other es place q (Some l) (λ e. omega (arith, e, h))) k.4))
@@ -362,7 +362,7 @@ module _ (fs : List FunctionEntry) (vs : List VariableEntry) (at l : ℕ) where
   stack_ended bound (Declares name (meaning.Struct place) ∷ rest) es k = absurd k
 
   pub opens_ended : (names : List ScopeEntry) (es : List (Option ℕ)) → ((q : ℕ) → slice_get es q ≡ Some None → OnStack q names)
-      → (q : ℕ) → slice_get (ended l names es) q ≡ Some None → OnStack q (closed names)
+      → (q : ℕ) → slice_get (ended_scopes l names es) q ≡ Some None → OnStack q (closed names)
   opens_ended [] es h q e = h q e
   opens_ended (Opens ∷ rest) es h q e = h q e
   opens_ended (Declares name (meaning.Variable place) ∷ rest) es h q e =
@@ -375,7 +375,7 @@ module _ (fs : List FunctionEntry) (vs : List VariableEntry) (at l : ℕ) where
   opens_ended (Declares name (meaning.Struct place) ∷ rest) es h q e = opens_ended rest es h q e
 
   pub closes_ended : (names : List ScopeEntry) (es : List (Option ℕ)) → l ≤ at - 1 → ((q e : ℕ) → slice_get es q ≡ Some (Some e) → e ≤ at - 1)
-      → (q e : ℕ) → slice_get (ended l names es) q ≡ Some (Some e) → e ≤ at - 1
+      → (q e : ℕ) → slice_get (ended_scopes l names es) q ≡ Some (Some e) → e ≤ at - 1
   closes_ended [] es n h q e k = h q e k
   closes_ended (Opens ∷ rest) es n h q e k = h q e k
   closes_ended (Declares name (meaning.Variable place) ∷ rest) es n h q e k =
@@ -390,11 +390,11 @@ module _ (fs : List FunctionEntry) (vs : List VariableEntry) (at l : ℕ) where
 
   -- no scope that had ended ends again, and no other one ends before this token
   pub ends_ended : (bound : ℕ) (names : List ScopeEntry) (es : List (Option ℕ)) → Stack fs vs es at bound names
-      → (q : ℕ) → EndsOn l (slice_get es q) (slice_get (ended l names es) q)
+      → (q : ℕ) → EndsOn l (slice_get es q) (slice_get (ended_scopes l names es) q)
   ends_ended bound [] es k q = ends_here l (slice_get es q)
   ends_ended bound (Opens ∷ rest) es k q = ends_here l (slice_get es q)
   ends_ended bound (Declares name (meaning.Variable place) ∷ rest) es k q =
-      ends_then l l (slice_get es q) (slice_get (replaced es place (Some l)) q) (slice_get (ended l rest (replaced es place (Some l))) q) (omega arith)
+      ends_then l l (slice_get es q) (slice_get (replaced es place (Some l)) q) (slice_get (ended_scopes l rest (replaced es place (Some l))) q) (omega arith)
       (⊎_elim
       (λ s. subst (λ p. EndsOn l (slice_get es p) (slice_get (replaced es place (Some l)) p)) (sym s)
       (subst (λ o. EndsOn l o (slice_get (replaced es place (Some l)) place)) (sym k.3)

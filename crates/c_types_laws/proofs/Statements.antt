@@ -18,24 +18,24 @@ use Rattle.c_syntax.specs.Shape.{ShapedDeclaration, ShapedEntries, ShapedExpr, S
 use Rattle.c_syntax.specs.Spelling.{Kinds, a_name, a_sign, a_word, after_commas, base_kinds, bound_kinds, comma_kinds, declaration_kinds, declarator_kinds}
 use Rattle.c_syntax.specs.Spelling.{entry_kinds, expr_kinds, exprs_kinds, for_start_kinds, initial_kinds, optional, parenthesized, star_kinds, start_kinds}
 use Rattle.c_syntax.specs.Spelling.{statement_kinds, with_commas}
-use Rattle.c_rules.specs.declared.fault.FaultKind.{FaultKind}
-use Rattle.c_rules.specs.declared.fault.FaultKind.TheVariants as fault
-use Rattle.c_rules.specs.declared.operand.Operand.{Operand}
-use Rattle.c_rules.specs.TypeTree.{TypeTree}
-use Rattle.c_rules.specs.Assigning.{assignable}
-use Rattle.c_rules.specs.Conversions.{is_struct, is_void}
-use Rattle.c_rules.specs.Operators.{is_scalar_value}
-use Rattle.c_rules.specs.Sizes.{cells_of, is_object, most_cells}
+use Rattle.c_types_rules.specs.declared.fault.FaultKind.{FaultKind}
+use Rattle.c_types_rules.specs.declared.fault.FaultKind.TheVariants as fault
+use Rattle.c_types_rules.specs.declared.operand.Operand.{Operand}
+use Rattle.c_types_rules.specs.TypeTree.{TypeTree}
+use Rattle.c_types_rules.specs.Assigning.{assignable}
+use Rattle.c_types_rules.specs.Conversions.{is_struct, is_void}
+use Rattle.c_types_rules.specs.Operators.{is_scalar_value}
+use Rattle.c_types_rules.specs.Sizes.{cells_of, is_object, most_cells}
 use Rattle.c_types_expressions.specs.declared.walk.Walk.{Walk}
 use Rattle.c_types_walk.specs.Declarators.{declared_type, is_open}
-use Rattle.c_types_walk.specs.Initialisers.{cells_of_string, completes, listed, valued, walk_initial}
+use Rattle.c_types_walk.specs.Initialisers.{cells_of_string, completes, listed_type, valued, walk_initial}
 use Rattle.c_types.specs.Answers.{noted}
-use Rattle.c_types_expressions.specs.Names.{closed, is_taken}
-use Rattle.c_types_walk.specs.StatementWalk.{counted, is_condition_part, is_struct_part, sized, walk_closed, walk_declaration, walk_entries, walk_for_start}
+use Rattle.c_types_expressions.specs.Names.{closed, is_name_taken}
+use Rattle.c_types_walk.specs.StatementWalk.{counted_cells, is_condition_part, is_struct_part, sized, walk_closed, walk_declaration, walk_entries, walk_for_start}
 use Rattle.c_types_walk.specs.StatementWalk.{walk_open, walk_optional, walk_start, walk_starts, walk_statement, walk_typed, with_declared_type}
 use Rattle.c_types_expressions.specs.Walked.{Walked, Fine, Done, opened, unless, with_variable}
-use Rattle.c_types_laws.specs.Naming.{Declares}
-use Rattle.c_types_laws.specs.Fits.{DeclarationFits, EntriesFit, ExprFits, ConditionFits, ForStartFits, InitialFits, IsCondition, PartFits, StartFits}
+use Rattle.c_types_laws.specs.Naming.{DeclaresVariable}
+use Rattle.c_types_laws.specs.Fits.{DeclarationFits, EntriesFit, ExprFits, ConditionFits, ForStartFits, InitialFits, ConditionIsScalar, PartFits, StartFits}
 use Rattle.c_types_laws.specs.Fits.{StatementFits, operand}
 use Rattle.c_types_laws.specs.Operands.{Accepts, IsScalar}
 use Rattle.c_types_laws.proofs.Ruled.{accepts}
@@ -100,7 +100,7 @@ module _ (z : Walk) where
   sized_leads : (lo hi : ℕ) (global : Bool) (token : ℕ) (t : TypeTree) (w : Walk) → Ready lo hi w
       → Gives (sized global token t w) (Leads z false lo lo w (λ d. Unit {0}))
   sized_leads lo hi global token t w r =
-      allowed (is_object w.structs t) fault.Object token (counted global token (cells_of w.structs t) w) (λ h.
+      allowed (is_object w.structs t) fault.Object token (counted_cells global token (cells_of w.structs t) w) (λ h.
       either (not global) (Fine tt w) _ (nothing tt r (omega arith) tt)
       (allowed (nat_le (w.global_cells + cells_of w.structs t) most_cells) fault.Object token
       (Fine tt (record w { global_cells = w.global_cells + cells_of w.structs t })) (λ k. record {
@@ -131,7 +131,7 @@ module _ (z : Walk) where
       (widely at (at + length (initial_kinds (s.Braced token items comma))) (at_large (exprs_leads z items (at + 1) [] w h.1 p.1
       (ready_in r (at + 1) (at + 1 + length (exprs_kinds items)) (omega arith) (omega (arith, long))))) (omega arith) (omega (arith, long)))
       (λ xs v r2. completes_leads (at + length (initial_kinds (s.Braced token items comma))) (at + length (initial_kinds (s.Braced token items comma))) token
-      (listed global items xs t) v r2 (omega arith) tt)
+      (listed_type global items xs t) v r2 (omega arith) tt)
       (λ a u f g. f.1.1.0)
 
   some_initial_leads : (global : Bool) (t : TypeTree) (o : Option InitialTree) (at : ℕ) (w : Walk) → IfSome o ShapedInitial → IfSome o (InitialAt (at + 1))
@@ -156,7 +156,7 @@ module _ (z : Walk) where
   variable_first global x t at w s p r =
       let ld : ℕ = length (declarator_kinds x.declarator) in
       let first : Part z at (at + ld) w (with_variable global x.declarator.name_token x.declarator.name t w)
-      (Declares z x.declarator.name_token x.declarator.name) =
+      (DeclaresVariable z x.declarator.name_token x.declarator.name) =
       declared at (at + ld) global x.declarator.name_token x.declarator.name t w (ready_in r at (at + ld) (omega arith) (omega (arith, start_long x)))
       (omega (arith, p.1.1)) (omega (arith, p.1.1, declarator_long x.declarator)) in
       weaker (some_initial_leads global t x.initial (at + ld) (with_variable global x.declarator.name_token x.declarator.name t w) s p.2
@@ -199,7 +199,7 @@ module _ (z : Walk) where
   start_leads : (global : Bool) (b : TypeTree) (x : StartTree) (at : ℕ) (w : Walk) → ShapedStart x → StartAt at x → Ready at (at + length (start_kinds x)) w
       → StartLeads at x w (walk_start global b x w)
   start_leads global b x at w s p r =
-      refused (is_taken x.declarator.name w.names) fault.Redeclared x.token (walk_typed global x (declared_type x.declarator b) w)
+      refused (is_name_taken x.declarator.name w.names) fault.Redeclared x.token (walk_typed global x (declared_type x.declarator b) w)
       (λ h. typed_leads global x (declared_type x.declarator b) at w s p r)
 
   starts_leads : (global : Bool) (b : TypeTree) (xs : List StartTree) (at : ℕ) (w : Walk) → AllByRecursion ShapedStart xs → EachAt StartAt start_kinds 1 at xs
@@ -272,7 +272,7 @@ module _ (z : Walk) where
   part_fits (Some x) a h k =
       (h.1.1.0, of_is z (λ b. is_struct b.ctype ≡ false) (operand z x) h.0 (operand_is z x h.0 h.1.1.1) (subst (λ c. is_struct_part c ≡ false) h.1.0 k))
 
-  condition_is : (x : ExprTree) (a : Operand) → Known z x a → not (is_scalar_value a) ≡ false → IsCondition z x
+  condition_is : (x : ExprTree) (a : Operand) → Known z x a → not (is_scalar_value a) ≡ false → ConditionIsScalar z x
   condition_is x a h k = of_is z IsScalar (operand z x) a (operand_is z x a h) (is_so (is_scalar_value a) k)
 
   condition_fits : (o : Option ExprTree) (a : Option Operand) → GoodOption o a → not (is_condition_part a) ≡ false → ConditionFits z o
@@ -397,7 +397,7 @@ module _ (z : Walk) where
         let long : length (statement_kinds (s.Do token x c)) ≡ 5 + length (expr_kinds c) + length (statement_kinds x) = do_long c x in
         let hi : ℕ = at + length (statement_kinds (s.Do token x c)) in
         let mid : ℕ = at + 1 + length (statement_kinds x) in
-        seq {Q = λ d k. ExprFits z c × IsCondition z c} mid r (omega arith) (omega (arith, long))
+        seq {Q = λ d k. ExprFits z c × ConditionIsScalar z c} mid r (omega arith) (omega (arith, long))
         (widely at mid (statement_leads gives true x (at + 1) w h.0 p.1 (ready_in r (at + 1) mid (omega arith) (omega (arith, long)))) (omega arith)
         (omega arith))
         (λ d v r2. seq {Q = λ a k. not (is_scalar_value a) ≡ false} hi r2 (omega (arith, long)) (omega arith)

@@ -10,21 +10,21 @@ use Rattle.c_syntax.specs.StatementTree as s
 use Rattle.c_syntax.specs.StatementTree.{InitialTree, StartTree, DeclarationTree, ForStartTree, StatementTree, EntryList}
 use Rattle.c_syntax.specs.ItemTree as i
 use Rattle.c_syntax.specs.ItemTree.{ItemTree, SourceTree}
-use Rattle.c_rules.specs.declared.function.FunctionType.{FunctionType}
-use Rattle.c_rules.specs.declared.library.Library.{Library}
-use Rattle.c_rules.specs.declared.library.Library.TheVariants as library
-use Rattle.c_rules.specs.declared.operand.Operand.{Operand}
-use Rattle.c_rules.specs.TypeTree.{TypeTree, Void, Char, Int, Unsigned, Pointer, Array}
-use Rattle.c_rules.specs.Conversions.{is_struct, is_void, of_kind, place_of, value_of, value_type}
-use Rattle.c_rules.specs.Library.{fits_format, library_called, library_named}
+use Rattle.c_types_rules.specs.declared.function.FunctionType.{FunctionType}
+use Rattle.c_types_rules.specs.declared.library.Library.{Library}
+use Rattle.c_types_rules.specs.declared.library.Library.TheVariants as library
+use Rattle.c_types_rules.specs.declared.operand.Operand.{Operand}
+use Rattle.c_types_rules.specs.TypeTree.{TypeTree, Void, Char, Int, Unsigned, Pointer, Array}
+use Rattle.c_types_rules.specs.Conversions.{is_struct, is_void, of_kind, place_of, value_of, value_type}
+use Rattle.c_types_rules.specs.Library.{fits_format, library_called, library_named}
 use Rattle.c_types_expressions.specs.declared.walk.FunctionEntry.{FunctionEntry}
 use Rattle.c_types_expressions.specs.declared.walk.Walk.{Walk}
 use Rattle.c_types.specs.Answers.{noted, type_at}
 use Rattle.c_types_expressions.specs.ExprWalk.{binary_of, compound_of, flat, string_cells}
-use Rattle.c_types_walk.specs.ItemWalk.{listed}
+use Rattle.c_types_walk.specs.ItemWalk.{listed_params}
 use Rattle.c_meaning.specs.Conversions.{is_null_constant}
 use Rattle.c_meaning.specs.Trees.{token_of}
-use Rattle.c_types_laws.specs.Naming.{Declares, NamesNone, NamesVariable}
+use Rattle.c_types_laws.specs.Naming.{DeclaresVariable, NamesNone, NamesVariable}
 use Rattle.c_types_laws.specs.Operands.{Accepts, Assigns, Casts, Chooses, Indexes, IsScalar, Joins, Prefixes, Selects, SelectsBehind, Steps}
 
 -- whether the expression is an lvalue (C99 6.5.1p4, 6.5.1p5, 6.5.2.1p2, 6.5.2.3p3, 6.5.2.3p4, 6.5.3.2p4); here no string is one
@@ -52,13 +52,13 @@ abbrev pub Gives : Option TypeTree → (TypeTree → Type 0) → Type 0
 Gives t P = MatchOption t ⊥ P
 
 -- a member of what is an lvalue is one
-abbrev pub selected : Option Operand → Option TypeTree → Option Operand
-selected (Some x) (Some t) = Some (record { ctype = t; place = x.place; null = false })
-selected x t = None
+abbrev pub selected_operand : Option Operand → Option TypeTree → Option Operand
+selected_operand (Some x) (Some t) = Some (record { ctype = t; place = x.place; null = false })
+selected_operand x t = None
 
-abbrev pub Callee : Option FunctionEntry → List ℕ → (FunctionType → Type 0) → Type 0
-Callee None name P = ⊥
-Callee (Some f) name P = (f.name ≡ name) × P f.ctype
+abbrev pub CalleeFits : Option FunctionEntry → List ℕ → (FunctionType → Type 0) → Type 0
+CalleeFits None name P = ⊥
+CalleeFits (Some f) name P = (f.name ≡ name) × P f.ctype
 
 module _ (w : Walk) where
   -- the expression as an operand: its type stands at its own token
@@ -79,11 +79,11 @@ module _ (w : Walk) where
   IsSequence (e.more_exprs x (e.more_exprs y rest)) t = Of (operand x) (λ a. is_struct a.ctype ≡ false) × IsSequence (e.more_exprs y rest) t
 
   -- an argument for each parameter, which may be assigned to it (6.5.2.2p2)
-  abbrev pub Passes : List TypeTree → ExprList → Type 0
-  Passes [] e.no_exprs = Unit {0}
-  Passes [] (e.more_exprs x rest) = ⊥
-  Passes (t ∷ ts) e.no_exprs = ⊥
-  Passes (t ∷ ts) (e.more_exprs x rest) = Of (operand x) (Accepts t) × Passes ts rest
+  abbrev pub ArgumentsFit : List TypeTree → ExprList → Type 0
+  ArgumentsFit [] e.no_exprs = Unit {0}
+  ArgumentsFit [] (e.more_exprs x rest) = ⊥
+  ArgumentsFit (t ∷ ts) e.no_exprs = ⊥
+  ArgumentsFit (t ∷ ts) (e.more_exprs x rest) = Of (operand x) (Accepts t) × ArgumentsFit ts rest
 
   -- the types of several operands
   abbrev pub Operands : ExprList → List Operand → Type 0
@@ -100,10 +100,10 @@ module _ (w : Walk) where
   -- a call of a function that was declared, whose place is noted at the name (6.5.2.2p2)
   abbrev pub CallsFunction : ℕ → List ℕ → ExprList → TypeTree → Type 0
   CallsFunction token name arguments t = (place : ℕ) × ((noted w.functions_at token ≡ Some place)
-      × Callee (slice_get w.functions place) name (λ f. Passes f.params arguments × (t ≡ f.gives)))
+      × CalleeFits (slice_get w.functions place) name (λ f. ArgumentsFit f.params arguments × (t ≡ f.gives)))
 
-  abbrev pub Calls : ℕ → List ℕ → ExprList → TypeTree → Type 0
-  Calls token name arguments t = CallsLibrary name arguments t ⊎ CallsFunction token name arguments t
+  abbrev pub CallFits : ℕ → List ℕ → ExprList → TypeTree → Type 0
+  CallFits token name arguments t = CallsLibrary name arguments t ⊎ CallsFunction token name arguments t
 
   abbrev mutual
     pub ExprFits : ExprTree → Type 0
@@ -118,7 +118,7 @@ module _ (w : Walk) where
     ExprFits (e.SizeOfType token b stars) = type_at w token ≡ Some Unsigned
     ExprFits (e.Postfix primary operators) = ExprFits primary × PostfixFits (operand primary) operators
     ExprFits (e.Name token name) = NamesVariable w token name
-    ExprFits (e.Call token name arguments) = NamesNone w token name × ExprsFit arguments × Gives (type_at w token) (Calls token name arguments)
+    ExprFits (e.Call token name arguments) = NamesNone w token name × ExprsFit arguments × Gives (type_at w token) (CallFits token name arguments)
     ExprFits (e.Constant token kind value) = type_at w token ≡ Some (of_kind kind)
     ExprFits (e.Strings token parts) = type_at w token ≡ Some (Array Char (string_cells parts))
     ExprFits (e.Paren token inner) = ExprFits inner × (type_at w token ≡ type_at w (token_of inner))
@@ -141,24 +141,24 @@ module _ (w : Walk) where
     PostfixFits left (e.index token x rest) = ExprFits x
         × Of left (λ a. Of (operand x) (λ b. Gives (type_at w token) (Indexes w.structs a b))) × PostfixFits (lvalue_at token) rest
     PostfixFits left (e.member token name rest) =
-        Of left (λ a. Gives (type_at w token) (Selects w.structs name a.ctype)) × PostfixFits (selected left (type_at w token)) rest
+        Of left (λ a. Gives (type_at w token) (Selects w.structs name a.ctype)) × PostfixFits (selected_operand left (type_at w token)) rest
     PostfixFits left (e.arrow token name rest) =
         Of left (λ a. Gives (type_at w token) (SelectsBehind w.structs name (value_type a))) × PostfixFits (lvalue_at token) rest
     PostfixFits left (e.increment token rest) = Of left (λ a. Gives (type_at w token) (Steps w.structs a)) × PostfixFits (value_at token) rest
     PostfixFits left (e.decrement token rest) = Of left (λ a. Gives (type_at w token) (Steps w.structs a)) × PostfixFits (value_at token) rest
 
   -- the arguments of a `printf`: a string, and one behind it for each conversion (7.19.6.1)
-  abbrev pub IsFormatted : ExprList → Type 0
-  IsFormatted (e.more_exprs (e.Strings token parts) rest) = (xs : List Operand) × (Operands rest xs × (fits_format (flat parts) xs ≡ true))
-  IsFormatted arguments = ⊥
+  abbrev pub FormatFits : ExprList → Type 0
+  FormatFits (e.more_exprs (e.Strings token parts) rest) = (xs : List Operand) × (Operands rest xs × (fits_format (flat parts) xs ≡ true))
+  FormatFits arguments = ⊥
 
-  abbrev pub Prints : ℕ → List ℕ → ExprList → Type 0
-  Prints token name arguments = NamesNone w token name × ExprsFit arguments × (library_named name ≡ Some library.Printf) × IsFormatted arguments
+  abbrev pub PrintFits : ℕ → List ℕ → ExprList → Type 0
+  PrintFits token name arguments = NamesNone w token name × ExprsFit arguments × (library_named name ≡ Some library.Printf) × FormatFits arguments
       × (type_at w token ≡ Some Int)
 
   -- the whole expression of a statement, which may be a `printf`
   abbrev pub WholeFits : ExprTree → Type 0
-  WholeFits (e.Call token name arguments) = ExprFits (e.Call token name arguments) ⊎ Prints token name arguments
+  WholeFits (e.Call token name arguments) = ExprFits (e.Call token name arguments) ⊎ PrintFits token name arguments
   WholeFits x = ExprFits x
 
   -- its value is no struct, which could not be used
@@ -166,8 +166,8 @@ module _ (w : Walk) where
   IsUsable x = Of (operand x) (λ a. is_struct a.ctype ≡ false)
 
   -- what decides (6.8.4.1p1, 6.8.5p2)
-  abbrev pub IsCondition : ExprTree → Type 0
-  IsCondition x = Of (operand x) IsScalar
+  abbrev pub ConditionIsScalar : ExprTree → Type 0
+  ConditionIsScalar x = Of (operand x) IsScalar
 
   -- the parts of a `for`
   abbrev pub PartFits : Option ExprTree → Type 0
@@ -176,7 +176,7 @@ module _ (w : Walk) where
 
   abbrev pub ConditionFits : Option ExprTree → Type 0
   ConditionFits None = Unit {0}
-  ConditionFits (Some x) = ExprFits x × IsCondition x
+  ConditionFits (Some x) = ExprFits x × ConditionIsScalar x
 
   abbrev pub InitialFits : Option InitialTree → Type 0
   InitialFits None = Unit {0}
@@ -184,7 +184,7 @@ module _ (w : Walk) where
   InitialFits (Some (s.Braced token items comma)) = ExprsFit items
 
   abbrev pub StartFits : StartTree → Type 0
-  StartFits x = Declares w x.declarator.name_token x.declarator.name × InitialFits x.initial
+  StartFits x = DeclaresVariable w x.declarator.name_token x.declarator.name × InitialFits x.initial
 
   abbrev pub DeclarationFits : DeclarationTree → Type 0
   DeclarationFits d = AllByRecursion StartFits d.starts
@@ -199,11 +199,11 @@ module _ (w : Walk) where
     StatementFits gives looping (s.Block token entries) = EntriesFit gives looping entries
     StatementFits gives looping (s.Empty token) = Unit {0}
     StatementFits gives looping (s.Expr token x) = WholeFits x × IsUsable x
-    StatementFits gives looping (s.If token condition first) = ExprFits condition × IsCondition condition × StatementFits gives looping first
+    StatementFits gives looping (s.If token condition first) = ExprFits condition × ConditionIsScalar condition × StatementFits gives looping first
     StatementFits gives looping (s.IfElse token condition first second) =
-        ExprFits condition × IsCondition condition × StatementFits gives looping first × StatementFits gives looping second
-    StatementFits gives looping (s.While token condition body) = ExprFits condition × IsCondition condition × StatementFits gives true body
-    StatementFits gives looping (s.Do token body condition) = StatementFits gives true body × ExprFits condition × IsCondition condition
+        ExprFits condition × ConditionIsScalar condition × StatementFits gives looping first × StatementFits gives looping second
+    StatementFits gives looping (s.While token condition body) = ExprFits condition × ConditionIsScalar condition × StatementFits gives true body
+    StatementFits gives looping (s.Do token body condition) = StatementFits gives true body × ExprFits condition × ConditionIsScalar condition
     StatementFits gives looping (s.For token start condition step body) =
         ForStartFits start × ConditionFits condition × PartFits step × StatementFits gives true body
     -- a value only where the function gives one, and then what may be assigned to its type (6.8.6.4)
@@ -218,20 +218,20 @@ module _ (w : Walk) where
     EntriesFit gives looping (s.declared declaration rest) = DeclarationFits declaration × EntriesFit gives looping rest
     EntriesFit gives looping (s.stated statement rest) = StatementFits gives looping statement × EntriesFit gives looping rest
 
-  abbrev pub NameFits : ParamName → Type 0
-  NameFits n = Declares w n.token n.name
+  abbrev pub ParamNameFits : ParamName → Type 0
+  ParamNameFits n = DeclaresVariable w n.token n.name
 
   abbrev pub ParamFits : Param → Type 0
-  ParamFits p = IfSome p.name NameFits
+  ParamFits p = IfSome p.name ParamNameFits
 
   -- the body of a function, which gives what the function of its name was declared to give
   abbrev pub BodyFits : List ℕ → EntryList → Type 0
-  BodyFits name body = (place : ℕ) × Callee (slice_get w.functions place) name (λ f. EntriesFit f.gives false body)
+  BodyFits name body = (place : ℕ) × CalleeFits (slice_get w.functions place) name (λ f. EntriesFit f.gives false body)
 
   abbrev pub ItemFits : ItemTree → Type 0
   ItemFits (i.Struct token tag members) = Unit {0}
   ItemFits (i.Function token b stars name ps None) = Unit {0}
-  ItemFits (i.Function token b stars name ps (Some body)) = AllByRecursion ParamFits (listed ps) × BodyFits name body
+  ItemFits (i.Function token b stars name ps (Some body)) = AllByRecursion ParamFits (listed_params ps) × BodyFits name body
   ItemFits (i.Declaration declaration) = DeclarationFits declaration
 
   -- names, expressions and statements of the text are as C99 asks

@@ -9,14 +9,14 @@ IsNamed name None = ⊥
 IsNamed name (Some v) = v.name ≡ name
 
 -- the variable at the place, among all variables in the order of their declarations, has the name
-abbrev pub HasName : Walk → List ℕ → ℕ → Type 0
-HasName w name place = IsNamed name (slice_get w.variables place)
+abbrev pub VariableHasName : Walk → List ℕ → ℕ → Type 0
+VariableHasName w name place = IsNamed name (slice_get w.variables place)
 
 -- The variable at the place is the innermost one of the name whose scope holds the token: every other one was declared before.
 pub record IsInnermost (w : Walk) (token : ℕ) (name : List ℕ) (place : ℕ) : Type 0 where
-  pub named : HasName w name place
+  pub named : VariableHasName w name place
   pub holds : scope_holds w place token ≡ true
-  pub inner : (other : ℕ) → HasName w name other → scope_holds w other token ≡ true → other ≤ place
+  pub inner : (other : ℕ) → VariableHasName w name other → scope_holds w other token ≡ true → other ≤ place
 
 -- the name at the token means a variable
 abbrev pub NamesVariable : Walk → ℕ → List ℕ → Type 0
@@ -24,12 +24,12 @@ NamesVariable w token name = MatchOption (place_at w token) ⊥ (λ place. IsInn
 
 -- no variable of the name has a scope that holds the token
 abbrev pub NamesNone : Walk → ℕ → List ℕ → Type 0
-NamesNone w token name = (place : ℕ) → HasName w name place → scope_holds w place token ≡ true → ⊥
+NamesNone w token name = (place : ℕ) → VariableHasName w name place → scope_holds w place token ≡ true → ⊥
 
 abbrev pub BeginsAt : ℕ → List ℕ → Option VariableEntry → Type 0
 BeginsAt token name None = ⊥
 BeginsAt token name (Some v) = (v.name ≡ name) × (v.from ≡ token)
 
 -- the name at the token declares a variable, whose scope begins behind it (C99 6.2.1p7)
-abbrev pub Declares : Walk → ℕ → List ℕ → Type 0
-Declares w token name = MatchOption (place_at w token) ⊥ (λ place. BeginsAt token name (slice_get w.variables place))
+abbrev pub DeclaresVariable : Walk → ℕ → List ℕ → Type 0
+DeclaresVariable w token name = MatchOption (place_at w token) ⊥ (λ place. BeginsAt token name (slice_get w.variables place))

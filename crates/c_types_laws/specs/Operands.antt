@@ -6,13 +6,13 @@ use Rattle.cbi_base.specs.declared.operators.Binary.{Binary}
 use Rattle.cbi_base.specs.declared.operators.Binary.TheVariants as op
 use Rattle.c_syntax.specs.declared.expr.PrefixOperator.{PrefixOperator}
 use Rattle.c_syntax.specs.declared.expr.PrefixOperator.TheVariants as prefix
-use Rattle.c_rules.specs.declared.layout.Member.{Member}
-use Rattle.c_rules.specs.declared.layout.StructType.{StructType}
-use Rattle.c_rules.specs.declared.operand.Operand.{Operand}
-use Rattle.c_rules.specs.TypeTree.{TypeTree, Void, Int, Unsigned, Pointer}
-use Rattle.c_rules.specs.Conversions.{common, is_arithmetic, is_array, is_pointer, is_scalar, is_void, is_void_pointer, promoted, value_of, value_type}
-use Rattle.c_rules.specs.Selecting.{joined_pointer, member_of}
-use Rattle.c_rules.specs.Sizes.{is_complete}
+use Rattle.c_types_rules.specs.declared.layout.Member.{Member}
+use Rattle.c_types_rules.specs.declared.layout.StructType.{StructType}
+use Rattle.c_types_rules.specs.declared.operand.Operand.{Operand}
+use Rattle.c_types_rules.specs.TypeTree.{TypeTree, Void, Int, Unsigned, Pointer}
+use Rattle.c_types_rules.specs.Conversions.{common, is_arithmetic, is_array, is_pointer, is_scalar, is_void, is_void_pointer, promoted, value_of, value_type}
+use Rattle.c_types_rules.specs.Selecting.{joined_pointer, member_of}
+use Rattle.c_types_rules.specs.Sizes.{is_complete}
 
 abbrev pub IsArithmetic : TypeTree → Type 0
 IsArithmetic t = is_arithmetic t ≡ true
@@ -109,8 +109,8 @@ abbrev pub Steps : List StructType → Operand → TypeTree → Type 0
 Steps structs x t = IsModifiable x × (IsArithmetic (value_type x) ⊎ PointsToObject structs (value_type x)) × (t ≡ value_type x)
 
 -- what a pointer to an object points to (6.5.3.2p2, p4)
-abbrev pub LeadsTo : TypeTree → TypeTree → Type 0
-LeadsTo a t = (a ≡ Pointer t) × (is_void t ≡ false)
+abbrev pub LeadsToObject : TypeTree → TypeTree → Type 0
+LeadsToObject a t = (a ≡ Pointer t) × (is_void t ≡ false)
 
 -- an operator before its operand (6.5.3)
 abbrev pub Prefixes : List StructType → PrefixOperator → Operand → TypeTree → Type 0
@@ -118,7 +118,7 @@ Prefixes structs prefix.Increment x t = Steps structs x t
 Prefixes structs prefix.Decrement x t = Steps structs x t
 Prefixes structs prefix.SizeOf x t = (is_complete structs x.ctype ≡ true) × (t ≡ Unsigned)
 Prefixes structs prefix.Address x t = (x.place ≡ true) × (t ≡ Pointer x.ctype)
-Prefixes structs prefix.Indirection x t = LeadsTo (value_type x) t
+Prefixes structs prefix.Indirection x t = LeadsToObject (value_type x) t
 Prefixes structs prefix.Plus x t = IsArithmetic (value_type x) × (t ≡ promoted (value_type x))
 Prefixes structs prefix.Minus x t = IsArithmetic (value_type x) × (t ≡ promoted (value_type x))
 Prefixes structs prefix.Complement x t = IsArithmetic (value_type x) × (t ≡ promoted (value_type x))
@@ -135,7 +135,7 @@ Chooses c x y t = IsScalar c × (Calculates (value_type x) (value_type y) t
 
 -- `e[i]` is `*(e + i)` (6.5.2.1p2)
 abbrev pub Indexes : List StructType → Operand → Operand → TypeTree → Type 0
-Indexes structs x y t = (p : TypeTree) × (Adds structs (value_type x) (value_type y) p × LeadsTo p t)
+Indexes structs x y t = (p : TypeTree) × (Adds structs (value_type x) (value_type y) p × LeadsToObject p t)
 
 -- a struct with a member of the name, which has this type (6.5.2.3p1)
 abbrev pub Selects : List StructType → List ℕ → TypeTree → TypeTree → Type 0

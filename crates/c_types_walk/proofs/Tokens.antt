@@ -13,7 +13,7 @@ use Rattle.c_syntax.specs.ItemTree.{ItemTree}
 use Rattle.c_syntax.specs.Spelling.{Kinds, a_sign, after_commas, body_kinds, declaration_kinds, entry_kinds, expr_kinds, exprs_kinds, for_start_kinds, initial_kinds, item_kinds, more_exprs_kinds, optional, param_kinds, params_kinds, parenthesized, start_kinds, statement_kinds, with_commas}
 use Rattle.c_types_expressions.specs.Room.{items_in}
 use Rattle.c_types_expressions.proofs.Texts.{bytes_both, bytes_in, expr_bytes, exprs_bytes}
-use Rattle.c_types_walk.specs.ItemWalk.{listed}
+use Rattle.c_types_walk.specs.ItemWalk.{listed_params}
 use Rattle.c_types_walk.specs.Room.{body_needs, body_text, declaration_needs, declaration_text, entries_need, entries_text, for_start_needs, for_start_text, initial_needs, initial_text, item_needs, item_text, items_need, items_text, part_text, start_needs, start_text, starts_need, starts_text, statement_needs, statement_text}
 
 -- of several expressions each but the first has a comma
@@ -83,7 +83,7 @@ between_commas : {A : Type 0} (f : A → Kinds) (xs : List A) → length xs ≤ 
 between_commas f [] = omega arith
 between_commas f (x ∷ xs) = omega (arith, behind_commas f xs, length-append (f x) (after_commas f xs))
 
-params_long : (ps : Params) → length (listed ps) ≤ length (parenthesized (params_kinds ps))
+params_long : (ps : Params) → length (listed_params ps) ≤ length (parenthesized (params_kinds ps))
 params_long params.Empty = omega arith
 params_long params.Void = omega arith
 params_long (params.List list) = simp length-append (omega (arith, between_commas param_kinds list))

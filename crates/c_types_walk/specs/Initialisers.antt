@@ -7,11 +7,11 @@ use Rattle.c_syntax.specs.ExprTree.{ExprTree, ExprList}
 use Rattle.c_syntax.specs.FirstToken.{first_token}
 use Rattle.c_syntax.specs.StatementTree as s
 use Rattle.c_syntax.specs.StatementTree.{InitialTree}
-use Rattle.c_rules.specs.declared.fault.FaultKind.TheVariants as fault
-use Rattle.c_rules.specs.declared.operand.Operand.{Operand}
-use Rattle.c_rules.specs.TypeTree.{TypeTree, Char, Array}
-use Rattle.c_rules.specs.Assigning.{assignable}
-use Rattle.c_rules.specs.Conversions.{is_scalar}
+use Rattle.c_types_rules.specs.declared.fault.FaultKind.TheVariants as fault
+use Rattle.c_types_rules.specs.declared.operand.Operand.{Operand}
+use Rattle.c_types_rules.specs.TypeTree.{TypeTree, Char, Array}
+use Rattle.c_types_rules.specs.Assigning.{assignable}
+use Rattle.c_types_rules.specs.Conversions.{is_scalar}
 use Rattle.c_types_expressions.specs.declared.walk.Walk.{Walk}
 use Rattle.c_types_expressions.specs.Walked.{Walked, Fine, Faulty, ◌>>=◌}
 use Rattle.c_types_expressions.specs.ExprWalk.{walk_expr, walk_exprs, string_cells}
@@ -58,20 +58,20 @@ length_of (Array element size) = size
 length_of t = 0
 
 -- the type that a braced list completes
-abbrev pub listed : Bool → ExprList → List Operand → TypeTree → Option TypeTree
-listed global items xs (Array element size) =
+abbrev pub listed_type : Bool → ExprList → List Operand → TypeTree → Option TypeTree
+listed_type global items xs (Array element size) =
     if is_scalar element && (takes_items size (length xs) && all_initialise global element items xs)
     then Some (Array element (known_length size (length xs)))
     else None
-listed global items xs t = None
+listed_type global items xs t = None
 
 abbrev pub is_char : TypeTree → Bool
 is_char Char = true
 is_char t = false
 
-abbrev pub is_text : TypeTree → Bool
-is_text (Array element size) = is_char element
-is_text t = false
+abbrev pub is_char_array : TypeTree → Bool
+is_char_array (Array element size) = is_char element
+is_char_array t = false
 
 -- The array that a string of so many cells completes. It takes a string also without its closing zero.
 abbrev pub spelled : ℕ → TypeTree → Option TypeTree
@@ -88,7 +88,7 @@ expressed global t value x = if initialises global t value x then Some t else No
 
 abbrev pub valued : Bool → TypeTree → ExprTree → Operand → Option ℕ → Option TypeTree
 valued global t value x None = expressed global t value x
-valued global t value x (Some cells) = if is_text t then spelled cells t else expressed global t value x
+valued global t value x (Some cells) = if is_char_array t then spelled cells t else expressed global t value x
 
 -- the completed type, or a fault at the initialiser's first token
 abbrev pub completes : ℕ → Option TypeTree → Walk → Walked TypeTree
@@ -101,4 +101,4 @@ walk_initial global t None w = Fine t w
 walk_initial global t (Some (s.Value value)) w =
     walk_expr value w >>= λ x v. completes (first_token value) (valued global t value x (cells_of_string value)) v
 walk_initial global t (Some (s.Braced token items comma)) w =
-    walk_exprs items [] w >>= λ xs v. completes token (listed global items xs t) v
+    walk_exprs items [] w >>= λ xs v. completes token (listed_type global items xs t) v

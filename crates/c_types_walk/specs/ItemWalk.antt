@@ -1,5 +1,6 @@
 -- The walk through the items of a text: structs, functions and globals.
-use Rattle.std.specs.Prelude.{ℕ, nat_le, Bool, true, false, ◌&&◌, ◌||◌, if◌then◌else◌, pos, int_le, List, [], ◌∷◌, ◌++◌, length, map, Option, Some, None, is_some, is_none, unwrap_or, slice_get}
+use Rattle.std.specs.Prelude.{ℕ, nat_le, Bool, true, false, ◌&&◌, ◌||◌, if◌then◌else◌, pos, int_le, List, [], ◌∷◌, ◌++◌, length, map, Option, Some, None}
+use Rattle.std.specs.Prelude.{is_some, is_none, unwrap_or, slice_get}
 use Rattle.std.specs.Str.{bytes_eq}
 use Rattle.c_syntax.specs.declared.parts.Bound.{Bound}
 use Rattle.c_syntax.specs.declared.parts.Constant.{Constant}
@@ -12,14 +13,14 @@ use Rattle.c_syntax.specs.declared.parts.Params.TheVariants as params
 use Rattle.c_syntax.specs.StatementTree.{EntryList}
 use Rattle.c_syntax.specs.ItemTree as i
 use Rattle.c_syntax.specs.ItemTree.{ItemTree}
-use Rattle.c_rules.specs.declared.fault.FaultKind.TheVariants as fault
-use Rattle.c_rules.specs.declared.function.FunctionType.{FunctionType}
-use Rattle.c_rules.specs.declared.layout.StructType.{StructType}
-use Rattle.c_rules.specs.TypeTree.{TypeTree, Pointer}
-use Rattle.c_rules.specs.Conversions.{is_scalar, is_struct}
-use Rattle.c_rules.specs.Functions.{same_function}
-use Rattle.c_rules.specs.Selecting.{member_named}
-use Rattle.c_rules.specs.Sizes.{is_object, most_cells, empty_struct, with_member}
+use Rattle.c_types_rules.specs.declared.fault.FaultKind.TheVariants as fault
+use Rattle.c_types_rules.specs.declared.function.FunctionType.{FunctionType}
+use Rattle.c_types_rules.specs.declared.layout.StructType.{StructType}
+use Rattle.c_types_rules.specs.TypeTree.{TypeTree, Pointer}
+use Rattle.c_types_rules.specs.Conversions.{is_scalar, is_struct}
+use Rattle.c_types_rules.specs.Functions.{same_function}
+use Rattle.c_types_rules.specs.Selecting.{member_named}
+use Rattle.c_types_rules.specs.Sizes.{is_object, most_cells, empty_struct, with_member}
 use Rattle.c_types_expressions.specs.declared.names.Meaning.{Meaning}
 use Rattle.c_types_expressions.specs.declared.names.Meaning.TheVariants as meaning
 use Rattle.c_types_expressions.specs.declared.names.ScopeEntry.TheVariants.{Declares}
@@ -66,10 +67,10 @@ walk_struct token tag members w = walk_members members empty_struct (with_tag ta
 
 -- parameters
 
-abbrev pub listed : Params → List Param
-listed params.Empty = []
-listed params.Void = []
-listed (params.List list) = list
+abbrev pub listed_params : Params → List Param
+listed_params params.Empty = []
+listed_params params.Void = []
+listed_params (params.List list) = list
 
 abbrev pub is_named : List ℕ → Option (List ℕ) → Bool
 is_named name None = false
@@ -183,7 +184,7 @@ typed_function token f name ps body w = walk_function token f name ps body (know
 abbrev pub walk_item : ItemTree → Walk → Walked Done
 walk_item (i.Struct token tag members) w = walk_struct token tag members w
 walk_item (i.Function token base stars name ps body) w =
-    base_type base w >>= λ b v. walk_params (is_some body) (listed ps) [] v >>= λ xs u.
+    base_type base w >>= λ b v. walk_params (is_some body) (listed_params ps) [] v >>= λ xs u.
     typed_function token (record { gives = with_stars stars b; params = types_of xs }) name xs body u
 walk_item (i.Declaration declaration) w = walk_declaration true declaration w
 

@@ -6,7 +6,7 @@ use Rattle.c_syntax.specs.StatementTree.{InitialTree, StartTree, DeclarationTree
 use Rattle.c_syntax.specs.ItemTree as i
 use Rattle.c_syntax.specs.ItemTree.{ItemTree}
 use Rattle.c_types_expressions.specs.Room.{expr_text, exprs_text, items_in}
-use Rattle.c_types_walk.specs.ItemWalk.{listed}
+use Rattle.c_types_walk.specs.ItemWalk.{listed_params}
 
 -- an initialiser: its items, which may give an array its length
 abbrev pub initial_needs : Option InitialTree → ℕ
@@ -58,7 +58,7 @@ function_needs parameters body = 2 + parameters + body_needs body
 
 abbrev pub item_needs : ItemTree → ℕ
 item_needs (i.Struct token tag members) = 1
-item_needs (i.Function token base stars name ps body) = function_needs (length (listed ps)) body
+item_needs (i.Function token base stars name ps body) = function_needs (length (listed_params ps)) body
 item_needs (i.Declaration declaration) = declaration_needs declaration
 
 abbrev pub items_need : List ItemTree → ℕ

@@ -3,30 +3,30 @@ use Rattle.std.specs.Prelude.{ℕ, ◌+◌, nat_le, Bool, true, false, not, ◌&
 use Rattle.c_syntax.specs.ExprTree.{ExprTree}
 use Rattle.c_syntax.specs.StatementTree as s
 use Rattle.c_syntax.specs.StatementTree.{InitialTree, StartTree, DeclarationTree, ForStartTree, StatementTree, EntryList}
-use Rattle.c_rules.specs.declared.fault.FaultKind.TheVariants as fault
-use Rattle.c_rules.specs.declared.operand.Operand.{Operand}
-use Rattle.c_rules.specs.TypeTree.{TypeTree}
-use Rattle.c_rules.specs.Assigning.{assignable}
-use Rattle.c_rules.specs.Conversions.{is_void, is_struct}
-use Rattle.c_rules.specs.Operators.{is_scalar_value}
-use Rattle.c_rules.specs.Sizes.{is_object, cells_of, most_cells}
+use Rattle.c_types_rules.specs.declared.fault.FaultKind.TheVariants as fault
+use Rattle.c_types_rules.specs.declared.operand.Operand.{Operand}
+use Rattle.c_types_rules.specs.TypeTree.{TypeTree}
+use Rattle.c_types_rules.specs.Assigning.{assignable}
+use Rattle.c_types_rules.specs.Conversions.{is_void, is_struct}
+use Rattle.c_types_rules.specs.Operators.{is_scalar_value}
+use Rattle.c_types_rules.specs.Sizes.{is_object, cells_of, most_cells}
 use Rattle.c_types_expressions.specs.declared.walk.Walk.{Walk}
-use Rattle.c_types_expressions.specs.Names.{is_taken}
+use Rattle.c_types_expressions.specs.Names.{is_name_taken}
 use Rattle.c_types_expressions.specs.Walked.{Walked, Fine, Faulty, ◌>>=◌, Done, unless, replaced, with_variable, opened, closing}
 use Rattle.c_types_expressions.specs.ExprWalk.{base_type, walk_expr, walk_whole}
 use Rattle.c_types_walk.specs.Declarators.{declared_type, is_open}
 use Rattle.c_types_walk.specs.Initialisers.{walk_initial}
 
 -- The cells of a global count together with those of the globals before it.
-abbrev pub counted : Bool → ℕ → ℕ → Walk → Walked Done
-counted global token cells w =
+abbrev pub counted_cells : Bool → ℕ → ℕ → Walk → Walked Done
+counted_cells global token cells w =
     if not global then Fine tt w
     else if nat_le (w.global_cells + cells) most_cells then Fine tt (record w { global_cells = w.global_cells + cells })
     else Faulty fault.Object token
 
 -- a variable may have the type
 abbrev pub sized : Bool → ℕ → TypeTree → Walk → Walked Done
-sized global token t w = if is_object w.structs t then counted global token (cells_of w.structs t) w else Faulty fault.Object token
+sized global token t w = if is_object w.structs t then counted_cells global token (cells_of w.structs t) w else Faulty fault.Object token
 
 -- the variable with this number has the type
 abbrev pub with_declared_type : ℕ → TypeTree → Walk → Walk
@@ -52,7 +52,7 @@ walk_typed global x (Some t) w =
 -- A variable: its name is new in its scope, and it is in scope from the end of its declarator on (C99 6.2.1p7).
 abbrev pub walk_start : Bool → TypeTree → StartTree → Walk → Walked Done
 walk_start global b x w =
-    if is_taken x.declarator.name w.names then Faulty fault.Redeclared x.token
+    if is_name_taken x.declarator.name w.names then Faulty fault.Redeclared x.token
     else walk_typed global x (declared_type x.declarator b) w
 
 abbrev pub walk_starts : Bool → TypeTree → List StartTree → Walk → Walked Done

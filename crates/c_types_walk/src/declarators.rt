@@ -1,9 +1,9 @@
 ghost use Rattle.std.specs.Prelude.{◌≡◌, IfOk};
 ghost use Rattle.c_types_walk.specs.Declarators.{array_of, bounded, declared_type, is_bound, is_open, with_bounds};
 
-use c_rules::{CType, StructType, Type, is_object};
 use c_syntax::{Bound, Constant, Declarator};
 use c_types_expressions::with_stars;
+use c_types_rules::{CType, StructType, Type, is_object};
 use cbi_base::Memory;
 use std::alloc::Global;
 

@@ -1,15 +1,17 @@
 ghost use Rattle.std.specs.Prelude.{◌≡◌, ◌<◌, ◌≤◌, IfOk, OnOk, option_map, length};
 ghost use Rattle.c_syntax.specs.Limits.{most_bytes, most_tokens};
 ghost use Rattle.c_syntax.specs.Plain.{plain_expr, plain_exprs, plain_initial};
-ghost use Rattle.c_rules.specs.Plain.{plain_type};
-ghost use Rattle.c_types_walk.specs.Initialisers.{all_initialise, cells_of_string, completes, expressed, initialises, is_char, is_constant, is_number, is_text, known_length, length_of, listed, spelled, takes_items, valued, walk_initial, with_length};
+ghost use Rattle.c_types_rules.specs.Plain.{plain_type};
+ghost use Rattle.c_types_walk.specs.Initialisers.{all_initialise, cells_of_string, completes, expressed, initialises, is_char, is_char_array, is_constant};
+ghost use Rattle.c_types_walk.specs.Initialisers.{is_number, known_length, length_of, listed_type, spelled, takes_items, valued, walk_initial};
+ghost use Rattle.c_types_walk.specs.Initialisers.{with_length};
 ghost use Rattle.c_types_walk.specs.Room.{initial_needs, initial_text};
 ghost use Rattle.c_types_expressions.specs.Room.{HasLeft, expr_text};
 ghost use Rattle.c_types_expressions.specs.Walked.{IsWalked};
 
-use c_rules::{CType, FaultKind, Operand, Type, assignable, is_scalar};
 use c_syntax::{Expr, Initial, PrefixOperator};
 use c_types_expressions::{Stop, Walk, string_cells, walk_expr, walk_exprs};
+use c_types_rules::{CType, FaultKind, Operand, Type, assignable, is_scalar};
 use cbi_base::Memory;
 use std::alloc::Global;
 
@@ -94,7 +96,7 @@ fn listed(
     xs: &[Operand],
 ) -> Result<Option<Type>, Memory>
     requires { length xs.now ≤ most_tokens }
-    ensures { IfOk result (λ t. t ≡ listed global (plain_exprs items.now) xs.now ctype.now) }
+    ensures { IfOk result (λ t. t ≡ listed_type global (plain_exprs items.now) xs.now ctype.now) }
 {
     let count = xs.len() as u32;
     match ctype.shape() {
@@ -130,7 +132,7 @@ fn array_like(alloc: Global, ctype: &Type, length: u32) -> Result<Type, Memory>
 
 /// Whether it is an array of `char`.
 fn is_text(ctype: &CType) -> bool
-    ensures { result ≡ is_text (plain_type ctype.now) }
+    ensures { result ≡ is_char_array (plain_type ctype.now) }
 {
     match ctype {
         CType::Array { of, .. } => is_char(of),

@@ -4,7 +4,8 @@ ghost use Rattle.c_syntax.specs.Limits.{most_bytes};
 ghost use Rattle.c_syntax.specs.Plain.{plain_entries, plain_item};
 ghost use Rattle.c_syntax.specs.Spelling.{item_kinds};
 ghost use Rattle.c_syntax.specs.Tokens.{kind_text_len};
-ghost use Rattle.c_types_walk.specs.ItemWalk.{clashes, declares, entered, is_defined, known_as, typed_function, types_of, walk_body, walk_function, walk_item, walk_items, with_definition, with_function};
+ghost use Rattle.c_types_walk.specs.ItemWalk.{clashes, declares, entered, is_defined, known_as, typed_function, types_of, walk_body, walk_function};
+ghost use Rattle.c_types_walk.specs.ItemWalk.{walk_item, walk_items, with_definition, with_function};
 ghost use Rattle.c_types_walk.specs.Room.{body_text, entries_text, function_needs, item_needs, item_text};
 ghost use Rattle.c_types_expressions.specs.ExprWalk.{with_stars};
 ghost use Rattle.c_types_expressions.specs.Names.{found};
@@ -14,12 +15,12 @@ ghost use Rattle.c_types_expressions.specs.Walked.{Fine, IsWalked};
 use crate::params::{add_params, listed, types_of, walk_params};
 use crate::statement_walk::{walk_declaration, walk_entries};
 use crate::struct_walk::walk_struct;
-use c_rules::{FaultKind, FunctionType, Type, is_struct, same_function};
 use c_syntax::{Base, Entry, Item, Params};
 use c_types_expressions::{
     Definition, FunctionEntry, Meaning, Parameter, Stop, Walk, base_type, close_scope, is_reserved,
     next_number, open_scope, with_stars,
 };
+use c_types_rules::{FaultKind, FunctionType, Type, is_struct, same_function};
 use cbi_base::{Memory, Name, Seq};
 use std::alloc::Global;
 
@@ -145,7 +146,8 @@ fn walk_body(
 ) -> Result<(), Stop>
     requires room { HasRoom (function_needs (length head.now.params.now) (Some (plain_entries body.now))) walk.old }
     requires text { entries_text (plain_entries body.now) < most_bytes }
-    ensures walked { IsWalked (walk_body head.now.token function head.now.name.now head.now.params.now (plain_entries body.now) known walk.old) result walk.new }
+    ensures walked { IsWalked (walk_body head.now.token function head.now.name.now head.now.params.now (plain_entries body.now) known walk.old)
+        result walk.new }
     ensures left { OnOk result (HasLeft (function_needs (length head.now.params.now) (Some (plain_entries body.now))) 0 walk.old walk.new) }
 {
     let index = match known {

@@ -1,19 +1,20 @@
 ghost use Rattle.std.specs.Prelude.{◌≡◌, [], IfOk, OnOk, length};
-ghost use Rattle.c_types_walk.specs.ItemWalk.{has_length, is_among, is_length, is_named, listed, looked_param, named_param, param_type, scalar_param, types_of, walk_param, walk_params, with_param, with_params};
+ghost use Rattle.c_types_walk.specs.ItemWalk.{has_length, is_among, is_length, is_named, listed_params, looked_param, named_param, param_type};
+ghost use Rattle.c_types_walk.specs.ItemWalk.{scalar_param, types_of, walk_param, walk_params, with_param, with_params};
 ghost use Rattle.c_types_expressions.specs.Room.{HasLeft, HasRoom};
 ghost use Rattle.c_types_expressions.specs.Walked.{Fine, IsWalked};
 
-use c_rules::{FaultKind, Type, is_scalar, pointer_to};
 use c_syntax::{Bound, Constant, Param, ParamName, Params};
 use c_types_expressions::{
     Parameter, Stop, Walk, add_variable, base_type, is_reserved, with_stars,
 };
+use c_types_rules::{FaultKind, Type, is_scalar, pointer_to};
 use cbi_base::{Memory, Name, Seq};
 use std::alloc::Global;
 
 /// The parameters between the parentheses.
 pub fn listed(params: &Params) -> &[Param]
-    ensures { result.now ≡ listed params.now }
+    ensures { result.now ≡ listed_params params.now }
 {
     match params {
         Params::Empty | Params::Void => &[],

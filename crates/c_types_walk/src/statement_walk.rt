@@ -2,22 +2,25 @@ ghost use Rattle.std.specs.Prelude.{◌≡◌, ◌<◌, map, option_map, length,
 ghost use Rattle.c_syntax.specs.Limits.{most_bytes};
 ghost use Rattle.c_syntax.specs.StatementTree as s;
 ghost use Rattle.c_syntax.specs.Plain.{plain_declaration, plain_entries, plain_expr, plain_for_start, plain_start, plain_statement};
-ghost use Rattle.c_types_walk.specs.StatementWalk.{counted, is_condition_part, is_struct_part, returned, sized, walk_closed, walk_condition, walk_declaration, walk_entries, walk_for_start, walk_given_up, walk_open, walk_optional, walk_start, walk_starts, walk_statement, walk_typed, with_declared_type};
-ghost use Rattle.c_types_walk.specs.Room.{declaration_needs, declaration_text, entries_need, entries_text, for_start_needs, for_start_text, part_text, start_needs, start_text, starts_need, starts_text, statement_needs, statement_text};
-ghost use Rattle.c_rules.specs.Operators.{is_scalar_value};
+ghost use Rattle.c_types_walk.specs.StatementWalk.{counted_cells, is_condition_part, is_struct_part, returned, sized, walk_closed, walk_condition};
+ghost use Rattle.c_types_walk.specs.StatementWalk.{walk_declaration, walk_entries, walk_for_start, walk_given_up, walk_open, walk_optional, walk_start};
+ghost use Rattle.c_types_walk.specs.StatementWalk.{walk_starts, walk_statement, walk_typed, with_declared_type};
+ghost use Rattle.c_types_walk.specs.Room.{declaration_needs, declaration_text, entries_need, entries_text, for_start_needs, for_start_text, part_text};
+ghost use Rattle.c_types_walk.specs.Room.{start_needs, start_text, starts_need, starts_text, statement_needs, statement_text};
+ghost use Rattle.c_types_rules.specs.Operators.{is_scalar_value};
 ghost use Rattle.c_types_expressions.specs.ExprWalk.{walk_expr, walk_whole};
 ghost use Rattle.c_types_expressions.specs.Room.{HasLeft, HasRoom, expr_text};
 ghost use Rattle.c_types_expressions.specs.Walked.{IsWalked};
 
 use crate::declarators::{declared_type, is_open};
 use crate::initialisers::walk_initial;
-use c_rules::{
-    FaultKind, Operand, Type, assignable, cells_of, is_object, is_scalar_value, is_struct, is_void,
-};
 use c_syntax::{Declaration, Entry, Expr, ForStart, Start, Statement};
 use c_types_expressions::{
     Stop, Walk, add_variable, base_type, close_scope, next_number, open_scope, unless, walk_expr,
     walk_whole,
+};
+use c_types_rules::{
+    FaultKind, Operand, Type, assignable, cells_of, is_object, is_scalar_value, is_struct, is_void,
 };
 use std::alloc::Global;
 
@@ -26,7 +29,7 @@ const MOST_CELLS: u32 = 1_048_576;
 
 /// Counts the cells of a global with those of the globals before it.
 fn counted(walk: &mut Walk, global: bool, token: u32, cells: u32) -> Result<(), Stop>
-    ensures walked { IsWalked (counted global token cells walk.old) result walk.new }
+    ensures walked { IsWalked (counted_cells global token cells walk.old) result walk.new }
     ensures left { OnOk result (HasLeft 0 0 walk.old walk.new) }
 {
     if !global {

@@ -4,9 +4,9 @@ ghost use Rattle.c_types_expressions.specs.Room.{HasLeft, HasRoom};
 ghost use Rattle.c_types_expressions.specs.Walked.{Fine, IsWalked};
 
 use crate::declarators::declared_type;
-use c_rules::{FaultKind, StructType, Type, is_object, member_named, with_member};
 use c_syntax::{Declarator, Members};
 use c_types_expressions::{Meaning, Stop, Walk, base_type, next_number};
+use c_types_rules::{FaultKind, StructType, Type, is_object, member_named, with_member};
 use cbi_base::Name;
 use std::alloc::Global;
 

@@ -1,6 +1,6 @@
 //! Stores and sinks in memory, and a sink over a writer that takes little.
 use crate::narrow::Narrow;
-use case_rows::Page;
+use cases_rows::Page;
 use cbi_base::{MemSink, MemStore, Sink, SinkError, StdSink, Store, StoreError};
 
 /// Adds `is`, the bytes and a newline.

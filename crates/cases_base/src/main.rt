@@ -8,7 +8,7 @@ mod row;
 mod tables;
 mod texts;
 
-use case_rows::look;
+use cases_rows::look;
 use row::Asked;
 use std::process::ExitCode;
 

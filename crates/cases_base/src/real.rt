@@ -1,6 +1,6 @@
 //! The files of the system.
 use crate::devices::{ask_read, ask_write};
-use case_rows::Page;
+use cases_rows::Page;
 use cbi_base::{FileStore, Store};
 use std::fs;
 

@@ -3,7 +3,7 @@ use crate::devices::{ask_sink, ask_store};
 use crate::real::ask_files;
 use crate::tables::ask_table;
 use crate::texts::ask_text;
-use case_rows::{Head, Page, Place, Rest, Rows, bad_line, expect, numbers_of, store_of};
+use cases_rows::{Head, Page, Place, Rest, Rows, bad_line, expect, numbers_of, store_of};
 use cbi_base::{MemSink, MemStore};
 
 /// The lines of a row. Its files, the calls of its store and the puts of its sink that fail are given, and then it asks, line by line. A line that asks

@@ -1,5 +1,5 @@
 //! The tables of traps and refusals, and a list.
-use case_rows::Page;
+use cases_rows::Page;
 use cbi_base::{ProgramId, Refusal, Seq, Trap};
 
 const TRAPS: [Trap; 15] = [

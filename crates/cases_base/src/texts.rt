@@ -1,5 +1,5 @@
 //! What is read of texts: decimals, lines, fields, formats, names and identities.
-use case_rows::{Page, push_text};
+use cases_rows::{Page, push_text};
 use cbi_base::{
     Fields, Name, count_conversions, id_text, is_name, line_end, read_decimal, read_id, read_signed,
 };

@@ -1,7 +1,7 @@
 //! A call of the tool, or of what reads its words alone.
 use crate::few::Few;
 use crate::watchers::{expect_lines, watchers_of};
-use case_rows::Page;
+use cases_rows::Page;
 use cbi_base::{MemSink, MemStore, Sink, SinkError};
 use cbi_words::{WordsError, read_words};
 use probes::{FirstSeen, Hottest, LastSeen, Probe};

@@ -1,5 +1,5 @@
 //! A program file beside that of its sampled program.
-use case_rows::{Page, rest_of};
+use cases_rows::{Page, rest_of};
 use cbi_base::MemStore;
 use program_file::{read_program, write_program};
 use sampling::{may_clone, sample};

@@ -1,4 +1,4 @@
-ghost use Rattle.probes.specs.LastSeen.{last_line};
+ghost use Rattle.probes.specs.LastSeen.{last_seen_line};
 
 use cbi_base::{Memory, Observation};
 use probes::{LastSeen, Probe};
@@ -24,7 +24,7 @@ impl Few {
 impl Probe for Few {
     ghost seen = { λ p. p.last };
 
-    ghost line_text = { λ p. last_line p.last };
+    ghost line_text = { λ p. last_seen_line p.last };
 
     fn see(&mut self, observation: Observation) -> Result<(), Memory> {
         if self.left == 0 {

@@ -8,7 +8,7 @@ mod no_memory;
 mod row;
 mod watchers;
 
-use case_rows::look;
+use cases_rows::look;
 use row::Asked;
 use std::process::ExitCode;
 

@@ -2,7 +2,7 @@
 use crate::calls::{call, read};
 use crate::cloned::expect_clone;
 use crate::no_memory::NoMemory;
-use case_rows::{
+use cases_rows::{
     Head, Page, Place, Rest, Rows, bad_line, expect, expect_files, expect_status, has_line, keep,
     numbers_of, store_of, words_of,
 };

@@ -1,5 +1,5 @@
 //! The watchers of a step, and their lines.
-use case_rows::{Page, expect, has_head, has_line, rest_of};
+use cases_rows::{Page, expect, has_head, has_line, rest_of};
 use probes::{Probe, push_lines};
 
 /// The words of the watchers that the step asks for, in their order, with blanks between them; empty where it asks for none.

@@ -1,5 +1,5 @@
 //! The bytes that a row gives, in parts of which some come once for each number.
-use case_rows::{Page, piece_of};
+use cases_rows::{Page, piece_of};
 
 /// The numbers of a part that says ` each FROM TO`.
 fn range_of(rest: &str) -> Option<(u32, u32)> {

@@ -5,7 +5,7 @@ ghost use Rattle.flow.specs.Predicates.{predicate_count};
 
 use affinity::{cards, near};
 use affinity_reference::plain_near;
-use case_rows::{Page, expect, has_head};
+use cases_rows::{Page, expect, has_head};
 use collector::Collection;
 use flow::{SiteTable, predicate_count};
 

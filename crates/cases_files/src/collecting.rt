@@ -4,7 +4,7 @@ ghost use Rattle.report_file.specs.Report.{IsReport};
 
 use crate::bytes::bytes_of;
 use crate::finding::program;
-use case_rows::{Page, expect, expect_rest, has_any, has_head, has_line, rest_of};
+use cases_rows::{Page, expect, expect_rest, has_any, has_head, has_line, rest_of};
 use cbi_base::{Memory, Seq};
 use collector::{Collection, read_collection, write_collection};
 use flow::SiteTable;

@@ -1,5 +1,5 @@
 //! The lines of a run that stand at a place of a text.
-use case_rows::{Page, expect, rest_of};
+use cases_rows::{Page, expect, rest_of};
 use cbi_base::{ProgramId, read_id};
 use collector::{RunText, read_run};
 use report_file::report_lines;

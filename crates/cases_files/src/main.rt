@@ -13,7 +13,7 @@ mod row;
 mod session_rows;
 mod thrown;
 
-use case_rows::look;
+use cases_rows::look;
 use row::Asked;
 use std::process::ExitCode;
 

@@ -1,5 +1,5 @@
 //! The numbers of rankings, and whether numbers are a bank's.
-use case_rows::{Page, numbers_in};
+use cases_rows::{Page, numbers_in};
 use countdown_bank::Bank;
 use fractions::{Fraction, Tally, compare, confident, importance, log_fixed, millionths};
 

@@ -6,18 +6,18 @@ ghost use Rattle.report_file.specs.Report.{IsReport};
 use crate::card_rows::tell_cards;
 use crate::finding::program;
 use crate::session_rows::tell_session;
-use case_rows::{Page, expect, expect_rest, has_head};
+use cases_rows::{Page, expect, expect_rest, has_head};
 use cbi_base::{Policy, ProgramId};
 use collector::{Added, Collection, RunText, read_collection, read_run};
 use elimination::{Eliminator, Steps, elimination};
 use elimination_reference::plain_elimination;
+use elimination_tallies::Listed;
 use flow::SiteTable;
 use fractions::Tally;
 use ranking::ranking_of;
 use report_file::Report;
 use std::marker::Brand;
 use std::sync::ledger::{Blank, Ledger};
-use tallies::Listed;
 
 /// The policies, with the heads of what a row says of each: the predicates that are listed, what is left behind them, and the ranking's text.
 const POLICIES: [(Policy, &str, &str, &str); 3] = [

@@ -1,5 +1,5 @@
 //! Texts that are read: the line at which each goes wrong, or what is written of what was read.
-use case_rows::{Page, expect, has_head, has_line, rest_of};
+use cases_rows::{Page, expect, has_head, has_line, rest_of};
 use cbi_base::{Memory, id_text};
 use cbi_options::Word;
 use collector::{CollectionError, read_collection};

@@ -6,7 +6,7 @@ use crate::numbers::answer;
 use crate::ranking_rows::tell_eliminations;
 use crate::reading::{tell_identity, tell_made, tell_text};
 use crate::thrown::tell_thrown;
-use case_rows::{
+use cases_rows::{
     Answers, Head, Page, Place, Rest, Rows, bad_line, expect_values, has_any, has_line, rest_of,
 };
 use flow::Program;

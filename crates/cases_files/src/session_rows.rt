@@ -4,7 +4,7 @@ ghost use Rattle.collector.specs.Sites.{branches_of};
 ghost use Rattle.report_file.specs.Report.{IsReport};
 
 use crate::ranking_rows::{push_numbers, run_behind};
-use case_rows::{Page, expect_rest, has_head};
+use cases_rows::{Page, expect_rest, has_head};
 use cbi_base::{Policy, ProgramId};
 use collector::{Added, branches_of};
 use elimination_reference::predicates_in;

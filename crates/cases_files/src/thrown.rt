@@ -1,6 +1,6 @@
 //! Collections of runs that are thrown by dice.
 use crate::ranking_rows::tell_eliminations;
-use case_rows::{Page, rest_of};
+use cases_rows::{Page, rest_of};
 use flow::SiteTable;
 
 /// The first lines of a collection.

@@ -1,5 +1,5 @@
 //! Programs that are built of their parts and not read.
-use case_rows::{Page, expect};
+use cases_rows::{Page, expect};
 use cbi_base::{Kind, Memory, Name, Seq};
 use flow::{Function, Node, Program};
 use program_file::write_program;

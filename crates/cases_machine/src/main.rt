@@ -8,7 +8,7 @@ mod runs;
 mod values;
 mod watching;
 
-use case_rows::look;
+use cases_rows::look;
 use row::Asked;
 use std::process::ExitCode;
 

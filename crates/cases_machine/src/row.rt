@@ -2,7 +2,7 @@
 use crate::building::tell_built;
 use crate::values::answer;
 use crate::watching::tell_watched;
-use case_rows::{
+use cases_rows::{
     Answers, Head, Page, Place, Rest, Rows, bad_line, expect_values, has_any, rest_of,
 };
 

@@ -1,7 +1,7 @@
 //! Runs of a program, or of its sampled one, and what is known of a program without a run.
 ghost use Rattle.std.specs.Prelude.{◌≤◌, IfSome};
 
-use case_rows::{
+use cases_rows::{
     Page, block, expect, expect_rest, has_head, has_line, numbers_in, piece_of, rest_of,
 };
 use cbi_base::{Counts, Outcome, Work};

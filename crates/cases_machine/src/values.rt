@@ -3,7 +3,7 @@ ghost use Rattle.std.specs.Prelude.{IfSome};
 ghost use Rattle.cbi_base.specs.Scalars.{IsInRange};
 
 use c_values::{apply_binary, apply_unary, convert, relate, sign, truth};
-use case_rows::Page;
+use cases_rows::Page;
 use cbi_base::{Binary, Kind, Scalar, Unary};
 
 fn small(value: i8) -> Scalar

@@ -1,6 +1,6 @@
 //! What isn't as a row says of its program, or of the sites that three watchers see.
 use crate::runs::{expect_lines, tell_program};
-use case_rows::{Page, has_any, has_head, rest_of};
+use cases_rows::{Page, has_any, has_head, rest_of};
 use cbi_base::{Observation, Seen};
 use probes::{FirstSeen, Hottest, LastSeen, Probe, see_all};
 

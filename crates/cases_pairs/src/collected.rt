@@ -3,7 +3,7 @@ ghost use Rattle.std.specs.Prelude.{◌≡◌, IfSome};
 ghost use Rattle.report_file.specs.Report.{IsReport};
 
 use crate::made::{Made, Saw};
-use case_rows::Page;
+use cases_rows::Page;
 use cbi_base::{Name, Seq};
 use collector::{Added, Collection};
 use flow::{BranchWord, Site, SiteKind, SiteTable};

@@ -5,7 +5,7 @@ ghost use Rattle.collector.specs.Sites.{branches_of};
 use crate::collected::{add_runs, table_of};
 use crate::made::Made;
 use crate::plain::{Found, plain_pairs};
-use case_rows::{Page, expect, has_line};
+use cases_rows::{Page, expect, has_line};
 use cbi_base::{ProgramId, read_id};
 use collector::Collection;
 use compound::{best_pair, pairs_text};

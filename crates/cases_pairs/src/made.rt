@@ -1,5 +1,5 @@
 //! Runs that a row makes.
-use case_rows::{Page, rest_of};
+use cases_rows::{Page, rest_of};
 use report_file::Label;
 use std::alloc::Global;
 

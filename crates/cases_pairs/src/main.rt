@@ -9,7 +9,7 @@ mod plain;
 mod row;
 mod thrown;
 
-use case_rows::look;
+use cases_rows::look;
 use row::Asked;
 use std::process::ExitCode;
 

@@ -1,7 +1,8 @@
-//! The best pair by its definition: each predicate and each pair is counted anew from all runs, nothing is passed over, and the candidates are picked one by one.
+//! The best pair by its definition: each predicate and each pair is counted anew from all runs, nothing is passed over, and the candidates are picked one
+//! by one.
 use crate::formulas::{Share, bound, importance, is_less};
 use crate::made::{Made, Saw};
-use case_rows::Page;
+use cases_rows::Page;
 use compound::{Chosen, PairResult};
 use fractions::Tally;
 use report_file::Label;

@@ -2,7 +2,7 @@
 use crate::finding::tell_pairs;
 use crate::made::made_of;
 use crate::thrown::tell_thrown;
-use case_rows::{
+use cases_rows::{
     Answers, Head, Page, Place, Rest, Rows, bad_line, expect_values, has_any, has_line, numbers_in,
     rest_of,
 };
@@ -14,7 +14,8 @@ use compound::bound;
 /// - `runs COUNT LABEL SAW..`: so many runs, which are `fail`, `pass` or `none` and saw the same: of each site `-` where it wasn't observed, `t` or `f` or `tf`
 ///   of a branch, and some of `l`, `e` and `g` of a returned value that was below, at or above zero. A word `X*N` stands for N words X.
 /// - `found`: the text of the best pair, which a plain body finds too.
-/// - `throws SEED COUNT RUNS`: so many collections of so many thrown runs, of each of which the plain body finds the same. In at least so many of them some pair
+/// - `throws SEED COUNT RUNS`: so many collections of so many thrown runs, of each of which the plain body finds the same. In at least so many of them
+/// some pair
 ///   is skipped (`skipping from N`), and several pairs are the most important (`equal from N`).
 /// - `value bound LEFT RIGHT FAILING is TOP/BOTTOM`.
 const FORM: [Head; 7] = [

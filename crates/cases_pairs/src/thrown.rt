@@ -1,7 +1,7 @@
 //! Runs that are thrown by dice.
 use crate::finding::tell_pairs;
 use crate::made::{Made, Saw};
-use case_rows::{Page, numbers_in, rest_of};
+use cases_rows::{Page, numbers_in, rest_of};
 use rand_core::utils::NextWord;
 use rand_pcg::Lcg64Xsh32;
 use report_file::Label;

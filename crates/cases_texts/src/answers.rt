@@ -4,7 +4,7 @@ use crate::read::checked_of;
 use crate::runs::{Given, push_compiled, push_ends, push_fills, push_full, push_sampled};
 use crate::{lexed, sited, typed};
 use c_types::Checked;
-use case_rows::Page;
+use cases_rows::Page;
 
 /// Adds what comes of a question about what is known of an accepted text.
 fn push_known(known: &Checked, ask: Ask, rest: &str, out: &mut Page) {

@@ -1,5 +1,5 @@
 //! What may be asked of a text.
-use case_rows::are_numbers;
+use cases_rows::are_numbers;
 
 /// A question. Schemes S are named by their first letters, `b`, `r` and `p`, or by `-` where there is none.
 #[derive(Debug, Clone, Copy)]
@@ -30,7 +30,8 @@ pub(crate) enum Ask {
     /// `numbers S`: how many sites, predicates and functions there are.
     Numbers,
     /// `ends`: how the plain program ends, and `after` what output. The one that observes each visit of all schemes and the sampled one, with each visit drawn
-    /// and with one in a thousand, come to the same; where each visit is drawn they count the same. So do the programs with a part of the sites, of 1, 2, 3 and 7
+    /// and with one in a thousand, come to the same; where each visit is drawn they count the same. So do the programs with a part of the sites, of 1, 2,
+    /// 3 and 7
     /// parts: of their sites they count what the others count.
     Ends,
     /// `fills`: how the plain program ends, and how many bytes it writes.

@@ -1,6 +1,6 @@
 //! Which lines a row may have, and what of it is read.
 use crate::ask::{Ask, ask_of};
-use case_rows::{INDENT, is_shared, rest_of};
+use cases_rows::{INDENT, is_shared, rest_of};
 
 /// What parts the texts of a row.
 pub(crate) const NEXT_TEXT: &str = "\ntext";

@@ -1,8 +1,8 @@
 //! Tokens, each with its line, and the tree of a text.
 use crate::read::{line_at, tokens_of, tree_of};
 use c_syntax::{Token, TokenKind};
-use case_rows::Page;
-use tree_shown::show_tree;
+use cases_rows::Page;
+use cases_trees::show_tree;
 
 /// Adds what a token is. Of a name its length stands there.
 fn push_kind(kind: &TokenKind, out: &mut Page) {

@@ -1,6 +1,6 @@
 //! Cases of C texts, row by row: the tokens, the tree, the types and the sites of a text, and what its programs do.
 //!
-//! A file of cases (`case_rows` says its form) has rows of texts. `text T` begins a text, with the bytes T as they stand, or with a block below it. The lines
+//! A file of cases (`cases_rows` says its form) has rows of texts. `text T` begins a text, with the bytes T as they stand, or with a block below it. The lines
 //! below are of this text, up to the next:
 //!
 //! - `times N T`: the text goes on with N times T, in which `#` is the number of the copy, from 1.
@@ -23,7 +23,7 @@ mod runs;
 mod sited;
 mod typed;
 
-use case_rows::look;
+use cases_rows::look;
 use row::Texts;
 use std::process::ExitCode;
 

@@ -5,7 +5,7 @@ ghost use Rattle.compiler.specs.Planned.{part_in};
 
 use crate::plans::{full, parted};
 use crate::runs::{Given, program_of, result_of};
-use case_rows::Page;
+use cases_rows::Page;
 use cbi_base::Counts;
 use compiler::Plan;
 use flow::RunResult;

@@ -7,7 +7,7 @@ use c_lexer::lex;
 use c_parser::{ParseError, parse};
 use c_syntax::{Tokens, Tree, line_of};
 use c_types::{Checked, TypeFault, check};
-use case_rows::Page;
+use cases_rows::Page;
 
 /// The tokens of a text, or why it has none.
 pub(crate) fn tokens_of(text: &[u8], out: &mut Page) -> Option<Tokens> {

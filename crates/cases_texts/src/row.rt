@@ -2,7 +2,7 @@
 use crate::answers::push_answer;
 use crate::form::{Check, NEXT_TEXT, bad_line, check_of, given_of, lines_of, texts_of, times_of};
 use crate::runs::Given;
-use case_rows::{Page, Rows, block, push_shown, push_text};
+use cases_rows::{Page, Rows, block, push_shown, push_text};
 
 /// Adds a copy of a unit, in which `#` is its number.
 fn push_copy(unit: &str, number: u32, text: &mut Page) {

@@ -4,7 +4,7 @@ ghost use Rattle.compiler.specs.Planned.{part_in};
 
 use crate::parts::push_parts;
 use crate::plans::{full, sampled};
-use case_rows::{Page, numbers_in};
+use cases_rows::{Page, numbers_in};
 use cbi_base::{Counts, Outcome};
 use compiler::{CompileError, Plan, compile};
 use countdown_bank::Bank;

@@ -1,6 +1,6 @@
 //! The sites of an accepted text.
 use c_types::Checked;
-use case_rows::Page;
+use cases_rows::Page;
 use flow::{Partner, Site, SiteKind, SiteTable, Slot, predicate_count};
 use sites::{Schemes, SiteError, site_table};
 

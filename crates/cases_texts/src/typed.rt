@@ -1,8 +1,8 @@
 //! What is known of an accepted text: its types, and what was noted by token.
-use c_rules::CType;
 use c_types::Checked;
 use c_types_expressions::{Definition, Variable};
-use case_rows::Page;
+use c_types_rules::CType;
+use cases_rows::Page;
 
 /// Adds a type, from the outside to the inside.
 fn push_ctype(ctype: &CType, out: &mut Page) {

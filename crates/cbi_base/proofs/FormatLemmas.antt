@@ -3,7 +3,7 @@ use Rattle.std.proofs.Common.{◌≡◌, ◌≢◌, ℕ, ◌+◌, ◌<◌, true,
 use Rattle.std.specs.Option.{option_map}
 use Rattle.std.proofs.lemmas.Bool.{ne_eqb}
 use Rattle.cbi_base.specs.Text.{Lacks}
-use Rattle.cbi_base.specs.Format.{conversions_of, is_conversion, is_percent, one_more}
+use Rattle.cbi_base.specs.Format.{conversions_of, is_conversion, is_percent, one_conversion_more}
 
 -- what lacks `%` has no conversion
 pub conversions_of-lacks : (bytes : List ℕ) → Lacks is_percent bytes → conversions_of bytes ≡ Some 0
@@ -36,13 +36,13 @@ shorter rest next letter h = omega (arith, ap length h.rest_is, length-append h.
 at-cut : (rest next : List ℕ) (letter : ℕ) → CutAt rest letter next → conversions_of rest ≡ conversions_of (37 ∷ letter ∷ next)
 at-cut rest next letter h = ap conversions_of h.rest_is ∙ conversions_of-front h.front (letter ∷ next) h.lacks
 
-add-one-more : (o : Option ℕ) (count : ℕ) → option_map (λ n. count + n) (one_more o) ≡ option_map (λ n. count + 1 + n) o
+add-one-more : (o : Option ℕ) (count : ℕ) → option_map (λ n. count + n) (one_conversion_more o) ≡ option_map (λ n. count + 1 + n) o
 add-one-more None count = refl
 add-one-more (Some n) count = let same : count + (n + 1) ≡ count + 1 + n = omega arith in ap Some same
 
 pub Counted-conversion : (format rest next : List ℕ) (count letter : ℕ) → Counted format count rest → CutAt rest letter next → is_conversion letter ≡ true → Counted format (count + 1) next
 Counted-conversion format rest next count letter counted cut is =
-    let step : conversions_of (37 ∷ letter ∷ next) ≡ one_more (conversions_of next) = rw is refl in
+    let step : conversions_of (37 ∷ letter ∷ next) ≡ one_conversion_more (conversions_of next) = rw is refl in
     record { whole = counted.whole ∙ ap (option_map (λ n. count + n)) (at-cut rest next letter cut ∙ step) ∙ add-one-more (conversions_of next) count }
 
 pub Counted-percent : (format rest next : List ℕ) (count letter : ℕ) → Counted format count rest → CutAt rest letter next → letter ≡ 37 → Counted format count next

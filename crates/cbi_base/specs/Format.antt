@@ -10,13 +10,13 @@ abbrev pub is_conversion : ℕ → Bool
 is_conversion b = b == 100 || b == 117 || b == 99 || b == 115
 
 -- one more conversion
-abbrev pub one_more : Option ℕ → Option ℕ
-one_more count = option_map (λ n. n + 1) count
+abbrev pub one_conversion_more : Option ℕ → Option ℕ
+one_conversion_more count = option_map (λ n. n + 1) count
 
 -- the number of conversions of a format; none where a `%` begins neither a conversion nor `%%`
 abbrev pub conversions_of : List ℕ → Option ℕ
 conversions_of [] = Some 0
 conversions_of (b ∷ []) = if is_percent b then None else Some 0
 conversions_of (b ∷ c ∷ rest) =
-    if is_percent b then if is_conversion c then one_more (conversions_of rest) else if is_percent c then conversions_of rest else None
+    if is_percent b then if is_conversion c then one_conversion_more (conversions_of rest) else if is_percent c then conversions_of rest else None
     else conversions_of (c ∷ rest)

@@ -21,7 +21,8 @@ pub record ReadsLines {D : Type 0} (follows : D → List ℕ → D → Type 0) (
   pub over : ends to
 
 -- the text begins with these whole lines, and they are good: they may come one after another
-pub record IsGoodPrefix {D : Type 0} (follows : D → List ℕ → D → Type 0) (from : D) (text : List ℕ) (good : List (List ℕ)) (rest : List ℕ) (to : D) : Type 0 where
+pub record IsGoodPrefix {D : Type 0} (follows : D → List ℕ → D → Type 0) (from : D) (text : List ℕ) (good : List (List ℕ)) (rest : List ℕ) (to : D)
+    : Type 0 where
   pub text_is : text ≡ text_of good ++ rest
   pub are_lines : AreLines good
   pub leads : LeadsTo follows from good to

@@ -8,20 +8,20 @@ use Rattle.std.specs.String.{string_bytes}
 use Rattle.cbi_base.specs.Store.{Held}
 use Rattle.cbi_base.specs.declared.mem_store.File.{File}
 
-abbrev pub is_named : List ℕ → File → Bool
-is_named name file = bytes_eq name (string_bytes file.name)
+abbrev pub is_file_named : List ℕ → File → Bool
+is_file_named name file = bytes_eq name (string_bytes file.name)
 
 -- no file has the name of one after it
 abbrev pub have_distinct_names : List File → Bool
 have_distinct_names [] = true
-have_distinct_names (file ∷ files) = not (list_any (is_named (string_bytes file.name)) files) && have_distinct_names files
+have_distinct_names (file ∷ files) = not (list_any (is_file_named (string_bytes file.name)) files) && have_distinct_names files
 
-abbrev pub entry_of : File → List ℕ × List ℕ
-entry_of file = (string_bytes file.name, file.bytes.items)
+abbrev pub file_entry : File → List ℕ × List ℕ
+file_entry file = (string_bytes file.name, file.bytes.items)
 
 -- what a store that keeps these files holds
 abbrev pub held_of : List File → Held
-held_of files = from_entries (map entry_of files)
+held_of files = from_entries (map file_entry files)
 
 -- a store in memory
 pub record StoreState : Type 0 where

@@ -1,5 +1,7 @@
 -- Objects of cells: what memory is to a program (C99 3.14 and 6.2.4, with sizes counted in cells). A cell keeps the kind that was stored.
-use Rattle.std.specs.Prelude.{◌≡◌, ◌⊎◌, ◌<◌, ◌≤◌, ℕ, ◌+◌, ◌^◌, Bool, true, false, not, ◌&&◌, ◌==◌, nat_le, nat_lt, if◌then◌else◌, ℤ, pos, ◌+ℤ◌, ◌-ℤ◌, int_le, int_div, int_rem, List, length, map, Option, None, Some, Result, Ok, Err, slice_get, slice_set, unsigned_abs, replicate}
+use Rattle.std.specs.Prelude.{◌≡◌, ◌⊎◌, ◌<◌, ◌≤◌, ℕ, ◌+◌, ◌^◌, Bool, true, false, not, ◌&&◌, ◌==◌, nat_le, nat_lt, if◌then◌else◌, ℤ, pos, ◌+ℤ◌, ◌-ℤ◌}
+use Rattle.std.specs.Prelude.{int_le, int_div, int_rem, List, length, map, Option, None, Some, Result, Ok, Err, slice_get, slice_set, unsigned_abs}
+use Rattle.std.specs.Prelude.{replicate}
 use Rattle.std.specs.List.{sum_by}
 use Rattle.std.specs.Ordering.{nat_cmp, int_eq}
 use Rattle.std.specs.FinMap.{FinMap, get, insert, remove, values, empty}
@@ -44,12 +46,12 @@ abbrev pub with_object : Objects → ℕ → Object → Objects
 with_object o number object = record o { live = insert o.live number object }
 
 -- one more object, with the number of objects made before it
-abbrev pub one_more : Class → List Scalar → Objects → Objects
-one_more class cells o = record { made = o.made + 1; live = insert o.live o.made (record { class = class; cells = cells }) }
+abbrev pub one_object_more : Class → List Scalar → Objects → Objects
+one_object_more class cells o = record { made = o.made + 1; live = insert o.live o.made (record { class = class; cells = cells }) }
 
 -- the same where there is room for it
 abbrev pub made_with : Class → List Scalar → Objects → Option Objects
-made_with class cells o = if has_room (length cells) o then Some (one_more class cells o) else None
+made_with class cells o = if has_room (length cells) o then Some (one_object_more class cells o) else None
 
 -- the new object's first cell, or null where none was made
 abbrev pub place_or_null : ℕ → Objects → Option Objects → Scalar × Objects
@@ -58,7 +60,7 @@ place_or_null number o (Some objects) = (Place number 0, objects)
 
 -- an object of `malloc` more, of so many undefined cells
 abbrev pub new_undefined : ℕ → Objects → Objects
-new_undefined cells o = one_more Heap (replicate cells Undefined) o
+new_undefined cells o = one_object_more Heap (replicate cells Undefined) o
 
 -- `malloc` has nothing to give: no cells are asked for, the live cells would pass their limit, or the greatest number of objects was made
 abbrev pub GivesNull : ℕ → Objects → Type 0
@@ -106,14 +108,14 @@ is_wanted want.Pointer (Place number offset) = true
 is_wanted want.Pointer Null = true
 is_wanted wanted value = false
 
-abbrev pub found : Want → Option Scalar → Result Scalar Trap
-found wanted None = Err trap.Bounds
-found wanted (Some Undefined) = Err trap.Undefined
-found wanted (Some value) = if is_wanted wanted value then Ok value else Err trap.WrongKind
+abbrev pub found_cell : Want → Option Scalar → Result Scalar Trap
+found_cell wanted None = Err trap.Bounds
+found_cell wanted (Some Undefined) = Err trap.Undefined
+found_cell wanted (Some value) = if is_wanted wanted value then Ok value else Err trap.WrongKind
 
 -- the value at a pointer: null, dead, out of bounds, undefined and another kind are traps, in this order
 unfoldable pub loaded : Want → Scalar → Objects → Result Scalar Trap
-loaded wanted pointer o = used_at pointer o (λ number offset object. found wanted (slice_get object.cells offset))
+loaded wanted pointer o = used_at pointer o (λ number offset object. found_cell wanted (slice_get object.cells offset))
 
 abbrev pub is_text : Class → Bool
 is_text Text = true

@@ -2,53 +2,55 @@
 use Rattle.std.specs.Prelude.{◌≡◌, ℕ, List, [], ◌++◌, length, take, codes, decimal}
 use Rattle.cbi_base.specs.ProgramId.{text_of_id}
 use Rattle.cbi_base.specs.declared.refusal.Refusal.{Refusal}
-use Rattle.cbi_base.specs.declared.refusal.Refusal.TheVariants.{BadByte, BadToken, Syntax, BadType, TooLarge, TooManySites, BadProgram, BadBank, BadReport, Foreign, Conflict, TooManyReports, TooManyMarks, BadCollection, InputTooLarge, NoSite, BadEdits, Absent, NotPart, BadList, LargeInput}
+use Rattle.cbi_base.specs.declared.refusal.Refusal.TheVariants.{BadByte, BadToken, Syntax, BadType, TooLarge, TooManySites, BadProgram, BadBank, BadReport}
+use Rattle.cbi_base.specs.declared.refusal.Refusal.TheVariants.{Foreign, Conflict, TooManyReports, TooManyMarks, BadCollection, InputTooLarge, NoSite}
+use Rattle.cbi_base.specs.declared.refusal.Refusal.TheVariants.{BadEdits, Absent, NotPart, BadList, LargeInput}
 
-abbrev pub number_of : Refusal → ℕ
-number_of (BadByte _) = 10
-number_of (BadToken _) = 11
-number_of (Syntax _) = 12
-number_of (BadType _ _) = 15
-number_of TooLarge = 16
-number_of TooManySites = 17
-number_of (BadProgram _) = 20
-number_of (BadBank _) = 21
-number_of (BadReport _ _) = 22
-number_of (Foreign _ _) = 23
-number_of (Conflict _) = 24
-number_of (TooManyReports _) = 25
-number_of (TooManyMarks _) = 26
-number_of (BadCollection _ _) = 27
-number_of InputTooLarge = 28
-number_of (NoSite _ _) = 29
-number_of (BadEdits _) = 30
-number_of (Absent _) = 31
-number_of NotPart = 32
-number_of (BadList _ _) = 33
-number_of (LargeInput _) = 28
+abbrev pub refusal_number : Refusal → ℕ
+refusal_number (BadByte _) = 10
+refusal_number (BadToken _) = 11
+refusal_number (Syntax _) = 12
+refusal_number (BadType _ _) = 15
+refusal_number TooLarge = 16
+refusal_number TooManySites = 17
+refusal_number (BadProgram _) = 20
+refusal_number (BadBank _) = 21
+refusal_number (BadReport _ _) = 22
+refusal_number (Foreign _ _) = 23
+refusal_number (Conflict _) = 24
+refusal_number (TooManyReports _) = 25
+refusal_number (TooManyMarks _) = 26
+refusal_number (BadCollection _ _) = 27
+refusal_number InputTooLarge = 28
+refusal_number (NoSite _ _) = 29
+refusal_number (BadEdits _) = 30
+refusal_number (Absent _) = 31
+refusal_number NotPart = 32
+refusal_number (BadList _ _) = 33
+refusal_number (LargeInput _) = 28
 
-abbrev pub name_of : Refusal → List ℕ
-name_of (BadByte _) = codes "BadByte"
-name_of (BadToken _) = codes "BadToken"
-name_of (Syntax _) = codes "Syntax"
-name_of (BadType _ _) = codes "BadType"
-name_of TooLarge = codes "TooLarge"
-name_of TooManySites = codes "TooManySites"
-name_of (BadProgram _) = codes "BadProgram"
-name_of (BadBank _) = codes "BadBank"
-name_of (BadReport _ _) = codes "BadReport"
-name_of (Foreign _ _) = codes "Foreign"
-name_of (Conflict _) = codes "Conflict"
-name_of (TooManyReports _) = codes "TooManyReports"
-name_of (TooManyMarks _) = codes "TooManyMarks"
-name_of (BadCollection _ _) = codes "BadCollection"
-name_of InputTooLarge = codes "InputTooLarge"
-name_of (NoSite _ _) = codes "NoSite"
-name_of (BadEdits _) = codes "BadEdits"
-name_of (Absent _) = codes "Absent"
-name_of NotPart = codes "NotPart"
-name_of (BadList _ _) = codes "BadList"
-name_of (LargeInput _) = codes "InputTooLarge"
+abbrev pub refusal_name : Refusal → List ℕ
+refusal_name (BadByte _) = codes "BadByte"
+refusal_name (BadToken _) = codes "BadToken"
+refusal_name (Syntax _) = codes "Syntax"
+refusal_name (BadType _ _) = codes "BadType"
+refusal_name TooLarge = codes "TooLarge"
+refusal_name TooManySites = codes "TooManySites"
+refusal_name (BadProgram _) = codes "BadProgram"
+refusal_name (BadBank _) = codes "BadBank"
+refusal_name (BadReport _ _) = codes "BadReport"
+refusal_name (Foreign _ _) = codes "Foreign"
+refusal_name (Conflict _) = codes "Conflict"
+refusal_name (TooManyReports _) = codes "TooManyReports"
+refusal_name (TooManyMarks _) = codes "TooManyMarks"
+refusal_name (BadCollection _ _) = codes "BadCollection"
+refusal_name InputTooLarge = codes "InputTooLarge"
+refusal_name (NoSite _ _) = codes "NoSite"
+refusal_name (BadEdits _) = codes "BadEdits"
+refusal_name (Absent _) = codes "Absent"
+refusal_name NotPart = codes "NotPart"
+refusal_name (BadList _ _) = codes "BadList"
+refusal_name (LargeInput _) = codes "InputTooLarge"
 
 -- what a refusal says beside its number and its name
 abbrev pub details_of : Refusal → List ℕ
@@ -76,7 +78,7 @@ details_of (LargeInput line) = codes " line " ++ decimal line
 
 -- the line that tells of a refusal, as `cbi: refusal 15 BadType kind 3 line 7`
 abbrev pub refusal_line : Refusal → List ℕ
-refusal_line refusal = codes "cbi: refusal " ++ decimal (number_of refusal) ++ codes " " ++ name_of refusal ++ details_of refusal ++ codes "\n"
+refusal_line refusal = codes "cbi: refusal " ++ decimal (refusal_number refusal) ++ codes " " ++ refusal_name refusal ++ details_of refusal ++ codes "\n"
 
 -- what stood there before is the front of what stands there now
 abbrev pub BeginsAs : List ℕ → List ℕ → Type 0

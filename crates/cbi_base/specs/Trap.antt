@@ -1,22 +1,23 @@
 -- The numbers of the traps.
 use Rattle.std.specs.Prelude.{ℕ}
 use Rattle.cbi_base.specs.declared.trap.Trap.{Trap}
-use Rattle.cbi_base.specs.declared.trap.Trap.TheVariants.{Overflow, Divide, Shift, Undefined, WrongKind, Bounds, Dead, NullUse, ReadOnly, BadFree, Unrelated, StackOverflow, Assertion, Abort, Internal}
+use Rattle.cbi_base.specs.declared.trap.Trap.TheVariants.{Overflow, Divide, Shift, Undefined, WrongKind, Bounds, Dead, NullUse, ReadOnly, BadFree}
+use Rattle.cbi_base.specs.declared.trap.Trap.TheVariants.{Unrelated, StackOverflow, Assertion, Abort, Internal}
 
 -- the numbers of the traps, as a report shows them
-abbrev pub number_of : Trap → ℕ
-number_of Overflow = 1
-number_of Divide = 2
-number_of Shift = 3
-number_of Undefined = 4
-number_of WrongKind = 5
-number_of Bounds = 6
-number_of Dead = 7
-number_of NullUse = 8
-number_of ReadOnly = 9
-number_of BadFree = 10
-number_of Unrelated = 11
-number_of StackOverflow = 12
-number_of Assertion = 13
-number_of Abort = 14
-number_of Internal = 99
+abbrev pub trap_number : Trap → ℕ
+trap_number Overflow = 1
+trap_number Divide = 2
+trap_number Shift = 3
+trap_number Undefined = 4
+trap_number WrongKind = 5
+trap_number Bounds = 6
+trap_number Dead = 7
+trap_number NullUse = 8
+trap_number ReadOnly = 9
+trap_number BadFree = 10
+trap_number Unrelated = 11
+trap_number StackOverflow = 12
+trap_number Assertion = 13
+trap_number Abort = 14
+trap_number Internal = 99

@@ -59,7 +59,8 @@ impl Sink for MemSink {
     fn put(&mut self, piece: &[u8]) -> Result<(), SinkError>
         ensures fails { IsErrOf result SinkError.Failed ↔ IsToFail self.old.failing self.old.calls }
         ensures ok { OnOk result (self.new ≡ record self.old { taken = self.old.taken ++ piece.now; calls = next_count self.old.calls }) }
-        ensures failed { IsErrOf result SinkError.Failed → self.new ≡ record self.old { calls = next_count self.old.calls; faults = next_count self.old.faults } }
+        ensures failed { IsErrOf result SinkError.Failed
+            → self.new ≡ record self.old { calls = next_count self.old.calls; faults = next_count self.old.faults } }
         ensures memory { IsErrOf result SinkError.Memory → self.new ≡ record self.old { calls = next_count self.old.calls } }
         ensures never_falls { self.old.faults ≤ self.new.faults }
         ensures in_range { self.new.faults ≤ last_count }

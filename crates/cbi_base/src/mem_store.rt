@@ -6,7 +6,7 @@ ghost use Rattle.std.specs.Option.{option_copied};
 ghost use Rattle.cbi_base.specs.Faults.{last_count, next_count};
 ghost use Rattle.cbi_base.specs.Failing.{IsToFail, NoneIsToFail};
 ghost use Rattle.cbi_base.specs.Store.{read_of};
-ghost use Rattle.cbi_base.specs.MemStore.{have_distinct_names, held_of, is_named};
+ghost use Rattle.cbi_base.specs.MemStore.{have_distinct_names, held_of, is_file_named};
 
 use crate::store::{Store, StoreError};
 use std::alloc::{AllocError, Global};
@@ -38,14 +38,20 @@ impl Model for MemStore {
 
     ghost coded = { coded_state };
 
-    ghost view = { λ s. record { held = held_of s.files.items; calls = s.calls; failing = s.failing.items; read_faults = s.read_faults; write_faults = s.write_faults } };
+    ghost view = { λ s. record {
+      held = held_of s.files.items;
+      calls = s.calls;
+      failing = s.failing.items;
+      read_faults = s.read_faults;
+      write_faults = s.write_faults;
+    } };
 
     ghost invariant = { λ s. (s.read_faults ≤ last_count) × (s.write_faults ≤ last_count) };
 }
 
 /// The place of the file of this name.
 fn place_of(files: &[File], name: &str) -> Option<usize>
-    ensures { result ≡ position (is_named name.now) files.now }
+    ensures { result ≡ position (is_file_named name.now) files.now }
 {
     files.iter().position(|file| name == file.name.as_str())
 }
@@ -154,7 +160,8 @@ impl Store for MemStore {
     fn write(&mut self, alloc: Global, name: &str, bytes: &[u8]) -> Result<(), StoreError>
         ensures ok { OnOk result (self.new ≡ record self.old { held = insert self.old.held name.now bytes.now; calls = next_count self.old.calls }) }
         ensures fails { IsErrOf result StoreError.Failed ↔ IsToFail self.old.failing self.old.calls }
-        ensures failed { IsErrOf result StoreError.Failed → self.new ≡ record self.old { calls = next_count self.old.calls; write_faults = next_count self.old.write_faults } }
+        ensures failed { IsErrOf result StoreError.Failed
+            → self.new ≡ record self.old { calls = next_count self.old.calls; write_faults = next_count self.old.write_faults } }
         ensures memory { IsErrOf result StoreError.Memory → self.new ≡ record self.old { calls = next_count self.old.calls } }
         ensures never_falls { self.old.write_faults ≤ self.new.write_faults }
         ensures in_range { self.new.write_faults ≤ last_count }

@@ -1,6 +1,6 @@
 ghost use Rattle.std.specs.Prelude.{◌≡◌, ◌++◌, decimal, OnOk, OnErr};
 ghost use Rattle.cbi_base.specs.ProgramId.{text_of_id};
-ghost use Rattle.cbi_base.specs.Refusal.{BeginsAs, number_of, name_of, details_of, refusal_line};
+ghost use Rattle.cbi_base.specs.Refusal.{BeginsAs, refusal_number, refusal_name, details_of, refusal_line};
 
 use crate::decimal::push_decimal;
 use crate::identity::{ProgramId, id_text};
@@ -64,7 +64,7 @@ fn push_id(out: &mut Vec<u8>, words: &[u8], id: &ProgramId) -> Result<(), Memory
 impl Refusal {
     /// The number that messages show.
     pub fn number(&self) -> u32
-        ensures { result ≡ number_of self.now }
+        ensures { result ≡ refusal_number self.now }
     {
         match self {
             Refusal::BadByte { .. } => 10,
@@ -91,7 +91,7 @@ impl Refusal {
     }
 
     fn name(&self) -> &'static [u8]
-        ensures { result.now ≡ name_of self.now }
+        ensures { result.now ≡ refusal_name self.now }
     {
         match self {
             Refusal::BadByte { .. } => b"BadByte",

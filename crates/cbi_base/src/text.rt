@@ -6,7 +6,8 @@ use std::marker::Model;
 
 /// The bytes before the first `mark` and those after it; None exactly where there is none.
 pub fn cut(bytes: &[u8], mark: u8) -> Option<(&[u8], &[u8])>
-    ensures { MatchOption result (Lacks (λ b. b == mark) bytes.now) (λ parts. (bytes.now ≡ parts.0.now ++ mark ∷ parts.1.now) × Lacks (λ b. b == mark) parts.0.now) }
+    ensures { MatchOption result (Lacks (λ b. b == mark) bytes.now)
+        (λ parts. (bytes.now ≡ parts.0.now ++ mark ∷ parts.1.now) × Lacks (λ b. b == mark) parts.0.now) }
 {
     let at = bytes.iter().position(|b| *b == mark)?;
     Some((&bytes[..at], &bytes[at + 1..]))

@@ -1,5 +1,5 @@
 ghost use Rattle.std.specs.Prelude.{◌≡◌};
-ghost use Rattle.cbi_base.specs.Trap.{number_of};
+ghost use Rattle.cbi_base.specs.Trap.{trap_number};
 
 /// Why a run was stopped. `Internal` is none of the language: it shows a hand-written program file that is wrong.
 #[derive(Clone, Copy, Debug, PartialEq, Eq)]
@@ -24,7 +24,7 @@ pub enum Trap {
 impl Trap {
     /// The number that reports and messages show.
     pub fn number(&self) -> u8
-        ensures { result ≡ number_of self.now }
+        ensures { result ≡ trap_number self.now }
     {
         match self {
             Trap::Overflow => 1,

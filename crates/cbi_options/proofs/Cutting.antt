@@ -5,20 +5,16 @@ use Rattle.std.specs.Prelude.{String, string_bytes}
 use Rattle.std.specs.Global.{Global}
 use Rattle.std.proofs.Common.{◌≡◌, ℕ, ◌+◌, ◌-◌, ◌<◌, ◌≤◌, drop, Bool, true, false, not, ◌||◌, cond, if◌then◌else◌, ltb, MatchOption, Bor, List, [], ◌∷◌, ◌++◌, length, get_or, take, Option, None, Some, ap, sym, ◌∙◌, refl, append_assoc, arith}
 use Rattle.std.proofs.lemmas.Bool.Decides.{nat_tests}
-use Rattle.std.proofs.lemmas.List.{append-nil, map-append, take_more, take_all}
+use Rattle.std.proofs.lemmas.List.{take_all}
 use Rattle.cbi_options.specs.declared.given.Choice.{Choice}
 use Rattle.cbi_options.specs.declared.given.Shape.{Shape}
 use Rattle.cbi_options.specs.declared.given.Shape.TheVariants as shape
-use Rattle.cbi_options.specs.WordRule.{none_given, is_value, with_option, with_positional, texts_of, cut, shape_of, has_value, name_in, value_in}
+use Rattle.cbi_options.specs.WordRule.{is_value, with_option, with_positional, texts_of, cut, shape_of, has_value, name_in, value_in}
 use Rattle.cbi_options.specs.declared.given.Given.{Given}
 
 -- one list of what is given behind another
 abbrev pub after : Given → Given → Given
 after front back = record { options = front.options ++ back.options; positionals = front.positionals ++ back.positionals }
-
-pub after-none : (o : Option Given) → o ≡ option_map (after none_given) o
-after-none None = refl
-after-none (Some given) = refl
 
 pub after-option : (front : Given) (name value : List ℕ) (o : Option Given) → option_map (after front) (option_map (with_option name value) o) ≡ option_map (after (record front { options = front.options ++ record { name = name; value = value } ∷ [] })) o
 after-option front name value None = refl
@@ -30,18 +26,6 @@ pub after-positional : (front : Given) (word : List ℕ) (o : Option Given) → 
 after-positional front word None = refl
 after-positional front word (Some given) =
     ap (λ (ws : List (List ℕ)). Some (record { options = front.options ++ given.options; positionals = ws })) (sym (append_assoc front.positionals (word ∷ []) given.positionals))
-
-pub after-end : (front : Given) (words : List (List ℕ)) → option_map (after front) (Some (record { options = []; positionals = words })) ≡ Some (record front { positionals = front.positionals ++ words })
-after-end front words = ap (λ (os : List Choice). Some (record { options = os; positionals = front.positionals ++ words })) (append-nil front.options)
-
-pub after-all : (front : Given) → option_map (after front) (Some none_given) ≡ Some front
-after-all front =
-    ap (λ (os : List Choice). Some (record { options = os; positionals = front.positionals ++ [] })) (append-nil front.options)
-    ∙ ap (λ (ws : List (List ℕ)). Some (record { options = front.options; positionals = ws })) (append-nil front.positionals)
-
--- one more text
-pub texts_of-more : (words : List (String Global)) (i : ℕ) (word : String Global) → i < length words → word ≡ get_or words i word → texts_of (take (i + 1) words) ≡ texts_of (take i words) ++ string_bytes word ∷ []
-texts_of-more words i word h is = ap texts_of (take_more words i word h) ∙ map-append string_bytes (take i words) (get_or words i word ∷ []) ∙ ap (λ w. texts_of (take i words) ++ string_bytes w ∷ []) (sym is)
 
 -- an option with its value
 abbrev at_shape : Shape → Bool → List ℕ → List (List ℕ) → Option Given

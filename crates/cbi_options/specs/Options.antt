@@ -30,17 +30,17 @@ abbrev pub value_of : List ℕ → List Choice → Option (List ℕ)
 value_of name options = option_map (λ option. option.value) (find (λ option. is_word option.name name) options)
 
 -- the number that a value spells, where it lies in these bounds
-abbrev pub number_in : ℕ → ℕ → List ℕ → Option ℕ
-number_in least most value = number_of most value >>= λ n. if nat_le least n then Some n else None
+abbrev pub number_within : ℕ → ℕ → List ℕ → Option ℕ
+number_within least most value = number_of most value >>= λ n. if nat_le least n then Some n else None
 
 -- the number that an option gives, or another one where it isn't given
 abbrev pub number_or : ℕ → ℕ → ℕ → Option (List ℕ) → Option ℕ
 number_or default least most None = Some default
-number_or default least most (Some value) = number_in least most value
+number_or default least most (Some value) = number_within least most value
 
 -- the number of an option that must be given
 abbrev pub number_wanted : ℕ → ℕ → Option (List ℕ) → Option ℕ
-number_wanted least most given = given >>= number_in least most
+number_wanted least most given = given >>= number_within least most
 
 -- the policy that a value names
 abbrev pub policy_of : List ℕ → Option Policy

@@ -41,10 +41,10 @@ abbrev pub names_in : List ℕ → List (List ℕ)
 names_in value = slice_split is_comma value
 
 -- the schemes that a value lists, each at most once
-abbrev pub schemes_of : List ℕ → Option Schemes
-schemes_of value = with_schemes (names_in value) no_schemes
+abbrev pub schemes_in : List ℕ → Option Schemes
+schemes_in value = with_schemes (names_in value) no_schemes
 
 -- the schemes that an option lists, or others where it isn't given
 abbrev pub schemes_or : Schemes → Option (List ℕ) → Option Schemes
 schemes_or default None = Some default
-schemes_or default (Some value) = schemes_of value
+schemes_or default (Some value) = schemes_in value

@@ -1,4 +1,5 @@
-ghost use Rattle.std.specs.Prelude.{◌≡◌, ◌↔◌, [], ◌∷◌, ◌++◌, None, Some, MatchOption, IfOk, OnOk, IsTrue, not, option_map, string_bytes, map, true, false, if◌then◌else◌};
+ghost use Rattle.std.specs.Prelude.{◌≡◌, ◌↔◌, [], ◌∷◌, ◌++◌, None, Some, MatchOption, IfOk, OnOk, IsTrue, not, option_map, string_bytes, map, true, false};
+ghost use Rattle.std.specs.Prelude.{if◌then◌else◌};
 ghost use Rattle.std.specs.List.{list_all};
 ghost use Rattle.cbi_options.specs.WordRule.{shape_of, has_value, name_in, value_in, is_value, cut, none_given, texts_of};
 ghost use Rattle.cbi_options.specs.Options.{value_of, are_single, is_one_of, has_name};

@@ -2,7 +2,7 @@ ghost use Rattle.std.specs.Prelude.{◌≡◌, ◌≤◌, Some, IfOk, IfSome, is
 ghost use Rattle.cbi_base.specs.Numbers.{number_of};
 ghost use Rattle.cbi_options.specs.Answers.{ReadAs};
 ghost use Rattle.cbi_options.specs.Values.{fits, is_number};
-ghost use Rattle.cbi_options.specs.Options.{number_in, number_or, value_of};
+ghost use Rattle.cbi_options.specs.Options.{number_or, number_within, value_of};
 
 use crate::fault::Fault;
 use crate::given::Given;
@@ -25,7 +25,7 @@ pub(crate) fn number_of(value: &str, most: u64) -> Option<u64>
 
 /// The number that an option's value spells.
 pub fn number_in(option: &'static str, value: &str, bounds: Bounds) -> Result<u64, Fault>
-    ensures reads { ReadAs result (number_in bounds.least bounds.most value.now) (Some option.entry.now) }
+    ensures reads { ReadAs result (number_within bounds.least bounds.most value.now) (Some option.entry.now) }
     ensures takes { is_ok result ≡ is_number bounds.least bounds.most value.now }
     ensures least { IfOk result (λ n. bounds.least ≤ n) }
     ensures most { IfOk result (λ n. n ≤ bounds.most) }

@@ -2,7 +2,7 @@ ghost use Rattle.std.specs.Prelude.{◌≡◌, Some, is_ok};
 ghost use Rattle.cbi_options.specs.Answers.{ReadAs};
 ghost use Rattle.cbi_options.specs.Values.{fits, is_mode, is_schemes};
 ghost use Rattle.cbi_options.specs.Options.{value_of};
-ghost use Rattle.cbi_options.specs.Schemes.{all_schemes, mode_of, names_in, schemes_of, schemes_or, with_scheme, with_schemes};
+ghost use Rattle.cbi_options.specs.Schemes.{all_schemes, mode_of, names_in, schemes_in, schemes_or, with_scheme, with_schemes};
 
 use crate::fault::Fault;
 use crate::given::Given;
@@ -101,7 +101,7 @@ fn with_schemes(list: &str, schemes: Schemes) -> Option<Schemes>
 
 // The schemes that a value lists.
 fn schemes_of(value: &str) -> Option<Schemes>
-    ensures { result ≡ schemes_of value.now }
+    ensures { result ≡ schemes_in value.now }
 {
     let none = Schemes {
         branches: false,

@@ -6,7 +6,8 @@ use Rattle.cbi_options.specs.Options.{value_of}
 use Rattle.cbi_options.specs.Shares.{is_share}
 use Rattle.cbi_options.specs.Values.{fits, is_mode, is_number, is_policy, is_schemes}
 use Rattle.cbi_options.specs.declared.given.Given.{Given}
-use Rattle.cbi_words.specs.Reading.{asked, bank_options, no_positional, only, rank_options, run_options, runs_options, session_options, study_options, transform_options, two, widen_options}
+use Rattle.cbi_words.specs.Reading.{bank_options, given_after, no_positional, only, rank_options, run_options, runs_options, session_options}
+use Rattle.cbi_words.specs.Reading.{study_options, transform_options, two, widen_options}
 
 -- an option that doesn't take every value, and the values that it takes
 pub record Rule : Type 0 where
@@ -22,7 +23,8 @@ first_bad (rule ∷ rules) options = if fits rule.takes (value_of rule.name opti
 abbrev pub bad_run : Given → Option (List ℕ)
 bad_run given = do
   program ← only given.positionals
-  first_bad (record { name = codes "--turns"; takes = is_number 0 100000000 } ∷ record { name = codes "--run"; takes = is_number 1 4294967295 } ∷ []) given.options
+  first_bad (record { name = codes "--turns"; takes = is_number 0 100000000 } ∷ record { name = codes "--run"; takes = is_number 1 4294967295 } ∷ [])
+      given.options
 
 -- of `bank` with the three options that must be given
 abbrev pub bad_bank : Given → Option (List ℕ)
@@ -32,7 +34,8 @@ bad_bank given = do
   count ← value_of (codes "--count") given.options
   seed ← value_of (codes "--seed") given.options
   first_bad (record { name = codes "--rate"; takes = is_number 1 65536 } ∷ record { name = codes "--count"; takes = is_number 1 65536 }
-      ∷ record { name = codes "--seed"; takes = is_number 0 18446744073709551615 } ∷ record { name = codes "--stream"; takes = is_number 0 18446744073709551615 } ∷ []) given.options
+      ∷ record { name = codes "--seed"; takes = is_number 0 18446744073709551615 }
+      ∷ record { name = codes "--stream"; takes = is_number 0 18446744073709551615 } ∷ []) given.options
 
 -- of `runs` with its program and the three options that must be given
 abbrev pub bad_runs : Given → Option (List ℕ)
@@ -59,14 +62,16 @@ bad_study given = do
   rate ← value_of (codes "--rate") given.options
   turns ← value_of (codes "--turns") given.options
   first_bad (record { name = codes "--runs"; takes = is_number 1 100000 } ∷ record { name = codes "--seed"; takes = is_number 0 18446744073709551615 }
-      ∷ record { name = codes "--rate"; takes = is_number 1 65536 } ∷ record { name = codes "--turns"; takes = is_number 0 100000000 } ∷ record { name = codes "--policy"; takes = is_policy } ∷ []) given.options
+      ∷ record { name = codes "--rate"; takes = is_number 1 65536 } ∷ record { name = codes "--turns"; takes = is_number 0 100000000 }
+      ∷ record { name = codes "--policy"; takes = is_policy } ∷ []) given.options
 
 -- of `transform` with its text and its mode
 abbrev pub bad_transform : Given → Option (List ℕ)
 bad_transform given = do
   text ← only given.positionals
   mode ← value_of (codes "--mode") given.options
-  first_bad (record { name = codes "--mode"; takes = is_mode } ∷ record { name = codes "--schemes"; takes = is_schemes } ∷ record { name = codes "--part"; takes = is_share } ∷ []) given.options
+  first_bad (record { name = codes "--mode"; takes = is_mode } ∷ record { name = codes "--schemes"; takes = is_schemes }
+      ∷ record { name = codes "--part"; takes = is_share } ∷ []) given.options
 
 -- of `session` with its program and its edits
 abbrev pub bad_session : Given → Option (List ℕ)
@@ -86,19 +91,19 @@ bad_widen given = do
 -- `cards` and `pairs` have no options
 unfoldable pub later_bad_in : List ℕ → List (List ℕ) → Option (List ℕ)
 later_bad_in name words =
-    if is_word name (codes "session") then (asked session_options words >>= bad_session)
-    else (if is_word name (codes "widen") then (asked widen_options words >>= bad_widen)
-    else (if is_word name (codes "runs") then (asked runs_options words >>= bad_runs) else None))
+    if is_word name (codes "session") then (given_after session_options words >>= bad_session)
+    else (if is_word name (codes "widen") then (given_after widen_options words >>= bad_widen)
+    else (if is_word name (codes "runs") then (given_after runs_options words >>= bad_runs) else None))
 
 -- `collect` takes every value of its options
 unfoldable pub bad_in : List ℕ → List (List ℕ) → Option (List ℕ)
 bad_in name words =
-    if is_word name (codes "run") then (asked run_options words >>= bad_run)
-    else (if is_word name (codes "bank") then (asked bank_options words >>= bad_bank)
+    if is_word name (codes "run") then (given_after run_options words >>= bad_run)
+    else (if is_word name (codes "bank") then (given_after bank_options words >>= bad_bank)
     else (if is_word name (codes "collect") then None
-    else (if is_word name (codes "rank") then (asked rank_options words >>= bad_rank)
-    else (if is_word name (codes "study") then (asked study_options words >>= bad_study)
-    else (if is_word name (codes "transform") then (asked transform_options words >>= bad_transform) else later_bad_in name words)))))
+    else (if is_word name (codes "rank") then (given_after rank_options words >>= bad_rank)
+    else (if is_word name (codes "study") then (given_after study_options words >>= bad_study)
+    else (if is_word name (codes "transform") then (given_after transform_options words >>= bad_transform) else later_bad_in name words)))))
 
 -- the option whose value alone breaks the rule, the first in the table of the command
 abbrev pub bad_value : List (List ℕ) → Option (List ℕ)

@@ -1,4 +1,5 @@
--- What words read as: the table of the commands with their options, positionals and defaults. The first word isn't looked at, and the second one is the command.
+-- What words read as: the table of the commands with their options, positionals and defaults. The first word isn't looked at, and the second one is the
+-- command.
 use Rattle.std.specs.Prelude.{ℕ, if◌then◌else◌, List, [], ◌∷◌, Option, None, Some, codes}
 use Rattle.cbi_base.specs.declared.policy.Policy.TheVariants.{All}
 use Rattle.cbi_base.specs.Numbers.{is_word, ◌>>=◌}
@@ -37,7 +38,8 @@ run_of given = do
   turns ← number_or 1000000 0 100000000 (value_of (codes "--turns") given.options)
   run ← number_or 1 1 4294967295 (value_of (codes "--run") given.options)
   program ← only given.positionals
-  Some (Run (value_of (codes "--bank") given.options) (value_of (codes "--input") given.options) (value_of (codes "--expect") given.options) turns run (value_of (codes "--report") given.options) program)
+  Some (Run (value_of (codes "--bank") given.options) (value_of (codes "--input") given.options) (value_of (codes "--expect") given.options) turns run
+      (value_of (codes "--report") given.options) program)
 
 -- `bank --rate D --count N --seed S [--stream I]`
 abbrev pub bank_options : List (List ℕ)
@@ -152,27 +154,27 @@ pairs_of given = do
   Some (Pairs files.0 files.1)
 
 -- what is given after a command with these options
-abbrev pub asked : List (List ℕ) → List (List ℕ) → Option Given
-asked options words = cut None words >>= λ given. if are_asked options given then Some given else None
+abbrev pub given_after : List (List ℕ) → List (List ℕ) → Option Given
+given_after options words = cut None words >>= λ given. if are_asked options given then Some given else None
 
 -- the commands that look on into collections, and the one that makes one at once, by their names, with the words that follow
 unfoldable pub later_command_in : List ℕ → List (List ℕ) → Option Command
 later_command_in name words =
-    if is_word name (codes "session") then (asked session_options words >>= session_of)
-    else (if is_word name (codes "widen") then (asked widen_options words >>= widen_of)
-    else (if is_word name (codes "runs") then (asked runs_options words >>= listed_runs_of)
-    else (if is_word name (codes "cards") then (asked no_options words >>= cards_of)
-    else (if is_word name (codes "pairs") then (asked no_options words >>= pairs_of) else None))))
+    if is_word name (codes "session") then (given_after session_options words >>= session_of)
+    else (if is_word name (codes "widen") then (given_after widen_options words >>= widen_of)
+    else (if is_word name (codes "runs") then (given_after runs_options words >>= listed_runs_of)
+    else (if is_word name (codes "cards") then (given_after no_options words >>= cards_of)
+    else (if is_word name (codes "pairs") then (given_after no_options words >>= pairs_of) else None))))
 
 -- all commands, by their names
 unfoldable pub command_in : List ℕ → List (List ℕ) → Option Command
 command_in name words =
-    if is_word name (codes "run") then (asked run_options words >>= run_of)
-    else (if is_word name (codes "bank") then (asked bank_options words >>= bank_of)
-    else (if is_word name (codes "collect") then (asked collect_options words >>= collect_of)
-    else (if is_word name (codes "rank") then (asked rank_options words >>= rank_of)
-    else (if is_word name (codes "study") then (asked study_options words >>= study_of)
-    else (if is_word name (codes "transform") then (asked transform_options words >>= transform_of) else later_command_in name words)))))
+    if is_word name (codes "run") then (given_after run_options words >>= run_of)
+    else (if is_word name (codes "bank") then (given_after bank_options words >>= bank_of)
+    else (if is_word name (codes "collect") then (given_after collect_options words >>= collect_of)
+    else (if is_word name (codes "rank") then (given_after rank_options words >>= rank_of)
+    else (if is_word name (codes "study") then (given_after study_options words >>= study_of)
+    else (if is_word name (codes "transform") then (given_after transform_options words >>= transform_of) else later_command_in name words)))))
 
 -- the command that the words read as
 abbrev pub reads : List (List ℕ) → Option Command

@@ -6,7 +6,8 @@ ghost use Rattle.cbi_options.specs.WordRule.{texts_of};
 ghost use Rattle.cbi_words.specs.Answers.{OnUsage};
 ghost use Rattle.cbi_words.specs.BadValue.{bad_bank, bad_in, bad_rank, bad_run, bad_runs, bad_session};
 ghost use Rattle.cbi_words.specs.BadValue.{bad_study, bad_transform, bad_value, bad_widen, later_bad_in};
-ghost use Rattle.cbi_words.specs.Reading.{asked, bank_of, cards_of, collect_of, command_in, later_command_in, listed_runs_of, pairs_of, rank_of, reads, run_of, session_of, study_of, transform_of, widen_of};
+ghost use Rattle.cbi_words.specs.Reading.{bank_of, cards_of, collect_of, command_in, given_after, later_command_in, listed_runs_of, pairs_of, rank_of};
+ghost use Rattle.cbi_words.specs.Reading.{reads, run_of, session_of, study_of, transform_of, widen_of};
 ghost use Rattle.cbi_words.specs.Within.{IsWithin};
 
 use crate::command::Command;
@@ -325,7 +326,7 @@ fn pairs_of(given: &Given) -> Result<Command, Fault>
 
 // What the words give after a command with these options.
 fn asked(alloc: Global, options: &[&str], words: &[String]) -> Result<Given, Fault>
-    ensures { ReadAs result (asked (map (λ name. name.now) options.now) (texts_of words.now)) None }
+    ensures { ReadAs result (given_after (map (λ name. name.now) options.now) (texts_of words.now)) None }
 {
     let Some(given) = cut(alloc, words)? else {
         return Err(Fault::Usage);

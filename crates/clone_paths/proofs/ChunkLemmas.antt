@@ -4,7 +4,7 @@ use Rattle.std.specs.List.{Contains}
 use Rattle.flow.specs.declared.node.View.{View}
 use Rattle.flow.specs.declared.node.View.TheVariants.{Row, Halts, Forks, Turns, Calls, Gives, Quits, Marks, Skips, Tests, Picks, Imports, Exports, Nowhere}
 use Rattle.flow.specs.Nodes.{led_to}
-use Rattle.regions.specs.Blocks.{After, LeadsTo}
+use Rattle.regions.specs.Blocks.{After, NodeLeadsTo}
 use Rattle.regions.specs.Headers.{IsHeader, begun_after}
 use Rattle.regions.specs.Headers as region
 use Rattle.regions.proofs.BlockLemmas.{one_of, shape}
@@ -16,9 +16,9 @@ use Rattle.clone_paths.specs.declared.label.Side.TheVariants.{Fast, Slow}
 use Rattle.clone_paths.specs.declared.parts.Outlet.TheVariants as outlet
 use Rattle.clone_paths.specs.declared.parts.Part.{Part}
 use Rattle.clone_paths.specs.Form.{Labelled, Here, IsOut, IsRight, MayOwe, is_last, is_outlet}
-use Rattle.clone_paths.specs.Layout.{copy_labels, fast_labels, gate_labels, labels_for, out_labels, place_of}
+use Rattle.clone_paths.specs.Layout.{copy_labels, fast_labels, gate_labels, labels_for, out_labels, place_in_copy}
 use Rattle.clone_paths.specs.Made.{Tables, made, made_out}
-use Rattle.clone_paths.specs.Parts.{is_inside, outlet_of, part_of, pays}
+use Rattle.clone_paths.specs.Parts.{is_inside, outlet_of, part_of_node, pays}
 use Rattle.clone_paths.proofs.RightLemmas.{Agrees, Known, cloning, in_right, owed_by, pays_is, pays_zero}
 use Rattle.clone_paths.proofs.SheetLemmas.{in_first, in_joined, in_second, labels_at, owner, placed, start_of}
 
@@ -108,7 +108,7 @@ stands_rest label base x xs s = λ k l e. let n : base + 1 + k ≡ base + suc k 
 back_right : (t : Tables) (n : ℕ) (debt : ℕ → ℕ) (head : ℕ → Bool) (label : ℕ → Option CopyLabel) → Known t n debt head label → (i function next place : ℕ) →
     t.at i ≡ Calls function next → t.weighty function ≡ true → Right t label place (Back next)
 back_right t n debt head label k i function next place e o =
-    let lead : LeadsTo t.at i next = subst (λ (v : View). Contains (led_to v) next) (sym e) (0, omega arith, refl) in
+    let lead : NodeLeadsTo t.at i next = subst (λ (v : View). Contains (led_to v) next) (sym e) (0, omega arith, refl) in
     let begun : begun_after t.weighty (t.at i) ≡ Some next =
     ap (begun_after t.weighty) e ∙ ap (λ (b : Bool). if b then Some next else None) o
     in
@@ -136,7 +136,7 @@ outs_right t n debt head label k side i base s m l e =
 
 -- what is owed stays as it is up to the next node, or is paid
 abbrev pub Flows : Tables → (ℕ → ℕ) → Side → ℕ → ℕ → Type 0
-Flows t debt side i owed = (owed ≡ 0) ⊎ (is_last t.starts (led_to (t.at i)) ≡ false) → mark_count (t.at i) ≡ 0 → (y : ℕ) → LeadsTo t.at i y → owed_by debt side y ≡ owed
+Flows t debt side i owed = (owed ≡ 0) ⊎ (is_last t.starts (led_to (t.at i)) ≡ false) → mark_count (t.at i) ≡ 0 → (y : ℕ) → NodeLeadsTo t.at i y → owed_by debt side y ≡ owed
 
 may_owe_none : (side : Side) → MayOwe side 0
 may_owe_none Fast = tt
@@ -207,7 +207,7 @@ start_is_last starts (a ∷ b ∷ rest) y (zero, l, e) s = let f : starts a ≡ 
 start_is_last starts (a ∷ b ∷ rest) y (suc m, l, e) s =
     let r = start_is_last starts (b ∷ rest) y (m, omega arith, e) s in or_true (starts a) (is_last starts (b ∷ rest)) r
 
-last_starts : (t : Tables) (n : ℕ) (debt : ℕ → ℕ) (head : ℕ → Bool) (label : ℕ → Option CopyLabel) → Known t n debt head label → (i y : ℕ) → LeadsTo t.at i y →
+last_starts : (t : Tables) (n : ℕ) (debt : ℕ → ℕ) (head : ℕ → Bool) (label : ℕ → Option CopyLabel) → Known t n debt head label → (i y : ℕ) → NodeLeadsTo t.at i y →
     is_last t.starts (led_to (t.at i)) ≡ true → t.starts y ≡ true
 last_starts t n debt head label k i y lead last =
     elim (shape (t.at i)) [
@@ -219,7 +219,7 @@ last_starts t n debt head label k i y lead last =
     ]
 
 fast_by : (t : Tables) (n : ℕ) (debt : ℕ → ℕ) (head : ℕ → Bool) (label : ℕ → Option CopyLabel) → Known t n debt head label → (i y : ℕ) (b : Bool) → t.starts y ≡ b →
-    (debt i ≡ 0) ⊎ (is_last t.starts (led_to (t.at i)) ≡ false) → mark_count (t.at i) ≡ 0 → LeadsTo t.at i y → debt y ≡ debt i
+    (debt i ≡ 0) ⊎ (is_last t.starts (led_to (t.at i)) ≡ false) → mark_count (t.at i) ≡ 0 → NodeLeadsTo t.at i y → debt y ≡ debt i
 fast_by t n debt head label k i y true s (inl z) m lead = k.none y s ∙ sym z
 fast_by t n debt head label k i y true s (inr z) m lead = let last = start_is_last t.starts (led_to (t.at i)) y lead s in cc
 fast_by t n debt head label k i y false s cause m lead = let r = k.more i y lead s in omega (arith, r, m)
@@ -238,7 +238,7 @@ paid_flows t n debt head label k i owed p = λ cause m y lead.
     k.none y (last_starts t n debt head label k i y lead (and_second (nat_lt 0 owed) (is_last t.starts (led_to (t.at i))) is))
 
 abbrev pub part_for : Tables → (ℕ → ℕ) → ℕ → Part
-part_for t debt i = part_of t.weighty t.starts (debt i) (t.at i)
+part_for t debt i = part_of_node t.weighty t.starts (debt i) (t.at i)
 
 pub gate_cases : (b : Bool) (i m : ℕ) (l : CopyLabel) → slice_get (gate_labels b i) m ≡ Some l → (b ≡ true) × (l ≡ Gate i)
 gate_cases true i zero l e = (refl, cc)
@@ -255,11 +255,11 @@ gate_right : (t : Tables) (n : ℕ) (debt : ℕ → ℕ) (head : ℕ → Bool) (
     Right t label place (Gate i)
 gate_right t n debt head label k i place l h = (
   t.weight i,
-  place_of t.sheet Fast i,
-  place_of t.sheet Slow i,
+  place_in_copy t.sheet Fast i,
+  place_in_copy t.sheet Slow i,
   refl,
   k.weights i l,
-  subst (λ (d : ℕ). Labelled (cloning t label) Fast (place_of t.sheet Fast i) i d) (k.none i (k.head_starts i h)) (k.fast i l),
+  subst (λ (d : ℕ). Labelled (cloning t label) Fast (place_in_copy t.sheet Fast i) i d) (k.none i (k.head_starts i h)) (k.fast i l),
   Here (k.slow i l),
 )
 

@@ -7,7 +7,7 @@ use Rattle.std.proofs.lemmas.List.{length-replicate}
 use Rattle.flow.specs.declared.node.Node.{Node}
 use Rattle.flow.specs.declared.node.View.{View}
 use Rattle.flow.specs.Nodes.{led_to}
-use Rattle.regions.specs.Blocks.{IsStart, After, Joins, LeadsTo, ends_block}
+use Rattle.regions.specs.Blocks.{IsStart, After, Joins, NodeLeadsTo, ends_block}
 use Rattle.regions.specs.Flags.{AreFlags, is_in}
 use Rattle.regions.specs.Weighty.{views_of}
 use Rattle.regions.proofs.BlockLemmas.{one_of, shape}
@@ -20,7 +20,7 @@ use Rattle.clone_paths.specs.Parts.{AreDebts, HasOrder, next_inside}
 pub record Owed (nodes : List Node) (starts : List Bool) (count : ℕ) (debts : List ℕ) : Type 0 where
   pub few : length debts ≡ length nodes
   pub none : (place : ℕ) → is_in starts place ≡ true → get_or debts place 0 ≡ 0
-  pub more : (place next : ℕ) → place < count → LeadsTo (views_of nodes) place next → is_in starts next ≡ false → get_or debts next 0 ≡ get_or debts place 0 + mark_count (views_of nodes place)
+  pub more : (place next : ℕ) → place < count → NodeLeadsTo (views_of nodes) place next → is_in starts next ≡ false → get_or debts next 0 ≡ get_or debts place 0 + mark_count (views_of nodes place)
   pub small : (place : ℕ) → get_or debts place 0 ≤ place
 
 zeros : (n place : ℕ) → ◌≡◌ {A = ℕ} (get_or {A = ℕ} (replicate {A = ℕ} n 0) place 0) 0
@@ -54,7 +54,7 @@ none_start true a e = refl
 none_start false a e = cc
 
 -- every other step goes to a node at which a block begins
-outside : (at : ℕ → View) (starts : List Bool) (place next : ℕ) → ((x : ℕ) → IsStart at x → is_in starts x ≡ true) → LeadsTo at place next →
+outside : (at : ℕ → View) (starts : List Bool) (place next : ℕ) → ((x : ℕ) → IsStart at x → is_in starts x ≡ true) → NodeLeadsTo at place next →
     next_inside (is_in starts) (led_to (at place)) ≡ None → is_in starts next ≡ true
 outside at starts place next known lead e =
     elim (shape (at place)) [
@@ -75,7 +75,7 @@ owed_same nodes starts i debts are o e = record {
     | inl before ↦ o.more place next before c f
     | inr here ↦
         let same : place ≡ i = omega arith in
-        let lead : LeadsTo (views_of nodes) i next = subst (λ (k : ℕ). LeadsTo (views_of nodes) k next) same c in
+        let lead : NodeLeadsTo (views_of nodes) i next = subst (λ (k : ℕ). NodeLeadsTo (views_of nodes) k next) same c in
         let begins = outside (views_of nodes) starts i next (λ x s. (are.each x).1 s) lead e in
         cc
   ];
@@ -87,7 +87,7 @@ pub owed_more : (nodes : List Node) (starts : List Bool) (i x : ℕ) (debts : Li
 owed_more nodes starts i x debts order are o e =
     let new : ℕ = get_or debts i 0 + mark_count (views_of nodes i) in
     let r = inside_cases (is_in starts) (led_to (views_of nodes i)) x e in
-    let lead : LeadsTo (views_of nodes) i x = subst (λ (xs : List ℕ). Contains xs x) (sym r.0) (0, omega arith, refl) in
+    let lead : NodeLeadsTo (views_of nodes) i x = subst (λ (xs : List ℕ). Contains xs x) (sym r.0) (0, omega arith, refl) in
     let known : (y : ℕ) → IsStart (views_of nodes) y → is_in starts y ≡ true = λ y s. (are.each y).1 s in
     let apart : (y : ℕ) → is_in starts y ≡ true → y ≡ x → ⊥ = λ y s same. let t = ap (λ (k : ℕ). is_in starts k) same in let u = r.1 in true_false (sym s ∙ t ∙ u) in
     let after : i < x =
@@ -107,13 +107,13 @@ owed_more nodes starts i x debts order are o e =
             let old : get_or (set debts x new) place 0 ≡ get_or debts place 0 = there place (λ same. omega (arith, before, after, same)) in
             elim (cases_eq next x) [
               | inl same ↦
-                  let joined : LeadsTo (views_of nodes) place x = subst (λ (k : ℕ). LeadsTo (views_of nodes) place k) same c in
+                  let joined : NodeLeadsTo (views_of nodes) place x = subst (λ (k : ℕ). NodeLeadsTo (views_of nodes) place k) same c in
                   absurd (apart x (known x (Joins place i before joined lead)) refl)
               | inr ne ↦ there next ne ∙ o.more place next before c f ∙ ap (λ (k : ℕ). k + mark_count (views_of nodes place)) (sym old)
             ]
         | inr late ↦
             let same : place ≡ i = omega arith in
-            let only : next ≡ x = one_of x next (subst (λ (xs : List ℕ). Contains xs next) r.0 (subst (λ (k : ℕ). LeadsTo (views_of nodes) k next) same c)) in
+            let only : next ≡ x = one_of x next (subst (λ (xs : List ℕ). Contains xs next) r.0 (subst (λ (k : ℕ). NodeLeadsTo (views_of nodes) k next) same c)) in
             let old : get_or (set debts x new) i 0 ≡ get_or debts i 0 = there i (λ eq. omega (arith, after, eq)) in
             here next only ∙ sym (ap (λ (k : ℕ). get_or (set debts x new) k 0 + mark_count (views_of nodes k)) same ∙ ap (λ (k : ℕ). k + mark_count (views_of nodes i)) old)
       ];

@@ -18,7 +18,7 @@ use Rattle.clone_paths.specs.declared.label.Side.{Side}
 use Rattle.clone_paths.specs.declared.label.Side.TheVariants.{Fast, Slow}
 use Rattle.flow.specs.Ready.{IsPlain}
 use Rattle.clone_paths.specs.Form.{is_last, is_outlet}
-use Rattle.clone_paths.specs.Layout.{place_of}
+use Rattle.clone_paths.specs.Layout.{place_in_copy}
 use Rattle.clone_paths.specs.Made.{Tables, made, made_free, made_in, made_out, made_same, made_visit}
 use Rattle.clone_paths.specs.Parts.{pays}
 
@@ -122,9 +122,9 @@ made_names names bounds t place (Out side i) orig weights few = out_names names 
 
 -- where the node at a place leads in a copy: to the next place, or to what stands for a node to which the original one leads
 abbrev pub Stands : Tables → ℕ → ℕ → Type 0
-Stands t y x = (x ≡ place_of t.sheet Fast y) ⊎ ((x ≡ place_of t.sheet Slow y) ⊎ (x ≡ slice_index t.sheet.gates y))
+Stands t y x = (x ≡ place_in_copy t.sheet Fast y) ⊎ ((x ≡ place_in_copy t.sheet Slow y) ⊎ (x ≡ slice_index t.sheet.gates y))
 
-stands_in : (t : Tables) (side : Side) (y x : ℕ) → x ≡ place_of t.sheet side y → Stands t y x
+stands_in : (t : Tables) (side : Side) (y x : ℕ) → x ≡ place_in_copy t.sheet side y → Stands t y x
 stands_in t Fast y x e = inl e
 stands_in t Slow y x e = inr (inl e)
 
@@ -141,22 +141,22 @@ only_in a x (suc k, l, e) = absurd (omega arith)
 not_in : (x : ℕ) → Contains [] x → ⊥
 not_in x c = omega (arith, c.1)
 
-onward_one : (t : Tables) (side : Side) (v q : View) (next x : ℕ) → Contains (led_to v) next → ((k : ℕ) → v ≡ Turns k → is_again q ≡ true) → Contains (place_of t.sheet side next ∷ []) x → Onward t v q x
-onward_one t side v q next x lead again c = record { to = next; leads = lead; stands = stands_in t side next x (only_in (place_of t.sheet side next) x c); again = again }
+onward_one : (t : Tables) (side : Side) (v q : View) (next x : ℕ) → Contains (led_to v) next → ((k : ℕ) → v ≡ Turns k → is_again q ≡ true) → Contains (place_in_copy t.sheet side next ∷ []) x → Onward t v q x
+onward_one t side v q next x lead again c = record { to = next; leads = lead; stands = stands_in t side next x (only_in (place_in_copy t.sheet side next) x c); again = again }
 
-onward_fork : (t : Tables) (side : Side) (a b x : ℕ) → Contains (place_of t.sheet side a ∷ place_of t.sheet side b ∷ []) x →
-    Onward t (Forks a b) (Forks (place_of t.sheet side a) (place_of t.sheet side b)) x
+onward_fork : (t : Tables) (side : Side) (a b x : ℕ) → Contains (place_in_copy t.sheet side a ∷ place_in_copy t.sheet side b ∷ []) x →
+    Onward t (Forks a b) (Forks (place_in_copy t.sheet side a) (place_in_copy t.sheet side b)) x
 onward_fork t side a b x (zero, l, e) = record { to = a; leads = (0, omega arith, refl); stands = stands_in t side a x (sym e); again = λ k c. cc }
 onward_fork t side a b x (suc k, l, e) =
-    let r = only_in (place_of t.sheet side b) x (k, omega arith, e) in
+    let r = only_in (place_in_copy t.sheet side b) x (k, omega arith, e) in
     record { to = b; leads = (1, omega arith, refl); stands = stands_in t side b x r; again = λ k c. cc }
 
 same_onward : (t : Tables) (side : Side) (v : View) (x : ℕ) → IsPlain v → mark_count v ≡ 0 → Contains (led_to (made_same t side v)) x → Onward t v (made_same t side v) x
-same_onward t side (Row op next) x p m c = onward_one t side (Row op next) (Row op (place_of t.sheet side next)) next x (0, omega arith, refl) (λ k e. cc) c
+same_onward t side (Row op next) x p m c = onward_one t side (Row op next) (Row op (place_in_copy t.sheet side next)) next x (0, omega arith, refl) (λ k e. cc) c
 same_onward t side (Forks a b) x p m c = onward_fork t side a b x c
 same_onward t side (Turns next) x p m c =
     record { to = next; leads = (0, omega arith, refl); stands = inr (inr (only_in (slice_index t.sheet.gates next) x c)); again = λ k e. refl }
-same_onward t side (Calls f next) x p m c = onward_one t side (Calls f next) (Calls f (place_of t.sheet side next)) next x (0, omega arith, refl) (λ k e. cc) c
+same_onward t side (Calls f next) x p m c = onward_one t side (Calls f next) (Calls f (place_in_copy t.sheet side next)) next x (0, omega arith, refl) (λ k e. cc) c
 same_onward t side (Marks site next) x p m c = absurd (omega arith)
 same_onward t side (Halts op) x p m c = absurd (not_in x c)
 same_onward t side Gives x p m c = absurd (not_in x c)
@@ -188,9 +188,9 @@ paid_on t side owed place v x false p m e c = free_on t side owed place v x (is_
 visit_on : (t : Tables) (side : Side) (owed place site next x : ℕ) → Contains (led_to (made_visit t.sheet side owed site next)) x →
     GoesOn t owed place (Marks site next) (made_visit t.sheet side owed site next) x
 visit_on t Slow owed place site next x c =
-    inr (onward_one t Slow (Marks site next) (Tests site (place_of t.sheet Slow next)) next x (0, omega arith, refl) (λ k e. cc) c)
+    inr (onward_one t Slow (Marks site next) (Tests site (place_in_copy t.sheet Slow next)) next x (0, omega arith, refl) (λ k e. cc) c)
 visit_on t Fast owed place site next x c =
-    inr (onward_one t Fast (Marks site next) (Skips (owed + 1) (place_of t.sheet Fast next)) next x (0, omega arith, refl) (λ k e. cc) c)
+    inr (onward_one t Fast (Marks site next) (Skips (owed + 1) (place_in_copy t.sheet Fast next)) next x (0, omega arith, refl) (λ k e. cc) c)
 
 pub in_on : (t : Tables) (side : Side) (owed place : ℕ) (v : View) (x : ℕ) → IsPlain v → Contains (led_to (made_in t side owed place v)) x → GoesOn t owed place v (made_in t side owed place v) x
 in_on t side owed place (Marks site next) x p c = visit_on t side owed place site next x c

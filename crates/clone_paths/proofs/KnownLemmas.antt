@@ -11,7 +11,7 @@ use Rattle.flow.specs.Code.{view_at}
 use Rattle.flow.specs.Nodes.{led_to}
 use Rattle.flow.specs.View.{view}
 use Rattle.flow.specs.Ready.{ArePlain, IsPlain}
-use Rattle.regions.specs.Blocks.{IsStart, LeadsTo, ends_block}
+use Rattle.regions.specs.Blocks.{IsStart, NodeLeadsTo, ends_block}
 use Rattle.regions.specs.Blocks as block
 use Rattle.regions.specs.Flags.{AreFlags, is_in}
 use Rattle.regions.specs.Headers.{IsHeader, begun_after}
@@ -163,7 +163,7 @@ fast_labelled weighty nodes starts weights debts headers fast laid (suc fuel) i 
           let at : slice_index fast i ≡ fast_at head part i = laid.resolved.other i o ∙ (fast_are head part (length nodes)).1 i l in
           subst (λ (k : ℕ). Labelled c Fast k i (slice_index debts i)) (sym at) (Here (fast_there head part (length nodes) i l o))
       | inr (site, next, e, o) ↦
-          let lead : LeadsTo (views_of nodes) i next = subst (λ (v : View). Contains (led_to v) next) (sym e) (0, omega arith, refl) in
+          let lead : NodeLeadsTo (views_of nodes) i next = subst (λ (v : View). Contains (led_to v) next) (sym e) (0, omega arith, refl) in
           let after : i < next = elim (laid.order.later i next lead) [ inl x ↦ x | inr x ↦ (let clash = sym e ∙ x.1 in cc) ] in
           let rest = fast_labelled weighty nodes starts weights debts headers fast laid fuel next (omega arith) (laid.order.within i next lead) in
           let more : slice_index debts next ≡ suc (slice_index debts i) = omega (arith, laid.debts_are.more i next lead o, ap mark_count e) in

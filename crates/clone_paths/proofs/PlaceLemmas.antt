@@ -13,7 +13,7 @@ use Rattle.flow.specs.Limits.{node_limit}
 use Rattle.flow.specs.Nodes.{NodesFit, is_again, led_to, leads_rightly, names_fit, node_fits}
 use Rattle.flow.specs.View.{view}
 use Rattle.flow.specs.Ready.{IsPlain}
-use Rattle.regions.specs.Blocks.{LeadsTo}
+use Rattle.regions.specs.Blocks.{NodeLeadsTo}
 use Rattle.regions.specs.Flags.{is_in}
 use Rattle.regions.specs.Rows.{EachFits}
 use Rattle.regions.specs.Weighty.{views_of}
@@ -24,7 +24,7 @@ use Rattle.clone_paths.specs.declared.label.Side.TheVariants.{Fast, Slow}
 use Rattle.clone_paths.specs.declared.parts.Outlet.{Outlet}
 use Rattle.clone_paths.specs.declared.parts.Part.{Part}
 use Rattle.clone_paths.specs.Cloned.{FitsLike, cloned_limit}
-use Rattle.clone_paths.specs.Layout.{copy_labels, fast_labels, gate_labels, out_labels, place_of}
+use Rattle.clone_paths.specs.Layout.{copy_labels, fast_labels, gate_labels, out_labels, place_in_copy}
 use Rattle.clone_paths.specs.Made.{IsMade, IsOf, Tables, made, made_in, parts_from}
 use Rattle.clone_paths.specs.Parts.{HasOrder, is_inside, outlet_of, pays}
 use Rattle.clone_paths.proofs.ChunkLemmas.{gate_cases, out_back, out_cases, out_first}
@@ -43,7 +43,7 @@ pub record Places (t : Tables) (n total : ℕ) (start : ℕ → ℕ) : Type 0 wh
 goes_onward : (t : Tables) (nodes : List Node) (n total : ℕ) (start : ℕ → ℕ) → Places t n total start → n ≡ length nodes → HasOrder nodes → (i place : ℕ) (v q : View) (x : ℕ) →
     views_of nodes i ≡ v → place < start (suc i) → Onward t v q x → (x < total) × ((is_again q ≡ true) ⊎ (place < x))
 goes_onward t nodes n total start ps e order i place v q x is l o =
-    let lead : LeadsTo (views_of nodes) i o.to = subst (λ (w : View). Contains (led_to w) o.to) (sym is) o.leads in
+    let lead : NodeLeadsTo (views_of nodes) i o.to = subst (λ (w : View). Contains (led_to w) o.to) (sym is) o.leads in
     let near : o.to < n = omega (arith, order.within i o.to lead, e) in
     let r = ps.from o.to x near o.stands in (
       r.1,
@@ -183,7 +183,7 @@ fast_after weighty nodes starts weights debts headers fast laid (suc fuel) i eno
           let some = some_fast i (part i).inside (part i).owed (part i).pays (part i).outlet o in
           (omega (arith, at, fast_place head part i, slow), omega (arith, at, fast_place head part i, sizes, some, up))
       | inr (site, next, e, o) ↦
-          let lead : LeadsTo (views_of nodes) i next = subst (λ (v : View). Contains (led_to v) next) (sym e) (0, omega arith, refl) in
+          let lead : NodeLeadsTo (views_of nodes) i next = subst (λ (v : View). Contains (led_to v) next) (sym e) (0, omega arith, refl) in
           let after : i < next = elim (laid.order.later i next lead) [ inl x ↦ x | inr x ↦ (let clash = sym e ∙ x.1 in cc) ] in
           let rest = fast_after weighty nodes starts weights debts headers fast laid fuel next (omega arith) (laid.order.within i next lead) in
           let at : slice_index fast i ≡ slice_index fast next = laid.resolved.inside i site next l e o in
@@ -256,7 +256,7 @@ each_goes weighty nodes starts weights debts headers fast laid place l e =
                   let r = gate_cases (head i) i k l h in
                   let near = slice_get_within gate k l h in
                   subst (λ (y : CopyLabel). Goes place total (made t place y)) (sym r.1) (λ x c.
-                  elim (two_in (place_of t.sheet Fast i) (place_of t.sheet Slow i) x c) [
+                  elim (two_in (place_in_copy t.sheet Fast i) (place_in_copy t.sheet Slow i) x c) [
                     | inl a ↦
                         let b = fast_after weighty nodes starts weights debts headers fast laid n i (omega arith) lt in
                         (omega (arith, a, b.1), inr (omega (arith, a, b.0, at, near)))

@@ -9,7 +9,7 @@ use Rattle.flow.specs.declared.program.Function.{Function}
 use Rattle.flow.specs.declared.program.ProgramParts.{ProgramParts}
 use Rattle.flow.specs.declared.node.View.{View}
 use Rattle.flow.specs.declared.node.View.TheVariants.{Row, Halts, Forks, Turns, Calls, Gives, Quits, Marks, Skips, Tests, Picks, Imports, Exports, Nowhere}
-use Rattle.flow.specs.Code.{code_of, node_of}
+use Rattle.flow.specs.Code.{code_of, view_in}
 use Rattle.flow.specs.Fits.{LeadsOn}
 use Rattle.flow.specs.Nodes.{led_to}
 use Rattle.flow.specs.Program.{IsProgram}
@@ -44,7 +44,7 @@ order_of p number f is e = record {
   within = leads_within p number f is e;
   later = λ place x c.
       let ones : ℕ → ℕ = λ k. 1 in
-      let there : (code_of p ones).at number place ≡ views_of f.nodes place = ap (λ o. node_of o place) e in
+      let there : (code_of p ones).at number place ≡ views_of f.nodes place = ap (λ o. view_in o place) e in
       later_view place (views_of f.nodes place) x (subst (λ (v : View). LeadsOn place v) there (code_fits p ones number place is).leads) c;
 }
 

@@ -8,7 +8,7 @@ use Rattle.flow.specs.declared.node.View.{View}
 use Rattle.flow.specs.declared.node.View.TheVariants.{Row, Halts, Forks, Turns, Calls, Gives, Quits, Marks, Skips, Tests, Picks, Imports, Exports, Nowhere}
 use Rattle.flow.specs.Limits.{node_limit}
 use Rattle.flow.specs.Nodes.{led_to}
-use Rattle.regions.specs.Blocks.{LeadsTo}
+use Rattle.regions.specs.Blocks.{NodeLeadsTo}
 use Rattle.regions.specs.Flags.{is_in}
 use Rattle.regions.specs.Weighty.{views_of}
 use Rattle.clone_paths.specs.declared.label.CopyLabel.{CopyLabel}
@@ -75,7 +75,7 @@ resolved_same starts nodes old new i r e = record {
   ];
 }
 
-mark_leads : (nodes : List Node) (i site x : ℕ) → views_of nodes i ≡ Marks site x → LeadsTo (views_of nodes) i x
+mark_leads : (nodes : List Node) (i site x : ℕ) → views_of nodes i ≡ Marks site x → NodeLeadsTo (views_of nodes) i x
 mark_leads nodes i site x e = subst (λ (v : View). Contains (led_to v) x) (sym e) (0, omega arith, refl)
 
 mark_later : (nodes : List Node) (i site x : ℕ) → HasOrder nodes → views_of nodes i ≡ Marks site x → i < x

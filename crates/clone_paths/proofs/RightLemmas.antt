@@ -6,7 +6,7 @@ use Rattle.std.proofs.lemmas.Bool.Decides.{nat_tests}
 use Rattle.flow.specs.declared.node.View.{View}
 use Rattle.flow.specs.declared.node.View.TheVariants.{Row, Halts, Forks, Turns, Calls, Gives, Quits, Marks, Skips, Tests, Picks, Imports, Exports, Nowhere}
 use Rattle.flow.specs.Nodes.{led_to}
-use Rattle.regions.specs.Blocks.{IsStart, After, LeadsTo, ends_block}
+use Rattle.regions.specs.Blocks.{IsStart, After, NodeLeadsTo, ends_block}
 use Rattle.regions.specs.Headers.{IsHeader, begun_after}
 use Rattle.regions.specs.Headers as region
 use Rattle.weights.specs.Paths.{mark_count}
@@ -17,7 +17,7 @@ use Rattle.clone_paths.specs.declared.label.Side.{Side}
 use Rattle.clone_paths.specs.declared.label.Side.TheVariants.{Fast, Slow}
 use Rattle.flow.specs.Ready.{IsPlain}
 use Rattle.clone_paths.specs.Form.{Cloning, Labelled, Here, IsFree, IsIn, IsOwing, IsSame, is_last, is_outlet}
-use Rattle.clone_paths.specs.Layout.{place_of}
+use Rattle.clone_paths.specs.Layout.{place_in_copy}
 use Rattle.clone_paths.specs.Made.{Tables, made_free, made_in, made_paid, made_same}
 use Rattle.clone_paths.specs.Parts.{is_inside, pays}
 
@@ -29,16 +29,16 @@ pub record Known (t : Tables) (n : ℕ) (debt : ℕ → ℕ) (header : ℕ → B
   pub plain : (i : ℕ) → IsPlain (t.at i)
   pub there : (i : ℕ) → i < n → t.at i ≡ Nowhere → ⊥
   pub begins : (x : ℕ) → IsStart t.at x → t.starts x ≡ true
-  pub within : (place next : ℕ) → LeadsTo t.at place next → next < n
+  pub within : (place next : ℕ) → NodeLeadsTo t.at place next → next < n
   pub entry : 0 < n
   pub heads : (x : ℕ) → IsHeader t.weighty t.at x → header x ≡ true
   pub none : (x : ℕ) → t.starts x ≡ true → debt x ≡ 0
-  pub more : (place next : ℕ) → LeadsTo t.at place next → t.starts next ≡ false → debt next ≡ debt place + mark_count (t.at place)
+  pub more : (place next : ℕ) → NodeLeadsTo t.at place next → t.starts next ≡ false → debt next ≡ debt place + mark_count (t.at place)
   pub weights : (i : ℕ) → i < n → IsWeight t.weighty t.at i (t.weight i)
   pub head_starts : (x : ℕ) → header x ≡ true → t.starts x ≡ true
   pub gate : (i : ℕ) → i < n → header i ≡ true → label (slice_index t.sheet.gates i) ≡ Some (Gate i)
-  pub slow : (i : ℕ) → i < n → label (place_of t.sheet Slow i) ≡ Some (In Slow i 0)
-  pub fast : (i : ℕ) → i < n → Labelled (cloning t label) Fast (place_of t.sheet Fast i) i (debt i)
+  pub slow : (i : ℕ) → i < n → label (place_in_copy t.sheet Slow i) ≡ Some (In Slow i 0)
+  pub fast : (i : ℕ) → i < n → Labelled (cloning t label) Fast (place_in_copy t.sheet Fast i) i (debt i)
 
 -- what a copy owes before a node
 abbrev pub owed_by : (ℕ → ℕ) → Side → ℕ → ℕ
@@ -46,12 +46,12 @@ owed_by debt Fast i = debt i
 owed_by debt Slow i = 0
 
 labelled : (t : Tables) (n : ℕ) (debt : ℕ → ℕ) (header : ℕ → Bool) (label : ℕ → Option CopyLabel) → Known t n debt header label → (side : Side) (i : ℕ) → i < n →
-    Labelled (cloning t label) side (place_of t.sheet side i) i (owed_by debt side i)
+    Labelled (cloning t label) side (place_in_copy t.sheet side i) i (owed_by debt side i)
 labelled t n debt header label k Fast i l = k.fast i l
 labelled t n debt header label k Slow i l = Here (k.slow i l)
 
 -- the node at the place leads to these
-leads : (t : Tables) (node x : ℕ) (v : View) → t.at node ≡ v → Contains (led_to v) x → LeadsTo t.at node x
+leads : (t : Tables) (node x : ℕ) (v : View) → t.at node ≡ v → Contains (led_to v) x → NodeLeadsTo t.at node x
 leads t node x v e c = subst (λ (w : View). Contains (led_to w) x) (sym e) c
 
 first_in : (a : ℕ) (xs : List ℕ) → Contains (a ∷ xs) a
@@ -61,19 +61,19 @@ second_in : (a b : ℕ) (xs : List ℕ) → Contains (a ∷ b ∷ xs) b
 second_in a b xs = (1, omega arith, refl)
 
 one_leads : (t : Tables) (n : ℕ) (debt : ℕ → ℕ) (header : ℕ → Bool) (label : ℕ → Option CopyLabel) → Known t n debt header label → (side : Side) (owed node x : ℕ) →
-    ((y : ℕ) → LeadsTo t.at node y → owed_by debt side y ≡ owed) → LeadsTo t.at node x → Labelled (cloning t label) side (place_of t.sheet side x) x owed
+    ((y : ℕ) → NodeLeadsTo t.at node y → owed_by debt side y ≡ owed) → NodeLeadsTo t.at node x → Labelled (cloning t label) side (place_in_copy t.sheet side x) x owed
 one_leads t n debt header label k side owed node x flow lead =
-    subst (λ (d : ℕ). Labelled (cloning t label) side (place_of t.sheet side x) x d) (flow x lead) (labelled t n debt header label k side x (k.within node x lead))
+    subst (λ (d : ℕ). Labelled (cloning t label) side (place_in_copy t.sheet side x) x d) (flow x lead) (labelled t n debt header label k side x (k.within node x lead))
 
 same_right : (t : Tables) (n : ℕ) (debt : ℕ → ℕ) (header : ℕ → Bool) (label : ℕ → Option CopyLabel) → Known t n debt header label → (side : Side) (owed node : ℕ) (v : View) →
-    t.at node ≡ v → node < n → ((y : ℕ) → LeadsTo t.at node y → owed_by debt side y ≡ owed) → is_outlet t.weighty v ≡ false → mark_count v ≡ 0 →
+    t.at node ≡ v → node < n → ((y : ℕ) → NodeLeadsTo t.at node y → owed_by debt side y ≡ owed) → is_outlet t.weighty v ≡ false → mark_count v ≡ 0 →
     IsSame (cloning t label) side owed v (made_same t side v)
 same_right t n debt header label k side owed node (Row op next) e l flow o m =
-    (place_of t.sheet side next, refl, one_leads t n debt header label k side owed node next flow (leads t node next (Row op next) e (first_in next [])))
+    (place_in_copy t.sheet side next, refl, one_leads t n debt header label k side owed node next flow (leads t node next (Row op next) e (first_in next [])))
 same_right t n debt header label k side owed node (Halts op) e l flow o m = refl
 same_right t n debt header label k side owed node (Forks a b) e l flow o m = (
-  place_of t.sheet side a,
-  place_of t.sheet side b,
+  place_in_copy t.sheet side a,
+  place_in_copy t.sheet side b,
   refl,
   one_leads t n debt header label k side owed node a flow (leads t node a (Forks a b) e (first_in a (b ∷ []))),
   one_leads t n debt header label k side owed node b flow (leads t node b (Forks a b) e (second_in a b [])),
@@ -82,7 +82,7 @@ same_right t n debt header label k side owed node (Turns next) e l flow o m =
     let inside = k.within node next (leads t node next (Turns next) e (first_in next [])) in
     (slice_index t.sheet.gates next, refl, k.gate next inside (k.heads next (region.After node (ap (begun_after t.weighty) e))))
 same_right t n debt header label k side owed node (Calls function next) e l flow o m =
-    (place_of t.sheet side next, refl, one_leads t n debt header label k side owed node next flow (leads t node next (Calls function next) e (first_in next [])))
+    (place_in_copy t.sheet side next, refl, one_leads t n debt header label k side owed node next flow (leads t node next (Calls function next) e (first_in next [])))
 same_right t n debt header label k side owed node Gives e l flow o m = cc
 same_right t n debt header label k side owed node Quits e l flow o m = cc
 same_right t n debt header label k side owed node (Marks site next) e l flow o m = absurd (omega arith)
@@ -168,7 +168,7 @@ not_outlet t n debt header label k node Nowhere e last = refl
 
 -- what a copy owes at a node and after it agree: what it owes is what its block owes, or it was paid at the end of the block
 pub record Agrees (t : Tables) (debt : ℕ → ℕ) (label : ℕ → Option CopyLabel) (side : Side) (node owed place : ℕ) : Type 0 where
-  pub flow : (owed ≡ 0) ⊎ (is_last t.starts (led_to (t.at node)) ≡ false) → mark_count (t.at node) ≡ 0 → (y : ℕ) → LeadsTo t.at node y → owed_by debt side y ≡ owed
+  pub flow : (owed ≡ 0) ⊎ (is_last t.starts (led_to (t.at node)) ≡ false) → mark_count (t.at node) ≡ 0 → (y : ℕ) → NodeLeadsTo t.at node y → owed_by debt side y ≡ owed
   pub pay : pays t.starts owed (t.at node) ≡ true → label (place + 1) ≡ Some (In side node 0)
   pub out : owed ≡ 0 → is_outlet t.weighty (t.at node) ≡ true → label (place + 1) ≡ Some (Out side node)
   pub last : side ≡ Fast → is_inside t.starts (t.at node) ≡ false
@@ -207,14 +207,14 @@ visit_right : (t : Tables) (n : ℕ) (debt : ℕ → ℕ) (header : ℕ → Bool
     t.at node ≡ Marks site next → node < n → Agrees t debt label side node owed place → IsIn (cloning t label) side node owed (Marks site next) (made_in t side owed place (Marks site next))
 visit_right t n debt header label k Slow node owed place site next e l a =
     let inside = k.within node next (leads t node next (Marks site next) e (first_in next [])) in
-    (place_of t.sheet Slow next, refl, Here (k.slow next inside))
+    (place_in_copy t.sheet Slow next, refl, Here (k.slow next inside))
 visit_right t n debt header label k Fast node owed place site next e l a =
     let inside = k.within node next (leads t node next (Marks site next) e (first_in next [])) in
     let begins : t.starts next ≡ true = not_not (t.starts next) (ap (is_inside t.starts) (sym e) ∙ a.last refl) in (
-      place_of t.sheet Fast next,
+      place_in_copy t.sheet Fast next,
       begins,
       refl,
-      subst (λ (d : ℕ). Labelled (cloning t label) Fast (place_of t.sheet Fast next) next d) (k.none next begins) (k.fast next inside),
+      subst (λ (d : ℕ). Labelled (cloning t label) Fast (place_in_copy t.sheet Fast next) next d) (k.none next begins) (k.fast next inside),
     )
 
 pub in_right : (t : Tables) (n : ℕ) (debt : ℕ → ℕ) (header : ℕ → Bool) (label : ℕ → Option CopyLabel) → Known t n debt header label → (side : Side) (node owed place : ℕ) (v : View) →

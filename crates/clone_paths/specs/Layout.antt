@@ -39,9 +39,9 @@ pub record Sheet : Type 0 where
   pub fast : List ℕ
 
 -- where a node stands in a copy
-abbrev pub place_of : Sheet → Side → ℕ → ℕ
-place_of s Fast node = slice_index s.fast node
-place_of s Slow node = slice_index s.slow node
+abbrev pub place_in_copy : Sheet → Side → ℕ → ℕ
+place_in_copy s Fast node = slice_index s.fast node
+place_in_copy s Slow node = slice_index s.slow node
 
 -- with the labels for one node more
 abbrev pub laid : Bool → ℕ → Part → Sheet → Sheet
@@ -56,5 +56,5 @@ abbrev pub sheet_of : Layout → Sheet
 sheet_of l = record { labels = l.labels.items; gates = l.gates.items; slow = l.slow.items; fast = l.fast.items }
 
 -- the entry alone
-abbrev pub at_entry : Sheet
-at_entry = record { labels = Enter ∷ []; gates = []; slow = []; fast = [] }
+abbrev pub entry_alone : Sheet
+entry_alone = record { labels = Enter ∷ []; gates = []; slow = []; fast = [] }

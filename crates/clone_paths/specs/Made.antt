@@ -13,8 +13,8 @@ use Rattle.clone_paths.specs.declared.label.Side.TheVariants.{Fast, Slow}
 use Rattle.flow.specs.View.{view}
 use Rattle.clone_paths.specs.declared.parts.Part.{Part}
 use Rattle.clone_paths.specs.Form.{is_outlet}
-use Rattle.clone_paths.specs.Layout.{Sheet, at_entry, laid, place_of}
-use Rattle.clone_paths.specs.Parts.{is_inside, part_of, pays}
+use Rattle.clone_paths.specs.Layout.{Sheet, entry_alone, laid, place_in_copy}
+use Rattle.clone_paths.specs.Parts.{is_inside, part_of_node, pays}
 
 -- what is known of the original function's nodes, and where the choice before each and its copies stand
 pub record Tables : Type 0 where
@@ -35,10 +35,10 @@ tables_of weighty nodes starts weights s = record {
 
 -- the same node within the copy
 abbrev pub made_same : Tables → Side → View → View
-made_same t side (Row op next) = Row op (place_of t.sheet side next)
-made_same t side (Forks when_true when_false) = Forks (place_of t.sheet side when_true) (place_of t.sheet side when_false)
+made_same t side (Row op next) = Row op (place_in_copy t.sheet side next)
+made_same t side (Forks when_true when_false) = Forks (place_in_copy t.sheet side when_true) (place_in_copy t.sheet side when_false)
 made_same t side (Turns next) = Turns (slice_index t.sheet.gates next)
-made_same t side (Calls function next) = Calls function (place_of t.sheet side next)
+made_same t side (Calls function next) = Calls function (place_in_copy t.sheet side next)
 made_same t side other = other
 
 abbrev pub made_free : Tables → Side → ℕ → View → View
@@ -49,8 +49,8 @@ abbrev pub made_paid : Tables → Side → ℕ → ℕ → View → View
 made_paid t side owed place v = if pays t.starts owed v then Skips owed (place + 1) else made_free t side place v
 
 abbrev pub made_visit : Sheet → Side → ℕ → ℕ → ℕ → View
-made_visit sheet Slow owed site next = Tests site (place_of sheet Slow next)
-made_visit sheet Fast owed site next = Skips (owed + 1) (place_of sheet Fast next)
+made_visit sheet Slow owed site next = Tests site (place_in_copy sheet Slow next)
+made_visit sheet Fast owed site next = Skips (owed + 1) (place_in_copy sheet Fast next)
 
 abbrev pub made_in : Tables → Side → ℕ → ℕ → View → View
 made_in t side owed place (Marks site next) = made_visit t.sheet side owed site next
@@ -63,7 +63,7 @@ made_out place v = v
 -- the node with this label at the place
 abbrev pub made : Tables → ℕ → CopyLabel → View
 made t place Enter = Imports (slice_index t.sheet.gates 0)
-made t place (Gate node) = Picks (t.weight node) (place_of t.sheet Fast node) (place_of t.sheet Slow node)
+made t place (Gate node) = Picks (t.weight node) (place_in_copy t.sheet Fast node) (place_in_copy t.sheet Slow node)
 made t place (Back node) = Imports (slice_index t.sheet.gates node)
 made t place (In side node owed) = made_in t side owed place (t.at node)
 made t place (Out side node) = made_out place (t.at node)
@@ -88,12 +88,12 @@ pub record Resolved (starts : List Bool) (nodes : List Node) (old new : List ℕ
 
 -- the labels of a function's nodes, so many of them
 abbrev pub sheet_at : (ℕ → Bool) → (ℕ → Part) → ℕ → Sheet
-sheet_at header part zero = at_entry
+sheet_at header part zero = entry_alone
 sheet_at header part (suc count) = laid (header count) count (part count) (sheet_at header part count)
 
 -- what the clones need to know of each node, from what is owed before it
 abbrev pub parts_from : List Bool → List Node → List Bool → List ℕ → ℕ → Part
-parts_from weighty nodes starts debts place = part_of (is_in weighty) (is_in starts) (slice_index debts place) (views_of nodes place)
+parts_from weighty nodes starts debts place = part_of_node (is_in weighty) (is_in starts) (slice_index debts place) (views_of nodes place)
 
 -- a node with its label
 abbrev pub IsMade : Tables → ℕ → CopyLabel → Node → Type 0

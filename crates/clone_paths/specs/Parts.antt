@@ -1,10 +1,11 @@
 -- What the clones need to know of each node.
-use Rattle.std.specs.Prelude.{Option, None, Some, ◌≡◌, ◌⊎◌, ℕ, ◌+◌, ◌<◌, ◌≤◌, List, [], ◌∷◌, length, Bool, true, false, not, ◌&&◌, if◌then◌else◌, slice_index, nat_lt}
+use Rattle.std.specs.Prelude.{Option, None, Some, ◌≡◌, ◌⊎◌, ℕ, ◌+◌, ◌<◌, ◌≤◌, List, [], ◌∷◌, length, Bool, true, false, not, ◌&&◌, if◌then◌else◌}
+use Rattle.std.specs.Prelude.{slice_index, nat_lt}
 use Rattle.flow.specs.declared.node.Node.{Node}
 use Rattle.flow.specs.declared.node.View.{View}
 use Rattle.flow.specs.declared.node.View.TheVariants.{Marks, Calls, Gives, Quits, Turns}
 use Rattle.flow.specs.Nodes.{led_to}
-use Rattle.regions.specs.Blocks.{LeadsTo}
+use Rattle.regions.specs.Blocks.{NodeLeadsTo}
 use Rattle.regions.specs.Flags.{is_in}
 use Rattle.regions.specs.Weighty.{views_of}
 use Rattle.weights.specs.Paths.{mark_count}
@@ -17,7 +18,7 @@ use Rattle.clone_paths.specs.Form.{is_last}
 pub record AreDebts (nodes : List Node) (starts : List Bool) (debts : List ℕ) : Type 0 where
   pub few : length debts ≡ length nodes
   pub none : (place : ℕ) → is_in starts place ≡ true → slice_index debts place ≡ 0
-  pub more : (place next : ℕ) → LeadsTo (views_of nodes) place next → is_in starts next ≡ false →
+  pub more : (place next : ℕ) → NodeLeadsTo (views_of nodes) place next → is_in starts next ≡ false →
       slice_index debts next ≡ slice_index debts place + mark_count (views_of nodes place)
   pub small : (place : ℕ) → slice_index debts place ≤ place
 
@@ -37,8 +38,8 @@ abbrev pub pays : (ℕ → Bool) → ℕ → View → Bool
 pays starts owed (Marks site next) = false
 pays starts owed v = nat_lt 0 owed && is_last starts (led_to v)
 
-abbrev pub part_of : (ℕ → Bool) → (ℕ → Bool) → ℕ → View → Part
-part_of weighty starts owed v = record { inside = is_inside starts v; owed = owed; pays = pays starts owed v; outlet = outlet_of weighty v }
+abbrev pub part_of_node : (ℕ → Bool) → (ℕ → Bool) → ℕ → View → Part
+part_of_node weighty starts owed v = record { inside = is_inside starts v; owed = owed; pays = pays starts owed v; outlet = outlet_of weighty v }
 
 -- the one node of these, where no block begins there
 abbrev pub next_inside : (ℕ → Bool) → List ℕ → Option ℕ
@@ -47,5 +48,5 @@ next_inside starts other = None
 
 -- nodes lead to nodes of the function; within a block, to later ones
 pub record HasOrder (nodes : List Node) : Type 0 where
-  pub within : (place next : ℕ) → LeadsTo (views_of nodes) place next → next < length nodes
-  pub later : (place next : ℕ) → LeadsTo (views_of nodes) place next → place < next ⊎ ((again : ℕ) × (views_of nodes place ≡ Turns again))
+  pub within : (place next : ℕ) → NodeLeadsTo (views_of nodes) place next → next < length nodes
+  pub later : (place next : ℕ) → NodeLeadsTo (views_of nodes) place next → place < next ⊎ ((again : ℕ) × (views_of nodes place ≡ Turns again))

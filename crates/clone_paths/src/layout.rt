@@ -1,5 +1,5 @@
 ghost use Rattle.std.specs.Prelude.{◌≡◌, ◌++◌, ◌≤◌, ◌<◌, ◌^◌, IfOk, OnOk, length};
-ghost use Rattle.clone_paths.specs.Layout.{at_entry, copy_labels, fast_labels, gate_labels, laid, out_labels, sheet_of};
+ghost use Rattle.clone_paths.specs.Layout.{copy_labels, entry_alone, fast_labels, gate_labels, laid, out_labels, sheet_of};
 
 use crate::label::{CopyLabel, Side};
 use crate::parts::{Outlet, Part};
@@ -78,7 +78,7 @@ fn push_fast(labels: &mut Vec<CopyLabel>, node: u32, part: Part) -> Result<(), M
 impl Layout {
     /// The entry, and no node of the original function yet.
     pub(crate) fn entry(alloc: Global) -> Result<Layout, Memory>
-        ensures { IfOk result (λ l. sheet_of l ≡ at_entry) }
+        ensures { IfOk result (λ l. sheet_of l ≡ entry_alone) }
     {
         let labels = vec![in alloc; CopyLabel::Enter]?;
         Ok(Layout {

@@ -3,7 +3,7 @@ ghost use Rattle.flow.specs.Limits.{node_limit};
 ghost use Rattle.flow.specs.View.{view};
 ghost use Rattle.regions.specs.Flags.{is_in};
 ghost use Rattle.clone_paths.specs.Form.{is_outlet};
-ghost use Rattle.clone_paths.specs.Layout.{place_of, sheet_of};
+ghost use Rattle.clone_paths.specs.Layout.{place_in_copy, sheet_of};
 ghost use Rattle.clone_paths.specs.Made.{IsOf, made, made_in, made_out, made_paid, made_same, made_visit};
 ghost use Rattle.clone_paths.specs.Sources.{tables};
 
@@ -30,7 +30,7 @@ pub(crate) fn at(table: &[u32], node: u32) -> u32
 
 /// Where a node stands in a copy.
 fn place_of(layout: &Layout, side: Side, node: u32) -> u32
-    ensures { result ≡ place_of (sheet_of layout.now) side node }
+    ensures { result ≡ place_in_copy (sheet_of layout.now) side node }
 {
     match side {
         Side::Fast => at(&layout.fast, node),

@@ -1,9 +1,9 @@
 ghost use Rattle.std.specs.Prelude.{◌≡◌, IfOk, length, slice_index};
-ghost use Rattle.flow.specs.Nodes.{led_to, listed};
+ghost use Rattle.flow.specs.Nodes.{led_to, listed_ways};
 ghost use Rattle.flow.specs.View.{view};
 ghost use Rattle.regions.specs.Flags.{is_in};
 ghost use Rattle.clone_paths.specs.Form.{is_last, is_outlet};
-ghost use Rattle.clone_paths.specs.Parts.{is_inside, outlet_of, part_of, pays};
+ghost use Rattle.clone_paths.specs.Parts.{is_inside, outlet_of, part_of_node, pays};
 
 use flow::{Node, View, Ways, successors, view_of};
 use regions::is_in;
@@ -54,7 +54,7 @@ pub(crate) fn is_outlet(weighty: &[bool], node: Node) -> bool
 
 /// Whether control leaves the block after a node that leads to these.
 fn is_last(starts: &[bool], ways: Ways) -> bool
-    ensures { result ≡ is_last (is_in starts.now) (listed ways) }
+    ensures { result ≡ is_last (is_in starts.now) (listed_ways ways) }
 {
     match ways {
         Ways::None => true,
@@ -85,7 +85,7 @@ pub(crate) fn is_inside(starts: &[bool], node: Node) -> bool
 
 /// What the clones need to know of a node before which so much is owed.
 pub(crate) fn part_of(weighty: &[bool], starts: &[bool], owed: u32, node: Node) -> Part
-    ensures { result ≡ part_of (is_in weighty.now) (is_in starts.now) owed (view node) }
+    ensures { result ≡ part_of_node (is_in weighty.now) (is_in starts.now) owed (view node) }
 {
     Part {
         inside: is_inside(starts, node),

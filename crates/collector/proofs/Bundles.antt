@@ -26,9 +26,9 @@ use Rattle.collector.specs.declared.draft.Draft.{Draft}
 use Rattle.collector.specs.declared.draft.Due.{Due}
 use Rattle.collector.specs.declared.draft.Due.TheVariants as due
 use Rattle.collector.specs.Collected.{mark_limit, marks_of, report_limit}
-use Rattle.collector.specs.Grammar.{Comes, EndFollows, Ends, Follows, RunFollows, SiteFollows, begun, closed, start, whole}
+use Rattle.collector.specs.Grammar.{BundleEnds, BundleLineComes, BundleLineFollows, EndFollows, RunFollows, RunSiteFollows, begun, bundle_start, closed, whole}
 use Rattle.collector.specs.Merging.{AreOf, AreReports}
-use Rattle.collector.specs.Spelling.{ArePlain, IsText, RunsFrom, SpellsBundle, WithLabels, Without, bundle_rows, report_rows, title_fields}
+use Rattle.collector.specs.Spelling.{HavePlainLabels, IsText, RunsFrom, SpellsBundle, WithLabels, Without, bundle_rows, bundle_title, report_rows}
 
 -- a report that was read
 pub record Fits (program : ProgramId) (v : Version) (r : Report) : Type 0 where
@@ -152,11 +152,11 @@ abbrev pub bundle_of : Draft → Bundle
 bundle_of d = record { program = d.program; reports = d.reports }
 
 abbrev start_rows : Draft → List (List (List ℕ)) → List (List (List ℕ))
-start_rows d more = title_fields d.version ∷ program_fields d.program ∷ more
+start_rows d more = bundle_title d.version ∷ program_fields d.program ∷ more
 
 abbrev rows_at : Due → Draft → List (List (List ℕ))
 rows_at due.Title d = []
-rows_at due.Program d = title_fields d.version ∷ []
+rows_at due.Program d = bundle_title d.version ∷ []
 rows_at due.Runs d = start_rows d (flat_map (report_rows d.version) (whole d))
 rows_at due.Nothing d = bundle_rows d.version (bundle_of d)
 
@@ -202,26 +202,26 @@ end-step d lines line h line_is = record {
 }
 
 -- what was read holds of one more line
-step : (due : Due) (d : Draft) → d.due ≡ due → (lines : List (List ℕ)) (line : List ℕ) (after : Draft) → Holds due d lines → Comes due d line after → Holds after.due after (lines ++ line ∷ [])
+step : (due : Due) (d : Draft) → d.due ≡ due → (lines : List (List ℕ)) (line : List ℕ) (after : Draft) → Holds due d lines → BundleLineComes due d line after → Holds after.due after (lines ++ line ∷ [])
 step due.Title d is lines line after h s =
     subst (λ a. Holds a.due a (lines ++ line ∷ [])) (sym s.after_is) (record {
-      lines_are = row-more lines line [] (title_fields s.value) h.lines_are s.line_is;
+      lines_are = row-more lines line [] (bundle_title s.value) h.lines_are s.line_is;
       so_far = record { reports = h.so_far.reports; current = h.so_far.current; run = h.so_far.run; marks = h.so_far.marks };
     })
 step due.Program d is lines line after h s =
     let blank = h.so_far in
     subst (λ a. Holds a.due a (lines ++ line ∷ [])) (sym s.after_is) (record {
       lines_are = row-more lines line (rows_at due.Program d) (program_fields s.value) h.lines_are s.line_is
-          ∙ ap (λ xs. map spaced (title_fields d.version ∷ program_fields s.value ∷ flat_map (report_rows d.version) xs)) (sym (ap (λ xs. xs ++ option_to_list d.current) blank.reports ∙ ap option_to_list blank.current));
+          ∙ ap (λ xs. map spaced (bundle_title d.version ∷ program_fields s.value ∷ flat_map (report_rows d.version) xs)) (sym (ap (λ xs. xs ++ option_to_list d.current) blank.reports ∙ ap option_to_list blank.current));
       so_far = blank-kept s.value d.version d.reports d.current d.run d.site d.marks s.is_id blank.reports blank.current blank.run blank.marks;
     })
 step due.Runs d is lines line after h s =
     ⊎_elim (λ (run : RunFollows d line after). subst (λ a. Holds a.due a (lines ++ line ∷ [])) (sym run.after_is) (subst (λ x. Holds x (record d { reports = whole d; current = Some (begun d.program run.value); run = run.value.run + 1; site = 0 }) (lines ++ line ∷ [])) (sym is) (run-step d lines line run.value h run.is_line run.rises run.room run.line_is)))
-    (λ (other : SiteFollows d line after ⊎ EndFollows d line after). ⊎_elim (λ (site : SiteFollows d line after). subst (λ a. Holds a.due a (lines ++ line ∷ [])) (sym site.after_is) (subst (λ x. Holds x (record d { current = Some (with_entry site.report site.value); site = site.value.site + 1; marks = d.marks + 1 }) (lines ++ line ∷ [])) (sym is) (site-step d lines line site.report site.value h site.is_current site.is_next site.room site.line_is)))
+    (λ (other : RunSiteFollows d line after ⊎ EndFollows d line after). ⊎_elim (λ (site : RunSiteFollows d line after). subst (λ a. Holds a.due a (lines ++ line ∷ [])) (sym site.after_is) (subst (λ x. Holds x (record d { current = Some (with_entry site.report site.value); site = site.value.site + 1; marks = d.marks + 1 }) (lines ++ line ∷ [])) (sym is) (site-step d lines line site.report site.value h site.is_current site.is_next site.room site.line_is)))
     (λ (over : EndFollows d line after). subst (λ a. Holds a.due a (lines ++ line ∷ [])) (sym over.after_is) (end-step d lines line h over.line_is)) other) s
 step due.Nothing d is lines line after h s = absurd s
 
-leads-holds : (lines done : List (List ℕ)) (from to : Draft) → LeadsTo Follows from lines to → Holds from.due from done → Holds to.due to (done ++ lines)
+leads-holds : (lines done : List (List ℕ)) (from to : Draft) → LeadsTo BundleLineFollows from lines to → Holds from.due from done → Holds to.due to (done ++ lines)
 leads-holds [] done from to leads h = subst (λ d. Holds d.due d (done ++ [])) leads (subst (Holds from.due from) (sym (append-nil done)) h)
 leads-holds (line ∷ more) done from to leads h =
     subst (Holds to.due to) (append_assoc done (line ∷ []) more) (leads-holds more (done ++ line ∷ []) leads.0 to leads.2 (step from.due from refl done line leads.0 h leads.1))
@@ -234,7 +234,7 @@ all-ours : (b : Bundle) (v : Version) (reports : List Report) → AreAll b.progr
 all-ours b v [] are = tt
 all-ours b v (r ∷ more) are = (are.0.ours, all-ours b v more are.1)
 
-all-plain : (program : ProgramId) (reports : List Report) → AreAll program version.First reports → ArePlain reports
+all-plain : (program : ProgramId) (reports : List Report) → AreAll program version.First reports → HavePlainLabels reports
 all-plain program [] are = tt
 all-plain program (r ∷ more) are = (are.0.plain refl, all-plain program more are.1)
 
@@ -254,9 +254,9 @@ spelled-as text version.First b run site marks k text_is = Without (kept-text b 
 spelled-as text version.Second b run site marks k text_is = WithLabels (kept-text b version.Second run site marks k) text_is
 
 -- what is read is spelled so
-pub reads-spelled : (text : List ℕ) (alloc : Global) (from to : Draft) → from ≡ start alloc → ReadsLines Follows Ends from text to → SpellsBundle text (bundle_of to)
+pub reads-spelled : (text : List ℕ) (alloc : Global) (from to : Draft) → from ≡ bundle_start alloc → ReadsLines BundleLineFollows BundleEnds from text to → SpellsBundle text (bundle_of to)
 reads-spelled text alloc from to is reads =
-    let first : Holds due.Title (start alloc) [] = record { lines_are = refl; so_far = record { reports = refl; current = refl; run = refl; marks = refl } } in
-    let h = leads-holds reads.lines [] (start alloc) to (subst (λ d. LeadsTo Follows d reads.lines to) is reads.leads) first in
+    let first : Holds due.Title (bundle_start alloc) [] = record { lines_are = refl; so_far = record { reports = refl; current = refl; run = refl; marks = refl } } in
+    let h = leads-holds reads.lines [] (bundle_start alloc) to (subst (λ d. LeadsTo BundleLineFollows d reads.lines to) is reads.leads) first in
     let over : Holds due.Nothing to reads.lines = subst (λ d. Holds d to reads.lines) reads.over h in
     spelled-as text to.version (bundle_of to) to.run to.site to.marks over.so_far (reads.text_is ∙ ap text_of over.lines_are)

@@ -8,7 +8,7 @@ use Rattle.report_file.specs.declared.run_line.RunLine.{RunLine}
 use Rattle.report_file.specs.RunLine.{run_line_fields}
 use Rattle.report_file.specs.Spelling.{site_fields}
 use Rattle.collector.specs.declared.draft.Draft.{Draft}
-use Rattle.collector.specs.Grammar.{EndFollows, RunFollows, SiteFollows}
+use Rattle.collector.specs.Grammar.{EndFollows, RunFollows, RunSiteFollows}
 
 pub run-begins : (v : Version) (x : RunLine) (line : List ℕ) → line ≡ spaced (run_line_fields v x) → get_or line 0 0 ≡ 114
 run-begins First x line is = ap (λ l. get_or l 0 0) is
@@ -21,18 +21,18 @@ pub end-begins : (line : List ℕ) → line ≡ codes "end" → get_or line 0 0 
 end-begins line is = ap (λ l. get_or l 0 0) is
 
 abbrev AnyFollows : Draft → List ℕ → Draft → Type 0
-AnyFollows d line next = RunFollows d line next ⊎ (SiteFollows d line next ⊎ EndFollows d line next)
+AnyFollows d line next = RunFollows d line next ⊎ (RunSiteFollows d line next ⊎ EndFollows d line next)
 
 pub only-run : (d : Draft) (line : List ℕ) (next : Draft) → get_or line 0 0 ≡ 114 → AnyFollows d line next → RunFollows d line next
 only-run d line next begins s =
-    ⊎_elim (λ (run : RunFollows d line next). run) (λ (other : SiteFollows d line next ⊎ EndFollows d line next). ⊎_elim (λ (site : SiteFollows d line next). let a = site-begins site.value line site.line_is in absurd (omega arith))
+    ⊎_elim (λ (run : RunFollows d line next). run) (λ (other : RunSiteFollows d line next ⊎ EndFollows d line next). ⊎_elim (λ (site : RunSiteFollows d line next). let a = site-begins site.value line site.line_is in absurd (omega arith))
     (λ (over : EndFollows d line next). let a = end-begins line over.line_is in absurd (omega arith)) other) s
 
-pub only-site : (d : Draft) (line : List ℕ) (next : Draft) → (get_or line 0 0 ≡ 114 → ⊥) → (line ≡ codes "end" → ⊥) → AnyFollows d line next → SiteFollows d line next
+pub only-site : (d : Draft) (line : List ℕ) (next : Draft) → (get_or line 0 0 ≡ 114 → ⊥) → (line ≡ codes "end" → ⊥) → AnyFollows d line next → RunSiteFollows d line next
 only-site d line next no_run no_end s =
-    ⊎_elim (λ (run : RunFollows d line next). absurd (no_run (run-begins d.version run.value line run.line_is))) (λ (other : SiteFollows d line next ⊎ EndFollows d line next). ⊎_elim (λ (site : SiteFollows d line next). site) (λ (over : EndFollows d line next). absurd (no_end over.line_is)) other) s
+    ⊎_elim (λ (run : RunFollows d line next). absurd (no_run (run-begins d.version run.value line run.line_is))) (λ (other : RunSiteFollows d line next ⊎ EndFollows d line next). ⊎_elim (λ (site : RunSiteFollows d line next). site) (λ (over : EndFollows d line next). absurd (no_end over.line_is)) other) s
 
 pub only-end : (d : Draft) (line : List ℕ) (next : Draft) → line ≡ codes "end" → AnyFollows d line next → EndFollows d line next
 only-end d line next is s =
     let first = end-begins line is in
-    ⊎_elim (λ (run : RunFollows d line next). let a = run-begins d.version run.value line run.line_is in absurd (omega arith)) (λ (other : SiteFollows d line next ⊎ EndFollows d line next). ⊎_elim (λ (site : SiteFollows d line next). let a = site-begins site.value line site.line_is in absurd (omega arith)) (λ (over : EndFollows d line next). over) other) s
+    ⊎_elim (λ (run : RunFollows d line next). let a = run-begins d.version run.value line run.line_is in absurd (omega arith)) (λ (other : RunSiteFollows d line next ⊎ EndFollows d line next). ⊎_elim (λ (site : RunSiteFollows d line next). let a = site-begins site.value line site.line_is in absurd (omega arith)) (λ (over : EndFollows d line next). over) other) s

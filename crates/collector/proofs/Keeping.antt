@@ -16,7 +16,7 @@ use Rattle.report_file.specs.declared.report.Report.{Report}
 use Rattle.report_file.specs.Report.{IsReport}
 use Rattle.collector.specs.Sites.{first_bad}
 use Rattle.collector.specs.Collected.{marks_of, next_after, report_at, with_report, without_report}
-use Rattle.collector.specs.Kept.{AreHeld, IsHeld}
+use Rattle.collector.specs.Kept.{AreHeld, IsHeldReport}
 
 abbrev pub reports_in : List (ℕ × Report) → List Report
 reports_in entries = map (λ e. e.1) entries
@@ -55,13 +55,13 @@ values-insert program branches r (e ∷ more) are =
     ∙ ap (λ rest. cond (nat_lt r.run e.0) (r ∷ e.1 ∷ reports_in more) (cond (r.run == e.0) (r ∷ reports_in more) (e.1 ∷ rest))) (values-insert program branches r more are.1)
     ∙ ap (λ k. cond (nat_lt r.run k) (r ∷ e.1 ∷ reports_in more) (cond (r.run == k) (r ∷ reports_in more) (e.1 ∷ with_report r (reports_in more)))) are.0.run_is
 
-held-tests : (p q : Bool) (program : ProgramId) (branches : List Bool) (run : ℕ) (r : Report) (e : ℕ × Report) (more rest : List (ℕ × Report)) → (q ≡ true → run ≡ e.0) → IsHeld program branches run r → IsHeld program branches e.0 e.1 → AreHeld program branches more → AreHeld program branches rest → AreHeld program branches (entries_by p q run r e more rest)
+held-tests : (p q : Bool) (program : ProgramId) (branches : List Bool) (run : ℕ) (r : Report) (e : ℕ × Report) (more rest : List (ℕ × Report)) → (q ≡ true → run ≡ e.0) → IsHeldReport program branches run r → IsHeldReport program branches e.0 e.1 → AreHeld program branches more → AreHeld program branches rest → AreHeld program branches (entries_by p q run r e more rest)
 held-tests true q program branches run r e more rest same is first are others = (is, (first, are))
 held-tests false true program branches run r e more rest same is first are others =
     (record { run_is = sym (same refl) ∙ is.run_is; is_report = is.is_report; program_is = is.program_is; sites = is.sites }, are)
 held-tests false false program branches run r e more rest same is first are others = (first, others)
 
-pub held-insert : (program : ProgramId) (branches : List Bool) (r : Report) (entries : List (ℕ × Report)) → IsHeld program branches r.run r → AreHeld program branches entries → AreHeld program branches (insert_entry nat_cmp entries r.run r)
+pub held-insert : (program : ProgramId) (branches : List Bool) (r : Report) (entries : List (ℕ × Report)) → IsHeldReport program branches r.run r → AreHeld program branches entries → AreHeld program branches (insert_entry nat_cmp entries r.run r)
 held-insert program branches r [] is are = (is, tt)
 held-insert program branches r (e ∷ more) is are =
     held-tests (nat_lt r.run e.0) (r.run == e.0) program branches r.run r e more (insert_entry nat_cmp more r.run r) (eqb-true r.run e.0) is are.0 are.1 (held-insert program branches r more is are.1)
@@ -97,7 +97,7 @@ values-remove program branches run (e ∷ more) are =
     ∙ ap (λ b. cond b (reports_in more) (e.1 ∷ reports_in (remove_entry (is_at (nat_cmp run)) more))) (is_eq-nat_cmp run e.0 ∙ ap (λ k. run == k) are.0.run_is)
     ∙ ap (λ rest. cond (run == e.1.run) (reports_in more) (e.1 ∷ rest)) (values-remove program branches run more are.1)
 
-left-tests : (b : Bool) (program : ProgramId) (branches : List Bool) (e : ℕ × Report) (more rest : List (ℕ × Report)) → IsHeld program branches e.0 e.1 → AreHeld program branches more → AreHeld program branches rest → AreHeld program branches (cond b more (e ∷ rest))
+left-tests : (b : Bool) (program : ProgramId) (branches : List Bool) (e : ℕ × Report) (more rest : List (ℕ × Report)) → IsHeldReport program branches e.0 e.1 → AreHeld program branches more → AreHeld program branches rest → AreHeld program branches (cond b more (e ∷ rest))
 left-tests true program branches e more rest first are others = are
 left-tests false program branches e more rest first are others = (first, others)
 
@@ -168,7 +168,7 @@ pub record IsFound (program : ProgramId) (branches : List Bool) (r : Report) : T
   pub program_is : r.program ≡ program
   pub sites : first_bad branches r.entries ≡ None
 
-found-tests : (b : Bool) (program : ProgramId) (branches : List Bool) (e : ℕ × Report) (rest : Option Report) (r : Report) → IsHeld program branches e.0 e.1 → (rest ≡ Some r → IsFound program branches r) → cond b (Some e.1) rest ≡ Some r → IsFound program branches r
+found-tests : (b : Bool) (program : ProgramId) (branches : List Bool) (e : ℕ × Report) (rest : Option Report) (r : Report) → IsHeldReport program branches e.0 e.1 → (rest ≡ Some r → IsFound program branches r) → cond b (Some e.1) rest ≡ Some r → IsFound program branches r
 found-tests true program branches e rest r is others found =
     subst (IsFound program branches) (some-is found) (record { is_report = is.is_report; program_is = is.program_is; sites = is.sites })
 found-tests false program branches e rest r is others found = others found

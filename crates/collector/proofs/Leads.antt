@@ -23,12 +23,12 @@ use Rattle.collector.specs.declared.collection.Bundle.{Bundle}
 use Rattle.collector.specs.declared.draft.Draft.{Draft}
 use Rattle.collector.specs.declared.draft.Due.TheVariants as due
 use Rattle.collector.specs.Collected.{mark_limit, marks_of, report_limit}
-use Rattle.collector.specs.Grammar.{Ends, Follows, RunFollows, begun, closed, start}
+use Rattle.collector.specs.Grammar.{BundleEnds, BundleLineFollows, RunFollows, begun, bundle_start, closed}
 use Rattle.collector.specs.Merging.{AreOf, AreReports}
-use Rattle.collector.specs.Spelling.{ArePlain, IsText, RunsFrom, SpellsBundle, WithLabels, Without, bundle_rows, report_rows, title_fields}
+use Rattle.collector.specs.Spelling.{HavePlainLabels, IsText, RunsFrom, SpellsBundle, WithLabels, Without, bundle_rows, bundle_title, report_rows}
 
-leads-append : (xs ys : List (List ℕ)) (a b c : Draft) → LeadsTo Follows a xs b → LeadsTo Follows b ys c → LeadsTo Follows a (xs ++ ys) c
-leads-append [] ys a b c first second = subst (λ d. LeadsTo Follows d ys c) (sym first) second
+leads-append : (xs ys : List (List ℕ)) (a b c : Draft) → LeadsTo BundleLineFollows a xs b → LeadsTo BundleLineFollows b ys c → LeadsTo BundleLineFollows a (xs ++ ys) c
+leads-append [] ys a b c first second = subst (λ d. LeadsTo BundleLineFollows d ys c) (sym first) second
 leads-append (x ∷ xs) ys a b c first second = (first.0, first.1, leads-append xs ys first.0 b c first.2 second)
 
 -- a draft among the runs
@@ -48,7 +48,7 @@ at alloc program v reports current run site marks = record {
 abbrev with_entries : Report → List Entry → Report
 with_entries r entries = record r { entries = entries }
 
-sites-lead : (alloc : Global) (program : ProgramId) (v : Version) (reports : List Report) (r : Report) (run : ℕ) (done more : List Entry) (site marks : ℕ) → AreEntries more → RiseFrom site more → marks + length more ≤ mark_limit → LeadsTo Follows (at alloc program v reports (Some (with_entries r done)) run site marks) (map spaced (map site_fields more)) (at alloc program v reports (Some (with_entries r (done ++ more))) run (end_of site more) (marks + length more))
+sites-lead : (alloc : Global) (program : ProgramId) (v : Version) (reports : List Report) (r : Report) (run : ℕ) (done more : List Entry) (site marks : ℕ) → AreEntries more → RiseFrom site more → marks + length more ≤ mark_limit → LeadsTo BundleLineFollows (at alloc program v reports (Some (with_entries r done)) run site marks) (map spaced (map site_fields more)) (at alloc program v reports (Some (with_entries r (done ++ more))) run (end_of site more) (marks + length more))
 sites-lead alloc program v reports r run done [] site marks are rise fits =
     let same : marks ≡ marks + length (let none : List Entry = [] in none) = omega arith in
     ap (λ es. at alloc program v reports (Some (with_entries r es)) run site marks) (sym (append-nil done)) ∙ ap (λ m. at alloc program v reports (Some (with_entries r (done ++ []))) run site m) same
@@ -65,8 +65,8 @@ sites-lead alloc program v reports r run done (e ∷ more) site marks are rise f
         line_is = refl;
         after_is = refl;
       })),
-      subst (λ m. LeadsTo Follows (at alloc program v reports (Some (with_entries r (done ++ e ∷ []))) run (e.site + 1) (marks + 1)) (map spaced (map site_fields more)) (at alloc program v reports (Some (with_entries r (done ++ e ∷ more))) run (end_of (e.site + 1) more) m)) number
-          (subst (λ es. LeadsTo Follows (at alloc program v reports (Some (with_entries r (done ++ e ∷ []))) run (e.site + 1) (marks + 1)) (map spaced (map site_fields more)) (at alloc program v reports (Some (with_entries r es)) run (end_of (e.site + 1) more) ((marks + 1) + length more))) (append_assoc done (e ∷ []) more) rest),
+      subst (λ m. LeadsTo BundleLineFollows (at alloc program v reports (Some (with_entries r (done ++ e ∷ []))) run (e.site + 1) (marks + 1)) (map spaced (map site_fields more)) (at alloc program v reports (Some (with_entries r (done ++ e ∷ more))) run (end_of (e.site + 1) more) m)) number
+          (subst (λ es. LeadsTo BundleLineFollows (at alloc program v reports (Some (with_entries r (done ++ e ∷ []))) run (e.site + 1) (marks + 1)) (map spaced (map site_fields more)) (at alloc program v reports (Some (with_entries r es)) run (end_of (e.site + 1) more) ((marks + 1) + length more))) (append_assoc done (e ∷ []) more) rest),
     )
 
 -- where the lines of reports lead: all of them are there
@@ -76,7 +76,7 @@ record Arrives (alloc : Global) (program : ProgramId) (v : Version) (from : Draf
   run : ℕ
   site : ℕ
   marks : ℕ
-  leads : LeadsTo Follows from lines (at alloc program v reports current run site marks)
+  leads : LeadsTo BundleLineFollows from lines (at alloc program v reports current run site marks)
   whole_is : reports ++ option_to_list current ≡ all
 
 abbrev AllOf : ProgramId → List Report → Type 0
@@ -86,7 +86,7 @@ AllOf program (r ∷ more) = (r.program ≡ program) × AllOf program more
 pub is-run-line : (v : Version) (r : Report) → IsReport r → (v ≡ version.First → r.label ≡ label_of r.outcome true) → IsRunLine v (line_of r)
 is-run-line v r is plain = record { run = is.run; outcome = is.outcome; work = is.work; label = plain }
 
-reports-lead : (alloc : Global) (program : ProgramId) (v : Version) (reports : List Report) (current : Option Report) (run site marks : ℕ) (more : List Report) → AreReports more → AllOf program more → (v ≡ version.First → ArePlain more) → RunsFrom run more → length (reports ++ option_to_list current) + length more ≤ report_limit → marks + marks_of more ≤ mark_limit → Arrives alloc program v (at alloc program v reports current run site marks) (map spaced (flat_map (report_rows v) more)) ((reports ++ option_to_list current) ++ more)
+reports-lead : (alloc : Global) (program : ProgramId) (v : Version) (reports : List Report) (current : Option Report) (run site marks : ℕ) (more : List Report) → AreReports more → AllOf program more → (v ≡ version.First → HavePlainLabels more) → RunsFrom run more → length (reports ++ option_to_list current) + length more ≤ report_limit → marks + marks_of more ≤ mark_limit → Arrives alloc program v (at alloc program v reports current run site marks) (map spaced (flat_map (report_rows v) more)) ((reports ++ option_to_list current) ++ more)
 reports-lead alloc program v reports current run site marks [] are ours plain rise few fits = record {
   reports = reports;
   current = current;
@@ -103,7 +103,7 @@ reports-lead alloc program v reports current run site marks (r ∷ more) are our
     let same : read ≡ r = ap (λ p. record r { program = p }) (sym ours.0) in
     let first = at alloc program v whole (Some (begun program x)) (r.run + 1) 0 marks in
     let second = at alloc program v whole (Some read) (r.run + 1) (end_of 0 r.entries) (marks + length r.entries) in
-    let sites : LeadsTo Follows first (map spaced (map site_fields r.entries)) second = sites-lead alloc program v whole (begun program x) (r.run + 1) [] r.entries 0 marks are.0.entries are.0.rising (omega arith) in
+    let sites : LeadsTo BundleLineFollows first (map spaced (map site_fields r.entries)) second = sites-lead alloc program v whole (begun program x) (r.run + 1) [] r.entries 0 marks are.0.entries are.0.rising (omega arith) in
     let rest = reports-lead alloc program v whole (Some read) (r.run + 1) (end_of 0 r.entries) (marks + length r.entries) more are.1 ours.1 (λ e. (plain e).1) rise.1 (omega (arith, length-append {A = Report} whole (read ∷ []))) (omega arith) in
     let to = at alloc program v rest.reports rest.current rest.run rest.site rest.marks in
     let line : RunFollows (at alloc program v reports current run site marks) (spaced (run_line_fields v x)) first = record { value = x; is_line = is-run-line v r are.0 (λ e. (plain e).0); rises = rise.0; room = omega arith; line_is = refl; after_is = refl } in
@@ -113,7 +113,7 @@ reports-lead alloc program v reports current run site marks (r ∷ more) are our
       run = rest.run;
       site = rest.site;
       marks = rest.marks;
-      leads = (first, inl line, subst (λ lines. LeadsTo Follows first lines to) (sym (map-append spaced (map site_fields r.entries) (flat_map (report_rows v) more))) behind);
+      leads = (first, inl line, subst (λ lines. LeadsTo BundleLineFollows first lines to) (sym (map-append spaced (map site_fields r.entries) (flat_map (report_rows v) more))) behind);
       whole_is = rest.whole_is ∙ append_assoc whole (read ∷ []) more ∙ ap (λ y. whole ++ y ∷ more) same;
     }
 
@@ -129,33 +129,33 @@ rows-append : (xs ys : List (List (List ℕ))) → AllByRecursion IsRow xs → A
 rows-append [] ys all more = more
 rows-append (x ∷ xs) ys all more = (all.0, rows-append xs ys all.1 more)
 
-report-rows : (v : Version) (reports : List Report) → AreReports reports → (v ≡ version.First → ArePlain reports) → AllByRecursion IsRow (flat_map (report_rows v) reports)
+report-rows : (v : Version) (reports : List Report) → AreReports reports → (v ≡ version.First → HavePlainLabels reports) → AllByRecursion IsRow (flat_map (report_rows v) reports)
 report-rows v [] are plain = tt
 report-rows v (r ∷ more) are plain =
     rows-append (report_rows v r) (flat_map (report_rows v) more) (run-row v (line_of r) (is-run-line v r are.0 (λ e. (plain e).0)), site-rows r.entries are.0.entries) (report-rows v more are.1 (λ e. (plain e).1))
 
-title-row : (v : Version) → IsRow (title_fields v)
+title-row : (v : Version) → IsRow (bundle_title v)
 title-row version.First = (refl, (refl, tt))
 title-row version.Second = (refl, (refl, tt))
 
 -- what is spelled so is read
 pub record IsRead (alloc : Global) (text : List ℕ) (b : Bundle) : Type 0 where
   pub to : Draft
-  pub reads : ReadsLines Follows Ends (start alloc) text to
+  pub reads : ReadsLines BundleLineFollows BundleEnds (bundle_start alloc) text to
   pub program_is : to.program ≡ b.program
   pub reports_are : to.reports ≡ b.reports
 
-text-reads : (alloc : Global) (v : Version) (text : List ℕ) (b : Bundle) → IsText b → (v ≡ version.First → ArePlain b.reports) → text ≡ text_of (map spaced (bundle_rows v b)) → IsRead alloc text b
+text-reads : (alloc : Global) (v : Version) (text : List ℕ) (b : Bundle) → IsText b → (v ≡ version.First → HavePlainLabels b.reports) → text ≡ text_of (map spaced (bundle_rows v b)) → IsRead alloc text b
 text-reads alloc v text b is plain text_is =
-    let s1 : Draft = record (start alloc) { due = due.Program; version = v } in
+    let s1 : Draft = record (bundle_start alloc) { due = due.Program; version = v } in
     let s2 = at alloc b.program v [] None 0 0 0 in
     let all = reports-lead alloc b.program v [] None 0 0 0 b.reports is.reports (all-of b b.reports is.ours) plain is.rising (omega (arith, is.few)) (omega (arith, is.few_marks)) in
     let s3 = at alloc b.program v all.reports all.current all.run all.site all.marks in
     let to : Draft = record (closed s3) { due = due.Nothing } in
     let end_row : List (List ℕ) = codes "end" ∷ [] in
     let rows = flat_map (report_rows v) b.reports in
-    let last : LeadsTo Follows s3 (map spaced (end_row ∷ [])) to = (to, inr (inr (record { line_is = refl; after_is = refl })), refl) in
-    let body : LeadsTo Follows s2 (map spaced (rows ++ end_row ∷ [])) to = subst (λ lines. LeadsTo Follows s2 lines to) (sym (map-append spaced rows (end_row ∷ []))) (leads-append (map spaced rows) (map spaced (end_row ∷ [])) s2 s3 to all.leads last) in record {
+    let last : LeadsTo BundleLineFollows s3 (map spaced (end_row ∷ [])) to = (to, inr (inr (record { line_is = refl; after_is = refl })), refl) in
+    let body : LeadsTo BundleLineFollows s2 (map spaced (rows ++ end_row ∷ [])) to = subst (λ lines. LeadsTo BundleLineFollows s2 lines to) (sym (map-append spaced rows (end_row ∷ []))) (leads-append (map spaced rows) (map spaced (end_row ∷ [])) s2 s3 to all.leads last) in record {
       to = to;
       reads = record {
         lines = map spaced (bundle_rows v b);

@@ -7,7 +7,7 @@ use Rattle.cbi_base.proofs.NumberLemmas.{none-some, some-is}
 use Rattle.report_file.specs.declared.label.Label.{Label}
 use Rattle.report_file.specs.declared.report.Report.{Report}
 use Rattle.collector.specs.Collected.{next_after, relabelled, report_at, with_report, without_report}
-use Rattle.collector.specs.Order.{IsOneOf}
+use Rattle.collector.specs.Order.{IsOneOfReports}
 use Rattle.collector.proofs.Ordering.{AreAbove, AreRising, above-member, with_by}
 
 same-run : (n : ℕ) → (n == n) ≡ true
@@ -85,20 +85,20 @@ at-relabelled-other run other label (x ∷ more) apart = keeps-tests (other == x
 
 -- the report with the least run above another one
 abbrev pub IsLeastAbove : ℕ → List Report → Report → Type 0
-IsLeastAbove run reports next = IsOneOf next reports × (run < next.run) × ((other : Report) → IsOneOf other reports → run < other.run → next.run ≤ other.run)
+IsLeastAbove run reports next = IsOneOfReports next reports × (run < next.run) × ((other : Report) → IsOneOfReports other reports → run < other.run → next.run ≤ other.run)
 
 least-here : (run : ℕ) (x : Report) (more : List Report) → nat_lt run x.run ≡ true → AreAbove x.run more → IsLeastAbove run (x ∷ more) x
 least-here run x more test above = (
   inl refl,
   ltb-true run x.run test,
-  λ other is h. ⊎_elim (λ (same : other ≡ x). let n = ap (λ (z : Report). z.run) same in omega arith) (λ (behind : IsOneOf other more). let less = above-member x.run more other above behind in omega arith) is,
+  λ other is h. ⊎_elim (λ (same : other ≡ x). let n = ap (λ (z : Report). z.run) same in omega arith) (λ (behind : IsOneOfReports other more). let less = above-member x.run more other above behind in omega arith) is,
 )
 
 least-later : (run : ℕ) (x : Report) (more : List Report) (next : Report) → nat_lt run x.run ≡ false → IsLeastAbove run more next → IsLeastAbove run (x ∷ more) next
 least-later run x more next test rest = (
   inr rest.0,
   rest.1,
-  λ other is h. ⊎_elim (λ (same : other ≡ x). let n = ap (λ (z : Report). z.run) same in let low = not-less run x.run test in absurd (omega arith)) (λ (behind : IsOneOf other more). rest.2 other behind h) is,
+  λ other is h. ⊎_elim (λ (same : other ≡ x). let n = ap (λ (z : Report). z.run) same in let low = not-less run x.run test in absurd (omega arith)) (λ (behind : IsOneOfReports other more). rest.2 other behind h) is,
 )
 
 next-tests : (b : Bool) (run : ℕ) (x next : Report) (more : List Report) → nat_lt run x.run ≡ b → AreAbove x.run more → (next_after run more ≡ Some next → IsLeastAbove run more next) → cond b (Some x) (next_after run more) ≡ Some next → IsLeastAbove run (x ∷ more) next
@@ -109,11 +109,11 @@ pub next-least : (run : ℕ) (reports : List Report) (next : Report) → AreRisi
 next-least run [] next rising found = absurd (none-some found)
 next-least run (x ∷ more) next rising found = next-tests (nat_lt run x.run) run x next more refl rising.0 (next-least run more next rising.1) found
 
-none-tests : (b : Bool) (run : ℕ) (x other : Report) (more : List Report) → nat_lt run x.run ≡ b → (next_after run more ≡ None → IsOneOf other more → other.run ≤ run) → cond b (Some x) (next_after run more) ≡ None → IsOneOf other (x ∷ more) → other.run ≤ run
+none-tests : (b : Bool) (run : ℕ) (x other : Report) (more : List Report) → nat_lt run x.run ≡ b → (next_after run more ≡ None → IsOneOfReports other more → other.run ≤ run) → cond b (Some x) (next_after run more) ≡ None → IsOneOfReports other (x ∷ more) → other.run ≤ run
 none-tests true run x other more test rest none is = absurd (none-some (sym none))
 none-tests false run x other more test rest none is =
-    ⊎_elim (λ (same : other ≡ x). let n = ap (λ (z : Report). z.run) same in let low = not-less run x.run test in omega arith) (λ (behind : IsOneOf other more). rest none behind) is
+    ⊎_elim (λ (same : other ≡ x). let n = ap (λ (z : Report). z.run) same in let low = not-less run x.run test in omega arith) (λ (behind : IsOneOfReports other more). rest none behind) is
 
-pub next-no : (run : ℕ) (reports : List Report) (other : Report) → next_after run reports ≡ None → IsOneOf other reports → other.run ≤ run
+pub next-no : (run : ℕ) (reports : List Report) (other : Report) → next_after run reports ≡ None → IsOneOfReports other reports → other.run ≤ run
 next-no run [] other none is = absurd is
 next-no run (x ∷ more) other none is = none-tests (nat_lt run x.run) run x other more refl (next-no run more other) none is

@@ -17,7 +17,7 @@ use Rattle.report_file.specs.declared.run_line.RunLine.{RunLine}
 use Rattle.report_file.specs.Fields.{entry_of_fields}
 use Rattle.report_file.specs.Grammar as report_grammar
 use Rattle.report_file.specs.Report.{IsEntry}
-use Rattle.report_file.specs.RunLine.{IsRunLine, first_of, run_line_fields, second_of}
+use Rattle.report_file.specs.RunLine.{IsRunLine, first_run_line, run_line_fields, second_of}
 use Rattle.report_file.specs.Spelling.{program_fields, site_fields}
 use Rattle.report_file.proofs.LineLemmas.{entry-reads}
 use Rattle.report_file.proofs.Once.{leads-once as report-leads-once, once}
@@ -26,12 +26,12 @@ use Rattle.collector.specs.declared.collection.Bundle.{Bundle}
 use Rattle.collector.specs.declared.draft.Draft.{Draft}
 use Rattle.collector.specs.declared.draft.Due.{Due}
 use Rattle.collector.specs.declared.draft.Due.TheVariants as due
-use Rattle.collector.specs.Grammar.{Comes, EndFollows, Ends, Follows, RunFollows, SiteFollows, begun, start, whole}
-use Rattle.collector.specs.Spelling.{SpellsBundle, title_fields}
+use Rattle.collector.specs.Grammar.{BundleEnds, BundleLineComes, BundleLineFollows, EndFollows, RunFollows, RunSiteFollows, begun, bundle_start, whole}
+use Rattle.collector.specs.Spelling.{SpellsBundle, bundle_title}
 use Rattle.collector.proofs.Choices.{end-begins, only-end, only-run, only-site, run-begins, site-begins}
 use Rattle.collector.proofs.Leads.{spelled-reads}
 
-title-once : (line : List ℕ) (x y : Version) → line ≡ spaced (title_fields x) → line ≡ spaced (title_fields y) → x ≡ y
+title-once : (line : List ℕ) (x y : Version) → line ≡ spaced (bundle_title x) → line ≡ spaced (bundle_title y) → x ≡ y
 title-once line version.First version.First is_x is_y = refl
 title-once line version.Second version.Second is_x is_y = refl
 title-once line version.First version.Second is_x is_y = let e = ap (λ l. get_or l 15 0) (sym is_x ∙ is_y) in absurd (omega arith)
@@ -39,9 +39,9 @@ title-once line version.Second version.First is_x is_y = let e = ap (λ l. get_o
 
 -- a report has the line of its program too
 abbrev before_program : report.Draft
-before_program = record report_grammar.start { due = report_due.Program }
+before_program = record report_grammar.report_start { due = report_due.Program }
 
-program-set : (line : List ℕ) (x : ProgramId) → IsId x → line ≡ spaced (program_fields x) → report_grammar.Follows before_program line (report_grammar.with_program before_program x)
+program-set : (line : List ℕ) (x : ProgramId) → IsId x → line ≡ spaced (program_fields x) → report_grammar.ReportLineFollows before_program line (report_grammar.with_program before_program x)
 program-set line x is line_is = record { value = x; is_good = is; line_is = line_is; after_is = refl }
 
 program-once : (line : List ℕ) (x y : ProgramId) → IsId x → IsId y → line ≡ spaced (program_fields x) → line ≡ spaced (program_fields y) → x ≡ y
@@ -49,7 +49,7 @@ program-once line x y is_x is_y line_x line_y =
     ap (λ (d : report.Draft). d.report.program) (report-leads-once before_program line (report_grammar.with_program before_program x) (report_grammar.with_program before_program y) (program-set line x is_x line_x) (program-set line y is_y line_y))
 
 line-once : (v : Version) (line : List ℕ) (x y : RunLine) → IsRunLine v x → IsRunLine v y → line ≡ spaced (run_line_fields v x) → line ≡ spaced (run_line_fields v y) → x ≡ y
-line-once version.First line x y is_x is_y line_x line_y = once (run_line_fields version.First) (IsRunLine version.First) line (first_of (fields_of line)) (first-reads line (first_of (fields_of line)) refl) x y is_x is_y line_x line_y
+line-once version.First line x y is_x is_y line_x line_y = once (run_line_fields version.First) (IsRunLine version.First) line (first_run_line (fields_of line)) (first-reads line (first_run_line (fields_of line)) refl) x y is_x is_y line_x line_y
 line-once version.Second line x y is_x is_y line_x line_y = once (run_line_fields version.Second) (IsRunLine version.Second) line (second_of (fields_of line)) (second-reads line (second_of (fields_of line)) refl) x y is_x is_y line_x line_y
 
 run-same : (d : Draft) (line : List ℕ) (a b : Draft) → RunFollows d line a → RunFollows d line b → a ≡ b
@@ -58,7 +58,7 @@ run-same d line a b s t =
     ∙ ap (λ (x : RunLine). record d { reports = whole d; current = Some (begun d.program x); run = x.run + 1; site = 0 }) (line-once d.version line s.value t.value s.is_line t.is_line s.line_is t.line_is)
     ∙ sym t.after_is
 
-site-same : (d : Draft) (line : List ℕ) (a b : Draft) → SiteFollows d line a → SiteFollows d line b → a ≡ b
+site-same : (d : Draft) (line : List ℕ) (a b : Draft) → RunSiteFollows d line a → RunSiteFollows d line b → a ≡ b
 site-same d line a b s t =
     let entry : s.value ≡ t.value = once site_fields IsEntry line (entry_of_fields (fields_of line)) (entry-reads line (entry_of_fields (fields_of line)) refl) s.value t.value s.is_next.is_entry t.is_next.is_entry s.line_is t.line_is in
     let current : s.report ≡ t.report = some-is (sym s.is_current ∙ t.is_current) in
@@ -71,17 +71,17 @@ site-alone : (line : List ℕ) (e : Entry) → line ≡ spaced (site_fields e) �
 site-alone line e is =
     let first = site-begins e line is in (λ r. omega arith, λ over. let other = end-begins line over in omega arith)
 
-comes-once : (due : Due) (d : Draft) (line : List ℕ) (a b : Draft) → Comes due d line a → Comes due d line b → a ≡ b
+comes-once : (due : Due) (d : Draft) (line : List ℕ) (a b : Draft) → BundleLineComes due d line a → BundleLineComes due d line b → a ≡ b
 comes-once due.Title d line a b s t =
     s.after_is ∙ ap (λ v. record d { due = due.Program; version = v }) (title-once line s.value t.value s.line_is t.line_is) ∙ sym t.after_is
 comes-once due.Program d line a b s t =
     s.after_is ∙ ap (λ p. record d { due = due.Runs; program = p }) (program-once line s.value t.value s.is_id t.is_id s.line_is t.line_is) ∙ sym t.after_is
 comes-once due.Runs d line a b s t =
     ⊎_elim (λ (run : RunFollows d line a). run-same d line a b run (only-run d line b (run-begins d.version run.value line run.line_is) t))
-    (λ (other : SiteFollows d line a ⊎ EndFollows d line a). ⊎_elim (λ (site : SiteFollows d line a). let alone = site-alone line site.value site.line_is in site-same d line a b site (only-site d line b alone.0 alone.1 t)) (λ (over : EndFollows d line a). over.after_is ∙ sym (only-end d line b over.line_is t).after_is) other) s
+    (λ (other : RunSiteFollows d line a ⊎ EndFollows d line a). ⊎_elim (λ (site : RunSiteFollows d line a). let alone = site-alone line site.value site.line_is in site-same d line a b site (only-site d line b alone.0 alone.1 t)) (λ (over : EndFollows d line a). over.after_is ∙ sym (only-end d line b over.line_is t).after_is) other) s
 comes-once due.Nothing d line a b s t = absurd s
 
-pub leads-once : LeadsOnce Follows
+pub leads-once : LeadsOnce BundleLineFollows
 leads-once = λ from line a b x y. comes-once from.due from line a b x y
 
 same-bundle : (a b : Bundle) → a.program ≡ b.program → a.reports ≡ b.reports → a ≡ b
@@ -91,5 +91,5 @@ pub spells-once : (alloc : Global) (bytes : List ℕ) (a b : Bundle) → SpellsB
 spells-once alloc bytes a b spells_a spells_b =
     let x = spelled-reads alloc bytes a spells_a in
     let y = spelled-reads alloc bytes b spells_b in
-    let same = reads-once Follows Ends leads-once (start alloc) x.to y.to bytes x.reads y.reads in
+    let same = reads-once BundleLineFollows BundleEnds leads-once (bundle_start alloc) x.to y.to bytes x.reads y.reads in
     same-bundle a b (sym x.program_is ∙ ap (λ (d : Draft). d.program) same ∙ y.program_is) (sym x.reports_are ∙ ap (λ (d : Draft). d.reports) same ∙ y.reports_are)

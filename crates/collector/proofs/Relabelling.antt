@@ -8,7 +8,7 @@ use Rattle.cbi_base.proofs.NumberLemmas.{none-some, some-is}
 use Rattle.report_file.specs.declared.label.Label.{Label}
 use Rattle.report_file.specs.declared.report.Report.{Report}
 use Rattle.collector.specs.Collected.{marks_of, relabelled, report_at}
-use Rattle.collector.specs.Kept.{AreHeld, IsHeld}
+use Rattle.collector.specs.Kept.{AreHeld, IsHeldReport}
 use Rattle.collector.proofs.Keeping.{is_eq-nat_cmp, reports_in}
 
 abbrev pub with_label : Label → Report → Report
@@ -30,7 +30,7 @@ values-set program branches run label r (e ∷ more) are found =
     ∙ label-tests (run == e.1.run) run label r e.1 (reports_in more) (reports_in (set_value (is_at (nat_cmp run)) more (with_label label r))) found (values-set program branches run label r more are.1)
 
 -- a report with another label can be spelled too
-relabelled-held : (program : ProgramId) (branches : List Bool) (key : ℕ) (label : Label) (r : Report) → IsHeld program branches key r → IsHeld program branches key (with_label label r)
+relabelled-held : (program : ProgramId) (branches : List Bool) (key : ℕ) (label : Label) (r : Report) → IsHeldReport program branches key r → IsHeldReport program branches key (with_label label r)
 relabelled-held program branches key label r is = record {
   run_is = is.run_is;
   is_report = record {
@@ -45,9 +45,9 @@ relabelled-held program branches key label r is = record {
   sites = is.sites;
 }
 
-set-held-tests : (b c : Bool) (program : ProgramId) (branches : List Bool) (run : ℕ) (label : Label) (r : Report) (e : ℕ × Report) (more rest : List (ℕ × Report)) → b ≡ c → cond c (Some e.1) (report_at run (reports_in more)) ≡ Some r → IsHeld program branches e.0 e.1 → AreHeld program branches more → (report_at run (reports_in more) ≡ Some r → AreHeld program branches rest) → AreHeld program branches (cond b ((e.0, with_label label r) ∷ more) (e ∷ rest))
+set-held-tests : (b c : Bool) (program : ProgramId) (branches : List Bool) (run : ℕ) (label : Label) (r : Report) (e : ℕ × Report) (more rest : List (ℕ × Report)) → b ≡ c → cond c (Some e.1) (report_at run (reports_in more)) ≡ Some r → IsHeldReport program branches e.0 e.1 → AreHeld program branches more → (report_at run (reports_in more) ≡ Some r → AreHeld program branches rest) → AreHeld program branches (cond b ((e.0, with_label label r) ∷ more) (e ∷ rest))
 set-held-tests true true program branches run label r e more rest is found first are others =
-    (subst (λ y. IsHeld program branches e.0 (with_label label y)) (some-is found) (relabelled-held program branches e.0 label e.1 first), are)
+    (subst (λ y. IsHeldReport program branches e.0 (with_label label y)) (some-is found) (relabelled-held program branches e.0 label e.1 first), are)
 set-held-tests false false program branches run label r e more rest is found first are others = (first, others found)
 set-held-tests true false program branches run label r e more rest is found first are others = absurd cc
 set-held-tests false true program branches run label r e more rest is found first are others = absurd cc

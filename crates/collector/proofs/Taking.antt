@@ -14,21 +14,21 @@ use Rattle.collector.specs.declared.collection.Held.{Held}
 use Rattle.collector.specs.Collected.{Adds, IsOurs, mark_limit, marks_of, report_at, report_limit, with_report}
 use Rattle.collector.specs.Collecting.{AreOurs, IsCollection, MayTake, both, with_reports}
 use Rattle.collector.specs.Merging.{AddsAll}
-use Rattle.collector.specs.Order.{AreAlike, IsOneOf, SameReports, map_of}
+use Rattle.collector.specs.Order.{AreAlike, IsOneOfReports, SameReports, map_of}
 use Rattle.collector.proofs.Keeping.{marks-with}
 use Rattle.collector.proofs.Ordering.{AreRising, alike-same, here-with, map-members, map-same, member-with, rising-alike, rising-fewer, rising-map, rising-once, rising-with, stays-with}
 
 -- the reports of two lists
-pub either : (r : Report) (xs ys : List Report) → IsOneOf r (xs ++ ys) → IsOneOf r xs ⊎ IsOneOf r ys
+pub either : (r : Report) (xs ys : List Report) → IsOneOfReports r (xs ++ ys) → IsOneOfReports r xs ⊎ IsOneOfReports r ys
 either r [] ys is = inr is
 either r (x ∷ xs) ys is =
-    ⊎_elim (λ (same : r ≡ x). inl (inl same)) (λ (other : IsOneOf r (xs ++ ys)). ⊎_elim (λ (front : IsOneOf r xs). inl (inr front)) (λ (back : IsOneOf r ys). inr back) (either r xs ys other)) is
+    ⊎_elim (λ (same : r ≡ x). inl (inl same)) (λ (other : IsOneOfReports r (xs ++ ys)). ⊎_elim (λ (front : IsOneOfReports r xs). inl (inr front)) (λ (back : IsOneOfReports r ys). inr back) (either r xs ys other)) is
 
-pub in-front : (r : Report) (xs ys : List Report) → IsOneOf r xs → IsOneOf r (xs ++ ys)
+pub in-front : (r : Report) (xs ys : List Report) → IsOneOfReports r xs → IsOneOfReports r (xs ++ ys)
 in-front r [] ys is = absurd is
-in-front r (x ∷ xs) ys is = ⊎_elim (λ (same : r ≡ x). inl same) (λ (other : IsOneOf r xs). inr (in-front r xs ys other)) is
+in-front r (x ∷ xs) ys is = ⊎_elim (λ (same : r ≡ x). inl same) (λ (other : IsOneOfReports r xs). inr (in-front r xs ys other)) is
 
-pub in-back : (r : Report) (xs ys : List Report) → IsOneOf r ys → IsOneOf r (xs ++ ys)
+pub in-back : (r : Report) (xs ys : List Report) → IsOneOfReports r ys → IsOneOfReports r (xs ++ ys)
 in-back r [] ys is = is
 in-back r (x ∷ xs) ys is = inr (in-back r xs ys is)
 
@@ -48,20 +48,20 @@ different : (a b : ℕ) → (a == b) ≡ false → a ≡ b → ⊥
 different a b test e = grind (arith, nat_tests)
 
 -- a report that is found is one of them, and one of a run that isn't held is none
-found-tests : (b : Bool) (run : ℕ) (x r : Report) (more : List Report) → cond b (Some x) (report_at run more) ≡ Some r → (report_at run more ≡ Some r → IsOneOf r more) → IsOneOf r (x ∷ more)
+found-tests : (b : Bool) (run : ℕ) (x r : Report) (more : List Report) → cond b (Some x) (report_at run more) ≡ Some r → (report_at run more ≡ Some r → IsOneOfReports r more) → IsOneOfReports r (x ∷ more)
 found-tests true run x r more found rest = inl (sym (some-is found))
 found-tests false run x r more found rest = inr (rest found)
 
-pub found-member : (run : ℕ) (reports : List Report) (r : Report) → report_at run reports ≡ Some r → IsOneOf r reports
+pub found-member : (run : ℕ) (reports : List Report) (r : Report) → report_at run reports ≡ Some r → IsOneOfReports r reports
 found-member run [] r found = absurd (none-some found)
 found-member run (x ∷ more) r found = found-tests (run == x.run) run x r more found (found-member run more r)
 
-absent-tests : (b : Bool) (run : ℕ) (x r : Report) (more : List Report) → (run == x.run) ≡ b → cond b (Some x) (report_at run more) ≡ None → (report_at run more ≡ None → IsOneOf r more → run ≢ r.run) → IsOneOf r (x ∷ more) → run ≢ r.run
+absent-tests : (b : Bool) (run : ℕ) (x r : Report) (more : List Report) → (run == x.run) ≡ b → cond b (Some x) (report_at run more) ≡ None → (report_at run more ≡ None → IsOneOfReports r more → run ≢ r.run) → IsOneOfReports r (x ∷ more) → run ≢ r.run
 absent-tests true run x r more test none rest is = absurd (none-some (sym none))
 absent-tests false run x r more test none rest is =
-    ⊎_elim (λ (same : r ≡ x). λ (e : run ≡ r.run). let number = ap (λ (y : Report). y.run) same in different run x.run test (e ∙ number)) (λ (other : IsOneOf r more). rest none other) is
+    ⊎_elim (λ (same : r ≡ x). λ (e : run ≡ r.run). let number = ap (λ (y : Report). y.run) same in different run x.run test (e ∙ number)) (λ (other : IsOneOfReports r more). rest none other) is
 
-pub absent-member : (run : ℕ) (reports : List Report) (r : Report) → report_at run reports ≡ None → IsOneOf r reports → run ≢ r.run
+pub absent-member : (run : ℕ) (reports : List Report) (r : Report) → report_at run reports ≡ None → IsOneOfReports r reports → run ≢ r.run
 absent-member run [] r none is = absurd is
 absent-member run (x ∷ more) r none is = absent-tests (run == x.run) run x r more refl none (absent-member run more r) is
 
@@ -86,9 +86,9 @@ length-with r (x ∷ more) none = length-tests (nat_lt r.run x.run) (r.run == x.
 -- what is held after a report was added
 record IsAfter (c : Held) (r : Report) (next : Held) : Type 0 where
   rising : AreRising next.reports
-  to : (y : Report) → IsOneOf y next.reports → (y ≡ r) ⊎ IsOneOf y c.reports
-  here : IsOneOf r next.reports
-  stays : (y : Report) → IsOneOf y c.reports → IsOneOf y next.reports
+  to : (y : Report) → IsOneOfReports y next.reports → (y ≡ r) ⊎ IsOneOfReports y c.reports
+  here : IsOneOfReports r next.reports
+  stays : (y : Report) → IsOneOfReports y c.reports → IsOneOfReports y next.reports
   same : next ≡ record c { reports = next.reports }
 
 after-same : (c next : Held) (r : Report) → next ≡ c → IsAfter c r c → IsAfter c r next
@@ -113,15 +113,11 @@ is-after c r Repeated next rising adds = subst (IsAfter c r) (sym adds.2) (recor
   same = refl;
 })
 
-is-ours : (c : Held) (r : Report) (what : Added) (next : Held) → Adds c r (Ok what) next → IsOurs c r
-is-ours c r New next adds = adds.0
-is-ours c r Repeated next adds = adds.0
-
 -- what is held after all were added
 pub record AreTaken (c : Held) (reports : List Report) (added repeated : ℕ) (merged : Merged) (after : Held) : Type 0 where
   pub rising : AreRising after.reports
-  pub to : (y : Report) → IsOneOf y after.reports → IsOneOf y (reports ++ c.reports)
-  pub from : (y : Report) → IsOneOf y (reports ++ c.reports) → IsOneOf y after.reports
+  pub to : (y : Report) → IsOneOfReports y after.reports → IsOneOfReports y (reports ++ c.reports)
+  pub from : (y : Report) → IsOneOfReports y (reports ++ c.reports) → IsOneOfReports y after.reports
   pub ours : AreOurs c reports
   pub same : after ≡ record c { reports = after.reports }
   pub new : merged.added + length c.reports ≡ added + length after.reports
@@ -148,19 +144,19 @@ taken-none c added repeated merged after rising adds =
 ours-before : (c : Held) (reports : List Report) (r : Report) → IsOurs (record c { reports = reports }) r → IsOurs c r
 ours-before c reports r is = record { program = is.program; sites = is.sites }
 
-to-front : (c next : Held) (r y : Report) (more : List Report) → IsAfter c r next → IsOneOf y (more ++ next.reports) → IsOneOf y ((r ∷ more) ++ c.reports)
+to-front : (c next : Held) (r y : Report) (more : List Report) → IsAfter c r next → IsOneOfReports y (more ++ next.reports) → IsOneOfReports y ((r ∷ more) ++ c.reports)
 to-front c next r y more a is =
-    ⊎_elim (λ (front : IsOneOf y more). inr (in-front y more c.reports front))
-    (λ (back : IsOneOf y next.reports). ⊎_elim (λ (same : y ≡ r). inl same) (λ (held : IsOneOf y c.reports). inr (in-back y more c.reports held)) (a.to y back)) (either y more next.reports is)
+    ⊎_elim (λ (front : IsOneOfReports y more). inr (in-front y more c.reports front))
+    (λ (back : IsOneOfReports y next.reports). ⊎_elim (λ (same : y ≡ r). inl same) (λ (held : IsOneOfReports y c.reports). inr (in-back y more c.reports held)) (a.to y back)) (either y more next.reports is)
 
-from-front : (c next : Held) (r y : Report) (more : List Report) → IsAfter c r next → IsOneOf y ((r ∷ more) ++ c.reports) → IsOneOf y (more ++ next.reports)
+from-front : (c next : Held) (r y : Report) (more : List Report) → IsAfter c r next → IsOneOfReports y ((r ∷ more) ++ c.reports) → IsOneOfReports y (more ++ next.reports)
 from-front c next r y more a is =
-    ⊎_elim (λ (same : y ≡ r). subst (λ z. IsOneOf z (more ++ next.reports)) (sym same) (in-back r more next.reports a.here))
-    (λ (other : IsOneOf y (more ++ c.reports)). ⊎_elim (λ (front : IsOneOf y more). in-front y more next.reports front) (λ (back : IsOneOf y c.reports). in-back y more next.reports (a.stays y back)) (either y more c.reports other)) is
+    ⊎_elim (λ (same : y ≡ r). subst (λ z. IsOneOfReports z (more ++ next.reports)) (sym same) (in-back r more next.reports a.here))
+    (λ (other : IsOneOfReports y (more ++ c.reports)). ⊎_elim (λ (front : IsOneOfReports y more). in-front y more next.reports front) (λ (back : IsOneOfReports y c.reports). in-back y more next.reports (a.stays y back)) (either y more c.reports other)) is
 
 ours-front : (c next : Held) (r : Report) (more : List Report) → IsAfter c r next → IsOurs c r → AreOurs next more → AreOurs c (r ∷ more)
 ours-front c next r more a is others = λ y one.
-    ⊎_elim (λ (same : y ≡ r). subst (IsOurs c) (sym same) is) (λ (other : IsOneOf y more). ours-before c next.reports y (subst (λ h. IsOurs h y) a.same (others y other))) one
+    ⊎_elim (λ (same : y ≡ r). subst (IsOurs c) (sym same) is) (λ (other : IsOneOfReports y more). ours-before c next.reports y (subst (λ h. IsOurs h y) a.same (others y other))) one
 
 same-front : (c next after : Held) (r : Report) → IsAfter c r next → after ≡ record next { reports = after.reports } → after ≡ record c { reports = after.reports }
 same-front c next after r a same = same ∙ ap (λ (h : Held). record h { reports = after.reports }) a.same
@@ -221,10 +217,6 @@ are-taken [] c after added repeated merged rising adds = taken-none c added repe
 are-taken (r ∷ more) c after added repeated merged rising adds =
     taken-step c r more added repeated merged after adds.1 adds.0 rising adds.2 (λ via a b rises goes. are-taken more via after a b merged rises goes) adds.3
 
--- the reports that were given, all together, are those that are held
-taken-same : (c : Held) (reports : List Report) (a b : ℕ) (m : Merged) (after : Held) → AreTaken c reports a b m after → SameReports after.reports (reports ++ c.reports)
-taken-same c reports a b m after t = λ r. (t.to r, t.from r)
-
 pub taken-alike : (c : Held) (reports : List Report) (a b : ℕ) (m : Merged) (after : Held) → AreTaken c reports a b m after → AreAlike (reports ++ c.reports)
 taken-alike c reports a b m after t = λ x y is_x is_y e. rising-alike after.reports t.rising x y (t.from x is_x) (t.from y is_y) e
 
@@ -251,8 +243,8 @@ pub orders-same : (c a b : Held) (xs ys : List Report) (m n : Merged) → AreRis
 orders-same c a b xs ys m n rising same first second =
     let s = are-taken xs c a 0 0 m rising first in
     let t = are-taken ys c b 0 0 n rising second in
-    let to : (r : Report) → IsOneOf r (xs ++ c.reports) → IsOneOf r (ys ++ c.reports) = λ r is. ⊎_elim (λ (front : IsOneOf r xs). in-front r ys c.reports ((same r).0 front)) (λ (back : IsOneOf r c.reports). in-back r ys c.reports back) (either r xs c.reports is) in
-    let from : (r : Report) → IsOneOf r (ys ++ c.reports) → IsOneOf r (xs ++ c.reports) = λ r is. ⊎_elim (λ (front : IsOneOf r ys). in-front r xs c.reports ((same r).1 front)) (λ (back : IsOneOf r c.reports). in-back r xs c.reports back) (either r ys c.reports is) in
+    let to : (r : Report) → IsOneOfReports r (xs ++ c.reports) → IsOneOfReports r (ys ++ c.reports) = λ r is. ⊎_elim (λ (front : IsOneOfReports r xs). in-front r ys c.reports ((same r).0 front)) (λ (back : IsOneOfReports r c.reports). in-back r ys c.reports back) (either r xs c.reports is) in
+    let from : (r : Report) → IsOneOfReports r (ys ++ c.reports) → IsOneOfReports r (xs ++ c.reports) = λ r is. ⊎_elim (λ (front : IsOneOfReports r ys). in-front r xs c.reports ((same r).1 front)) (λ (back : IsOneOfReports r c.reports). in-back r xs c.reports back) (either r ys c.reports is) in
     taken-with c xs 0 0 m a s ∙ ap (λ rs. record c { reports = rs }) (map-same (xs ++ c.reports) (ys ++ c.reports) (taken-alike c xs 0 0 m a s) (λ r. (to r, from r))) ∙ sym (taken-with c ys 0 0 n b t)
 
 -- what may be taken stays so, one report after another
@@ -273,7 +265,7 @@ fewer-with : (c : Held) (r : Report) (more : List Report) → AreRising c.report
 fewer-with c r more rising none may =
     let all = (r ∷ more) ++ c.reports in
     let a = with-after c r rising none in
-    let into : (y : Report) → IsOneOf y (with_report r c.reports) → IsOneOf y (map_of all) = λ y is. (map-members all may.alike y).1 (⊎_elim (λ (same : y ≡ r). inl same) (λ (held : IsOneOf y c.reports). inr (in-back y more c.reports held)) (a.to y is)) in
+    let into : (y : Report) → IsOneOfReports y (with_report r c.reports) → IsOneOfReports y (map_of all) = λ y is. (map-members all may.alike y).1 (⊎_elim (λ (same : y ≡ r). inl same) (λ (held : IsOneOfReports y c.reports). inr (in-back y more c.reports held)) (a.to y is)) in
     let fewer = rising-fewer (with_report r c.reports) (map_of all) a.rising (rising-map all) into in
     let few = may.few in
     let few_marks = may.few_marks in

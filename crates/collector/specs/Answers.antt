@@ -5,13 +5,13 @@ use Rattle.collector.specs.declared.reading.CollectionError.{CollectionError}
 use Rattle.collector.specs.declared.reading.CollectionError.TheVariants.{BadCollection, Memory}
 
 -- the answer is this bundle, unless memory ran out
-abbrev pub ReadAs : Result Bundle CollectionError → Bundle → Type 0
-ReadAs (Ok b) want = b ≡ want
-ReadAs (Err (BadCollection line)) want = ⊥
-ReadAs (Err Memory) want = Unit {0}
+abbrev pub BundleReadAs : Result Bundle CollectionError → Bundle → Type 0
+BundleReadAs (Ok b) want = b ≡ want
+BundleReadAs (Err (BadCollection line)) want = ⊥
+BundleReadAs (Err Memory) want = Unit {0}
 
 -- the bytes are refused at this line, unless memory ran out
-abbrev pub RefusedAt : Result Bundle CollectionError → ℕ → Type 0
-RefusedAt (Ok b) line = ⊥
-RefusedAt (Err (BadCollection bad)) line = bad ≡ line
-RefusedAt (Err Memory) line = Unit {0}
+abbrev pub BundleRefusedAt : Result Bundle CollectionError → ℕ → Type 0
+BundleRefusedAt (Ok b) line = ⊥
+BundleRefusedAt (Err (BadCollection bad)) line = bad ≡ line
+BundleRefusedAt (Err Memory) line = Unit {0}

@@ -62,6 +62,7 @@ Adds c r (Err (NoSite run site)) after = (r.program ≡ c.program) × (run ≡ r
 Adds c r (Err (Conflict run)) after = IsOurs c r × (run ≡ r.run) × ((held : Report) × (report_at run c.reports ≡ Some held) × (held ≢ r)) × (after ≡ c)
 Adds c r (Err (TooManyReports run)) after = IsOurs c r × (run ≡ r.run) × (report_at run c.reports ≡ None) × (report_limit ≤ length c.reports) × (after ≡ c)
 Adds c r (Err (TooManyMarks run)) after =
-    IsOurs c r × (run ≡ r.run) × (report_at run c.reports ≡ None) × (length c.reports < report_limit) × (mark_limit < marks_of c.reports + length r.entries) × (after ≡ c)
+    IsOurs c r × (run ≡ r.run) × (report_at run c.reports ≡ None) × (length c.reports < report_limit)
+    × (mark_limit < marks_of c.reports + length r.entries) × (after ≡ c)
 Adds c r (Err Memory) after =
     IsOurs c r × (report_at r.run c.reports ≡ None) × (length c.reports < report_limit) × (marks_of c.reports + length r.entries ≤ mark_limit) × (after ≡ c)

@@ -7,11 +7,11 @@ use Rattle.collector.specs.declared.collection.Bundle.{Bundle}
 use Rattle.collector.specs.declared.collection.Held.{Held}
 use Rattle.collector.specs.Collected.{IsOurs, mark_limit, marks_of, report_limit}
 use Rattle.collector.specs.Merging.{AreReports}
-use Rattle.collector.specs.Order.{AreAlike, IsOneOf, map_of}
+use Rattle.collector.specs.Order.{AreAlike, IsOneOfReports, map_of}
 use Rattle.collector.specs.Spelling.{RunsFrom}
 
 abbrev pub AreOurs : Held → List Report → Type 0
-AreOurs c reports = (r : Report) → IsOneOf r reports → IsOurs c r
+AreOurs c reports = (r : Report) → IsOneOfReports r reports → IsOurs c r
 
 -- the runs rise, each report can be spelled and is of the program and its sites, and the limits hold
 pub record IsCollection (c : Held) : Type 0 where

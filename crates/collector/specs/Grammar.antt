@@ -14,14 +14,14 @@ use Rattle.report_file.specs.Grammar.{IsNextEntry}
 use Rattle.report_file.specs.RunLine.{IsRunLine, run_line_fields}
 use Rattle.report_file.specs.Spelling.{program_fields, site_fields}
 use Rattle.collector.specs.Collected.{mark_limit, report_limit}
-use Rattle.collector.specs.Spelling.{title_fields}
+use Rattle.collector.specs.Spelling.{bundle_title}
 use Rattle.collector.specs.declared.draft.Draft.{Draft}
 use Rattle.collector.specs.declared.draft.Due.{Due}
 use Rattle.collector.specs.declared.draft.Due.TheVariants as due
 
 -- nothing is read yet
-abbrev pub start : Global → Draft
-start alloc = record {
+abbrev pub bundle_start : Global → Draft
+bundle_start alloc = record {
   alloc = alloc;
   due = due.Title;
   version = version.Second;
@@ -42,7 +42,7 @@ closed d = record d { reports = whole d; current = None }
 
 pub record TitleFollows (d : Draft) (line : List ℕ) (after : Draft) : Type 0 where
   pub value : Version
-  pub line_is : line ≡ spaced (title_fields value)
+  pub line_is : line ≡ spaced (bundle_title value)
   pub after_is : after ≡ record d { due = due.Program; version = value }
 
 pub record ProgramFollows (d : Draft) (line : List ℕ) (after : Draft) : Type 0 where
@@ -65,7 +65,7 @@ pub record RunFollows (d : Draft) (line : List ℕ) (after : Draft) : Type 0 whe
   pub after_is : after ≡ record d { reports = whole d; current = Some (begun d.program value); run = value.run + 1; site = 0 }
 
 -- the line of a site of the run before it, where a site line more may come
-pub record SiteFollows (d : Draft) (line : List ℕ) (after : Draft) : Type 0 where
+pub record RunSiteFollows (d : Draft) (line : List ℕ) (after : Draft) : Type 0 where
   pub report : Report
   pub value : Entry
   pub is_current : d.current ≡ Some report
@@ -79,15 +79,15 @@ pub record EndFollows (d : Draft) (line : List ℕ) (after : Draft) : Type 0 whe
   pub after_is : after ≡ record (closed d) { due = due.Nothing }
 
 -- the line that is due
-abbrev pub Comes : Due → Draft → List ℕ → Draft → Type 0
-Comes due.Title d line after = TitleFollows d line after
-Comes due.Program d line after = ProgramFollows d line after
-Comes due.Runs d line after = RunFollows d line after ⊎ (SiteFollows d line after ⊎ EndFollows d line after)
-Comes due.Nothing d line after = ⊥
+abbrev pub BundleLineComes : Due → Draft → List ℕ → Draft → Type 0
+BundleLineComes due.Title d line after = TitleFollows d line after
+BundleLineComes due.Program d line after = ProgramFollows d line after
+BundleLineComes due.Runs d line after = RunFollows d line after ⊎ (RunSiteFollows d line after ⊎ EndFollows d line after)
+BundleLineComes due.Nothing d line after = ⊥
 
-abbrev pub Follows : Draft → List ℕ → Draft → Type 0
-Follows d line after = Comes d.due d line after
+abbrev pub BundleLineFollows : Draft → List ℕ → Draft → Type 0
+BundleLineFollows d line after = BundleLineComes d.due d line after
 
 -- the text may end where nothing is due
-abbrev pub Ends : Draft → Type 0
-Ends d = d.due ≡ due.Nothing
+abbrev pub BundleEnds : Draft → Type 0
+BundleEnds d = d.due ≡ due.Nothing

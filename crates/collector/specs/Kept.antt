@@ -6,7 +6,7 @@ use Rattle.report_file.specs.Report.{IsReport}
 use Rattle.collector.specs.Sites.{first_bad}
 use Rattle.collector.specs.Collected.{report_limit, mark_limit, marks_of}
 
-pub record IsHeld (program : ProgramId) (branches : List Bool) (run : ℕ) (r : Report) : Type 0 where
+pub record IsHeldReport (program : ProgramId) (branches : List Bool) (run : ℕ) (r : Report) : Type 0 where
   pub run_is : run ≡ r.run
   pub is_report : IsReport r
   pub program_is : r.program ≡ program
@@ -14,9 +14,9 @@ pub record IsHeld (program : ProgramId) (branches : List Bool) (run : ℕ) (r : 
 
 abbrev pub AreHeld : ProgramId → List Bool → List (ℕ × Report) → Type 0
 AreHeld program branches [] = Unit {0}
-AreHeld program branches (e ∷ more) = IsHeld program branches e.0 e.1 × AreHeld program branches more
+AreHeld program branches (e ∷ more) = IsHeldReport program branches e.0 e.1 × AreHeld program branches more
 
-pub record IsKept (program : ProgramId) (branches : List Bool) (entries : List (ℕ × Report)) (marks : ℕ) : Type 0 where
+pub record IsCollectionKept (program : ProgramId) (branches : List Bool) (entries : List (ℕ × Report)) (marks : ℕ) : Type 0 where
   pub are_held : AreHeld program branches entries
   pub few : length entries ≤ report_limit
   pub marks_are : marks ≡ marks_of (map (λ e. e.1) entries)

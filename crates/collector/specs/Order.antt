@@ -4,17 +4,17 @@ use Rattle.report_file.specs.declared.report.Report.{Report}
 use Rattle.collector.specs.Collected.{with_report}
 
 -- the report is one of these
-abbrev pub IsOneOf : Report → List Report → Type 0
-IsOneOf r [] = ⊥
-IsOneOf r (x ∷ more) = (r ≡ x) ⊎ IsOneOf r more
+abbrev pub IsOneOfReports : Report → List Report → Type 0
+IsOneOfReports r [] = ⊥
+IsOneOfReports r (x ∷ more) = (r ≡ x) ⊎ IsOneOfReports r more
 
 -- each run has one report in the list, however often it stands there
 abbrev pub AreAlike : List Report → Type 0
-AreAlike reports = (a b : Report) → IsOneOf a reports → IsOneOf b reports → a.run ≡ b.run → a ≡ b
+AreAlike reports = (a b : Report) → IsOneOfReports a reports → IsOneOfReports b reports → a.run ≡ b.run → a ≡ b
 
 -- the lists have the same reports
 abbrev pub SameReports : List Report → List Report → Type 0
-SameReports xs ys = (r : Report) → IsOneOf r xs ↔ IsOneOf r ys
+SameReports xs ys = (r : Report) → IsOneOfReports r xs ↔ IsOneOfReports r ys
 
 -- the map that holds each report of a list under its run
 abbrev pub map_of : List Report → List Report

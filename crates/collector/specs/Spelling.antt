@@ -21,15 +21,15 @@ abbrev pub collection_text : Held → List ℕ
 collection_text c = text_of (map spaced (collection_rows c))
 
 -- the text of a bundle in either version
-abbrev pub title_fields : Version → List (List ℕ)
-title_fields First = codes "cbi-collection" ∷ codes "1" ∷ []
-title_fields Second = codes "cbi-collection" ∷ codes "2" ∷ []
+abbrev pub bundle_title : Version → List (List ℕ)
+bundle_title First = codes "cbi-collection" ∷ codes "1" ∷ []
+bundle_title Second = codes "cbi-collection" ∷ codes "2" ∷ []
 
 abbrev pub report_rows : Version → Report → List (List (List ℕ))
 report_rows version r = run_line_fields version (line_of r) ∷ map site_fields r.entries
 
 abbrev pub bundle_rows : Version → Bundle → List (List (List ℕ))
-bundle_rows version b = title_fields version ∷ program_fields b.program ∷ (flat_map (report_rows version) b.reports ++ (codes "end" ∷ []) ∷ [])
+bundle_rows version b = bundle_title version ∷ program_fields b.program ∷ (flat_map (report_rows version) b.reports ++ (codes "end" ∷ []) ∷ [])
 
 abbrev pub bundle_text : Version → Bundle → List ℕ
 bundle_text version b = text_of (map spaced (bundle_rows version b))
@@ -40,9 +40,9 @@ RunsFrom run [] = Unit {0}
 RunsFrom run (r ∷ more) = (run ≤ r.run) × RunsFrom (r.run + 1) more
 
 -- each label is the one that the outcome gives
-abbrev pub ArePlain : List Report → Type 0
-ArePlain [] = Unit {0}
-ArePlain (r ∷ more) = (r.label ≡ label_of r.outcome true) × ArePlain more
+abbrev pub HavePlainLabels : List Report → Type 0
+HavePlainLabels [] = Unit {0}
+HavePlainLabels (r ∷ more) = (r.label ≡ label_of r.outcome true) × HavePlainLabels more
 
 -- a bundle that has a text
 pub record IsText (b : Bundle) : Type 0 where
@@ -56,4 +56,4 @@ pub record IsText (b : Bundle) : Type 0 where
 -- The bytes are a text of this bundle. It has one of the second version, and one of the first exactly where each label is its outcome's.
 pub data SpellsBundle (bytes : List ℕ) (b : Bundle) : Type 0 where
   WithLabels : IsText b → bytes ≡ bundle_text Second b → SpellsBundle bytes b
-  Without : IsText b → ArePlain b.reports → bytes ≡ bundle_text First b → SpellsBundle bytes b
+  Without : IsText b → HavePlainLabels b.reports → bytes ≡ bundle_text First b → SpellsBundle bytes b

@@ -55,13 +55,13 @@ impl Model for Collection {
     ghost use Rattle.std.specs.Prelude.{◌≡◌, ◌≤◌, map};
     ghost use Rattle.std.specs.BTreeMap.{values};
     ghost use Rattle.collector.specs.declared.collection.Held.{Held};
-    ghost use Rattle.collector.specs.Kept.{IsKept};
+    ghost use Rattle.collector.specs.Kept.{IsCollectionKept};
 
     ghost Value = { Held };
 
     ghost view = { λ c. record { program = c.program; branches = c.branches; reports = values c.reports } };
 
-    ghost invariant = { λ c. IsKept c.program c.branches c.reports.entries c.marks };
+    ghost invariant = { λ c. IsCollectionKept c.program c.branches c.reports.entries c.marks };
 }
 
 /// What the type of an identity says of it.

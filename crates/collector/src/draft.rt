@@ -1,10 +1,10 @@
 ghost use Rattle.std.specs.Prelude.{◌≡◌, ◌⊎◌, ◌↔◌, ◌≤◌, OnOk, IsTrue, None, length, slice_index};
 ghost use Rattle.collector.specs.Collected.{report_limit};
 ghost use Rattle.cbi_base.specs.LineFaults.{TakenWith};
-ghost use Rattle.collector.specs.Grammar.{EndFollows, RunFollows, SiteFollows, ProgramFollows, TitleFollows, closed, start, whole};
+ghost use Rattle.collector.specs.Grammar.{EndFollows, RunFollows, RunSiteFollows, ProgramFollows, TitleFollows, closed, bundle_start, whole};
 ghost use Rattle.collector.specs.declared.draft.Draft.{Draft};
 ghost use Rattle.report_file.specs.Reading.{Reads};
-ghost use Rattle.collector.specs.Spelling.{title_fields};
+ghost use Rattle.collector.specs.Spelling.{bundle_title};
 
 use crate::collection::Bundle;
 use cbi_base::{LineError, LineReader, Memory, ProgramId, Seq};
@@ -42,7 +42,7 @@ pub struct Draft {
 }
 
 fn version_in(line: &[u8]) -> Option<Version>
-    ensures { Reads title_fields (λ _. Unit {0}) line.now result }
+    ensures { Reads bundle_title (λ _. Unit {0}) line.now result }
 {
     if line == b"cbi-collection 1".as_slice() {
         return Some(Version::First);
@@ -66,7 +66,7 @@ fn begins_run(line: &[u8]) -> bool
 impl Draft {
     /// Nothing is read yet.
     pub fn new(alloc: Global) -> Draft
-        ensures { result ≡ start alloc }
+        ensures { result ≡ bundle_start alloc }
     {
         Draft {
             alloc,
@@ -170,8 +170,8 @@ impl Draft {
     }
 
     fn take_site(&mut self, line: &[u8]) -> Result<(), LineError>
-        ensures ok { OnOk result (SiteFollows self.old line.now self.new) }
-        ensures only { (next : Draft) → SiteFollows self.old line.now next → TakenWith result (self.new ≡ next) }
+        ensures ok { OnOk result (RunSiteFollows self.old line.now self.new) }
+        ensures only { (next : Draft) → RunSiteFollows self.old line.now next → TakenWith result (self.new ≡ next) }
     {
         let Some(entry) = entry_in(line) else {
             return Err(LineError::Bad);
@@ -192,8 +192,8 @@ impl Draft {
     }
 
     fn take_line(&mut self, line: &[u8]) -> Result<(), LineError>
-        ensures ok { OnOk result (RunFollows self.old line.now self.new ⊎ (SiteFollows self.old line.now self.new ⊎ EndFollows self.old line.now self.new)) }
-        ensures only { (next : Draft) → RunFollows self.old line.now next ⊎ (SiteFollows self.old line.now next ⊎ EndFollows self.old line.now next)
+        ensures ok { OnOk result (RunFollows self.old line.now self.new ⊎ (RunSiteFollows self.old line.now self.new ⊎ EndFollows self.old line.now self.new)) }
+        ensures only { (next : Draft) → RunFollows self.old line.now next ⊎ (RunSiteFollows self.old line.now next ⊎ EndFollows self.old line.now next)
             → TakenWith result (self.new ≡ next) }
     {
         if line == b"end".as_slice() {
@@ -211,11 +211,11 @@ impl Draft {
 }
 
 impl LineReader for Draft {
-    ghost use Rattle.collector.specs.Grammar.{Follows, Ends};
+    ghost use Rattle.collector.specs.Grammar.{BundleLineFollows, BundleEnds};
 
-    ghost follows = { Follows };
+    ghost follows = { BundleLineFollows };
 
-    ghost ends = { Ends };
+    ghost ends = { BundleEnds };
 
     fn take(&mut self, line: &[u8]) -> Result<(), LineError> {
         match self.due {

@@ -3,9 +3,9 @@ ghost use Rattle.cbi_base.specs.Lines.{LeadsOnce};
 ghost use Rattle.cbi_base.specs.declared.identity.ProgramId.{ProgramId};
 ghost use Rattle.collector.specs.Collected.{next_after, relabelled, report_at, with_report, without_report};
 ghost use Rattle.collector.specs.Collecting.{IsCollection, MayTake, both, bundle_of, with_reports};
-ghost use Rattle.collector.specs.Grammar.{Follows};
+ghost use Rattle.collector.specs.Grammar.{BundleLineFollows};
 ghost use Rattle.collector.specs.Merging.{AddsAll};
-ghost use Rattle.collector.specs.Order.{AreAlike, IsOneOf, SameReports, map_of};
+ghost use Rattle.collector.specs.Order.{AreAlike, IsOneOfReports, SameReports, map_of};
 ghost use Rattle.collector.specs.RunText.{IsRunAt};
 ghost use Rattle.collector.specs.Spelling.{RunsFrom, SpellsBundle, collection_text};
 ghost use Rattle.collector.specs.declared.answers.AddFault.{AddFault};
@@ -21,7 +21,7 @@ use std::alloc::Global;
 
 /// Order does not matter: two lists of the same reports, in whatever order, repeated and grouped as one likes, have one map, where each run has one report.
 pub fn order_does_not_matter()
-    ensures members { (reports : List Report) → AreAlike reports → (r : Report) → IsOneOf r (map_of reports) ↔ IsOneOf r reports }
+    ensures members { (reports : List Report) → AreAlike reports → (r : Report) → IsOneOfReports r (map_of reports) ↔ IsOneOfReports r reports }
     ensures same { (xs ys : List Report) → AreAlike xs → SameReports xs ys → map_of xs ≡ map_of ys }
     // So a collection that takes either list whole is the same after it.
     ensures collections { (c a b : Held) (xs ys : List Report) (m n : Merged) → IsCollection c → SameReports xs ys
@@ -47,7 +47,8 @@ pub fn groups_do_not_matter()
     ensures taken { (c via after : Held) (xs ys : List Report) (first second : Merged) → AddsAll c xs 0 0 (Ok first) via
         → AddsAll via ys 0 0 (Ok second) after
         → AddsAll c (xs ++ ys) 0 0 (Ok (both first second)) after }
-    ensures refused { (c via after : Held) (xs ys : List Report) (first : Merged) (why : AddFault) → AddsAll c xs 0 0 (Ok first) via → AddsAll via ys 0 0 (Err why) after
+    ensures refused { (c via after : Held) (xs ys : List Report) (first : Merged) (why : AddFault) → AddsAll c xs 0 0 (Ok first) via
+        → AddsAll via ys 0 0 (Err why) after
         → AddsAll c (xs ++ ys) 0 0 (Err why) after }
 {}
 
@@ -65,7 +66,7 @@ pub fn written_collection()
 
 /// In the grammar of collections a line leads to one state: so a text has at most one bad line, and none where it is read.
 pub fn one_state()
-    ensures { LeadsOnce Follows }
+    ensures { LeadsOnce BundleLineFollows }
 {}
 
 /// At a place of a text stands at most one run, with the longest list of its sites' lines.
@@ -85,6 +86,6 @@ pub fn collections_are_maps()
         → report_at run (relabelled other label reports) ≡ report_at run reports }
     // The next report is the one with the least run above.
     ensures next { (run : ℕ) (reports : List Report) (next : Report) → RunsFrom 0 reports → next_after run reports ≡ Some next
-        → IsOneOf next reports × (run < next.run) × ((other : Report) → IsOneOf other reports → run < other.run → next.run ≤ other.run) }
-    ensures no_next { (run : ℕ) (reports : List Report) (other : Report) → next_after run reports ≡ None → IsOneOf other reports → other.run ≤ run }
+        → IsOneOfReports next reports × (run < next.run) × ((other : Report) → IsOneOfReports other reports → run < other.run → next.run ≤ other.run) }
+    ensures no_next { (run : ℕ) (reports : List Report) (other : Report) → next_after run reports ≡ None → IsOneOfReports other reports → other.run ≤ run }
 {}

@@ -1,7 +1,7 @@
 ghost use Rattle.std.specs.Prelude.{◌≡◌, ℕ, IfOk, Err};
 ghost use Rattle.cbi_base.specs.Lines.{IsBadLine};
-ghost use Rattle.collector.specs.Answers.{ReadAs, RefusedAt};
-ghost use Rattle.collector.specs.Grammar.{Follows, Ends, start};
+ghost use Rattle.collector.specs.Answers.{BundleReadAs, BundleRefusedAt};
+ghost use Rattle.collector.specs.Grammar.{BundleLineFollows, BundleEnds, bundle_start};
 ghost use Rattle.collector.specs.Merging.{IsBundle};
 ghost use Rattle.collector.specs.Spelling.{IsText, SpellsBundle};
 ghost use Rattle.collector.specs.declared.collection.Bundle.{Bundle};
@@ -29,11 +29,11 @@ pub fn read_collection(alloc: Global, bytes: &[u8]) -> Result<Bundle, Collection
     // So it can be merged.
     ensures is_bundle { IfOk result IsBundle }
     // What is spelled so is read, unless memory runs out: so bytes are refused exactly where they spell no collection.
-    ensures only { (b : Bundle) → SpellsBundle bytes.now b → ReadAs result b }
+    ensures only { (b : Bundle) → SpellsBundle bytes.now b → BundleReadAs result b }
     // A refusal names the bad line.
-    ensures line { (line : ℕ) → result ≡ Err (error.BadCollection line) → IsBadLine Follows Ends (start alloc) bytes.now line }
+    ensures line { (line : ℕ) → result ≡ Err (error.BadCollection line) → IsBadLine BundleLineFollows BundleEnds (bundle_start alloc) bytes.now line }
     // Bytes that go wrong at a line are refused there, unless memory runs out.
-    ensures line_only { (line : ℕ) → IsBadLine Follows Ends (start alloc) bytes.now line → RefusedAt result line }
+    ensures line_only { (line : ℕ) → IsBadLine BundleLineFollows BundleEnds (bundle_start alloc) bytes.now line → BundleRefusedAt result line }
 {
     let mut draft = Draft::new(alloc);
     match read_lines(&mut draft, bytes) {

@@ -16,7 +16,7 @@ use Rattle.command_inputs.specs.Programs.{IsBadProgram}
 use Rattle.command_inputs.specs.Collections.{fault_of, file_limit}
 use Rattle.command_collect.specs.declared.words.CollectWords.{CollectWords}
 use Rattle.command_collect.specs.declared.reports.CollectTexts.{CollectTexts}
-use Rattle.command_collect.specs.Collect.{AreReadOf, AreRefusedTexts, AreSpelled, AreTexts, CollectRefused, HasNoFile, RefusesFiles, RefusesTexts, MeetsFault, TakesAll, nothing_of}
+use Rattle.command_collect.specs.Collect.{AreReadOf, AreRefusedTexts, AreSpelled, AreCollectTexts, CollectRefused, HasNoFile, RefusesFiles, RefusesTexts, MeetsFault, TakesAll, nothing_of}
 use Rattle.command_collect.proofs.Adding.{taken-stops}
 
 reads-once : (held : Option Held) (names : List (List ℕ)) (a b : List (List ℕ)) → IsSome held → AreReadOf held names a → AreReadOf held names b → a ≡ b
@@ -29,7 +29,7 @@ reads-once held (name ∷ names) (x ∷ a) (y ∷ b) tells p q =
     ap (λ z. z ∷ a) (read-once held name file_limit x y tells p.0 q.0) ∙ ap (λ zs. y ∷ zs) (reads-once held names a b tells p.1 q.1)
 
 -- the texts are refused where any texts read of the files are
-pub same-refused-texts : (held : Option Held) (words : CollectWords) (texts : CollectTexts) → IsSome held → AreTexts held words texts → CollectRefused words held → AreRefusedTexts texts
+pub same-refused-texts : (held : Option Held) (words : CollectWords) (texts : CollectTexts) → IsSome held → AreCollectTexts held words texts → CollectRefused words held → AreRefusedTexts texts
 same-refused-texts held words texts tells are refused =
     let program = read-once held words.program program_limit _ _ tells refused.are_texts.program_read are.program_read in
     let files = reads-once held words.files _ _ tells refused.are_texts.files_read are.files_read in
@@ -119,7 +119,7 @@ refuses-texts NotPart texts h = inr (inr (record { refusal = NotPart; refused = 
 refuses-texts (BadList file line) texts h = inr (inr (record { refusal = (BadList file line); refused = h }))
 refuses-texts (LargeInput line) texts h = inr (inr (record { refusal = (LargeInput line); refused = h }))
 
-pub collect-refused : (words : CollectWords) (held : Option Held) (texts : CollectTexts) (refusal : Refusal) → AreTexts held words texts → RefusesTexts refusal texts → CollectRefused words held
+pub collect-refused : (words : CollectWords) (held : Option Held) (texts : CollectTexts) (refusal : Refusal) → AreCollectTexts held words texts → RefusesTexts refusal texts → CollectRefused words held
 collect-refused words held texts refusal are h = record { texts = texts; are_texts = are; refused = refuses-texts refusal texts h }
 
 -- a text that is no program is refused so

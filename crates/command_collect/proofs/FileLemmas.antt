@@ -1,18 +1,13 @@
 -- What a file of reports holds, by how its text begins.
 use Rattle.std.specs.Prelude.{MatchBool}
-use Rattle.std.proofs.Common.{◌≡◌, ◌≤◌, inr, ℕ, ◌+◌, ◌-◌, true, false, List, [], ◌∷◌, ◌++◌, length, get_or, take, drop, Option, ap, sym, subst, ◌∙◌, refl, arith, append-nil, append_assoc}
+use Rattle.std.proofs.Common.{◌≡◌, ◌≤◌, inr, ℕ, ◌+◌, ◌-◌, true, false, List, [], ◌∷◌, ◌++◌, length, get_or, take, drop, Option, ap, sym, subst, ◌∙◌, arith, append-nil, append_assoc}
 use Rattle.std.proofs.lemmas.List.{take_all}
 use Rattle.cbi_base.specs.Store.{Held}
 use Rattle.cbi_base.specs.declared.refusal.Refusal.{Refusal}
-use Rattle.report_file.specs.declared.report.Report.{Report}
-use Rattle.report_file.specs.Report.{IsReport}
 use Rattle.collector.specs.declared.collection.Bundle.{Bundle}
 use Rattle.collector.specs.Merging.{IsBundle}
 use Rattle.collector.specs.Spelling.{SpellsBundle}
 use Rattle.command_collect.specs.Collect.{AreBundles, AreReadOf, AreSpelled, RefusesFiles, SpellsFile, SpellsOne, is_collection}
-
-pub one-bundle : (r : Report) (b : Bundle) → IsReport r → b ≡ record { program = r.program; reports = r ∷ [] } → IsBundle b
-one-bundle r b is same = subst IsBundle (sym same) (record { reports = (is, tt); program = (refl, tt); few = omega arith })
 
 pub bundle-file : (text : List ℕ) (b : Bundle) → is_collection text ≡ true → SpellsBundle text b → SpellsFile text b
 bundle-file text b is h = subst (λ t. MatchBool t (SpellsBundle text b) (SpellsOne text b)) (sym is) h

@@ -18,7 +18,7 @@ use Rattle.command_inputs.specs.Programs.{IsSpelled}
 use Rattle.command_collect.specs.declared.gather.Gathered.{Gathered}
 use Rattle.command_collect.specs.declared.reports.CollectTexts.{CollectTexts}
 use Rattle.command_collect.specs.declared.words.CollectWords.{CollectWords}
-use Rattle.command_collect.specs.Collect.{AreTexts, IsCollectedText, AreSpelled, RefusesFile, RefusesFiles, RefusesTexts, TakesAll, nothing_of, reports_in}
+use Rattle.command_collect.specs.Collect.{AreCollectTexts, IsCollectedText, AreSpelled, RefusesFile, RefusesFiles, RefusesTexts, TakesAll, nothing_of, reports_in}
 use Rattle.command_collect.specs.Gathered.{HasGathered}
 use Rattle.command_collect.proofs.Holding.{length-map, taken-whole}
 
@@ -82,7 +82,7 @@ said-fits texts g h =
     (subst (λ (c : Collected). length c.reports ≤ length h.reports) (sym h.gathered.holds) (length-map h.reports))
 
 -- the text of what was gathered is due
-pub collected-text : (held : Option Held) (words : CollectWords) (texts : CollectTexts) (g : Gathered) (text : List ℕ) → AreTexts held words texts → HasGathered texts g
+pub collected-text : (held : Option Held) (words : CollectWords) (texts : CollectTexts) (g : Gathered) (text : List ℕ) → AreCollectTexts held words texts → HasGathered texts g
     → text ≡ collection_text g.collection → IsCollectedText held words text
 collected-text held words texts g text are h text_is = record {
   said = Added (length g.collection.reports) (length h.reports - length g.collection.reports);

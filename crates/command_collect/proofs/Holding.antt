@@ -10,7 +10,7 @@ use Rattle.collector.specs.declared.collection.Bundle.{Bundle}
 use Rattle.collector.specs.declared.collection.Held.{Held}
 use Rattle.collector.specs.Collected.{report_at, with_report}
 use Rattle.collector.specs.Merging.{AddsAll, Merges, OfAnother, OfThis}
-use Rattle.collector.specs.Order.{AreAlike, IsOneOf, map_of}
+use Rattle.collector.specs.Order.{AreAlike, IsOneOfReports, map_of}
 use Rattle.collector.proofs.Ordering.{map-members, map-same}
 use Rattle.command_collect.specs.Collect.{TakesAll, reports_in}
 
@@ -19,7 +19,7 @@ record Holds (begun c : Held) (P : Report → Type 0) : Type 0 where
   pub reports : List Report
   pub held_is : c ≡ record begun { reports = map_of reports }
   pub alike : AreAlike reports
-  pub are : (r : Report) → IsOneOf r reports ↔ P r
+  pub are : (r : Report) → IsOneOfReports r reports ↔ P r
 
 holds-as : (begun c : Held) (P Q : Report → Type 0) → Holds begun c P → ((r : Report) → P r → Q r) → ((r : Report) → Q r → P r) → Holds begun c Q
 holds-as begun c P Q h to from = record {
@@ -38,22 +38,22 @@ same-found : (b : Bool) (x : Report) (rest : Option Report) → b ≡ true → i
 same-found true x rest h = refl
 same-found false x rest h = absurd (false≢true h)
 
-found : (r : Report) (reports : List Report) → IsOneOf r reports → is_some (report_at r.run reports) ≡ true
+found : (r : Report) (reports : List Report) → IsOneOfReports r reports → is_some (report_at r.run reports) ≡ true
 found r [] is = absurd is
 found r (x ∷ more) (inl same) = same-found (r.run == x.run) x (report_at r.run more) (eq-eqb r.run x.run (ap (λ (y : Report). y.run) same))
 found r (x ∷ more) (inr is) = found-by (r.run == x.run) x (report_at r.run more) (found r more is)
 
 -- one that is found is a member
-member-by : (b : Bool) (r x : Report) (more : List Report) → cond b (Some x) (report_at r.run more) ≡ Some r → (report_at r.run more ≡ Some r → IsOneOf r more) → (r ≡ x) ⊎ IsOneOf r more
+member-by : (b : Bool) (r x : Report) (more : List Report) → cond b (Some x) (report_at r.run more) ≡ Some r → (report_at r.run more ≡ Some r → IsOneOfReports r more) → (r ≡ x) ⊎ IsOneOfReports r more
 member-by true r x more h go = inl (ap (λ o. unwrap_or o r) (sym h))
 member-by false r x more h go = inr (go h)
 
-member : (r : Report) (reports : List Report) → report_at r.run reports ≡ Some r → IsOneOf r reports
+member : (r : Report) (reports : List Report) → report_at r.run reports ≡ Some r → IsOneOfReports r reports
 member r [] h = absurd (false≢true (ap is_some h))
 member r (x ∷ more) h = member-by (r.run == x.run) r x more h (member r more)
 
 -- a report of a run that isn't held is like none before it
-absent : (r : Report) (reports : List Report) (x : Report) → AreAlike reports → report_at r.run (map_of reports) ≡ None → IsOneOf x reports → x.run ≡ r.run → ⊥
+absent : (r : Report) (reports : List Report) (x : Report) → AreAlike reports → report_at r.run (map_of reports) ≡ None → IsOneOfReports x reports → x.run ≡ r.run → ⊥
 absent r reports x alike none is run =
     false≢true (sym (ap is_some (subst (λ k. report_at k (map_of reports) ≡ None) (sym run) none)) ∙ found x (map_of reports) ((map-members reports alike x).1 is))
 
@@ -94,40 +94,40 @@ to-left (inr (inl b)) = inl (inr b)
 to-left (inr (inr c)) = inr c
 
 -- all of a list
-holds-all : (begun c after : Held) (reports : List Report) (a p : ℕ) (m : Merged) (P : Report → Type 0) → Holds begun c P → AddsAll c reports a p (Ok m) after → Holds begun after (λ x. P x ⊎ IsOneOf x reports)
+holds-all : (begun c after : Held) (reports : List Report) (a p : ℕ) (m : Merged) (P : Report → Type 0) → Holds begun c P → AddsAll c reports a p (Ok m) after → Holds begun after (λ x. P x ⊎ IsOneOfReports x reports)
 holds-all begun c after [] a p m P h adds =
     subst (λ d. Holds begun d (λ x. P x ⊎ ⊥)) (sym adds.1) (holds-as begun c P (λ x. P x ⊎ ⊥) h (λ x q. inl q) (λ x q. ⊎_elim (λ y. y) (λ no. absurd no) q))
 holds-all begun c after (r ∷ more) a p m P h (Err f, next, adds, rest) = absurd (false≢true (ap is_err rest.0))
 holds-all begun c after (r ∷ more) a p m P h (Ok New, next, adds, rest) =
-    holds-as begun after (λ x. (P x ⊎ (x ≡ r)) ⊎ IsOneOf x more) (λ x. P x ⊎ IsOneOf x (r ∷ more))
+    holds-as begun after (λ x. (P x ⊎ (x ≡ r)) ⊎ IsOneOfReports x more) (λ x. P x ⊎ IsOneOfReports x (r ∷ more))
     (holds-all begun next after more _ _ m (λ x. P x ⊎ (x ≡ r)) (holds-new begun c next r P h adds.1 adds.4) rest) (λ x q. to-right q) (λ x q. to-left q)
 holds-all begun c after (r ∷ more) a p m P h (Ok Repeated, next, adds, rest) =
-    holds-as begun after (λ x. (P x ⊎ (x ≡ r)) ⊎ IsOneOf x more) (λ x. P x ⊎ IsOneOf x (r ∷ more))
+    holds-as begun after (λ x. (P x ⊎ (x ≡ r)) ⊎ IsOneOfReports x more) (λ x. P x ⊎ IsOneOfReports x (r ∷ more))
     (holds-all begun next after more _ _ m (λ x. P x ⊎ (x ≡ r)) (holds-again begun c next r P h adds.1 adds.2) rest) (λ x q. to-right q) (λ x q. to-left q)
 
 -- a bundle that is taken
-holds-bundle : (begun c after : Held) (bundle : Bundle) (m : Merged) (P : Report → Type 0) → Holds begun c P → Merges c bundle (Ok m) after → Holds begun after (λ x. P x ⊎ IsOneOf x bundle.reports)
+holds-bundle : (begun c after : Held) (bundle : Bundle) (m : Merged) (P : Report → Type 0) → Holds begun c P → Merges c bundle (Ok m) after → Holds begun after (λ x. P x ⊎ IsOneOfReports x bundle.reports)
 holds-bundle begun c after bundle m P h (OfAnother f) = absurd (false≢true (ap is_err f.result_is))
 holds-bundle begun c after bundle m P h (OfThis of adds) = holds-all begun c after bundle.reports 0 0 m P h adds
 
-member-of-either : (r : Report) (xs ys : List Report) → IsOneOf r (xs ++ ys) → IsOneOf r xs ⊎ IsOneOf r ys
+member-of-either : (r : Report) (xs ys : List Report) → IsOneOfReports r (xs ++ ys) → IsOneOfReports r xs ⊎ IsOneOfReports r ys
 member-of-either r [] ys is = inr is
 member-of-either r (x ∷ xs) ys (inl same) = inl (inl same)
 member-of-either r (x ∷ xs) ys (inr is) = to-left (inr (member-of-either r xs ys is))
 
-member-of-both : (r : Report) (xs ys : List Report) → IsOneOf r xs ⊎ IsOneOf r ys → IsOneOf r (xs ++ ys)
+member-of-both : (r : Report) (xs ys : List Report) → IsOneOfReports r xs ⊎ IsOneOfReports r ys → IsOneOfReports r (xs ++ ys)
 member-of-both r [] ys (inl is) = absurd is
 member-of-both r [] ys (inr is) = is
 member-of-both r (x ∷ xs) ys (inl (inl same)) = inl same
 member-of-both r (x ∷ xs) ys (inl (inr is)) = inr (member-of-both r xs ys (inl is))
 member-of-both r (x ∷ xs) ys (inr is) = inr (member-of-both r xs ys (inr is))
 
-holds-bundles : (begun c after : Held) (bundles : List Bundle) (P : Report → Type 0) → Holds begun c P → TakesAll c bundles after → Holds begun after (λ x. P x ⊎ IsOneOf x (reports_in bundles))
+holds-bundles : (begun c after : Held) (bundles : List Bundle) (P : Report → Type 0) → Holds begun c P → TakesAll c bundles after → Holds begun after (λ x. P x ⊎ IsOneOfReports x (reports_in bundles))
 holds-bundles begun c after [] P h takes =
     subst (λ d. Holds begun d (λ x. P x ⊎ ⊥)) (sym takes) (holds-as begun c P (λ x. P x ⊎ ⊥) h (λ x q. inl q) (λ x q. ⊎_elim (λ y. y) (λ no. absurd no) q))
 holds-bundles begun c after (bundle ∷ more) P h (m, next, merges, rest) =
-    holds-as begun after (λ x. (P x ⊎ IsOneOf x bundle.reports) ⊎ IsOneOf x (reports_in more)) (λ x. P x ⊎ IsOneOf x (bundle.reports ++ reports_in more))
-    (holds-bundles begun next after more (λ x. P x ⊎ IsOneOf x bundle.reports) (holds-bundle begun c next bundle m P h merges) rest)
+    holds-as begun after (λ x. (P x ⊎ IsOneOfReports x bundle.reports) ⊎ IsOneOfReports x (reports_in more)) (λ x. P x ⊎ IsOneOfReports x (bundle.reports ++ reports_in more))
+    (holds-bundles begun next after more (λ x. P x ⊎ IsOneOfReports x bundle.reports) (holds-bundle begun c next bundle m P h merges) rest)
     (λ x q. ⊎_elim (λ p. inl p) (λ is. inr (member-of-both x bundle.reports (reports_in more) is)) (to-right q))
     (λ x q. to-left (⊎_elim (λ p. inl p) (λ is. inr (member-of-either x bundle.reports (reports_in more) is)) q))
 

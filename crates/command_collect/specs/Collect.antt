@@ -41,7 +41,7 @@ AreReadOf held [] (text ∷ texts) = ⊥
 AreReadOf held (name ∷ names) [] = ⊥
 AreReadOf held (name ∷ names) (text ∷ texts) = IsReadOf held name file_limit text × AreReadOf held names texts
 
-pub record AreTexts (held : Option Held) (c : CollectWords) (texts : CollectTexts) : Type 0 where
+pub record AreCollectTexts (held : Option Held) (c : CollectWords) (texts : CollectTexts) : Type 0 where
   pub program_read : IsReadOf held c.program program_limit texts.program
   pub files_read : AreReadOf held c.files texts.files
 
@@ -94,7 +94,7 @@ pub record IsCollected (held : Option Held) (c : CollectWords) (said : Done) (te
   pub texts : CollectTexts
   pub collection : Collected
   pub reports : List Report
-  pub are_texts : AreTexts held c texts
+  pub are_texts : AreCollectTexts held c texts
   pub gathered : IsGathered texts collection reports
   pub text_is : text ≡ collection_text collection
   pub said_is : said ≡ Added (length collection.reports) (length reports - length collection.reports)
@@ -132,7 +132,7 @@ HasNoFile (text ∷ more) = IsNoFile text ⊎ HasNoFile more
 -- the text with this number holds no reports, and goes wrong at this line
 abbrev pub RefusesFile : (number : ℕ) → List ℕ → Refusal → Type 0
 RefusesFile number text (refusal.BadReport file line) =
-    (is_collection text ≡ false) × ((file ≡ number) × (IsNoFile text × IsBadLine report.Follows report.Ends report.start text line))
+    (is_collection text ≡ false) × ((file ≡ number) × (IsNoFile text × IsBadLine report.ReportLineFollows report.ReportEnds report.report_start text line))
 RefusesFile number text (refusal.BadCollection file line) =
     (is_collection text ≡ true) × ((file ≡ number) × (IsNoFile text × IsBadCollectionLine text line))
 RefusesFile number text _ = ⊥
@@ -176,10 +176,10 @@ RefusesTexts refusal texts = RefusesReports texts refusal
 -- the bytes read are refused, and by which refusal
 pub record CollectRefused (c : CollectWords) (held : Option Held) : Type 0 where
   pub texts : CollectTexts
-  pub are_texts : AreTexts held c texts
+  pub are_texts : AreCollectTexts held c texts
   pub refused : AreRefusedTexts texts
 
 pub record CollectRefusedBy (c : CollectWords) (held : Option Held) (refusal : Refusal) : Type 0 where
   pub texts : CollectTexts
-  pub are_texts : AreTexts held c texts
+  pub are_texts : AreCollectTexts held c texts
   pub refused : RefusesTexts refusal texts

@@ -4,7 +4,8 @@ ghost use Rattle.collector.specs.Merging.{IsBundle};
 ghost use Rattle.collector.specs.declared.collection.Bundle.{Bundle};
 ghost use Rattle.command_base.specs.Faults.{Caused};
 ghost use Rattle.command_base.specs.Reading.{HasRead};
-ghost use Rattle.command_collect.specs.Collect.{AreBundles, AreReadOf, AreSpelled, AreTexts, RefusesFile, RefusesFiles, SpellsFile, collect_names, is_collection};
+ghost use Rattle.command_collect.specs.Collect.{AreBundles, AreCollectTexts, AreReadOf, AreSpelled, RefusesFile, RefusesFiles, SpellsFile, collect_names};
+ghost use Rattle.command_collect.specs.Collect.{is_collection};
 
 use crate::words::CollectWords;
 use cbi_base::{Memory, Refusal, Seq, Store};
@@ -43,7 +44,7 @@ pub fn read_texts<S: Store>(
     store: &mut S,
     words: &CollectWords,
 ) -> Result<CollectTexts, Fault>
-    ensures texts { IfOk result (AreTexts (S.holds store.old) words.now) }
+    ensures texts { IfOk result (AreCollectTexts (S.holds store.old) words.now) }
     ensures read { HasRead S.holds S.read_faults S.write_faults S.is_sound store.old store.new (collect_names words.now) (λ r. ⊥) result }
 {
     let program = read_file(alloc, store, &words.program, PROGRAM_LIMIT)?;

@@ -21,7 +21,7 @@ IsNoCollection text = (bundle : Bundle) → SpellsBundle text bundle → ⊥
 -- the line at which the text of a collection goes wrong
 pub record IsBadCollectionLine (text : List ℕ) (line : ℕ) : Type 0 where
   pub alloc : Global
-  pub bad : IsBadLine collection.Follows collection.Ends (collection.start alloc) text line
+  pub bad : IsBadLine collection.BundleLineFollows collection.BundleEnds (collection.bundle_start alloc) text line
 
 -- the refusal of a text with this number that is no collection's
 pub record IsBadCollection (number : ℕ) (text : List ℕ) (told : Refusal) : Type 0 where

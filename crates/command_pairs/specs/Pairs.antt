@@ -6,7 +6,7 @@ use Rattle.flow.specs.declared.program.ProgramParts.{ProgramParts}
 use Rattle.flow.specs.Program.{table_of}
 use Rattle.collector.specs.declared.collection.Bundle.{Bundle}
 use Rattle.collector.specs.Sites.{branches_of}
-use Rattle.tallies.specs.Recount.{runs_of}
+use Rattle.elimination_tallies.specs.Recount.{runs_of}
 use Rattle.compound.specs.declared.chosen.PairResult.{PairResult}
 use Rattle.compound.specs.Found.{IsFound}
 use Rattle.compound.specs.Text.{pairs_text}

@@ -5,7 +5,7 @@ use Rattle.cbi_base.specs.declared.refusal.Refusal.{Refusal}
 use Rattle.flow.specs.declared.program.ProgramParts.{ProgramParts}
 use Rattle.flow.specs.Program.{table_of}
 use Rattle.collector.specs.declared.collection.Bundle.{Bundle}
-use Rattle.tallies.specs.Recount.{runs_of}
+use Rattle.elimination_tallies.specs.Recount.{runs_of}
 use Rattle.ranking.specs.Ranked.{IsRankingOf}
 use Rattle.command_inputs.specs.Runs.{AreRunsTexts, RunsRefused, RunsRefusedBy, SpellRuns, runs_names}
 use Rattle.command_inputs.specs.declared.runs.RunsTexts.{RunsTexts}

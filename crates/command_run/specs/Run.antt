@@ -10,7 +10,7 @@ use Rattle.cbi_base.specs.declared.refusal.Refusal.TheVariants.{BadProgram, BadB
 use Rattle.flow.specs.declared.program.ProgramParts.{ProgramParts}
 use Rattle.flow.specs.declared.result.RunResult.{RunResult}
 use Rattle.flow.specs.Code.{code_of}
-use Rattle.flow.specs.Counting.{result_of}
+use Rattle.flow.specs.Counting.{run_result}
 use Rattle.flow.specs.Machine.{MachineEnds, begin}
 use Rattle.flow.specs.State.{Ending}
 use Rattle.flow.specs.Spelling.{SpellsProgram}
@@ -91,7 +91,7 @@ pub record IsReported (r : RunWords) (before after : Option Held) : Type 0 where
   pub parts : ProgramParts
   pub ending : Ending
   pub run : RunOf before r files parts ending
-  pub reported : Reports r.report before after (report_of r files (result_of parts.sites ending))
+  pub reported : Reports r.report before after (report_of r files (run_result parts.sites ending))
 
 -- the report is written, out took the whole output of the run, and each watcher was told exactly what it observed
 pub record Ran {B : Type 0} (told : B → List Observation) (r : RunWords) (before after : Outside B) : Type 0 where
@@ -106,7 +106,7 @@ pub record StoppedWithin {B : Type 0} (told : B → List Observation) (r : RunWo
   pub ending : Ending
   pub run : RunOf before.held r files parts ending
   pub grew : AllGrew told ending.seen before.boxes after.boxes
-  pub part : PublishesPart r files (result_of parts.sites ending) before.out after.out before.held after.held
+  pub part : PublishesPart r files (run_result parts.sites ending) before.out after.out before.held after.held
 
 -- The run didn't come to its end for want of memory: nothing was written, and each watcher was told a prefix of what the machine observes in so many
 -- steps; so also a prefix of what is observed in a run that ends.
@@ -118,7 +118,8 @@ pub record BrokeOff {B : Type 0} (told : B → List Observation) (r : RunWords) 
   pub out : after.out ≡ before.out
   pub held : after.held ≡ before.held
   pub steps : ℕ
-  pub so_far : AllGrewByPrefix told (seen_in (went (code_of parts (number_after bank)) steps (begin parts files.input (number_after bank) r.turns))) before.boxes after.boxes
+  pub so_far : AllGrewByPrefix told (seen_in (went (code_of parts (number_after bank)) steps (begin parts files.input (number_after bank) r.turns)))
+      before.boxes after.boxes
   pub prefix : (ending : Ending) → MachineEnds parts files.input (number_after bank) r.turns ending → AllGrewByPrefix told ending.seen before.boxes after.boxes
 
 -- what a fault of the command leaves

@@ -23,7 +23,7 @@ use Rattle.session_laws.proofs.Taken.{none-faulty}
 use Rattle.session_replay.specs.declared.fault.EditFault.{EditFault}
 use Rattle.session_replay.specs.declared.fault.EditFault.TheVariants as fault
 use Rattle.session_replay.specs.Replay.{AreAccepted, AreRankings, FaultsAt, IsStoppedBy, StopsAt, no_runs}
-use Rattle.command_session.specs.Session.{AreRefusedTexts, AreSessionTexts, AreTextsReplayed, IsBadEdits, IsTold, IsToldOf, RefusesTexts, SpellBoth, TellsOf, id_of}
+use Rattle.command_session.specs.Session.{AreRefusedTexts, AreSessionTexts, AreTextsReplayed, IsBadEdits, IsTold, IsToldOf, RefusesTexts, SpellSession, TellsOf, id_of}
 use Rattle.command_session.specs.declared.replayed.SessionTexts.{SessionTexts}
 use Rattle.command_session.specs.declared.words.SessionWords.{SessionWords}
 use Rattle.command_session.proofs.Told.{told-refuses}
@@ -82,7 +82,7 @@ refuses-texts (LargeInput line) texts h = absurd h
 
 -- what the texts spell
 pub record IsLoaded (texts : SessionTexts) (parts : ProgramParts) (id : ProgramId) (table : TableParts) (list : List Edit) : Type 0 where
-  pub spell : SpellBoth texts parts list
+  pub spell : SpellSession texts parts list
   pub id_is : id ≡ id_of texts.program
   pub table_is : table ≡ table_of parts
 

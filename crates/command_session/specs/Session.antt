@@ -37,7 +37,7 @@ abbrev pub id_of : List ℕ → ProgramId
 id_of program = record { bytes = sha256 program }
 
 -- the texts spell this program, and these edits of its runs
-pub record SpellBoth (texts : SessionTexts) (parts : ProgramParts) (list : List Edit) : Type 0 where
+pub record SpellSession (texts : SessionTexts) (parts : ProgramParts) (list : List Edit) : Type 0 where
   pub program : SpellsProgram texts.program parts
   pub edits : SpellsEdits (id_of texts.program) texts.edits list
 
@@ -45,7 +45,7 @@ pub record SpellBoth (texts : SessionTexts) (parts : ProgramParts) (list : List 
 pub record AreTextsReplayed (texts : SessionTexts) (policy : Policy) (text : List ℕ) : Type 0 where
   pub parts : ProgramParts
   pub list : List Edit
-  pub spell : SpellBoth texts parts list
+  pub spell : SpellSession texts parts list
   pub rankings : AreRankings (table_of parts) policy [] list text
 
 -- the rankings that are due
@@ -61,7 +61,7 @@ IsNoEdits program text = (list : List Edit) → SpellsEdits program text list �
 -- the line at which the text of edits goes wrong
 pub record IsBadEditsLine (program : ProgramId) (text : List ℕ) (line : ℕ) : Type 0 where
   pub alloc : Global
-  pub bad : IsBadLine edits.Follows edits.Ends (edits.start alloc program) text line
+  pub bad : IsBadLine edits.EditLineFollows edits.EditsEnd (edits.edits_start alloc program) text line
 
 -- the refusal of a text that is no edits'
 pub record IsBadEdits (program : ProgramId) (text : List ℕ) (refusal : Refusal) : Type 0 where
@@ -74,7 +74,7 @@ pub record IsBadEdits (program : ProgramId) (text : List ℕ) (refusal : Refusal
 pub record AreStopped (texts : SessionTexts) (cause : EditFault) : Type 0 where
   pub parts : ProgramParts
   pub list : List Edit
-  pub spell : SpellBoth texts parts list
+  pub spell : SpellSession texts parts list
   pub stopped : IsStoppedBy (no_runs (id_of texts.program) (table_of parts)) list cause
 
 -- a cause that is told, and so not want of memory
@@ -108,7 +108,8 @@ pub record IsToldOf (texts : SessionTexts) (refusal : Refusal) : Type 0 where
 -- another program.
 abbrev pub RefusesTexts : Refusal → SessionTexts → Type 0
 RefusesTexts (BadProgram line) texts = IsNoProgram texts.program × IsWrongAt texts.program line
-RefusesTexts (BadEdits line) texts = IsSpelled texts.program × (IsNoEdits (id_of texts.program) texts.edits × IsBadEditsLine (id_of texts.program) texts.edits line)
+RefusesTexts (BadEdits line) texts = IsSpelled texts.program
+    × (IsNoEdits (id_of texts.program) texts.edits × IsBadEditsLine (id_of texts.program) texts.edits line)
 RefusesTexts (NoSite run site) texts = IsToldOf texts (NoSite run site)
 RefusesTexts (Conflict run) texts = IsToldOf texts (Conflict run)
 RefusesTexts (TooManyReports run) texts = IsToldOf texts (TooManyReports run)

@@ -62,8 +62,8 @@ module _ {B : Type 0} (told : B → List Observation) (words : StudyWords) where
     pub boxes : LeftByStudy bytes words.plan told before.boxes after.boxes fault
 
   -- what a fault of the command leaves
-  abbrev pub LeftByFault : Fault → (before after : Outside B) → Type 0
-  LeftByFault fault before after =
+  abbrev pub StudyLeftByFault : Fault → (before after : Outside B) → Type 0
+  StudyLeftByFault fault before after =
       LeftBy fault (IsUnmoved before after) (StudyTaken before after) (λ refusal. StudyLeft (faults.Refused refusal) before after)
       (StudyLeft faults.Memory before after ⊎ StudyTaken before after)
 

@@ -4,7 +4,7 @@ ghost use Rattle.command_base.specs.Faults.{Caused, OfRead, OfRefusal, Precedes,
 ghost use Rattle.command_base.specs.Names.{IsOneOf, IsFirstMissing, AreHeld};
 ghost use Rattle.command_base.specs.Outside.{outside};
 ghost use Rattle.command_base.specs.declared.done.Done.TheVariants.{Lines};
-ghost use Rattle.command_study.specs.Study.{LeftByFault, StudyDone, StudyRefused, StudyRefusedBy, study_names, study_text, summary_line};
+ghost use Rattle.command_study.specs.Study.{StudyDone, StudyLeftByFault, StudyRefused, StudyRefusedBy, study_names, study_text, summary_line};
 
 use crate::words::StudyWords;
 use cbi_base::{Memory, Sink, Store, push_decimal};
@@ -69,7 +69,7 @@ pub fn study_text<S: Store, O: Sink>(
     ensures refused { StudyRefused words.now (S.holds store.old) → IsSome (S.holds store.old) → IsErrAnd result Precedes }
 
     // What is left after a fault, and which names were held.
-    ensures left { IfErr result (λ e. LeftByFault (λ b. seen b) words.now e
+    ensures left { IfErr result (λ e. StudyLeftByFault (λ b. seen b) words.now e
         (outside (S.holds store.old) (O.taken out.old) probes.old.items) (outside (S.holds store.new) (O.taken out.new) probes.new.items)) }
     ensures was_held { Passed result (AreHeld (S.holds store.old) (study_names words.now)) }
     ensures missing { S.is_sound store.old → IfErr result (λ e. OfRead e (IsFirstMissing (S.holds store.old) (study_names words.now))) }

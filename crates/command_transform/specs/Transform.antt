@@ -18,19 +18,19 @@ use Rattle.command_base.specs.Limits.{text_limit}
 use Rattle.command_transform.specs.declared.words.TransformWords.{TransformWords}
 
 -- the schemes that are named
-abbrev pub schemes_of : Named → Schemes
-schemes_of s = record { branches = s.branches; returns = s.returns; pairs = s.pairs }
+abbrev pub named_schemes : Named → Schemes
+named_schemes s = record { branches = s.branches; returns = s.returns; pairs = s.pairs }
 
 -- the part of the sites that is named
-abbrev pub part_of : Option Share → Option Part
-part_of None = None
-part_of (Some s) = Some (record { index = s.index; count = s.count })
+abbrev pub named_part : Option Share → Option Part
+named_part None = None
+named_part (Some s) = Some (record { index = s.index; count = s.count })
 
 -- what the text is compiled to; a plain program has no sites, whatever schemes and part are named
 abbrev pub plan_for : Mode → Named → Option Share → Plan
 plan_for mode.Plain s part = plan.Plain
-plan_for mode.Full s part = plan.Full (schemes_of s) (part_of part)
-plan_for mode.Sampled s part = plan.Sampled (schemes_of s) (part_of part)
+plan_for mode.Full s part = plan.Full (named_schemes s) (named_part part)
+plan_for mode.Sampled s part = plan.Sampled (named_schemes s) (named_part part)
 
 abbrev pub plan_of : TransformWords → Plan
 plan_of r = plan_for r.mode r.schemes r.part

@@ -4,7 +4,7 @@ ghost use Rattle.compiler.specs.Kept.{MayPart};
 ghost use Rattle.compiler.specs.Planned.{part_in};
 ghost use Rattle.compiler.specs.Refused.{IsRefusedText, RefusesText};
 ghost use Rattle.command_base.specs.Faults.{Caused, Precedes};
-ghost use Rattle.command_transform.specs.Transform.{IsFileOf, IsTransformed, TransformRefused, TransformRefusedBy, part_of, plan_of, transform_names};
+ghost use Rattle.command_transform.specs.Transform.{IsFileOf, IsTransformed, TransformRefused, TransformRefusedBy, named_part, plan_of, transform_names};
 
 use crate::words::TransformWords;
 use cbi_base::{Memory, Store};
@@ -19,7 +19,7 @@ use std::alloc::Global;
 /// The part of the sites that is named.
 fn part_of(share: Option<Share>) -> Option<Part>
     requires { MayShare share }
-    ensures value { result ≡ part_of share }
+    ensures value { result ≡ named_part share }
     ensures may { MayPart result }
 {
     match share {

@@ -6,51 +6,20 @@ use Rattle.cbi_base.specs.declared.refusal.Refusal.TheVariants.{BadProgram, BadC
 use Rattle.flow.specs.declared.program.ProgramParts.{ProgramParts}
 use Rattle.flow.specs.Spelling.{SpellsProgram}
 use Rattle.collector.specs.declared.collection.Bundle.{Bundle}
-use Rattle.collector.specs.Sites.{branches_of}
 use Rattle.collector.specs.Spelling.{SpellsBundle}
 use Rattle.site_parts.specs.declared.part.Part.{Part}
 use Rattle.command_base.specs.Limits.{program_limit}
 use Rattle.command_base.proofs.ReadLemmas.{read-once}
 use Rattle.command_inputs.specs.Programs.{IsBadProgram}
-use Rattle.command_inputs.specs.Collections.{IsBadCollection, file_limit}
-use Rattle.command_inputs.specs.Runs.{IsOfText}
+use Rattle.command_inputs.specs.Collections.{file_limit}
 use Rattle.command_inputs.proofs.RunsLemmas.{refuses-runs, runs-never-refused}
-use Rattle.command_widen.specs.declared.loaded.Loaded.{Loaded}
 use Rattle.command_widen.specs.declared.texts.WidenTexts.{WidenTexts}
 use Rattle.command_widen.specs.declared.words.WidenWords.{WidenWords}
-use Rattle.command_widen.specs.Loading.{AreSpelled, RefusesSites}
-use Rattle.command_widen.specs.Widen.{AreRefusedTexts, AreWidenTexts, HasPart, IsPart, RefusesTexts, SpellPart, WidenRefused, part_of_share}
+use Rattle.command_widen.specs.Widen.{AreRefusedTexts, AreWidenTexts, HasPart, RefusesTexts, SpellPart, WidenRefused, part_of_share}
 
 -- the whole program's text is none, or the other one's
 pub bad_whole : (part : Part) (texts : WidenTexts) (refusal : Refusal) → IsBadProgram texts.whole refusal → RefusesTexts part refusal texts
 bad_whole part texts refusal h = subst (λ r. RefusesTexts part r texts) (sym h.refusal_is) (inl (h.none, h.wrong))
-
-pub bad_program : (part : Part) (texts : WidenTexts) (whole : ProgramParts) (refusal : Refusal) → SpellsProgram texts.whole whole → IsBadProgram texts.runs.program refusal
-    → RefusesTexts part refusal texts
-bad_program part texts whole refusal spells h =
-    subst (λ r. RefusesTexts part r texts) (sym h.refusal_is) (inr (record { parts = whole; spells = spells }, (h.none, h.wrong)))
-
--- behind two programs the text is no collection
-pub bad_collection : (part : Part) (texts : WidenTexts) (whole parts : ProgramParts) (refusal : Refusal) → SpellsProgram texts.whole whole → SpellsProgram texts.runs.program parts
-    → IsBadCollection 1 texts.runs.collection refusal → RefusesTexts part refusal texts
-bad_collection part texts whole parts refusal spells too h =
-    subst (λ r. RefusesTexts part r texts) (sym h.told_is)
-    (record { parts = whole; spells = spells }, (record { parts = parts; spells = too }, (refl, (h.none, h.bad))))
-
-module _ (part : Part) (texts : WidenTexts) (l : Loaded) (spelled : AreSpelled texts l) where
-  -- the second program hasn't the part
-  pub not_part : (HasPart part l.whole l.program → ⊥) → RefusesTexts part NotPart texts
-  not_part other = record { whole = l.whole; parts = l.program; bundle = l.bundle; whole_spelled = spelled.whole; spell = spelled.runs; other = other }
-
-  module _ (has : HasPart part l.whole l.program) where
-    is_part : IsPart part texts
-    is_part = record { whole = l.whole; parts = l.program; whole_spelled = spelled.whole; parts_spelled = spelled.runs.program; has_part = has }
-
-    module _ (of_program : IsOfText texts.runs.program l.bundle) where
-      -- a report of it has an entry of a site that isn't there
-      pub bad_site : (refusal : Refusal) → RefusesSites (branches_of l.program.sites) l.bundle.reports refusal → RefusesTexts part refusal texts
-      bad_site (NoSite run site) first = (is_part, record { parts = l.program; bundle = l.bundle; spell = spelled.runs; of_program = of_program; first = first })
-      bad_site refusal none = absurd none
 
 -- a refusal is of refused texts
 pub refuses_texts : (part : Part) (refusal : Refusal) (texts : WidenTexts) → RefusesTexts part refusal texts → AreRefusedTexts part texts

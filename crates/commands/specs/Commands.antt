@@ -80,35 +80,35 @@ runs_words inputs expect rate seed first turns program =
     record { inputs = inputs; expect = expect; rate = rate; seed = seed; first = first; turns = turns; program = program }
 
 -- the names that its words give to be read, in the order of its reads
-abbrev pub names_of : Option Command → List (List ℕ)
-names_of None = []
-names_of (Some (Transform mode schemes part text)) = transform_names (transform_words mode schemes part text)
-names_of (Some (Run bank input expect turns run report program)) = run_names (run_words bank input expect turns run report program)
-names_of (Some (Bank rate count seed stream)) = []
-names_of (Some (Collect program files)) = collect_names (collect_words program files)
-names_of (Some (Rank policy program collection)) = rank_names (rank_words policy program collection)
-names_of (Some (Study runs seed rate turns policy text)) = study_names (study_words runs seed rate turns policy text)
-names_of (Some (Session program policy edits)) = session_names (session_words program policy edits)
-names_of (Some (Widen whole part program collection)) = widen_names (widen_words whole part program collection)
-names_of (Some (Cards program collection)) = cards_names (cards_words program collection)
-names_of (Some (Pairs program collection)) = pairs_names (pairs_words program collection)
-names_of (Some (Runs inputs expect rate seed first turns program)) = first_names (runs_words inputs expect rate seed first turns program)
+abbrev pub command_names : Option Command → List (List ℕ)
+command_names None = []
+command_names (Some (Transform mode schemes part text)) = transform_names (transform_words mode schemes part text)
+command_names (Some (Run bank input expect turns run report program)) = run_names (run_words bank input expect turns run report program)
+command_names (Some (Bank rate count seed stream)) = []
+command_names (Some (Collect program files)) = collect_names (collect_words program files)
+command_names (Some (Rank policy program collection)) = rank_names (rank_words policy program collection)
+command_names (Some (Study runs seed rate turns policy text)) = study_names (study_words runs seed rate turns policy text)
+command_names (Some (Session program policy edits)) = session_names (session_words program policy edits)
+command_names (Some (Widen whole part program collection)) = widen_names (widen_words whole part program collection)
+command_names (Some (Cards program collection)) = cards_names (cards_words program collection)
+command_names (Some (Pairs program collection)) = pairs_names (pairs_words program collection)
+command_names (Some (Runs inputs expect rate seed first turns program)) = first_names (runs_words inputs expect rate seed first turns program)
 
 -- It reads this name: one that its words give, or for `runs` one that its lists give.
 abbrev pub IsReadName : Option Command → Option Held → (name : List ℕ) → Type 0
 IsReadName (Some (Runs inputs expect rate seed first turns program)) held name = IsRunsName (runs_words inputs expect rate seed first turns program) held name
-IsReadName command held name = IsOneOf (names_of command) name
+IsReadName command held name = IsOneOf (command_names command) name
 
 -- all names that it reads are held
 abbrev pub AreReadHeld : Option Command → Option Held → Type 0
 AreReadHeld (Some (Runs inputs expect rate seed first turns program)) held = AreRunsHeld (runs_words inputs expect rate seed first turns program) held
-AreReadHeld command held = AreHeld held (names_of command)
+AreReadHeld command held = AreHeld held (command_names command)
 
 -- the first of them that isn't held
 abbrev pub IsReadMissing : Option Command → Option Held → (name : List ℕ) → Type 0
 IsReadMissing (Some (Runs inputs expect rate seed first turns program)) held name =
     IsRunsMissing (runs_words inputs expect rate seed first turns program) held name
-IsReadMissing command held name = IsFirstMissing held (names_of command) name
+IsReadMissing command held name = IsFirstMissing held (command_names command) name
 
 -- the name that it writes, where there is one
 abbrev pub written_by : Option Command → Option (List ℕ)

@@ -4,7 +4,18 @@ ghost use Rattle.cbi_words.specs.Within.{IsWithin};
 ghost use Rattle.command_base.specs.Outside.{outside, AllStayBut};
 ghost use Rattle.command_base.specs.Names.{AreHeld};
 ghost use Rattle.command_base.specs.Faults.{Caused, Finished, OfRead, OfRefusal, Precedes, Passed};
-ghost use Rattle.commands.specs.Commands.{names_of, written_by, AreReadHeld, Did, IsReadMissing, IsReadName, LeftByFault, IsRefused, IsRefusedBy, WriteFault};
+ghost use Rattle.commands.specs.Commands.{
+  command_names,
+  written_by,
+  AreReadHeld,
+  Did,
+  IsReadMissing,
+  IsReadName,
+  LeftByFault,
+  IsRefused,
+  IsRefusedBy,
+  WriteFault,
+};
 
 use cbi_base::{Sink, Store};
 use cbi_words::Command;
@@ -45,11 +56,11 @@ pub fn obey<S: Store, O: Sink>(
     // What is left after a fault, and which names were held.
     ensures left { IfErr result (λ e. LeftByFault (λ b. seen b) (Some command) e
         (outside (S.holds store.old) (O.taken out.old) probes.old.items) (outside (S.holds store.new) (O.taken out.new) probes.new.items)) }
-    ensures was_held { Passed result (AreHeld (S.holds store.old) (names_of (Some command))) }
+    ensures was_held { Passed result (AreHeld (S.holds store.old) (command_names (Some command))) }
     ensures all_held { Finished result (AreReadHeld (Some command) (S.holds store.old)) }
     ensures missing { S.is_sound store.old → IfErr result (λ e. OfRead e (IsReadMissing (Some command) (S.holds store.old))) }
     ensures held { AllStayBut (written_by (Some command)) (S.holds store.old) (S.holds store.new) }
-    ensures no_read { names_of (Some command) ≡ [] → S.read_faults store.new ≡ S.read_faults store.old }
+    ensures no_read { command_names (Some command) ≡ [] → S.read_faults store.new ≡ S.read_faults store.old }
     ensures no_write { IsNone (written_by (Some command)) → S.write_faults store.new ≡ S.write_faults store.old }
 
     // No count falls, and devices that are sound stay so, with their counts.

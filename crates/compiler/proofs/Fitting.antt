@@ -4,8 +4,8 @@ use Rattle.c_syntax.specs.ItemTree.{SourceTree}
 use Rattle.c_syntax.specs.Kept.{IsKeptTree}
 use Rattle.c_types_expressions.specs.declared.walk.Walk.{Walk}
 use Rattle.c_parser.proofs.Keeping.{kept-tree}
-use Rattle.lower_parts_fit.specs.Ready.{IsWholeText}
-use Rattle.lower_parts_fit.proofs.Whole.{kept_whole}
+use Rattle.lower_fits.specs.Ready.{IsWholeText}
+use Rattle.lower_fits.proofs.Whole.{kept_whole}
 use Rattle.compiler.specs.Accepted.{IsAccepted}
 
 pub tree_kept : (text : List ℕ) (tree : SourceTree) (known : Walk) → IsAccepted text tree known → IsKeptTree tree

@@ -8,7 +8,7 @@ use Rattle.flow.specs.Limits.{site_limit}
 use Rattle.sites.specs.declared.schemes.Schemes.{Schemes}
 use Rattle.sites.specs.Table.{sites_of}
 use Rattle.sites.specs.Wanted.{no_schemes}
-use Rattle.lower_parts_fit.specs.Ready.{AreSitesOf}
+use Rattle.lower_fits.specs.Ready.{AreSitesOf}
 use Rattle.compiler.specs.declared.plan.Plan.{Plan}
 use Rattle.compiler.specs.declared.plan.Plan.TheVariants as plan
 use Rattle.compiler.specs.Planned.{planned_sites, schemes_of}

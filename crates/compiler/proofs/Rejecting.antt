@@ -8,7 +8,7 @@ use Rattle.c_types_expressions.specs.declared.walk.Walk.{Walk}
 use Rattle.c_types.specs.Fault.{fault_in, walk_tree}
 use Rattle.c_types_expressions.specs.Walked.{Walked, Fine, Done}
 use Rattle.c_lexer.specs.Endings.{Whole, Stopped}
-use Rattle.c_lexer.specs.Lexing.{Lexes, Stops}
+use Rattle.c_lexer.specs.Lexing.{CutStops, Lexes}
 use Rattle.c_lexer.specs.Refusals.{IsTooLarge}
 use Rattle.c_lexer.proofs.OneCutting.{one-ending}
 use Rattle.c_parser.specs.Parsed.{IsTreeOf}
@@ -19,7 +19,7 @@ use Rattle.compiler.specs.Rejected.{HasFault, HasNoTree, IsCut, IsRejectedText, 
 one_lexing : (text : List ℕ) (a b : List Token) → Lexes text a → Lexes text b → a ≡ b
 one_lexing text a b x y = let e : Whole a ≡ Whole b = one-ending text (Whole a) (Whole b) x y in cc
 
-never_cut : (text : List ℕ) (line byte : ℕ) (tokens : List Token) → Stops text line byte → Lexes text tokens → ⊥
+never_cut : (text : List ℕ) (line byte : ℕ) (tokens : List Token) → CutStops text line byte → Lexes text tokens → ⊥
 never_cut text line byte tokens stops lexes = absurd (let e : Stopped line byte ≡ Whole tokens = one-ending text (Stopped line byte) (Whole tokens) stops lexes in cc)
 
 -- a text has one list of tokens, one tree, and one thing is known of that

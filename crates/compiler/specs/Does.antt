@@ -10,7 +10,7 @@ use Rattle.c_meaning.specs.Runs.{Behaviour}
 use Rattle.c_meaning.specs.Texts.{text_meaning}
 use Rattle.flow.specs.declared.program.ProgramParts.{ProgramParts}
 use Rattle.flow.specs.declared.site.Site.{Site}
-use Rattle.flow.specs.Counting.{counts_of, result_of}
+use Rattle.flow.specs.Counting.{counts_of, run_result}
 use Rattle.flow.specs.Machine.{MachineEnds}
 use Rattle.flow.specs.Sampling.{IsPositive, samples}
 use Rattle.flow.specs.State.{Ending}
@@ -24,7 +24,7 @@ pub record GoesAs (meant : Behaviour) (seen : List Observation) (table : List Si
   pub outcome : ending.outcome ≡ meant.outcome
   pub output : ending.output ≡ meant.output
   pub seen_is : ending.seen ≡ seen
-  pub counts : (result_of table ending).counts ≡ counts_of table seen
+  pub counts : (run_result table ending).counts ≡ counts_of table seen
 
 -- the machine on the program ends so
 pub record EndsAs (p : ProgramParts) (input : List ℕ) (bank : ℕ → ℕ) (turns : ℕ) (meant : Behaviour) (seen : List Observation) : Type 0 where

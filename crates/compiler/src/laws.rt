@@ -15,14 +15,14 @@ ghost use Rattle.flow.specs.Sites.{IsSite};
 ghost use Rattle.flow.specs.State.{Ending};
 ghost use Rattle.sites.specs.declared.schemes.Schemes.{Schemes};
 ghost use Rattle.sites.specs.Table.{sites_of};
-ghost use Rattle.c_types_sound.specs.Sited.{IsSited, local_counts};
+ghost use Rattle.c_meaning_sound.specs.Sited.{IsSited, local_counts};
 ghost use Rattle.compiler.specs.Accepted.{IsAccepted};
 ghost use Rattle.compiler.specs.Rejected.{IsRejectedText, RejectsText};
 ghost use Rattle.compiler.specs.Compiled.{IsCompiled};
 ghost use Rattle.compiler.specs.Refused.{IsRefusedText, RefusesText};
 ghost use Rattle.compiler.specs.declared.plan.Plan.{Plan};
 
-use c_types_sound::{an_accepted_text_never_faults, sites_of_an_accepted_text_stand};
+use c_meaning_sound::{an_accepted_text_never_faults, sites_of_an_accepted_text_stand};
 use flow::one_ending;
 
 /// An accepted text has one tree, of which one thing is known.
@@ -86,7 +86,8 @@ pub fn plans_agree()
 /// refused for nothing else.
 pub fn refused_texts_are_not_compiled()
     ensures refused { (plan : Plan) (refusal : Refusal) (text : List ℕ) → RefusesText plan refusal text → IsRefusedText plan text }
-    ensures sites_alone { (plan : Plan) (refusal : Refusal) (text : List ℕ) → RefusesText plan TooManySites text → RefusesText plan refusal text → refusal ≡ TooManySites }
+    ensures sites_alone { (plan : Plan) (refusal : Refusal) (text : List ℕ) → RefusesText plan TooManySites text → RefusesText plan refusal text
+        → refusal ≡ TooManySites }
     ensures not_compiled { (plan : Plan) (text : List ℕ) (p : ProgramParts) → IsRefusedText plan text → IsCompiled text plan p → ⊥ }
 {
     one_accepted_text();

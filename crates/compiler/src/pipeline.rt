@@ -22,7 +22,7 @@ use c_types::Checked;
 use cbi_base::{Memory, Refusal};
 use flow::{Program, SiteTable};
 use lower::lower;
-use lower_parts_fit::kept_texts_are_whole;
+use lower_fits::kept_texts_are_whole;
 use sampling::sample;
 use site_parts::{Part, keep_part};
 use sites::{SiteError, schemes_choose_sites, site_table};
@@ -50,7 +50,8 @@ fn keep(alloc: Global, program: Program, part: Option<Part>) -> Result<Program, 
     requires may_clone { MayClone program }
     requires ready { IsReady program }
     requires part { MayPart part }
-    ensures does { (tree : SourceTree) (known : Walk) (table : List Site) → DoesText tree known table None program → IfOk result (DoesText tree known table part) }
+    ensures does { (tree : SourceTree) (known : Walk) (table : List Site) → DoesText tree known table None program
+        → IfOk result (DoesText tree known table part) }
     ensures names { IfOk result (λ q. (table_of q).functions ≡ (table_of program).functions) }
     ensures may_clone { IfOk result MayClone }
     ensures ready { IfOk result IsReady }
@@ -67,7 +68,8 @@ fn by_plan(alloc: Global, program: Program, plan: Plan) -> Result<Program, Memor
     requires may_clone { MayClone program }
     requires ready { IsReady program }
     requires part { MayPart (part_in plan) }
-    ensures does { (tree : SourceTree) (known : Walk) → DoesText tree known (planned_sites plan tree known) None program → IfOk result (DoesPlan plan tree known) }
+    ensures does { (tree : SourceTree) (known : Walk) → DoesText tree known (planned_sites plan tree known) None program
+        → IfOk result (DoesPlan plan tree known) }
     ensures names { IfOk result (λ q. (table_of q).functions ≡ (table_of program).functions) }
 {
     let program = keep(alloc, program, part_in(plan))?;

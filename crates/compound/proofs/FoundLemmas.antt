@@ -11,24 +11,24 @@ use Rattle.collector.specs.Sites.{branches_of}
 use Rattle.fractions.specs.declared.tally.Tally.{Tally}
 use Rattle.fractions.specs.Fraction.{IsAtMost}
 use Rattle.fractions.specs.Tally.{IsTally, Passes, importance_of}
-use Rattle.tallies.specs.declared.labelled.LabelledRun.{LabelledRun}
+use Rattle.elimination_tallies.specs.declared.labelled.LabelledRun.{LabelledRun}
 use Rattle.elimination.specs.Laws.{PredicatesAreThoseOfTheTable}
-use Rattle.tallies.specs.Predicates.{predicates_in}
-use Rattle.tallies.specs.Recount.{failing_runs, fails, is_observed, is_true, recount, succeeds}
-use Rattle.pair_counts.specs.Truth.{pair_is_known, pair_is_true, pair_recount}
+use Rattle.elimination_tallies.specs.Predicates.{predicates_in}
+use Rattle.elimination_tallies.specs.Recount.{failing_runs, fails, is_observed, is_true, recount, succeeds}
+use Rattle.compound_counts.specs.Truth.{pair_is_known, pair_is_true, pair_recount}
 use Rattle.compound.specs.declared.chosen.Chosen.{Chosen}
 use Rattle.compound.specs.declared.chosen.PairResult.{PairResult}
 use Rattle.compound.specs.declared.scanning.Best.{Best}
 use Rattle.compound.specs.declared.scanning.Scan.{Scan}
-use Rattle.compound.specs.Best.{NonePasses}
+use Rattle.compound.specs.Best.{NoPairPasses}
 use Rattle.compound.specs.Bound.{bound_of}
 use Rattle.compound.specs.Candidates.{AreCandidates, ComesBefore, RanksAtLeast}
-use Rattle.compound.specs.Found.{AreScanned, IsChosen, IsFound, IsFoundBy}
+use Rattle.compound.specs.Found.{ArePairsScanned, IsChosen, IsFound, IsFoundBy}
 use Rattle.compound.specs.Laws.{AddsUp}
 use Rattle.compound.specs.Pairs.{pairs_of}
 use Rattle.compound.specs.Scanning.{IsScan}
 use Rattle.compound.specs.Text.{HasText, IsShown}
-use Rattle.pair_counts.proofs.Counting.{tally-same}
+use Rattle.compound_counts.proofs.Counting.{tally-same}
 use Rattle.compound.proofs.BoundLemmas.{importance-bounded}
 use Rattle.compound.proofs.PairLists.{at-split, each-of-pairs, pair-count, related-pairs}
 use Rattle.compound.proofs.ScanLemmas.{BestOf}
@@ -37,26 +37,26 @@ use Rattle.compound.proofs.TallyLemmas.{failing-few, pair-in-left, pair-in-right
 -- ---- the whole scan
 
 chosen-of : (pair : ℕ → ℕ → Tally) (failing : ℕ) (pairs : List (ℕ × ℕ)) (best : Option Best) → BestOf pair failing pairs best
-    → MatchOption (option_map (λ (b : Best). b.chosen) best) (NonePasses pair pairs) (IsChosen pair failing pairs)
+    → MatchOption (option_map (λ (b : Best). b.chosen) best) (NoPairPasses pair pairs) (IsChosen pair failing pairs)
 chosen-of pair failing pairs None none = none
 chosen-of pair failing pairs (Some b) is = record { leads = is.leads; tally = is.tally; failing_is = is.failing_is }
 
 pub scan-found : (one : ℕ → Tally) (pair : ℕ → ℕ → Tally) (failing : ℕ) (pairs : List (ℕ × ℕ)) (scan : Scan) (found : PairResult) → IsScan one pair failing pairs scan → found.pairs ≡ length pairs
-    → found.counted ≡ scan.counted → found.skipped ≡ scan.skipped → found.best ≡ option_map (λ (b : Best). b.chosen) scan.best → AreScanned one pair failing pairs found
+    → found.counted ≡ scan.counted → found.skipped ≡ scan.skipped → found.best ≡ option_map (λ (b : Best). b.chosen) scan.best → ArePairsScanned one pair failing pairs found
 scan-found one pair failing pairs scan found is all counted skipped best = record {
   skips = is.skips;
   are_skips = is.are_skips;
   as_many = all;
   counted = counted ∙ is.counted;
   skipped = skipped ∙ is.skipped;
-  best = subst (λ (o : Option Chosen). MatchOption o (NonePasses pair pairs) (IsChosen pair failing pairs)) (sym best) (chosen-of pair failing pairs scan.best is.best);
+  best = subst (λ (o : Option Chosen). MatchOption o (NoPairPasses pair pairs) (IsChosen pair failing pairs)) (sym best) (chosen-of pair failing pairs scan.best is.best);
 }
 
 -- ---- a text
 
 shown-of : (table : TableParts) (branches : List Bool) (runs : List LabelledRun) (candidates : List ℕ) (best : Option Chosen) → predicates_in branches ≡ predicate_count table.sites → length runs ≤ 100000
     → AreCandidates (recount branches runs) (predicates_in branches) (failing_runs runs) candidates
-    → MatchOption best (NonePasses (pair_recount branches runs) (pairs_of candidates)) (IsChosen (pair_recount branches runs) (failing_runs runs) (pairs_of candidates)) → IfSome best (IsShown table)
+    → MatchOption best (NoPairPasses (pair_recount branches runs) (pairs_of candidates)) (IsChosen (pair_recount branches runs) (failing_runs runs) (pairs_of candidates)) → IfSome best (IsShown table)
 shown-of table branches runs candidates None as_many few are none = tt
 shown-of table branches runs candidates (Some c) as_many few are chosen =
     let P : ℕ → Type 0 = λ p. (p < predicates_in branches) × (1 ≤ (recount branches runs p).a) in

@@ -3,7 +3,7 @@ use Rattle.std.proofs.Common.{◌≡◌, ℕ, ◌+◌, ◌-◌, ◌*◌, ◌<◌
 use Rattle.std.specs.Prelude.{All, AllPairs, Contains, IfSome}
 use Rattle.std.proofs.lemmas.Bool.{cases_eq, cases_lt, false≢true, ltb-false, ltb-true, true≢false}
 use Rattle.std.proofs.lemmas.List.{append-nil, drop_at, get_or-drop, get_or-map, get_or-take, get_or_default, length-append, length-drop, length-map, length-take, length-take-le, map-append, take-append-drop, take_at}
-use Rattle.std.proofs.lemmas.List.Elements.{All-append, All-cons, All-contains, All-drop, All-head, All-map, All-nil, All-take, All-weaker, Contains-append_cases, Contains-append_left, Contains-append_right}
+use Rattle.std.proofs.lemmas.List.Elements.{All-append, All-cons, All-contains, All-drop, All-head, All-map, All-take, All-weaker, Contains-append_cases, Contains-append_left, Contains-append_right}
 use Rattle.std.proofs.lemmas.List.Kept.{AllPairs-cons}
 use Rattle.fractions.specs.declared.fraction.Fraction.{Fraction}
 use Rattle.fractions.specs.declared.tally.Tally.{Tally}
@@ -12,7 +12,7 @@ use Rattle.fractions.specs.Tally.{importance_of}
 use Rattle.compound.specs.declared.listing.Candidate.{Candidate}
 use Rattle.compound.specs.Bound.{IsLess}
 use Rattle.compound.specs.Candidates.{AreCandidates, ComesBefore, RanksAtLeast, candidate_limit}
-use Rattle.compound.specs.Listing.{AreListed, IsAdded, IsBefore, IsCandidate, IsListedOrPast, IsOneOf, IsPlaceOf, IsRated, outranks, predicates_of, rates_above}
+use Rattle.compound.specs.Listing.{AreListed, IsAdded, IsBefore, IsCandidateBelow, IsListedOrPast, IsPlaceOf, IsRated, IsRatedCandidate, candidate_predicates, outranks, rates_above}
 use Rattle.compound.proofs.OrderLemmas.{at-most-trans, importance-positive, less-at-most, not-both}
 use Rattle.compound.proofs.PairLists.{pairs-across, pairs-append, pairs-left, pairs-right}
 
@@ -69,17 +69,17 @@ below-by numbers failing p q None None one other is =
     let most : (numbers p).a ≤ (numbers q).a = ltb-false (numbers q).a (numbers p).a is in
     record { passes = λ h. absurd (one h); importance = λ h. absurd (one h); failing_runs = λ _. most }
 
-outranks-by : (numbers : ℕ → Tally) (failing : ℕ) (x y : Candidate) → IsCandidate numbers failing x → IsCandidate numbers failing y
+outranks-by : (numbers : ℕ → Tally) (failing : ℕ) (x y : Candidate) → IsRatedCandidate numbers failing x → IsRatedCandidate numbers failing y
     → outranks x y ≡ rates_above x.rating y.rating (numbers x.predicate).a (numbers y.predicate).a
 outranks-by numbers failing x y one other =
     ap (λ a. rates_above x.rating y.rating a y.failing) one.failing_is ∙ ap (λ b. rates_above x.rating y.rating (numbers x.predicate).a b) other.failing_is
 
-above : (numbers : ℕ → Tally) (failing : ℕ) (x y : Candidate) → IsCandidate numbers failing x → IsCandidate numbers failing y → outranks x y ≡ true → ComesBefore numbers failing x.predicate y.predicate
+above : (numbers : ℕ → Tally) (failing : ℕ) (x y : Candidate) → IsRatedCandidate numbers failing x → IsRatedCandidate numbers failing y → outranks x y ≡ true → ComesBefore numbers failing x.predicate y.predicate
 above numbers failing x y one other is =
     let both = above-by numbers failing x.predicate y.predicate x.rating y.rating one.rated other.rated (sym (outranks-by numbers failing x y one other) ∙ is) in
     record { ranks = both.0; first = λ back. absurd (both.1 back) }
 
-below : (numbers : ℕ → Tally) (failing : ℕ) (x y : Candidate) → IsCandidate numbers failing x → IsCandidate numbers failing y → outranks x y ≡ false → RanksAtLeast numbers failing y.predicate x.predicate
+below : (numbers : ℕ → Tally) (failing : ℕ) (x y : Candidate) → IsRatedCandidate numbers failing x → IsRatedCandidate numbers failing y → outranks x y ≡ false → RanksAtLeast numbers failing y.predicate x.predicate
 below numbers failing x y one other is = below-by numbers failing x.predicate y.predicate x.rating y.rating one.rated other.rated (sym (outranks-by numbers failing x y one other) ∙ is)
 
 -- ---- a further one in its place
@@ -92,17 +92,9 @@ behind-more list next place x some within at ranks behind k d from inside = elim
   | inr other ↦ behind k d (omega (arith, from, other, some)) inside
 ]
 
-pub front-is : (list : List Candidate) (next : Candidate) (place : ℕ) (x : Candidate) → 0 < place → place ≤ length list → get_or list (place - 1) x ≡ x → outranks next x ≡ false
-    → ((k : ℕ) (d : Candidate) → place ≤ k → k < length list → outranks next (get_or list k d) ≡ true) → IsPlaceOf list next place
-front-is list next place x some within at ranks behind = record {
-  within = within;
-  behind = behind;
-  front = λ d _. ap (outranks next) (get_or_default list (place - 1) d x (omega (arith, some, within)) ∙ at) ∙ ranks;
-}
-
 -- those before the place come before it
-front-before : (numbers : ℕ → Tally) (count failing : ℕ) (list : List Candidate) (next : Candidate) (place : ℕ) → All (IsOneOf numbers count failing) list → AllPairs (IsBefore numbers failing) list
-    → IsCandidate numbers failing next → next.predicate ≡ count → IsPlaceOf list next place → All (λ x. IsBefore numbers failing x next) (take place list)
+front-before : (numbers : ℕ → Tally) (count failing : ℕ) (list : List Candidate) (next : Candidate) (place : ℕ) → All (IsCandidateBelow numbers count failing) list → AllPairs (IsBefore numbers failing) list
+    → IsRatedCandidate numbers failing next → next.predicate ≡ count → IsPlaceOf list next place → All (λ x. IsBefore numbers failing x next) (take place list)
 front-before numbers count failing list next place each ordered is last at = λ k d inside.
     let less : k < place = omega (arith, inside, length-take-le place list at.within) in
     let x = get_or list k d in
@@ -117,8 +109,8 @@ front-before numbers count failing list next place each ordered is last at = λ 
     subst (λ (y : Candidate). IsBefore numbers failing y next) (sym (get_or-take place list k d less)) one
 
 -- and it comes before those behind
-behind-after : (numbers : ℕ → Tally) (count failing : ℕ) (list : List Candidate) (next : Candidate) (place : ℕ) → All (IsOneOf numbers count failing) list
-    → IsCandidate numbers failing next → IsPlaceOf list next place → All (IsBefore numbers failing next) (drop place list)
+behind-after : (numbers : ℕ → Tally) (count failing : ℕ) (list : List Candidate) (next : Candidate) (place : ℕ) → All (IsCandidateBelow numbers count failing) list
+    → IsRatedCandidate numbers failing next → IsPlaceOf list next place → All (IsBefore numbers failing next) (drop place list)
 behind-after numbers count failing list next place each is at = λ k d inside.
     let within : place + k < length list = omega (arith, inside, length-drop place list) in
     subst (IsBefore numbers failing next) (sym (get_or-drop place list k d))
@@ -134,14 +126,14 @@ ordered-full numbers failing front back next ordered in_front behind =
 
 -- one of the full list is kept, or comes after a full list
 kept-or-past : (numbers : ℕ → Tally) (failing : ℕ) (kept left : List Candidate) (q : ℕ) → AllPairs (IsBefore numbers failing) (kept ++ left) → (0 < length left → length kept ≡ candidate_limit)
-    → Contains (predicates_of (kept ++ left)) q → IsListedOrPast numbers failing kept q
+    → Contains (candidate_predicates (kept ++ left)) q → IsListedOrPast numbers failing kept q
 kept-or-past numbers failing kept left q ordered full has =
-    elim (Contains-append_cases (predicates_of kept) (predicates_of left) q (subst (λ (xs : List ℕ). Contains xs q) (map-append (λ (c : Candidate). c.predicate) kept left) has)) [
+    elim (Contains-append_cases (candidate_predicates kept) (candidate_predicates left) q (subst (λ (xs : List ℕ). Contains xs q) (map-append (λ (c : Candidate). c.predicate) kept left) has)) [
       | inl here ↦ inl here
       | inr there ↦ inr (
         full (omega (arith, there.1, length-map left (λ (c : Candidate). c.predicate))),
         All-weaker (λ x. All (IsBefore numbers failing x) left) (λ (x : Candidate). ComesBefore numbers failing x.predicate q)
-            (λ x before. All-contains (λ p. ComesBefore numbers failing x.predicate p) (predicates_of left) q (All-map (λ p. ComesBefore numbers failing x.predicate p) (λ (c : Candidate). c.predicate) left before) there)
+            (λ x before. All-contains (λ p. ComesBefore numbers failing x.predicate p) (candidate_predicates left) q (All-map (λ p. ComesBefore numbers failing x.predicate p) (λ (c : Candidate). c.predicate) left before) there)
             kept (pairs-across (IsBefore numbers failing) kept left ordered),
       )
     ]
@@ -160,12 +152,12 @@ past-still numbers failing front (y ∷ more) next q full past behind =
     let this : P next = before-trans numbers failing next.predicate y.predicate q (All-head (IsBefore numbers failing next) y more behind) (All-head P y more behind_front) in
     All-take P candidate_limit (front ++ next ∷ y ∷ more) (All-append P front (next ∷ y ∷ more) before_back (All-cons P next (y ∷ more) this behind_front))
 
-one-more : (numbers : ℕ → Tally) (count failing : ℕ) (c : Candidate) → IsOneOf numbers count failing c → IsOneOf numbers (count + 1) failing c
+one-more : (numbers : ℕ → Tally) (count failing : ℕ) (c : Candidate) → IsCandidateBelow numbers count failing c → IsCandidateBelow numbers (count + 1) failing c
 one-more numbers count failing c one = record { below = omega (arith, one.below); some = one.some; is = one.is }
 
 -- the list parted at the place
 listed-parted : (numbers : ℕ → Tally) (count failing : ℕ) (front back : List Candidate) (next : Candidate) → AreListed numbers count failing (front ++ back)
-    → IsCandidate numbers failing next → next.predicate ≡ count → 1 ≤ next.failing
+    → IsRatedCandidate numbers failing next → next.predicate ≡ count → 1 ≤ next.failing
     → All (λ x. IsBefore numbers failing x next) front → All (IsBefore numbers failing next) back
     → AreListed numbers (count + 1) failing (take candidate_limit (front ++ next ∷ back))
 listed-parted numbers count failing front back next listed is last some in_front behind =
@@ -173,21 +165,21 @@ listed-parted numbers count failing front back next listed is last some in_front
     let kept = take candidate_limit full in
     let left = drop candidate_limit full in
     let parted : kept ++ left ≡ full = take-append-drop candidate_limit full in
-    let one : IsOneOf numbers (count + 1) failing next = record { below = omega (arith, last); some = some; is = is } in
-    let each : All (IsOneOf numbers (count + 1) failing) (front ++ back) = All-weaker (IsOneOf numbers count failing) (IsOneOf numbers (count + 1) failing) (one-more numbers count failing) (front ++ back) listed.each in
-    let before_back = subst (All (IsOneOf numbers (count + 1) failing)) (take_at front back (length front) refl) (All-take (IsOneOf numbers (count + 1) failing) (length front) (front ++ back) each) in
-    let behind_front = subst (All (IsOneOf numbers (count + 1) failing)) (drop_at front back (length front) refl) (All-drop (IsOneOf numbers (count + 1) failing) (length front) (front ++ back) each) in
+    let one : IsCandidateBelow numbers (count + 1) failing next = record { below = omega (arith, last); some = some; is = is } in
+    let each : All (IsCandidateBelow numbers (count + 1) failing) (front ++ back) = All-weaker (IsCandidateBelow numbers count failing) (IsCandidateBelow numbers (count + 1) failing) (one-more numbers count failing) (front ++ back) listed.each in
+    let before_back = subst (All (IsCandidateBelow numbers (count + 1) failing)) (take_at front back (length front) refl) (All-take (IsCandidateBelow numbers (count + 1) failing) (length front) (front ++ back) each) in
+    let behind_front = subst (All (IsCandidateBelow numbers (count + 1) failing)) (drop_at front back (length front) refl) (All-drop (IsCandidateBelow numbers (count + 1) failing) (length front) (front ++ back) each) in
     let ordered = ordered-full numbers failing front back next listed.ordered in_front behind in
     let ordered_parts = subst (AllPairs (IsBefore numbers failing)) (sym parted) ordered in
     let filled : 0 < length left → length kept ≡ candidate_limit = λ h. omega (arith, h, length-drop candidate_limit full, length-take candidate_limit full) in
-    let all_of_full : (q : ℕ) → Contains (predicates_of full) q → IsListedOrPast numbers failing kept q =
-    λ q has. kept-or-past numbers failing kept left q ordered_parts filled (subst (λ (xs : List Candidate). Contains (predicates_of xs) q) (sym parted) has) in record {
-      each = All-take (IsOneOf numbers (count + 1) failing) candidate_limit full (All-append (IsOneOf numbers (count + 1) failing) front (next ∷ back) before_back (All-cons (IsOneOf numbers (count + 1) failing) next back one behind_front));
+    let all_of_full : (q : ℕ) → Contains (candidate_predicates full) q → IsListedOrPast numbers failing kept q =
+    λ q has. kept-or-past numbers failing kept left q ordered_parts filled (subst (λ (xs : List Candidate). Contains (candidate_predicates xs) q) (sym parted) has) in record {
+      each = All-take (IsCandidateBelow numbers (count + 1) failing) candidate_limit full (All-append (IsCandidateBelow numbers (count + 1) failing) front (next ∷ back) before_back (All-cons (IsCandidateBelow numbers (count + 1) failing) next back one behind_front));
       ordered = pairs-left (IsBefore numbers failing) kept left ordered_parts;
       few = omega (arith, length-take candidate_limit full);
       complete = λ q less true_once. elim (cases_lt q count) [
         | inl before ↦ elim (listed.complete q before true_once) [
-          | inl has ↦ all_of_full q (subst (λ (xs : List ℕ). Contains xs q) (sym (map-append (λ (c : Candidate). c.predicate) front (next ∷ back))) (around q (predicates_of front) (predicates_of back) next.predicate (subst (λ (xs : List ℕ). Contains xs q) (map-append (λ (c : Candidate). c.predicate) front back) has)))
+          | inl has ↦ all_of_full q (subst (λ (xs : List ℕ). Contains xs q) (sym (map-append (λ (c : Candidate). c.predicate) front (next ∷ back))) (around q (candidate_predicates front) (candidate_predicates back) next.predicate (subst (λ (xs : List ℕ). Contains xs q) (map-append (λ (c : Candidate). c.predicate) front back) has)))
           | inr past ↦ inr (
             omega (arith, past.0, length-take candidate_limit full, length-append front (next ∷ back), length-append front back),
             past-still numbers failing front back next q past.0 past.1 behind,
@@ -196,7 +188,7 @@ listed-parted numbers count failing front back next listed is last some in_front
         | inr here ↦
             let this : next.predicate ≡ q = omega (arith, last, here, less) in
             all_of_full q (subst (λ (xs : List ℕ). Contains xs q) (sym (map-append (λ (c : Candidate). c.predicate) front (next ∷ back)))
-            (Contains-append_right (predicates_of front) (next.predicate ∷ predicates_of back) q (0, omega arith, this)))
+            (Contains-append_right (candidate_predicates front) (next.predicate ∷ candidate_predicates back) q (0, omega arith, this)))
       ];
     }
   where
@@ -207,7 +199,7 @@ listed-parted numbers count failing front back next listed is last some in_front
     ]
 
 pub listed-more : (numbers : ℕ → Tally) (count failing : ℕ) (list new : List Candidate) (next : Candidate) → AreListed numbers count failing list
-    → IsCandidate numbers failing next → next.predicate ≡ count → 1 ≤ next.failing → IsAdded list next new → AreListed numbers (count + 1) failing new
+    → IsRatedCandidate numbers failing next → next.predicate ≡ count → 1 ≤ next.failing → IsAdded list next new → AreListed numbers (count + 1) failing new
 listed-more numbers count failing list new next listed is last some added =
     let place = added.place in
     let parts : take place list ++ drop place list ≡ list = take-append-drop place list in
@@ -217,7 +209,7 @@ listed-more numbers count failing list new next listed is last some added =
 
 pub listed-skip : (numbers : ℕ → Tally) (count failing : ℕ) (list : List Candidate) → (numbers count).a ≡ 0 → AreListed numbers count failing list → AreListed numbers (count + 1) failing list
 listed-skip numbers count failing list none listed = record {
-  each = All-weaker (IsOneOf numbers count failing) (IsOneOf numbers (count + 1) failing) (one-more numbers count failing) list listed.each;
+  each = All-weaker (IsCandidateBelow numbers count failing) (IsCandidateBelow numbers (count + 1) failing) (one-more numbers count failing) list listed.each;
   ordered = listed.ordered;
   few = listed.few;
   complete = λ q less true_once. elim (cases_lt q count) [
@@ -228,14 +220,6 @@ listed-skip numbers count failing list none listed = record {
   ];
 }
 
-pub listed-none : (numbers : ℕ → Tally) (failing : ℕ) → AreListed numbers 0 failing []
-listed-none numbers failing = record {
-  each = All-nil (IsOneOf numbers 0 failing);
-  ordered = λ i j d less inside. absurd (omega (arith, inside));
-  few = omega arith;
-  complete = λ q less true_once. absurd (omega (arith, less));
-}
-
 -- what a list asks of its ratings
 pub rated-fraction : (tally : Tally) (failing : ℕ) (rating : Option Fraction) → IsRated tally failing rating → IfSome rating IsFraction
 rated-fraction tally failing None none = tt
@@ -243,20 +227,20 @@ rated-fraction tally failing (Some f) rated = rated.fraction
 
 pub fractions-listed : (numbers : ℕ → Tally) (count failing : ℕ) (list : List Candidate) → AreListed numbers count failing list → All (λ (c : Candidate). IfSome c.rating IsFraction) list
 fractions-listed numbers count failing list listed =
-    All-weaker (IsOneOf numbers count failing) (λ (c : Candidate). IfSome c.rating IsFraction) (λ c one. rated-fraction (numbers c.predicate) failing c.rating one.is.rated) list listed.each
+    All-weaker (IsCandidateBelow numbers count failing) (λ (c : Candidate). IfSome c.rating IsFraction) (λ c one. rated-fraction (numbers c.predicate) failing c.rating one.is.rated) list listed.each
 
 -- ---- the listed are the candidates
 
-pub listed-candidates : (numbers : ℕ → Tally) (count failing : ℕ) (list : List Candidate) → AreListed numbers count failing list → AreCandidates numbers count failing (predicates_of list)
+pub listed-candidates : (numbers : ℕ → Tally) (count failing : ℕ) (list : List Candidate) → AreListed numbers count failing list → AreCandidates numbers count failing (candidate_predicates list)
 listed-candidates numbers count failing list listed =
     let of : Candidate → ℕ = λ (c : Candidate). c.predicate in
     let d : Candidate = record { predicate = 0; failing = 0; rating = None } in
     let long = length-map list of in record {
       each = All-map (λ p. (p < count) × (1 ≤ (numbers p).a)) of list
-          (All-weaker (IsOneOf numbers count failing) (λ (c : Candidate). (c.predicate < count) × (1 ≤ (numbers c.predicate).a)) (λ c one. (one.below, omega (arith, one.some, one.is.failing_is))) list listed.each);
+          (All-weaker (IsCandidateBelow numbers count failing) (λ (c : Candidate). (c.predicate < count) × (1 ≤ (numbers c.predicate).a)) (λ c one. (one.below, omega (arith, one.some, one.is.failing_is))) list listed.each);
       ordered = λ i j e less inside.
           let within : j < length list = omega (arith, inside, long) in
-          subst (λ p. ComesBefore numbers failing p (get_or (predicates_of list) j e)) (sym (get_or-map of list i d e (omega (arith, within, less))))
+          subst (λ p. ComesBefore numbers failing p (get_or (candidate_predicates list) j e)) (sym (get_or-map of list i d e (omega (arith, within, less))))
           (subst (λ q. ComesBefore numbers failing (get_or list i d).predicate q) (sym (get_or-map of list j d e within)) (listed.ordered i j d less within));
       few = omega (arith, long, listed.few);
       complete = λ q less true_once. elim (listed.complete q less true_once) [

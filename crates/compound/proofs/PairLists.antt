@@ -6,7 +6,7 @@ use Rattle.std.proofs.lemmas.List.{ext_get_or, get_or-append-add, get_or-map, ge
 use Rattle.std.proofs.lemmas.List.Elements.{All-append, All-cons, All-head, All-map, All-nil, All-tail, All-weaker}
 use Rattle.std.proofs.lemmas.List.Kept.{AllPairs-cons}
 use Rattle.std.proofs.lemmas.Simd.{map-map}
-use Rattle.bit_rows.proofs.Words.{get_or-range, length-range}
+use Rattle.compound_bits.proofs.Words.{get_or-range, length-range}
 use Rattle.compound.specs.Pairs.{pairs_of}
 
 -- ---- each element and each later one

@@ -12,7 +12,7 @@ use Rattle.fractions.specs.Tally.{Passes, importance_of}
 use Rattle.compound.specs.declared.chosen.Chosen.{Chosen}
 use Rattle.compound.specs.declared.scanning.Best.{Best}
 use Rattle.compound.specs.declared.scanning.Scan.{Scan}
-use Rattle.compound.specs.Best.{AreSkips, IsSkipped, LeadsPairs, NonePasses, PairPasses}
+use Rattle.compound.specs.Best.{AreSkips, IsSkipped, LeadsPairs, NoPairPasses, PairPasses}
 use Rattle.compound.specs.Bound.{IsLess, bound_of}
 use Rattle.compound.specs.Listing.{IsRating, is_less}
 use Rattle.compound.specs.Scanning.{IsBest, IsScan}
@@ -25,7 +25,7 @@ importance_at pair failing p = importance_of (pair p.0 p.1) failing
 
 -- the best so far
 abbrev pub BestOf : (ℕ → ℕ → Tally) → ℕ → List (ℕ × ℕ) → Option Best → Type 0
-BestOf pair failing done best = MatchOption best (NonePasses pair done) (IsBest pair failing done)
+BestOf pair failing done best = MatchOption best (NoPairPasses pair done) (IsBest pair failing done)
 
 -- ---- the leader, one pair on
 
@@ -40,7 +40,7 @@ leads-on pair failing done best p leads here = record {
   later = All-push (λ (q : ℕ × ℕ). PairPasses pair q → IsAtMost (importance_at pair failing q) (importance_at pair failing best)) leads.after p leads.later here;
 }
 
-leads-first : (pair : ℕ → ℕ → Tally) (failing : ℕ) (done : List (ℕ × ℕ)) (p : ℕ × ℕ) → NonePasses pair done → PairPasses pair p → LeadsPairs pair failing (done ++ p ∷ []) p
+leads-first : (pair : ℕ → ℕ → Tally) (failing : ℕ) (done : List (ℕ × ℕ)) (p : ℕ × ℕ) → NoPairPasses pair done → PairPasses pair p → LeadsPairs pair failing (done ++ p ∷ []) p
 leads-first pair failing done p none passes = record {
   before = done;
   after = [];
@@ -226,20 +226,3 @@ scan-count one pair failing done scan new left right chosen next bound bound_is 
       skipped = omega (arith, skipped, so_far.skipped, sum_by_push (λ (b : Bool). cond b 1 0) so_far.skips false);
       best = subst (BestOf pair failing (done ++ (left, right) ∷ [])) (sym best) (best-counted pair failing done left right chosen scan.best next made weighed so_far.best);
     }
-
-pub scan-none : (one : ℕ → Tally) (pair : ℕ → ℕ → Tally) (failing : ℕ) (scan : Scan) → scan.counted ≡ 0 → scan.skipped ≡ 0 → scan.best ≡ None → IsScan one pair failing [] scan
-scan-none one pair failing scan counted skipped best = record {
-  skips = [];
-  are_skips = record { as_many = refl; each = λ k inside. absurd (omega (arith, inside)) };
-  counted = counted;
-  skipped = skipped;
-  best = subst (BestOf pair failing []) (sym best) (All-nil (λ (q : ℕ × ℕ). PairPasses pair q → ⊥));
-}
-
--- the importance of the best is a fraction
-best-fraction : (pair : ℕ → ℕ → Tally) (failing : ℕ) (done : List (ℕ × ℕ)) (best : Option Best) → BestOf pair failing done best → IfSome best (λ (b : Best). IsFraction b.importance)
-best-fraction pair failing done None none = tt
-best-fraction pair failing done (Some b) is = is.fraction
-
-pub scan-fraction : (one : ℕ → Tally) (pair : ℕ → ℕ → Tally) (failing : ℕ) (done : List (ℕ × ℕ)) (scan : Scan) → IsScan one pair failing done scan → IfSome scan.best (λ (b : Best). IsFraction b.importance)
-scan-fraction one pair failing done scan so_far = best-fraction pair failing done scan.best so_far.best

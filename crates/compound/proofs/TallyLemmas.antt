@@ -10,10 +10,10 @@ use Rattle.report_file.specs.declared.label.Label.{Label}
 use Rattle.report_file.specs.declared.label.Label.TheVariants.{Fail, Pass, Uncounted}
 use Rattle.report_file.specs.declared.report.Entry.{Entry}
 use Rattle.report_file.specs.Report.{is_positive}
-use Rattle.tallies.specs.declared.labelled.LabelledRun.{LabelledRun}
-use Rattle.tallies.specs.Predicates.{first_predicate, is_of, makes_true, observes, shows}
-use Rattle.tallies.specs.Recount.{failing_runs, fails, is_observed, is_true, recount, succeeds}
-use Rattle.pair_counts.specs.Truth.{pair_is_known, pair_is_true, pair_recount}
+use Rattle.elimination_tallies.specs.declared.labelled.LabelledRun.{LabelledRun}
+use Rattle.elimination_tallies.specs.Predicates.{first_predicate, is_of, makes_true, observes, shows}
+use Rattle.elimination_tallies.specs.Recount.{failing_runs, fails, is_observed, is_true, recount, succeeds}
+use Rattle.compound_counts.specs.Truth.{pair_is_known, pair_is_true, pair_recount}
 
 -- ---- what is true is observed
 

@@ -8,8 +8,8 @@ use Rattle.compound.specs.Bound.{IsLess, bound_of}
 abbrev pub PairPasses : (ℕ → ℕ → Tally) → ℕ × ℕ → Type 0
 PairPasses pair p = Passes (pair p.0 p.1)
 
-abbrev pub NonePasses : (ℕ → ℕ → Tally) → List (ℕ × ℕ) → Type 0
-NonePasses pair pairs = All (λ (p : ℕ × ℕ). PairPasses pair p → ⊥) pairs
+abbrev pub NoPairPasses : (ℕ → ℕ → Tally) → List (ℕ × ℕ) → Type 0
+NoPairPasses pair pairs = All (λ (p : ℕ × ℕ). PairPasses pair p → ⊥) pairs
 
 -- among these pairs this one passes, those before it that pass are less important, and those after it aren't more important
 pub record LeadsPairs (pair : ℕ → ℕ → Tally) (failing : ℕ) (pairs : List (ℕ × ℕ)) (best : ℕ × ℕ) : Type 0 where

@@ -24,4 +24,5 @@ pub record AreCandidates (numbers : ℕ → Tally) (count failing : ℕ) (candid
   pub each : All (λ p. (p < count) × (1 ≤ (numbers p).a)) candidates
   pub ordered : AllPairs (ComesBefore numbers failing) candidates
   pub few : length candidates ≤ candidate_limit
-  pub complete : (q : ℕ) → q < count → 1 ≤ (numbers q).a → Contains candidates q ⊎ ((length candidates ≡ candidate_limit) × All (λ p. ComesBefore numbers failing p q) candidates)
+  pub complete : (q : ℕ) → q < count → 1 ≤ (numbers q).a → Contains candidates q
+      ⊎ ((length candidates ≡ candidate_limit) × All (λ p. ComesBefore numbers failing p q) candidates)

@@ -1,5 +1,6 @@
 -- How candidates are listed: with their importance, the greatest first.
-use Rattle.std.specs.Prelude.{◌≡◌, ◌⊎◌, ℕ, ◌-◌, ◌*◌, ◌<◌, ◌≤◌, Bool, true, false, nat_lt, List, length, map, take, insert, Option, None, Some, MatchOption, slice_index_or, All, AllPairs, Contains}
+use Rattle.std.specs.Prelude.{◌≡◌, ◌⊎◌, ℕ, ◌-◌, ◌*◌, ◌<◌, ◌≤◌, Bool, true, false, nat_lt, List, length, map, take, insert, Option, None, Some, MatchOption}
+use Rattle.std.specs.Prelude.{slice_index_or, All, AllPairs, Contains}
 use Rattle.fractions.specs.declared.fraction.Fraction.{Fraction}
 use Rattle.fractions.specs.declared.tally.Tally.{Tally}
 use Rattle.fractions.specs.Fraction.{IsFraction}
@@ -21,7 +22,7 @@ pub record IsRating (tally : Tally) (failing : ℕ) (f : Fraction) : Type 0 wher
 abbrev pub IsRated : Tally → ℕ → Option Fraction → Type 0
 IsRated tally failing rating = MatchOption rating (Passes tally → ⊥) (IsRating tally failing)
 
-pub record IsCandidate (numbers : ℕ → Tally) (failing : ℕ) (c : Candidate) : Type 0 where
+pub record IsRatedCandidate (numbers : ℕ → Tally) (failing : ℕ) (c : Candidate) : Type 0 where
   pub failing_is : c.failing ≡ (numbers c.predicate).a
   pub rated : IsRated (numbers c.predicate) failing c.rating
 
@@ -51,21 +52,21 @@ abbrev pub IsBefore : (ℕ → Tally) → ℕ → Candidate → Candidate → Ty
 IsBefore numbers failing x y = ComesBefore numbers failing x.predicate y.predicate
 
 -- one of the predicates before this number
-pub record IsOneOf (numbers : ℕ → Tally) (count failing : ℕ) (c : Candidate) : Type 0 where
+pub record IsCandidateBelow (numbers : ℕ → Tally) (count failing : ℕ) (c : Candidate) : Type 0 where
   pub below : c.predicate < count
   pub some : 1 ≤ c.failing
-  pub is : IsCandidate numbers failing c
+  pub is : IsRatedCandidate numbers failing c
 
-abbrev pub predicates_of : List Candidate → List ℕ
-predicates_of list = map (λ (c : Candidate). c.predicate) list
+abbrev pub candidate_predicates : List Candidate → List ℕ
+candidate_predicates list = map (λ (c : Candidate). c.predicate) list
 
 -- a predicate is among the listed, or comes after a full list
 abbrev pub IsListedOrPast : (ℕ → Tally) → ℕ → List Candidate → ℕ → Type 0
 IsListedOrPast numbers failing list q =
-    Contains (predicates_of list) q ⊎ ((length list ≡ candidate_limit) × All (λ (c : Candidate). ComesBefore numbers failing c.predicate q) list)
+    Contains (candidate_predicates list) q ⊎ ((length list ≡ candidate_limit) × All (λ (c : Candidate). ComesBefore numbers failing c.predicate q) list)
 
 pub record AreListed (numbers : ℕ → Tally) (count failing : ℕ) (list : List Candidate) : Type 0 where
-  pub each : All (IsOneOf numbers count failing) list
+  pub each : All (IsCandidateBelow numbers count failing) list
   pub ordered : AllPairs (IsBefore numbers failing) list
   pub few : length list ≤ candidate_limit
   pub complete : (q : ℕ) → q < count → 1 ≤ (numbers q).a → IsListedOrPast numbers failing list q

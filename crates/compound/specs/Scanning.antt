@@ -5,7 +5,7 @@ use Rattle.fractions.specs.Fraction.{IsFraction}
 use Rattle.fractions.specs.Tally.{IsTally, importance_of}
 use Rattle.compound.specs.declared.scanning.Best.{Best}
 use Rattle.compound.specs.declared.scanning.Scan.{Scan}
-use Rattle.compound.specs.Best.{AreSkips, LeadsPairs, NonePasses}
+use Rattle.compound.specs.Best.{AreSkips, LeadsPairs, NoPairPasses}
 
 -- the numbers of a pair, where its members were true in so many failing runs of so many
 pub record IsPairTally (tally : Tally) (left right failing : ℕ) : Type 0 where
@@ -28,4 +28,4 @@ pub record IsScan (one : ℕ → Tally) (pair : ℕ → ℕ → Tally) (failing 
   pub are_skips : AreSkips one pair failing done skips
   pub counted : scan.counted ≡ count_by not skips
   pub skipped : scan.skipped ≡ count_by (λ skip. skip) skips
-  pub best : MatchOption scan.best (NonePasses pair done) (IsBest pair failing done)
+  pub best : MatchOption scan.best (NoPairPasses pair done) (IsBest pair failing done)

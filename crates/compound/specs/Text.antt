@@ -15,7 +15,8 @@ count_fields found = codes "pairs" ∷ decimal found.pairs ∷ codes "counted" �
 -- the two predicates, the numbers of the pair, and its importance in millionths, rounded down
 abbrev pub best_fields : Chosen → List (List ℕ)
 best_fields c =
-    codes "best" ∷ decimal c.left ∷ decimal c.right ∷ decimal c.tally.a ∷ decimal c.tally.b ∷ decimal c.tally.c ∷ decimal c.tally.d ∷ decimal (millionths_of (importance_of c.tally c.failing)) ∷ []
+    codes "best" ∷ decimal c.left ∷ decimal c.right ∷ decimal c.tally.a ∷ decimal c.tally.b ∷ decimal c.tally.c ∷ decimal c.tally.d
+    ∷ decimal (millionths_of (importance_of c.tally c.failing)) ∷ []
 
 -- where a predicate stands, and what it says
 abbrev pub place_fields : List (List ℕ) → Option Site → List ℕ → List (List ℕ)

@@ -1,6 +1,6 @@
 ghost use Rattle.std.specs.Prelude.{◌≡◌, IfOk};
 ghost use Rattle.collector.specs.Sites.{branches_of};
-ghost use Rattle.tallies.specs.Recount.{runs_of};
+ghost use Rattle.elimination_tallies.specs.Recount.{runs_of};
 ghost use Rattle.compound.specs.Found.{IsFound};
 ghost use Rattle.compound.specs.Text.{HasText};
 

@@ -1,7 +1,7 @@
 ghost use Rattle.std.specs.Prelude.{◌≡◌, ◌≤◌, IfOk, IfSome, OnOk, All, map};
-ghost use Rattle.tallies.specs.Predicates.{predicates_in};
-ghost use Rattle.tallies.specs.Recount.{failing_runs, recount, runs_of};
-ghost use Rattle.tallies.specs.Tallies.{AreRecounts};
+ghost use Rattle.elimination_tallies.specs.Predicates.{predicates_in};
+ghost use Rattle.elimination_tallies.specs.Recount.{failing_runs, recount, runs_of};
+ghost use Rattle.elimination_tallies.specs.Tallies.{AreRecounts};
 ghost use Rattle.fractions.specs.Fraction.{IsFraction};
 ghost use Rattle.fractions.specs.Tally.{IsTally};
 ghost use Rattle.compound.specs.declared.listing.Candidate.{Candidate};
@@ -9,9 +9,9 @@ ghost use Rattle.compound.specs.Listing.{AreListed, IsAdded, IsPlaceOf, IsRated,
 
 use cbi_base::Memory;
 use collector::Collection;
+use compound_counts::failing_runs;
 use elimination::TallyTable;
 use fractions::{Fraction, Tally, compare, confident, importance};
-use pair_counts::failing_runs;
 use std::alloc::Global;
 use std::cmp::Ordering;
 

@@ -1,16 +1,16 @@
 ghost use Rattle.std.specs.Prelude.{◌≡◌, ◌+◌, ◌<◌, ◌≤◌, ◌^◌, ℕ, [], ◌∷◌, ◌++◌, List, length, option_map, IfOk, IfSome};
 ghost use Rattle.collector.specs.Sites.{branches_of};
-ghost use Rattle.tallies.specs.Predicates.{predicates_in};
-ghost use Rattle.tallies.specs.Recount.{failing_runs, recount, runs_of};
-ghost use Rattle.tallies.specs.Tallies.{AreRecounts};
+ghost use Rattle.elimination_tallies.specs.Predicates.{predicates_in};
+ghost use Rattle.elimination_tallies.specs.Recount.{failing_runs, recount, runs_of};
+ghost use Rattle.elimination_tallies.specs.Tallies.{AreRecounts};
 ghost use Rattle.fractions.specs.declared.tally.Tally.{Tally};
 ghost use Rattle.fractions.specs.Fraction.{IsFraction};
 ghost use Rattle.fractions.specs.Tally.{IsTally};
-ghost use Rattle.pair_counts.specs.Numbers.{numbers_at};
-ghost use Rattle.pair_counts.specs.Truth.{pair_recount};
+ghost use Rattle.compound_counts.specs.Numbers.{numbers_at};
+ghost use Rattle.compound_counts.specs.Truth.{pair_recount};
 ghost use Rattle.compound.specs.declared.scanning.Best.{Best};
-ghost use Rattle.compound.specs.Found.{AreScanned};
-ghost use Rattle.compound.specs.Listing.{AreListed, predicates_of};
+ghost use Rattle.compound.specs.Found.{ArePairsScanned};
+ghost use Rattle.compound.specs.Listing.{AreListed, candidate_predicates};
 ghost use Rattle.compound.specs.Pairs.{pairs_of};
 ghost use Rattle.compound.specs.Scanning.{IsPairTally, IsScan};
 ghost use Rattle.compound.specs.Steps.{IsWeighed, better, is_passed_over};
@@ -21,10 +21,10 @@ use crate::pair_bound::bound;
 use crate::places::place_pairs;
 use cbi_base::Memory;
 use collector::Collection;
+use compound_counts::{PairCounter, failing_runs};
 use elimination::TallyTable;
 use flow::SiteTable;
 use fractions::{Fraction, Tally};
-use pair_counts::{PairCounter, failing_runs};
 use std::alloc::Global;
 
 /// A passing pair and its importance.
@@ -103,7 +103,8 @@ fn look(
     requires tally { IsPairTally (numbers_at counter.now places.0 places.1) left.failing right.failing failing }
     requires best { IfSome scan.best (λ (b : Best). IsFraction b.importance) }
     requires room { scan.counted + scan.skipped < 2 ^ 32 }
-    ensures scan { (one : ℕ → Tally) (pair : ℕ → ℕ → Tally) (done : List (ℕ × ℕ)) → left.failing ≡ (one left.predicate).a → right.failing ≡ (one right.predicate).a
+    ensures scan { (one : ℕ → Tally) (pair : ℕ → ℕ → Tally) (done : List (ℕ × ℕ)) → left.failing ≡ (one left.predicate).a
+        → right.failing ≡ (one right.predicate).a
         → numbers_at counter.now places.0 places.1 ≡ pair left.predicate right.predicate → IsScan one pair failing done scan
         → IsScan one pair failing (done ++ (left.predicate, right.predicate) ∷ []) result }
     ensures one_more { result.counted + result.skipped ≡ scan.counted + scan.skipped + 1 }
@@ -130,7 +131,7 @@ fn look(
 }
 
 fn predicates_of(alloc: Global, candidates: &[Candidate]) -> Result<Vec<u32>, Memory>
-    ensures { IfOk result (λ predicates. predicates.items ≡ predicates_of candidates.now) }
+    ensures { IfOk result (λ predicates. predicates.items ≡ candidate_predicates candidates.now) }
 {
     let mut predicates = Vec::new(alloc);
     let mut rest = candidates;
@@ -172,8 +173,9 @@ pub fn scan_pairs(
     requires tallies { AreRecounts collection.now.branches (runs_of collection.now.reports) tallies.now }
     requires candidates { AreListed (recount collection.now.branches (runs_of collection.now.reports)) (predicates_in collection.now.branches)
         (failing_runs (runs_of collection.now.reports)) candidates.now }
-    ensures { IfOk result (AreScanned (recount collection.now.branches (runs_of collection.now.reports)) (pair_recount collection.now.branches (runs_of collection.now.reports))
-        (failing_runs (runs_of collection.now.reports)) (pairs_of (predicates_of candidates.now))) }
+    ensures { IfOk result (ArePairsScanned (recount collection.now.branches (runs_of collection.now.reports))
+        (pair_recount collection.now.branches (runs_of collection.now.reports))
+        (failing_runs (runs_of collection.now.reports)) (pairs_of (candidate_predicates candidates.now))) }
 {
     let _held = collection.reports_held();
     let failing = failing_runs(collection);

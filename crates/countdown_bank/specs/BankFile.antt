@@ -31,13 +31,13 @@ abbrev pub IsBadBankLine : List ℕ → ℕ → Type 0
 IsBadBankLine text line = IsBadLine NumberFollows MayEnd [] text line
 
 -- the answer is this bank, unless memory ran out
-abbrev pub ReadAs : Result BankState BankError → BankState → Type 0
-ReadAs (Ok b) want = b ≡ want
-ReadAs (Err (BadBank line)) want = ⊥
-ReadAs (Err Memory) want = Unit {0}
+abbrev pub BankReadAs : Result BankState BankError → BankState → Type 0
+BankReadAs (Ok b) want = b ≡ want
+BankReadAs (Err (BadBank line)) want = ⊥
+BankReadAs (Err Memory) want = Unit {0}
 
 -- the text is refused at this line, unless memory ran out
-abbrev pub RefusedAt : Result BankState BankError → ℕ → Type 0
-RefusedAt (Ok b) line = ⊥
-RefusedAt (Err (BadBank bad)) line = bad ≡ line
-RefusedAt (Err Memory) line = Unit {0}
+abbrev pub BankRefusedAt : Result BankState BankError → ℕ → Type 0
+BankRefusedAt (Ok b) line = ⊥
+BankRefusedAt (Err (BadBank bad)) line = bad ≡ line
+BankRefusedAt (Err Memory) line = Unit {0}

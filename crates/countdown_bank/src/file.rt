@@ -1,6 +1,6 @@
 ghost use Rattle.std.specs.Prelude.{◌≡◌, ℕ, List, [], decimal, IfSome, Some, IfOk, Err};
 ghost use Rattle.countdown_bank.specs.Bank.{AreNumbers, IsCountdown, bank_of};
-ghost use Rattle.countdown_bank.specs.BankFile.{numbers_text, bank_text, IsBadBankLine, ReadAs, RefusedAt};
+ghost use Rattle.countdown_bank.specs.BankFile.{numbers_text, bank_text, IsBadBankLine, BankReadAs, BankRefusedAt};
 ghost use Rattle.countdown_bank.specs.declared.file.BankError.TheVariants as error;
 
 use crate::bank::{Bank, GREATEST_NUMBER, MOST_NUMBERS};
@@ -90,10 +90,10 @@ pub fn read_bank(alloc: Global, bytes: &[u8]) -> Result<Bank, BankError>
     ensures found { IfOk result (λ b. bytes.now ≡ bank_text b) }
     ensures first { IfOk result (λ b. b ≡ bank_of b.numbers) }
     // What has this text is read, unless memory runs out: so a text is refused exactly where it is that of no bank.
-    ensures only { (numbers : List ℕ) → AreNumbers numbers → bytes.now ≡ numbers_text numbers → ReadAs result (bank_of numbers) }
+    ensures only { (numbers : List ℕ) → AreNumbers numbers → bytes.now ≡ numbers_text numbers → BankReadAs result (bank_of numbers) }
     // A refusal names the line at which the text goes wrong, and a text that goes wrong is refused there, unless memory runs out.
     ensures line { (line : ℕ) → result ≡ Err (error.BadBank line) → IsBadBankLine bytes.now line }
-    ensures line_only { (line : ℕ) → IsBadBankLine bytes.now line → RefusedAt result line }
+    ensures line_only { (line : ℕ) → IsBadBankLine bytes.now line → BankRefusedAt result line }
 {
     let mut numbers = Numbers::new(alloc);
     match read_lines(&mut numbers, bytes) {

@@ -7,12 +7,12 @@ use Rattle.std.proofs.lemmas.Option.{get_or_from_slice_get, slice_get_within}
 use Rattle.cbi_base.specs.declared.policy.Policy.{Policy}
 use Rattle.elimination.specs.declared.books.Books.{Books}
 use Rattle.elimination.specs.declared.books.Slot.{Slot}
-use Rattle.tallies.specs.declared.labelled.LabelledRun.{LabelledRun}
+use Rattle.elimination_tallies.specs.declared.labelled.LabelledRun.{LabelledRun}
 use Rattle.elimination.specs.Elimination.{is_taken}
-use Rattle.tallies.specs.Recount.{failing_runs, fails}
-use Rattle.tallies.specs.Runs.{AreEntriesOf, AreRunsOf}
+use Rattle.elimination_tallies.specs.Recount.{failing_runs, fails}
+use Rattle.elimination_tallies.specs.Runs.{AreEntriesOf, AreRunsOf}
 use Rattle.elimination.specs.Slots.{AreBooks, change_of, discards, left_of, taken_slot}
-use Rattle.tallies.specs.Tallies.{AllowsEntries, AreRecounts, ChangedByAll, one_if}
+use Rattle.elimination_tallies.specs.Tallies.{AllowsEntries, AreRecounts, ChangedByAll, one_if}
 use Rattle.elimination.proofs.StepLemmas.{before_slot, behind_slot, left-middle, left-most, left-set, left-well, rest_of, rest-fails, rest-length, taken-allowed, taken-entries, taken-recounts}
 
 -- a slot whose run is taken

@@ -7,11 +7,11 @@ use Rattle.cbi_base.specs.declared.policy.Policy.{Policy}
 use Rattle.cbi_base.specs.declared.policy.Policy.TheVariants.{All as Every, Failing, Relabel}
 use Rattle.fractions.specs.declared.tally.Tally.{Tally}
 use Rattle.fractions.specs.Tally.{Passes}
-use Rattle.tallies.specs.declared.labelled.LabelledRun.{LabelledRun}
-use Rattle.tallies.specs.declared.listed.Listed.{Listed}
+use Rattle.elimination_tallies.specs.declared.labelled.LabelledRun.{LabelledRun}
+use Rattle.elimination_tallies.specs.declared.listed.Listed.{Listed}
 use Rattle.elimination.specs.Elimination.{IsElimination, after, all_entries_taken, entries_taken, passed}
-use Rattle.tallies.specs.Leading.{IsLeader, NonePasses}
-use Rattle.tallies.specs.Recount.{failing_runs, fails, is_true, recount}
+use Rattle.elimination_tallies.specs.Leading.{IsLeader, NonePasses}
+use Rattle.elimination_tallies.specs.Recount.{failing_runs, fails, is_true, recount}
 
 head-sum : (r : LabelledRun) (rest : List LabelledRun) (keep : Bool) → failing_runs (cond keep (r ∷ rest) rest) ≡ cond keep (cond (fails r.label) 1 0) 0 + failing_runs rest
 head-sum r rest true = sum_by-cons (λ (x : LabelledRun). cond (fails x.label) 1 0) r rest
@@ -88,9 +88,6 @@ leader-falls branches policy runs row leads = omega (arith, after-counts branche
 pub record IsListing (branches : List Bool) (policy : Policy) (all left : List LabelledRun) (rows : List Listed) (before steps : ℕ) : Type 0 where
   pub rows_are : (rest : List Listed) → IsElimination branches policy left rest → IsElimination branches policy all (rows ++ rest)
   pub steps_are : (rest : List Listed) → before + all_entries_taken branches policy all (rows ++ rest) ≡ steps + all_entries_taken branches policy left rest
-
-pub listing-none : (branches : List Bool) (policy : Policy) (all : List LabelledRun) (steps : ℕ) → IsListing branches policy all all [] steps steps
-listing-none branches policy all steps = record { rows_are = λ rest is. is; steps_are = λ rest. refl }
 
 pub listing-more : (branches : List Bool) (policy : Policy) (all left : List LabelledRun) (rows new : List Listed) (row : Listed) (before steps more : ℕ) → IsListing branches policy all left rows before steps → IsLeader branches left row → more ≡ steps + entries_taken branches policy row.predicate left
     → new ≡ rows ++ row ∷ [] → IsListing branches policy all (after branches policy row.predicate left) new before more

@@ -5,12 +5,12 @@ use Rattle.std.proofs.lemmas.List.{append-nil, length_push}
 use Rattle.std.proofs.lemmas.List.Elements.{All-nil, All-push}
 use Rattle.std.proofs.lemmas.List.Sums.{sum_by-cons}
 use Rattle.elimination.specs.declared.books.Slot.{Slot}
-use Rattle.tallies.specs.declared.labelled.LabelledRun.{LabelledRun}
-use Rattle.tallies.specs.Recount.{failing_runs, fails}
-use Rattle.tallies.specs.Runs.{AreEntriesOf}
+use Rattle.elimination_tallies.specs.declared.labelled.LabelledRun.{LabelledRun}
+use Rattle.elimination_tallies.specs.Recount.{failing_runs, fails}
+use Rattle.elimination_tallies.specs.Runs.{AreEntriesOf}
 use Rattle.elimination.specs.Slots.{left_of}
-use Rattle.tallies.specs.Tallies.{one_if}
-use Rattle.tallies.proofs.RecountLemmas.{fails-most}
+use Rattle.elimination_tallies.specs.Tallies.{one_if}
+use Rattle.elimination_tallies.proofs.RecountLemmas.{fails-most}
 use Rattle.elimination.proofs.StepLemmas.{prepend}
 
 abbrev pub new_slot : LabelledRun → Slot

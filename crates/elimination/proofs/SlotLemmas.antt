@@ -13,42 +13,42 @@ use Rattle.cbi_base.specs.declared.policy.Policy.TheVariants.{All as Every, Fail
 use Rattle.report_file.specs.declared.report.Entry.{Entry}
 use Rattle.elimination.specs.declared.books.Books.{Books}
 use Rattle.elimination.specs.declared.books.Slot.{Slot}
-use Rattle.tallies.specs.declared.labelled.LabelledRun.{LabelledRun}
+use Rattle.elimination_tallies.specs.declared.labelled.LabelledRun.{LabelledRun}
 use Rattle.elimination.specs.Elimination.{after, entries_taken, is_taken, passed}
-use Rattle.tallies.specs.Predicates.{is_of, shows}
-use Rattle.tallies.specs.Recount.{fails, is_true}
-use Rattle.elimination.specs.Slots.{AreHolders, HaveStepped, IsStepOf, left_of, pending, stepped, taken_slot, takes}
-use Rattle.tallies.proofs.PredicateLemmas.{of-once, shows-of}
+use Rattle.elimination_tallies.specs.Predicates.{is_of, shows}
+use Rattle.elimination_tallies.specs.Recount.{fails, is_true}
+use Rattle.elimination.specs.Slots.{AreHolders, HaveStepped, IsStepOf, left_of, pending, stepped_slot, taken_slot, takes_slot}
+use Rattle.elimination_tallies.proofs.PredicateLemmas.{of-once, shows-of}
 use Rattle.elimination.proofs.StepLemmas.{taken-entries}
 
 -- a slot that was taken is taken no more
-taken-settles : (branches : List Bool) (policy : Policy) (leader : ℕ) (s : Slot) → takes branches policy leader (taken_slot policy s) ≡ false
+taken-settles : (branches : List Bool) (policy : Policy) (leader : ℕ) (s : Slot) → takes_slot branches policy leader (taken_slot policy s) ≡ false
 taken-settles branches Every leader s = refl
 taken-settles branches Failing leader s = refl
 taken-settles branches Relabel leader s = and_right s.left (fails (passed s.run).label && is_true branches leader (passed s.run)) refl
 
-pub step-settles : (branches : List Bool) (policy : Policy) (leader : ℕ) (s : Slot) → takes branches policy leader (stepped branches policy leader s) ≡ false
+pub step-settles : (branches : List Bool) (policy : Policy) (leader : ℕ) (s : Slot) → takes_slot branches policy leader (stepped_slot branches policy leader s) ≡ false
 step-settles branches policy leader s =
-    elim (cases_Bool (takes branches policy leader s)) [
-      | inl has ↦ ap (takes branches policy leader) (cond-true (takes branches policy leader s) (taken_slot policy s) s has) ∙ taken-settles branches policy leader s
-      | inr lacks ↦ ap (takes branches policy leader) (cond-false (takes branches policy leader s) (taken_slot policy s) s lacks) ∙ lacks
+    elim (cases_Bool (takes_slot branches policy leader s)) [
+      | inl has ↦ ap (takes_slot branches policy leader) (cond-true (takes_slot branches policy leader s) (taken_slot policy s) s has) ∙ taken-settles branches policy leader s
+      | inr lacks ↦ ap (takes_slot branches policy leader) (cond-false (takes_slot branches policy leader s) (taken_slot policy s) s lacks) ∙ lacks
     ]
 
-pub settled-stays : (branches : List Bool) (policy : Policy) (leader : ℕ) (s : Slot) → takes branches policy leader s ≡ false → stepped branches policy leader s ≡ s
-settled-stays branches policy leader s lacks = cond-false (takes branches policy leader s) (taken_slot policy s) s lacks
+pub settled-stays : (branches : List Bool) (policy : Policy) (leader : ℕ) (s : Slot) → takes_slot branches policy leader s ≡ false → stepped_slot branches policy leader s ≡ s
+settled-stays branches policy leader s lacks = cond-false (takes_slot branches policy leader s) (taken_slot policy s) s lacks
 
-pub step-again : (branches : List Bool) (policy : Policy) (leader : ℕ) (s : Slot) → stepped branches policy leader (stepped branches policy leader s) ≡ stepped branches policy leader s
-step-again branches policy leader s = settled-stays branches policy leader (stepped branches policy leader s) (step-settles branches policy leader s)
+pub step-again : (branches : List Bool) (policy : Policy) (leader : ℕ) (s : Slot) → stepped_slot branches policy leader (stepped_slot branches policy leader s) ≡ stepped_slot branches policy leader s
+step-again branches policy leader s = settled-stays branches policy leader (stepped_slot branches policy leader s) (step-settles branches policy leader s)
 
-pub step-entries : (branches : List Bool) (policy : Policy) (leader : ℕ) (s : Slot) → (stepped branches policy leader s).run.entries ≡ s.run.entries
+pub step-entries : (branches : List Bool) (policy : Policy) (leader : ℕ) (s : Slot) → (stepped_slot branches policy leader s).run.entries ≡ s.run.entries
 step-entries branches policy leader s =
-    elim (cases_Bool (takes branches policy leader s)) [
-      | inl has ↦ ap (λ (x : Slot). x.run.entries) (cond-true (takes branches policy leader s) (taken_slot policy s) s has) ∙ taken-entries policy s
+    elim (cases_Bool (takes_slot branches policy leader s)) [
+      | inl has ↦ ap (λ (x : Slot). x.run.entries) (cond-true (takes_slot branches policy leader s) (taken_slot policy s) s has) ∙ taken-entries policy s
       | inr lacks ↦ ap (λ (x : Slot). x.run.entries) (settled-stays branches policy leader s lacks)
     ]
 
-pub settled-pends : (branches : List Bool) (policy : Policy) (leader : ℕ) (s : Slot) → takes branches policy leader s ≡ false → pending branches policy leader s ≡ 0
-settled-pends branches policy leader s lacks = cond-false (takes branches policy leader s) (length s.run.entries) 0 lacks
+pub settled-pends : (branches : List Bool) (policy : Policy) (leader : ℕ) (s : Slot) → takes_slot branches policy leader s ≡ false → pending branches policy leader s ≡ 0
+settled-pends branches policy leader s lacks = cond-false (takes_slot branches policy leader s) (length s.run.entries) 0 lacks
 
 -- a slot of a list in which one was set
 set-cases : (slots : List Slot) (i k : ℕ) (y s : Slot) → i < length slots → slice_get (set slots i y) k ≡ Some s → ((k ≡ i) × (s ≡ y)) ⊎ ((k ≢ i) × (slice_get slots k ≡ Some s))
@@ -60,9 +60,9 @@ set-cases slots i k y s inside is =
       | inr other ↦ inr (other, slice_get-get_or slots k s within ∙ ap Some (sym (get_or-set_other slots i k y s other) ∙ there))
     ]
 
-step-map : (branches : List Bool) (policy : Policy) (leader i : ℕ) (slots : List Slot) (s : Slot) → slice_get slots i ≡ Some s → map (stepped branches policy leader) (set slots i (stepped branches policy leader s)) ≡ map (stepped branches policy leader) slots
+step-map : (branches : List Bool) (policy : Policy) (leader i : ℕ) (slots : List Slot) (s : Slot) → slice_get slots i ≡ Some s → map (stepped_slot branches policy leader) (set slots i (stepped_slot branches policy leader s)) ≡ map (stepped_slot branches policy leader) slots
 step-map branches policy leader i slots s is =
-    let f = stepped branches policy leader in
+    let f = stepped_slot branches policy leader in
     let inside = slice_get_within slots i s is in
     let here : f (f s) ≡ get_or (map f slots) i s = step-again branches policy leader s ∙ ap f (sym (get_or_from_slice_get slots i s s is)) ∙ sym (get_or-map f slots i s s inside) in
     map-set f slots i (f s) ∙ ap (set (map f slots) i) here ∙ set-get_or (map f slots) i s
@@ -77,12 +77,12 @@ pub stepped-more : (policy : Policy) (leader j place : ℕ) (places : List ℕ) 
     → HaveStepped policy leader (take (j + 1) places) b0 new
 stepped-more policy leader j place places b0 b new s less at is so_far step =
     let bs = b0.tallies.branches in
-    let slots : new.slots.items ≡ set b.slots.items place (stepped bs policy leader s) = step.slots s is ∙ ap (λ (xs : List Bool). set b.slots.items place (stepped xs policy leader s)) so_far.branches_stay in record {
+    let slots : new.slots.items ≡ set b.slots.items place (stepped_slot bs policy leader s) = step.slots s is ∙ ap (λ (xs : List Bool). set b.slots.items place (stepped_slot xs policy leader s)) so_far.branches_stay in record {
       branches_stay = step.branches_stay ∙ so_far.branches_stay;
-      slots = ap (map (stepped bs policy leader)) slots ∙ step-map bs policy leader place b.slots.items s is ∙ so_far.slots;
+      slots = ap (map (stepped_slot bs policy leader)) slots ∙ step-map bs policy leader place b.slots.items s is ∙ so_far.slots;
       settled = λ k x has stands.
-          elim (set-cases b.slots.items place k (stepped bs policy leader s) x (slice_get_within b.slots.items place s is) (sym (ap (λ (xs : List Slot). slice_get xs k) slots) ∙ stands)) [
-            | inl here ↦ ap (takes bs policy leader) here.1 ∙ step-settles bs policy leader s
+          elim (set-cases b.slots.items place k (stepped_slot bs policy leader s) x (slice_get_within b.slots.items place s is) (sym (ap (λ (xs : List Slot). slice_get xs k) slots) ∙ stands)) [
+            | inl here ↦ ap (takes_slot bs policy leader) here.1 ∙ step-settles bs policy leader s
             | inr other ↦
                 elim (Contains-push_cases (take j places) (get_or places j place) k (subst (λ (xs : List ℕ). Contains xs k) (take_more places j place less) has)) [
                   | inl before ↦ so_far.settled k x before other.1
@@ -93,22 +93,22 @@ stepped-more policy leader j place places b0 b new s less at is so_far step =
 
 -- how many entries are still to be taken
 pub pending-step : (branches : List Bool) (policy : Policy) (leader i : ℕ) (slots : List Slot) (s : Slot) → slice_get slots i ≡ Some s
-    → sum_by (pending branches policy leader) (set slots i (stepped branches policy leader s)) + pending branches policy leader s ≡ sum_by (pending branches policy leader) slots
+    → sum_by (pending branches policy leader) (set slots i (stepped_slot branches policy leader s)) + pending branches policy leader s ≡ sum_by (pending branches policy leader) slots
 pending-step branches policy leader i slots s is =
     omega (
       arith,
-      sum_by-set (pending branches policy leader) slots i (stepped branches policy leader s) s (slice_get_within slots i s is),
+      sum_by-set (pending branches policy leader) slots i (stepped_slot branches policy leader s) s (slice_get_within slots i s is),
       ap (pending branches policy leader) (get_or_from_slice_get slots i s s is),
-      settled-pends branches policy leader (stepped branches policy leader s) (step-settles branches policy leader s),
+      settled-pends branches policy leader (stepped_slot branches policy leader s) (step-settles branches policy leader s),
     )
 
-pub stepped-pends : (branches : List Bool) (policy : Policy) (leader : ℕ) (slots : List Slot) → sum_by (pending branches policy leader) (map (stepped branches policy leader) slots) ≡ 0
+pub stepped-pends : (branches : List Bool) (policy : Policy) (leader : ℕ) (slots : List Slot) → sum_by (pending branches policy leader) (map (stepped_slot branches policy leader) slots) ≡ 0
 stepped-pends branches policy leader [] = refl
 stepped-pends branches policy leader (s ∷ more) =
     omega (
       arith,
-      sum_by-cons (pending branches policy leader) (stepped branches policy leader s) (map (stepped branches policy leader) more),
-      settled-pends branches policy leader (stepped branches policy leader s) (step-settles branches policy leader s),
+      sum_by-cons (pending branches policy leader) (stepped_slot branches policy leader s) (map (stepped_slot branches policy leader) more),
+      settled-pends branches policy leader (stepped_slot branches policy leader s) (step-settles branches policy leader s),
       stepped-pends branches policy leader more,
     )
 
@@ -139,12 +139,12 @@ after-first branches Failing leader run true false more is = sym (ap (λ b. cond
 after-first branches Relabel leader run true true more is = sym (ap (λ b. cond b (passed run) run ∷ after branches Relabel leader more) is)
 after-first branches Relabel leader run true false more is = sym (ap (λ b. cond b (passed run) run ∷ after branches Relabel leader more) is)
 
-pub left-after : (branches : List Bool) (policy : Policy) (leader : ℕ) (slots : List Slot) → left_of (map (stepped branches policy leader) slots) ≡ after branches policy leader (left_of slots)
+pub left-after : (branches : List Bool) (policy : Policy) (leader : ℕ) (slots : List Slot) → left_of (map (stepped_slot branches policy leader) slots) ≡ after branches policy leader (left_of slots)
 left-after branches Every leader [] = refl
 left-after branches Failing leader [] = refl
 left-after branches Relabel leader [] = refl
 left-after branches policy leader (s ∷ more) =
-    ap (left_by (stepped branches policy leader s)) (left-after branches policy leader more) ∙ after-first branches policy leader s.run s.left (is_taken branches policy leader s.run) (left_of more) refl
+    ap (left_by (stepped_slot branches policy leader s)) (left-after branches policy leader more) ∙ after-first branches policy leader s.run s.left (is_taken branches policy leader s.run) (left_of more) refl
 
 Contains-head : (x : Entry) (more : List Entry) → Contains (x ∷ more) x
 Contains-head x more = (0, omega arith, refl)
@@ -169,9 +169,9 @@ taken-true branches Failing leader r has = (and_parts (fails r.label) (is_true b
 taken-true branches Relabel leader r has = (and_parts (fails r.label) (is_true branches leader r) has).1
 
 -- the entries of the slots stay
-pub same-entries : (branches : List Bool) (policy : Policy) (leader k : ℕ) (old new : List Slot) (x : Slot) → map (stepped branches policy leader) new ≡ map (stepped branches policy leader) old → slice_get new k ≡ Some x → (s : Slot) × (slice_get old k ≡ Some s) × (s.run.entries ≡ x.run.entries)
+pub same-entries : (branches : List Bool) (policy : Policy) (leader k : ℕ) (old new : List Slot) (x : Slot) → map (stepped_slot branches policy leader) new ≡ map (stepped_slot branches policy leader) old → slice_get new k ≡ Some x → (s : Slot) × (slice_get old k ≡ Some s) × (s.run.entries ≡ x.run.entries)
 same-entries branches policy leader k old new x same is =
-    let f = stepped branches policy leader in
+    let f = stepped_slot branches policy leader in
     let inside : k < length old = omega (arith, slice_get_within new k x is, length-map new f, length-map old f, ap length same) in
     let s = get_or old k x in
     let both : f s ≡ f x =
@@ -179,9 +179,9 @@ same-entries branches policy leader k old new x same is =
     (s, slice_get-get_or old k x inside, sym (step-entries branches policy leader s) ∙ ap (λ (y : Slot). y.run.entries) both ∙ step-entries branches policy leader x)
 
 pub all-settled : (branches : List Bool) (policy : Policy) (leader site : ℕ) (places : List ℕ) (holders : List (List ℕ)) (old new : List Slot) → is_of branches site leader ≡ true → slice_get holders site ≡ Some places → AreHolders (length branches) old holders
-    → map (stepped branches policy leader) new ≡ map (stepped branches policy leader) old → ((k : ℕ) (s : Slot) → Contains places k → slice_get new k ≡ Some s → takes branches policy leader s ≡ false) → (k : ℕ) (x : Slot) → slice_get new k ≡ Some x → takes branches policy leader x ≡ false
+    → map (stepped_slot branches policy leader) new ≡ map (stepped_slot branches policy leader) old → ((k : ℕ) (s : Slot) → Contains places k → slice_get new k ≡ Some s → takes_slot branches policy leader s ≡ false) → (k : ℕ) (x : Slot) → slice_get new k ≡ Some x → takes_slot branches policy leader x ≡ false
 all-settled branches policy leader site places holders old new own at held same settled k x is =
-    false_from_ne_true (takes branches policy leader x) (λ has.
+    false_from_ne_true (takes_slot branches policy leader x) (λ has.
     let true_in = taken-true branches policy leader x.run (and_parts x.left (is_taken branches policy leader x.run) has).1 in
     let found = any-entry (shows branches leader) x.run.entries true_in in
     let here : found.0.site ≡ site = of-once branches found.0.site site leader (shows-of branches leader found.0 found.2) own in
@@ -190,15 +190,15 @@ all-settled branches policy leader site places holders old new own at held same 
     let place = held.each k before.0 found.0 places before.1 member (ap (slice_get holders) here ∙ at) in
     false≢true (sym (settled k x place is) ∙ has))
 
-pub settled-all : (branches : List Bool) (policy : Policy) (leader : ℕ) (old new : List Slot) → map (stepped branches policy leader) new ≡ map (stepped branches policy leader) old → ((k : ℕ) (x : Slot) → slice_get new k ≡ Some x → takes branches policy leader x ≡ false)
-    → new ≡ map (stepped branches policy leader) old
+pub settled-all : (branches : List Bool) (policy : Policy) (leader : ℕ) (old new : List Slot) → map (stepped_slot branches policy leader) new ≡ map (stepped_slot branches policy leader) old → ((k : ℕ) (x : Slot) → slice_get new k ≡ Some x → takes_slot branches policy leader x ≡ false)
+    → new ≡ map (stepped_slot branches policy leader) old
 settled-all branches policy leader old new same settled =
-    sym (map_fixed (stepped branches policy leader) new (λ k x less. settled-stays branches policy leader (get_or new k x) (settled k (get_or new k x) (slice_get-get_or new k x less)))) ∙ same
+    sym (map_fixed (stepped_slot branches policy leader) new (λ k x less. settled-stays branches policy leader (get_or new k x) (settled k (get_or new k x) (slice_get-get_or new k x less)))) ∙ same
 
 -- the holders stay those of the slots
-pub holders-stay : (branches : List Bool) (policy : Policy) (leader sites : ℕ) (holders : List (List ℕ)) (old new : List Slot) → AreHolders sites old holders → map (stepped branches policy leader) new ≡ map (stepped branches policy leader) old → AreHolders sites new holders
+pub holders-stay : (branches : List Bool) (policy : Policy) (leader sites : ℕ) (holders : List (List ℕ)) (old new : List Slot) → AreHolders sites old holders → map (stepped_slot branches policy leader) new ≡ map (stepped_slot branches policy leader) old → AreHolders sites new holders
 holders-stay branches policy leader sites holders old new held same =
-    let f = stepped branches policy leader in
+    let f = stepped_slot branches policy leader in
     let len : length new ≡ length old = omega (arith, length-map new f, length-map old f, ap length same) in record {
       as_many = held.as_many;
       each = λ k x e places is member at.
@@ -216,12 +216,12 @@ pub pending-more : (policy : Policy) (leader place steps more all : ℕ) (b0 b n
     → more ≡ steps + pending b.tallies.branches policy leader s → steps + sum_by (pending b0.tallies.branches policy leader) b.slots.items ≡ all → more + sum_by (pending b0.tallies.branches policy leader) new.slots.items ≡ all
 pending-more policy leader place steps more all b0 b new s is branches step steps_are sums =
     let bs = b0.tallies.branches in
-    let slots : new.slots.items ≡ set b.slots.items place (stepped bs policy leader s) = step.slots s is ∙ ap (λ (xs : List Bool). set b.slots.items place (stepped xs policy leader s)) branches in
+    let slots : new.slots.items ≡ set b.slots.items place (stepped_slot bs policy leader s) = step.slots s is ∙ ap (λ (xs : List Bool). set b.slots.items place (stepped_slot xs policy leader s)) branches in
     let here : more ≡ steps + pending bs policy leader s = steps_are ∙ ap (λ (xs : List Bool). steps + pending xs policy leader s) branches in
     omega (arith, here, sums, pending-step bs policy leader place b.slots.items s is, ap (sum_by (pending bs policy leader)) slots)
 
 -- all slots have stepped, once those of the places have that hold the leader's site
 pub step-complete : (policy : Policy) (leader site : ℕ) (places : List ℕ) (holders : List (List ℕ)) (b new : Books) → is_of b.tallies.branches site leader ≡ true → slice_get holders site ≡ Some places → AreHolders (length b.tallies.branches) b.slots.items holders → HaveStepped policy leader places b new
-    → new.slots.items ≡ map (stepped b.tallies.branches policy leader) b.slots.items
+    → new.slots.items ≡ map (stepped_slot b.tallies.branches policy leader) b.slots.items
 step-complete policy leader site places holders b new own at held step =
     settled-all b.tallies.branches policy leader b.slots.items new.slots.items step.slots (all-settled b.tallies.branches policy leader site places holders b.slots.items new.slots.items own at held step.slots step.settled)

@@ -9,13 +9,13 @@ use Rattle.cbi_base.specs.declared.policy.Policy.TheVariants.{All as Every, Fail
 use Rattle.report_file.specs.declared.label.Label.{Label}
 use Rattle.report_file.specs.declared.label.Label.TheVariants.{Fail, Pass, Uncounted}
 use Rattle.elimination.specs.declared.books.Slot.{Slot}
-use Rattle.tallies.specs.declared.labelled.LabelledRun.{LabelledRun}
+use Rattle.elimination_tallies.specs.declared.labelled.LabelledRun.{LabelledRun}
 use Rattle.elimination.specs.Elimination.{is_taken, passed}
-use Rattle.tallies.specs.Recount.{failing_runs, fails, is_true}
-use Rattle.tallies.specs.Runs.{AreEntriesOf, AreRunsOf}
+use Rattle.elimination_tallies.specs.Recount.{failing_runs, fails, is_true}
+use Rattle.elimination_tallies.specs.Runs.{AreEntriesOf, AreRunsOf}
 use Rattle.elimination.specs.Slots.{change_of, discards, left_of, taken_slot}
-use Rattle.tallies.specs.Tallies.{AllowsEntries, AreRecounts, ChangedByAll, Tallies, one_if}
-use Rattle.tallies.proofs.RunChanges.{AreWell, fails-middle, move-over-allowed, move-over-recounts, take-out-allowed, take-out-recounts}
+use Rattle.elimination_tallies.specs.Tallies.{AllowsEntries, AreRecounts, ChangedByAll, Tallies, one_if}
+use Rattle.elimination_tallies.proofs.RunChanges.{AreWell, fails-middle, move-over-allowed, move-over-recounts, take-out-allowed, take-out-recounts}
 
 -- the runs with one of them taken
 abbrev pub rest_of : Policy → List LabelledRun → LabelledRun → List LabelledRun → List LabelledRun

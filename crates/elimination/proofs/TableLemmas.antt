@@ -12,8 +12,8 @@ use Rattle.flow.specs.Predicates.{IsPredicate, predicate_count, predicates_of}
 use Rattle.report_file.specs.declared.report.Entry.{Entry}
 use Rattle.report_file.specs.Report.{is_positive}
 use Rattle.elimination.specs.Laws.{PredicateIs}
-use Rattle.tallies.specs.Predicates.{first_predicate, is_of, makes_true, predicates_in, width_of}
-use Rattle.tallies.proofs.PredicateLemmas.{first-next, observes-not, observes-own, of-from, of-once, shows-not, shows-own}
+use Rattle.elimination_tallies.specs.Predicates.{first_predicate, is_of, makes_true, predicates_in, width_of}
+use Rattle.elimination_tallies.proofs.PredicateLemmas.{first-next, observes-not, observes-own, of-from, of-once, shows-not, shows-own}
 
 width-is : (kind : SiteKind) → width_of (is_branch_kind kind) ≡ predicates_of kind
 width-is (Branch word) = refl

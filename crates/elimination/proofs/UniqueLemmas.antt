@@ -7,16 +7,16 @@ use Rattle.cbi_base.specs.declared.policy.Policy.{Policy}
 use Rattle.cbi_base.specs.declared.policy.Policy.TheVariants.{All as Every, Failing, Relabel}
 use Rattle.fractions.specs.declared.tally.Tally.{Tally}
 use Rattle.fractions.specs.Tally.{Passes}
-use Rattle.tallies.specs.declared.labelled.LabelledRun.{LabelledRun}
-use Rattle.tallies.specs.declared.listed.Listed.{Listed}
+use Rattle.elimination_tallies.specs.declared.labelled.LabelledRun.{LabelledRun}
+use Rattle.elimination_tallies.specs.declared.listed.Listed.{Listed}
 use Rattle.elimination.specs.Elimination.{IsElimination, after, all_entries_taken, entries_in, is_taken, passed}
 use Rattle.elimination.specs.Laws.{AreListedOnce}
-use Rattle.tallies.specs.Leading.{IsLeader, Leads, NonePasses}
-use Rattle.tallies.specs.Predicates.{predicates_in}
-use Rattle.tallies.specs.Recount.{failing_runs, fails, is_true, recount}
-use Rattle.tallies.proofs.RunChanges.{SameSums, any-order-sums, same-failing, same-recount}
+use Rattle.elimination_tallies.specs.Leading.{IsLeader, Leads, NonePasses}
+use Rattle.elimination_tallies.specs.Predicates.{predicates_in}
+use Rattle.elimination_tallies.specs.Recount.{failing_runs, fails, is_true, recount}
+use Rattle.elimination_tallies.proofs.RunChanges.{SameSums, any-order-sums, same-failing, same-recount}
 use Rattle.elimination.proofs.EliminationLemmas.{passes-positive}
-use Rattle.tallies.proofs.ScanLemmas.{leads-same}
+use Rattle.elimination_tallies.proofs.ScanLemmas.{leads-same}
 
 one-predicate : (numbers : ℕ → Tally) (count failing p q : ℕ) → Leads numbers count failing p → Leads numbers count failing q → p ≡ q
 one-predicate numbers count failing p q a b = omega (arith, a.first q b.is_one b.passes (b.greatest p a.is_one a.passes), b.first p a.is_one a.passes (a.greatest q b.is_one b.passes))

@@ -3,10 +3,10 @@ use Rattle.std.specs.Prelude.{ℕ, ◌+◌, Bool, not, ◌&&◌, if◌then◌els
 use Rattle.cbi_base.specs.declared.policy.Policy.{Policy}
 use Rattle.cbi_base.specs.declared.policy.Policy.TheVariants.{All, Failing, Relabel}
 use Rattle.report_file.specs.declared.label.Label.TheVariants.{Pass}
-use Rattle.tallies.specs.declared.labelled.LabelledRun.{LabelledRun}
-use Rattle.tallies.specs.declared.listed.Listed.{Listed}
-use Rattle.tallies.specs.Recount.{fails, is_true}
-use Rattle.tallies.specs.Leading.{IsLeader, NonePasses}
+use Rattle.elimination_tallies.specs.declared.labelled.LabelledRun.{LabelledRun}
+use Rattle.elimination_tallies.specs.declared.listed.Listed.{Listed}
+use Rattle.elimination_tallies.specs.Recount.{fails, is_true}
+use Rattle.elimination_tallies.specs.Leading.{IsLeader, NonePasses}
 
 -- whether the policy's step after this leader discards or relabels the run
 abbrev pub is_taken : List Bool → Policy → ℕ → LabelledRun → Bool

@@ -4,15 +4,15 @@ use Rattle.cbi_base.specs.declared.policy.Policy.{Policy}
 use Rattle.cbi_base.specs.declared.policy.Policy.TheVariants.{All as Every, Failing, Relabel}
 use Rattle.report_file.specs.declared.label.Label.{Label}
 use Rattle.report_file.specs.declared.report.Entry.{Entry}
-use Rattle.tallies.specs.declared.labelled.LabelledRun.{LabelledRun}
+use Rattle.elimination_tallies.specs.declared.labelled.LabelledRun.{LabelledRun}
 use Rattle.elimination.specs.declared.books.Slot.{Slot}
 use Rattle.elimination.specs.declared.books.Books.{Books}
 use Rattle.elimination.specs.Elimination.{is_taken, passed}
-use Rattle.tallies.specs.Recount.{failing_runs}
-use Rattle.tallies.specs.Runs.{AreEntriesOf}
-use Rattle.tallies.specs.Tallies.{AreRecounts, counted_as}
-use Rattle.tallies.specs.declared.numbers.Change.{Change}
-use Rattle.tallies.specs.declared.numbers.Change.TheVariants.{MoveOver, TakeOut}
+use Rattle.elimination_tallies.specs.Recount.{failing_runs}
+use Rattle.elimination_tallies.specs.Runs.{AreEntriesOf}
+use Rattle.elimination_tallies.specs.Tallies.{AreRecounts, counted_as}
+use Rattle.elimination_tallies.specs.declared.numbers.Change.{Change}
+use Rattle.elimination_tallies.specs.declared.numbers.Change.TheVariants.{MoveOver, TakeOut}
 
 -- the runs that are left
 abbrev pub left_of : List Slot → List LabelledRun
@@ -38,27 +38,28 @@ change_of Failing label = TakeOut (counted_as label)
 change_of Relabel label = MoveOver
 
 -- whether the policy's step takes the run of the slot
-abbrev pub takes : List Bool → Policy → ℕ → Slot → Bool
-takes branches policy leader s = s.left && is_taken branches policy leader s.run
+abbrev pub takes_slot : List Bool → Policy → ℕ → Slot → Bool
+takes_slot branches policy leader s = s.left && is_taken branches policy leader s.run
 
 -- a slot after the policy's step
-abbrev pub stepped : List Bool → Policy → ℕ → Slot → Slot
-stepped branches policy leader s = if takes branches policy leader s then taken_slot policy s else s
+abbrev pub stepped_slot : List Bool → Policy → ℕ → Slot → Slot
+stepped_slot branches policy leader s = if takes_slot branches policy leader s then taken_slot policy s else s
 
 -- how many entries the step takes of it
 abbrev pub pending : List Bool → Policy → ℕ → Slot → ℕ
-pending branches policy leader s = if takes branches policy leader s then length s.run.entries else 0
+pending branches policy leader s = if takes_slot branches policy leader s then length s.run.entries else 0
 
 -- one place has stepped
 pub record IsStepOf (policy : Policy) (leader place : ℕ) (old new : Books) : Type 0 where
   pub branches_stay : new.tallies.branches ≡ old.tallies.branches
-  pub slots : (s : Slot) → slice_get old.slots.items place ≡ Some s → new.slots.items ≡ slice_set old.slots.items place (stepped old.tallies.branches policy leader s)
+  pub slots : (s : Slot) → slice_get old.slots.items place ≡ Some s
+      → new.slots.items ≡ slice_set old.slots.items place (stepped_slot old.tallies.branches policy leader s)
 
 -- these places have stepped, and no other slot has changed but by stepping
 pub record HaveStepped (policy : Policy) (leader : ℕ) (places : List ℕ) (old new : Books) : Type 0 where
   pub branches_stay : new.tallies.branches ≡ old.tallies.branches
-  pub slots : map (stepped old.tallies.branches policy leader) new.slots.items ≡ map (stepped old.tallies.branches policy leader) old.slots.items
-  pub settled : (k : ℕ) (s : Slot) → Contains places k → slice_get new.slots.items k ≡ Some s → takes old.tallies.branches policy leader s ≡ false
+  pub slots : map (stepped_slot old.tallies.branches policy leader) new.slots.items ≡ map (stepped_slot old.tallies.branches policy leader) old.slots.items
+  pub settled : (k : ℕ) (s : Slot) → Contains places k → slice_get new.slots.items k ≡ Some s → takes_slot old.tallies.branches policy leader s ≡ false
 
 -- what is kept of the runs: their numbers, how many fail and how many are left
 pub record AreBooks (b : Books) : Type 0 where
@@ -71,12 +72,15 @@ pub record AreBooks (b : Books) : Type 0 where
 -- of each site these are places of slots, and each slot with an entry of a site stands among those of the site
 pub record AreHolders (sites : ℕ) (slots : List Slot) (holders : List (List ℕ)) : Type 0 where
   pub as_many : length holders ≡ sites
-  pub each : (k : ℕ) (s : Slot) (e : Entry) (places : List ℕ) → slice_get slots k ≡ Some s → Contains s.run.entries e → slice_get holders e.site ≡ Some places → Contains places k
+  pub each : (k : ℕ) (s : Slot) (e : Entry) (places : List ℕ) → slice_get slots k ≡ Some s → Contains s.run.entries e
+      → slice_get holders e.site ≡ Some places → Contains places k
   pub places : (site : ℕ) (places : List ℕ) → slice_get holders site ≡ Some places → All (λ k. k < length slots) places
 
 -- the place of one more run stands with those of each site that it has an entry of, and with no other
 pub record IsHeldToo (place : ℕ) (entries : List Entry) (old new : List (List ℕ)) : Type 0 where
   pub as_many : length new ≡ length old
   pub own : (e : Entry) (places : List ℕ) → Contains entries e → slice_get new e.site ≡ Some places → Contains places place
-  pub others : (site k : ℕ) (before places : List ℕ) → slice_get old site ≡ Some before → slice_get new site ≡ Some places → Contains before k → Contains places k
-  pub only : (site k : ℕ) (before places : List ℕ) → slice_get old site ≡ Some before → slice_get new site ≡ Some places → Contains places k → Contains before k ⊎ (k ≡ place)
+  pub others : (site k : ℕ) (before places : List ℕ) → slice_get old site ≡ Some before → slice_get new site ≡ Some places → Contains before k
+      → Contains places k
+  pub only : (site k : ℕ) (before places : List ℕ) → slice_get old site ≡ Some before → slice_get new site ≡ Some places → Contains places k
+      → Contains before k ⊎ (k ≡ place)

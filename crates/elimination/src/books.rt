@@ -1,22 +1,22 @@
 ghost use Rattle.std.specs.Prelude.{◌≡◌, ◌+◌, ◌<◌, ℕ, length, sum_by, All, IfOk, IfSome, IfNone, IsTrue, Some, slice_get};
 ghost use Rattle.report_file.specs.Report.{is_positive};
 ghost use Rattle.elimination.specs.declared.books.Slot.{Slot};
-ghost use Rattle.tallies.specs.Leading.{IsLeader, NonePasses};
-ghost use Rattle.tallies.specs.Recount.{runs_of};
-ghost use Rattle.tallies.specs.Runs.{AreEntriesOf};
-ghost use Rattle.elimination.specs.Slots.{AreBooks, HaveStepped, IsStepOf, change_of, discards, left_of, pending, taken_slot, takes};
-ghost use Rattle.tallies.specs.Tallies.{AllowsEntries, AllowsEntry, AreRecounts, ChangedBy, ChangedByAll};
+ghost use Rattle.elimination_tallies.specs.Leading.{IsLeader, NonePasses};
+ghost use Rattle.elimination_tallies.specs.Recount.{runs_of};
+ghost use Rattle.elimination_tallies.specs.Runs.{AreEntriesOf};
+ghost use Rattle.elimination.specs.Slots.{AreBooks, HaveStepped, IsStepOf, change_of, discards, left_of, pending, taken_slot, takes_slot};
+ghost use Rattle.elimination_tallies.specs.Tallies.{AllowsEntries, AllowsEntry, AreRecounts, ChangedBy, ChangedByAll};
 
 use crate::tally_table::{Steps, TallyTable};
 use cbi_base::{Memory, Policy};
 use collector::Collection;
-use report_file::{Entry, Label};
-use std::alloc::Global;
-use std::sync::ledger::Ledger;
-use tallies::{
+use elimination_tallies::{
     LabelledRun, Listed, counted_as, fails, failures, is_true, labelled_run, leader_in,
     report_after,
 };
+use report_file::{Entry, Label};
+use std::alloc::Global;
+use std::sync::ledger::Ledger;
 
 /// A run, and whether it is left.
 #[derive(Drop)]
@@ -36,7 +36,7 @@ pub struct Books {
 
 // Whether the policy's step takes this run of those left.
 fn takes(policy: Policy, leader: u32, tallies: &TallyTable, slot: &Slot) -> bool
-    ensures { result ≡ takes tallies.now.branches policy leader slot.now }
+    ensures { result ≡ takes_slot tallies.now.branches policy leader slot.now }
 {
     if !slot.left {
         return false;
@@ -187,7 +187,8 @@ impl Books {
         requires places { All (λ k. k < length self.old.slots.items) places.now }
         ensures books { AreBooks self.new }
         ensures stepped { HaveStepped policy leader places.now self.old self.new }
-        ensures steps { steps.new + sum_by (pending self.old.tallies.branches policy leader) self.new.slots.items ≡ steps.old + sum_by (pending self.old.tallies.branches policy leader) self.old.slots.items }
+        ensures steps { steps.new + sum_by (pending self.old.tallies.branches policy leader) self.new.slots.items ≡ steps.old
+            + sum_by (pending self.old.tallies.branches policy leader) self.old.slots.items }
     {
         for place in places {
             self.step(policy, leader, *place as usize, steps);

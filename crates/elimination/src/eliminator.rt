@@ -1,24 +1,24 @@
 ghost use Rattle.std.specs.Prelude.{◌≡◌, ◌+◌, ◌<◌, ◌≤◌, [], length, replicate, All, IfOk, IfSome, IfNone, OnOk};
 ghost use Rattle.collector.specs.Sites.{branches_of};
 ghost use Rattle.elimination.specs.Elimination.{IsElimination, all_entries_taken, entries_taken, stepped_on};
-ghost use Rattle.tallies.specs.Leading.{IsLeader, NonePasses};
-ghost use Rattle.tallies.specs.Predicates.{predicates_in};
+ghost use Rattle.elimination_tallies.specs.Leading.{IsLeader, NonePasses};
+ghost use Rattle.elimination_tallies.specs.Predicates.{predicates_in};
 ghost use Rattle.report_file.specs.declared.report.Entry.{Entry};
 ghost use Rattle.elimination.specs.declared.books.Slot.{Slot};
-ghost use Rattle.tallies.specs.Recount.{runs_of};
+ghost use Rattle.elimination_tallies.specs.Recount.{runs_of};
 ghost use Rattle.elimination.specs.Slots.{AreHolders, IsHeldToo};
-ghost use Rattle.tallies.specs.Tallies.{AreRecounts};
+ghost use Rattle.elimination_tallies.specs.Tallies.{AreRecounts};
 
 use crate::books::{Books, Slot};
 use crate::tally_table::{Steps, TallyTable};
 use cbi_base::{Memory, Policy, Seq};
 use collector::Collection;
+use elimination_tallies::Listed;
 use flow::SiteTable;
 use report_file::Entry;
 use std::alloc::Global;
 use std::marker::{Brand, Model};
 use std::sync::ledger::{Blank, Ledger};
-use tallies::Listed;
 
 /// Lists leaders one after another, by the policy's step after each. It keeps the numbers of all predicates over the runs that are left, and of each
 /// site the runs that have an entry of it. Contracts see it as which sites are branches, the policy, and the runs that are left.

@@ -1,22 +1,22 @@
 ghost use Rattle.std.specs.Prelude.{◌≡◌, ◌+◌, ◌<◌, length, IfOk, IsTrue, Some, slice_get};
 ghost use Rattle.collector.specs.Sites.{branches_of};
 ghost use Rattle.report_file.specs.Report.{is_positive};
-ghost use Rattle.tallies.specs.declared.numbers.Change.TheVariants as change;
-ghost use Rattle.tallies.specs.Predicates.{is_of, predicates_in, shows};
+ghost use Rattle.elimination_tallies.specs.declared.numbers.Change.TheVariants as change;
+ghost use Rattle.elimination_tallies.specs.Predicates.{is_of, predicates_in, shows};
 ghost use Rattle.elimination.specs.Elimination.{IsElimination};
-ghost use Rattle.tallies.specs.Recount.{runs_of};
-ghost use Rattle.tallies.specs.Tallies.{AllowsEntry, AreRecounts, ChangedBy};
+ghost use Rattle.elimination_tallies.specs.Recount.{runs_of};
+ghost use Rattle.elimination_tallies.specs.Tallies.{AllowsEntry, AreRecounts, ChangedBy};
 
 use crate::eliminator::{Eliminator, leaders_by};
 use cbi_base::{Memory, Policy, Seq};
 use collector::Collection;
+use elimination_tallies::{Change, Counted, Listed, Numbers};
 use flow::SiteTable;
 use fractions::Tally;
 use report_file::Entry;
 use std::alloc::Global;
 use std::marker::{Brand, Model};
 use std::sync::ledger::{Blank, Book, Ledger, Share};
-use tallies::{Change, Counted, Listed, Numbers};
 
 /// How many site entries were taken out of a table or moved within it. It takes no bytes, and only the two calls that do so change it.
 #[derive(Drop)]
@@ -64,7 +64,7 @@ pub struct TallyTable {
 }
 
 impl Model for TallyTable {
-    ghost use Rattle.tallies.specs.Tallies.{Tallies};
+    ghost use Rattle.elimination_tallies.specs.Tallies.{Tallies};
 
     ghost Value = { Tallies };
 

@@ -10,14 +10,14 @@ use Rattle.fractions.specs.declared.fraction.Fraction.{Fraction}
 use Rattle.fractions.specs.declared.tally.Tally.{Tally}
 use Rattle.fractions.specs.Fraction.{IsAtMost}
 use Rattle.fractions.specs.Tally.{Passes, importance_of}
-use Rattle.tallies.specs.declared.labelled.LabelledRun.{LabelledRun}
-use Rattle.tallies.specs.declared.listed.Listed.{Listed}
+use Rattle.elimination_tallies.specs.declared.labelled.LabelledRun.{LabelledRun}
+use Rattle.elimination_tallies.specs.declared.listed.Listed.{Listed}
 use Rattle.elimination.specs.Elimination.{IsElimination, after, is_taken, passed}
-use Rattle.tallies.specs.Leading.{IsLeader, NonePasses}
-use Rattle.tallies.specs.Predicates.{predicates_in}
-use Rattle.tallies.specs.Recount.{failing_runs, recount}
-use Rattle.tallies.specs.Scanning.{exceeds}
-use Rattle.tallies.proofs.ScanLemmas.{first-leads, leads-instead, leads-on, none-more}
+use Rattle.elimination_tallies.specs.Leading.{IsLeader, NonePasses}
+use Rattle.elimination_tallies.specs.Predicates.{predicates_in}
+use Rattle.elimination_tallies.specs.Recount.{failing_runs, recount}
+use Rattle.elimination_tallies.specs.Scanning.{exceeds}
+use Rattle.elimination_tallies.proofs.ScanLemmas.{first-leads, leads-instead, leads-on, none-more}
 use Rattle.elimination_reference.specs.Best.{AreFractions, IsBest, IsRow}
 
 -- a predicate that doesn't pass

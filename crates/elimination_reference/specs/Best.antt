@@ -3,8 +3,8 @@ use Rattle.std.specs.Prelude.{◌≡◌, ℕ, ◌<◌, Option, None, Some}
 use Rattle.fractions.specs.declared.tally.Tally.{Tally}
 use Rattle.fractions.specs.Fraction.{IsFraction}
 use Rattle.fractions.specs.Tally.{Passes, importance_of}
-use Rattle.tallies.specs.declared.listed.Listed.{Listed}
-use Rattle.tallies.specs.Leading.{Leads, NonePass}
+use Rattle.elimination_tallies.specs.declared.listed.Listed.{Listed}
+use Rattle.elimination_tallies.specs.Leading.{Leads, NonePass}
 
 -- the importance of each of them that passes is a fraction within the bounds of one
 abbrev pub AreFractions : (numbers : ℕ → Tally) → (count failing : ℕ) → Type 0

@@ -1,15 +1,15 @@
 ghost use Rattle.std.specs.Prelude.{◌≡◌, IfOk, map};
 ghost use Rattle.collector.specs.Sites.{branches_of, is_branch};
 ghost use Rattle.elimination.specs.Elimination.{IsElimination};
-ghost use Rattle.tallies.specs.Recount.{labelled, runs_of};
+ghost use Rattle.elimination_tallies.specs.Recount.{labelled, runs_of};
 
 use crate::listing::eliminate;
 use cbi_base::{Memory, Policy, Seq};
 use collector::Collection;
+use elimination_tallies::{LabelledRun, Listed};
 use flow::{Site, SiteKind, SiteTable};
 use report_file::Report;
 use std::alloc::Global;
-use tallies::{LabelledRun, Listed};
 
 fn is_branch(site: &Site) -> bool
     ensures { result ≡ is_branch site.now }

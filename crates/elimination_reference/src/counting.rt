@@ -1,12 +1,12 @@
 ghost use Rattle.std.specs.Prelude.{◌≡◌, ◌≤◌, length};
-ghost use Rattle.tallies.specs.Recount.{failing_runs, fails, is_observed, is_true, recount};
-ghost use Rattle.tallies.specs.Tallies.{Allows, changed, counted_as, one_if};
-ghost use Rattle.tallies.specs.declared.numbers.Change.TheVariants.{PutIn};
+ghost use Rattle.elimination_tallies.specs.Recount.{failing_runs, fails, is_observed, is_true, recount};
+ghost use Rattle.elimination_tallies.specs.Tallies.{Allows, changed, counted_as, one_if};
+ghost use Rattle.elimination_tallies.specs.declared.numbers.Change.TheVariants.{PutIn};
 
 use crate::entries::{is_observed, is_true};
+use elimination_tallies::LabelledRun;
 use fractions::Tally;
 use report_file::Label;
-use tallies::LabelledRun;
 
 /// Whether a run with this label counts as failing.
 pub fn fails(label: Label) -> bool

@@ -1,10 +1,10 @@
 ghost use Rattle.std.specs.Prelude.{◌≡◌, ◌≤◌, ◌<◌, ◌*◌, ◌^◌, length, slice_index_or, false};
-ghost use Rattle.tallies.specs.Predicates.{first_predicate, is_of, makes_true, observes, predicates_in, shows, width_of};
-ghost use Rattle.tallies.specs.Recount.{is_observed, is_true};
+ghost use Rattle.elimination_tallies.specs.Predicates.{first_predicate, is_of, makes_true, observes, predicates_in, shows, width_of};
+ghost use Rattle.elimination_tallies.specs.Recount.{is_observed, is_true};
 
 use cbi_base::Counts;
+use elimination_tallies::LabelledRun;
 use report_file::Entry;
-use tallies::LabelledRun;
 
 fn width_of(branch: bool) -> u32
     ensures { result ≡ width_of branch }
@@ -76,7 +76,7 @@ fn makes_true(branch: bool, number: u32, counts: Counts) -> bool
     }
 }
 
-#[tactic(auto, unfolding(tallies::specs::Predicates::shows))]
+#[tactic(auto, unfolding(elimination_tallies::specs::Predicates::shows))]
 fn shows(branches: &[bool], predicate: u32, entry: &Entry) -> bool
     requires { length branches.now ≤ 65536 }
     ensures { result ≡ shows branches.now predicate entry.now }
@@ -88,7 +88,7 @@ fn shows(branches: &[bool], predicate: u32, entry: &Entry) -> bool
     makes_true(is_branch(branches, entry.site), number, entry.counts)
 }
 
-#[tactic(auto, unfolding(tallies::specs::Predicates::observes))]
+#[tactic(auto, unfolding(elimination_tallies::specs::Predicates::observes))]
 fn observes(branches: &[bool], predicate: u32, entry: &Entry) -> bool
     requires { length branches.now ≤ 65536 }
     ensures { result ≡ observes branches.now predicate entry.now }

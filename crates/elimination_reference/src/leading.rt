@@ -1,16 +1,16 @@
 ghost use Rattle.std.specs.Prelude.{◌≡◌, ◌≤◌, ◌+◌, ◌<◌, length, MatchOption};
-ghost use Rattle.tallies.specs.Leading.{IsLeader, NonePasses};
-ghost use Rattle.tallies.specs.Predicates.{predicates_in};
-ghost use Rattle.tallies.specs.Recount.{failing_runs, recount};
-ghost use Rattle.tallies.specs.Scanning.{exceeds};
+ghost use Rattle.elimination_tallies.specs.Leading.{IsLeader, NonePasses};
+ghost use Rattle.elimination_tallies.specs.Predicates.{predicates_in};
+ghost use Rattle.elimination_tallies.specs.Recount.{failing_runs, recount};
+ghost use Rattle.elimination_tallies.specs.Scanning.{exceeds};
 ghost use Rattle.fractions.specs.Fraction.{IsFraction};
 ghost use Rattle.elimination_reference.specs.Best.{AreFractions, IsBest};
 
 use crate::counting::{failing_runs, recount};
 use crate::entries::predicates_in;
+use elimination_tallies::{LabelledRun, Listed};
 use fractions::{Fraction, compare, confident, importance};
 use std::cmp::Ordering;
-use tallies::{LabelledRun, Listed};
 
 // Whether the first of two values is greater.
 fn exceeds(left: Fraction, right: Fraction) -> bool

@@ -1,14 +1,14 @@
 ghost use Rattle.std.specs.Prelude.{◌≡◌, ◌≤◌, length, map, IfOk};
 ghost use Rattle.elimination.specs.Elimination.{IsElimination, after, is_taken};
-ghost use Rattle.elimination_reference.specs.Relabelling.{relabelled};
+ghost use Rattle.elimination_reference.specs.Relabelling.{relabelled_run};
 
 use crate::counting::fails;
 use crate::entries::is_true;
 use crate::leading::leader;
 use cbi_base::{Memory, Policy, Seq};
+use elimination_tallies::{LabelledRun, Listed};
 use report_file::Label;
 use std::alloc::Global;
-use tallies::{LabelledRun, Listed};
 
 // Whether the policy's step after this leader discards or relabels the run.
 fn is_taken(branches: &[bool], policy: Policy, leader: u32, run: &LabelledRun) -> bool
@@ -25,7 +25,7 @@ fn is_taken(branches: &[bool], policy: Policy, leader: u32, run: &LabelledRun) -
 // A run that is taken counts as successful.
 fn relabel_one(branches: &[bool], leader: u32, run: &mut LabelledRun)
     requires { length branches.now ≤ 65536 }
-    ensures { run.new ≡ relabelled branches.now leader run.old }
+    ensures { run.new ≡ relabelled_run branches.now leader run.old }
 {
     if is_taken(branches, Policy::Relabel, leader, run) {
         run.label = Label::Pass;
@@ -35,7 +35,7 @@ fn relabel_one(branches: &[bool], leader: u32, run: &mut LabelledRun)
 // The runs that are taken count as successful.
 fn relabel(branches: &[bool], leader: u32, runs: &mut [LabelledRun])
     requires { length branches.now ≤ 65536 }
-    ensures { runs.new ≡ map (relabelled branches.now leader) runs.old }
+    ensures { runs.new ≡ map (relabelled_run branches.now leader) runs.old }
 {
     for run in runs.iter_mut() {
         relabel_one(branches, leader, run);

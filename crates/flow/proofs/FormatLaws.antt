@@ -3,9 +3,9 @@ use Rattle.std.proofs.Common.{◌≡◌, ℕ, ◌+◌, List, [], ◌∷◌, Bool
 use Rattle.std.specs.List.{list_all, count_by}
 use Rattle.std.proofs.lemmas.List.Sums.{sum_by-cons}
 use Rattle.cbi_base.specs.declared.scalar.Scalar.{Scalar}
-use Rattle.cbi_base.specs.Format.{is_percent, is_conversion, one_more, conversions_of}
+use Rattle.cbi_base.specs.Format.{is_percent, is_conversion, one_conversion_more, conversions_of}
 use Rattle.cbi_base.specs.Objects.{Objects}
-use Rattle.flow.specs.Laws.{is_taken}
+use Rattle.flow.specs.Laws.{takes_piece}
 use Rattle.flow.specs.Printing.{Piece, Byte, Conversion, pieces_of, printed, these, after_bytes}
 
 other_than : (b : ℕ) (rest : Bool) → IsTrue (not (is_percent b) && rest) → (is_percent b ≡ false) × IsTrue rest
@@ -24,18 +24,18 @@ plain (b ∷ c ∷ rest) values o h =
     ap (λ (pieces : List Piece). printed pieces values o) (from_byte b c rest parts.0)
     ∙ ap (after_bytes (b ∷ [])) (plain (c ∷ rest) values o parts.1)
 
-taken : (p : Piece) (pieces : List Piece) → count_by is_taken (p ∷ pieces) ≡ cond (is_taken p) 1 0 + count_by is_taken pieces
-taken p pieces = sum_by-cons (λ (x : Piece). cond (is_taken x) 1 0) p pieces
+taken : (p : Piece) (pieces : List Piece) → count_by takes_piece (p ∷ pieces) ≡ cond (takes_piece p) 1 0 + count_by takes_piece pieces
+taken p pieces = sum_by-cons (λ (x : Piece). cond (takes_piece x) 1 0) p pieces
 
-more_is : (found : Option ℕ) (count : ℕ) → one_more found ≡ Some count → (before : ℕ) × (found ≡ Some before) × (before + 1 ≡ count)
+more_is : (found : Option ℕ) (count : ℕ) → one_conversion_more found ≡ Some count → (before : ℕ) × (found ≡ Some before) × (before + 1 ≡ count)
 more_is None count e = cc
 more_is (Some before) count e = (before, refl, cc)
 
 -- by whether the first byte is `%`, and what the next one is
 step : (p q r : Bool) (b c : ℕ) (rest more : List Piece) (in_rest in_more : Option ℕ) (count : ℕ) →
-    ((n : ℕ) → in_rest ≡ Some n → count_by is_taken rest ≡ n) → ((n : ℕ) → in_more ≡ Some n → count_by is_taken more ≡ n) →
-    cond p (cond q (one_more in_rest) (cond r in_rest None)) in_more ≡ Some count →
-    count_by is_taken (cond p (cond q (Conversion c) (Byte c) ∷ rest) (Byte b ∷ more)) ≡ count
+    ((n : ℕ) → in_rest ≡ Some n → count_by takes_piece rest ≡ n) → ((n : ℕ) → in_more ≡ Some n → count_by takes_piece more ≡ n) →
+    cond p (cond q (one_conversion_more in_rest) (cond r in_rest None)) in_more ≡ Some count →
+    count_by takes_piece (cond p (cond q (Conversion c) (Byte c) ∷ rest) (Byte b ∷ more)) ≡ count
 step true true r b c rest more in_rest in_more count of_rest of_more h =
     let m = more_is in_rest count h in
     let e = of_rest m.0 m.1 in
@@ -44,7 +44,7 @@ step true false true b c rest more in_rest in_more count of_rest of_more h = let
 step true false false b c rest more in_rest in_more count of_rest of_more h = cc
 step false q r b c rest more in_rest in_more count of_rest of_more h = let e = of_more count h in taken (Byte b) more ∙ omega (arith, e)
 
-pub counted : (format : List ℕ) (count : ℕ) → conversions_of format ≡ Some count → count_by is_taken (pieces_of format) ≡ count
+pub counted : (format : List ℕ) (count : ℕ) → conversions_of format ≡ Some count → count_by takes_piece (pieces_of format) ≡ count
 counted [] count e = cc
 counted (b ∷ []) count e =
     let by_test : (p : Bool) → cond p None (Some 0) ≡ Some count → 0 ≡ count = λ p. elim p as (λ x. cond x None (Some 0) ≡ Some count → 0 ≡ count) [ true ↦ λ h. cc | false ↦ λ h. cc ] in

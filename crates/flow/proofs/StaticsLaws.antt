@@ -9,12 +9,12 @@ use Rattle.std.specs.FinMap.{get, empty, entries, len-entries, len-empty, get-em
 use Rattle.std.proofs.lemmas.Bool.Decides.{nat_tests}
 use Rattle.std.proofs.lemmas.List.{length-map}
 use Rattle.std.proofs.lemmas.List.Sums.{sum_by-cons, sum_by-append}
-use Rattle.cbi_base.specs.Objects.{Object, Objects, no_objects, live_cells, cell_limit, object_limit, made_with, one_more}
+use Rattle.cbi_base.specs.Objects.{Object, Objects, no_objects, live_cells, cell_limit, object_limit, made_with, one_object_more}
 use Rattle.flow.proofs.MapSums.{sum-insert}
 use Rattle.flow.specs.declared.program.Global.{Global}
 use Rattle.flow.specs.declared.program.Text.{Text}
 use Rattle.flow.specs.declared.program.ProgramParts.{ProgramParts}
-use Rattle.flow.specs.Machine.{each_made, cell_value, global_object, text_object, first_objects}
+use Rattle.flow.specs.Machine.{each_made, cell_value, object_of_global, text_object, program_objects}
 use Rattle.flow.specs.Program.{IsProgram}
 use Rattle.flow.specs.Rows.{char_of}
 
@@ -35,12 +35,12 @@ hidden true x o is none = cc
 hidden false x o is none = none
 
 made_some : (object : Object) (o : Objects) → live_cells o + length object.cells ≤ cell_limit → o.made < object_limit →
-    made_with object.class object.cells o ≡ Some (one_more object.class object.cells o)
+    made_with object.class object.cells o ≡ Some (one_object_more object.class object.cells o)
 made_some object o room number =
     let t : (nat_le (live_cells o + length object.cells) cell_limit && nat_lt o.made object_limit) ≡ true = grind (arith, nat_tests) in
-    ap (λ (b : Bool). cond b (Some (one_more object.class object.cells o)) None) t
+    ap (λ (b : Bool). cond b (Some (one_object_more object.class object.cells o)) None) t
 
-room_after : (object : Object) (o : Objects) (cells count : ℕ) → HasRoom o (length object.cells + cells) (count + 1) → HasRoom (one_more object.class object.cells o) cells count
+room_after : (object : Object) (o : Objects) (cells count : ℕ) → HasRoom o (length object.cells + cells) (count + 1) → HasRoom (one_object_more object.class object.cells o) cells count
 room_after object o cells count h =
     let sum = sum-insert cells_of o.live o.made object (h.fresh o.made (omega arith)) in
     record {
@@ -55,7 +55,7 @@ all_made [] o h = refl
 all_made (object ∷ objects) o h =
     let sum = sum_by-cons cells_of object objects in
     let room : HasRoom o (length object.cells + sum_by cells_of objects) (length objects + 1) = record { room = omega (arith, sum, h.room); numbers = omega (arith, h.numbers); fresh = h.fresh } in
-    let rest = all_made objects (one_more object.class object.cells o) (room_after object o (sum_by cells_of objects) (length objects) room) in
+    let rest = all_made objects (one_object_more object.class object.cells o) (room_after object o (sum_by cells_of objects) (length objects) room) in
     subst (λ (found : Option Objects). IsSome (option_and_then (each_made objects) found))
     (sym (made_some object o (omega (arith, room.room)) (omega (arith, room.numbers)))) rest
 
@@ -66,10 +66,10 @@ nothing (e ∷ es) none = absurd (omega (arith, none))
 none_live : live_cells no_objects ≡ 0
 none_live = nothing (entries {R = nat_cmp} empty) (sym (len-entries {R = nat_cmp} empty) ∙ len-empty nat_cmp Object)
 
-global_cells : (n : ℕ) (globals : List Global) → sum_by cells_of (map (global_object n) globals) ≡ sum_by (λ g. length g.cells) globals
+global_cells : (n : ℕ) (globals : List Global) → sum_by cells_of (map (object_of_global n) globals) ≡ sum_by (λ g. length g.cells) globals
 global_cells n [] = refl
 global_cells n (g ∷ globals) =
-    let a = sum_by-cons cells_of (global_object n g) (map (global_object n) globals) in
+    let a = sum_by-cons cells_of (object_of_global n g) (map (object_of_global n) globals) in
     let b = sum_by-cons (λ (x : Global). length x.cells) g globals in
     let c = length-map g.cells (cell_value n) in
     let d = global_cells n globals in
@@ -85,18 +85,18 @@ text_cells (t ∷ texts) =
     let e = text_cells texts in
     omega (arith, a, b, c, d, e)
 
-pub have_room : (p : ProgramParts) → IsProgram p → IsSome (each_made (first_objects p) no_objects)
+pub have_room : (p : ProgramParts) → IsProgram p → IsSome (each_made (program_objects p) no_objects)
 have_room p is =
     let n = length p.globals in
-    let cells = sum_by-append cells_of (map (global_object n) p.globals) (map text_object p.texts) in
-    let count = length-append (map (global_object n) p.globals) (map text_object p.texts) in
+    let cells = sum_by-append cells_of (map (object_of_global n) p.globals) (map text_object p.texts) in
+    let count = length-append (map (object_of_global n) p.globals) (map text_object p.texts) in
     let a = global_cells n p.globals in
     let b = text_cells p.texts in
-    let c = length-map p.globals (global_object n) in
+    let c = length-map p.globals (object_of_global n) in
     let d = length-map p.texts text_object in
     let texts = is.parts.texts in
     let globals = is.parts.globals in
-    all_made (first_objects p) no_objects (record {
+    all_made (program_objects p) no_objects (record {
       room = omega (arith, none_live, cells, a, b, texts.few, texts.total, globals.total);
       numbers = omega (arith, count, c, d, texts.few, globals.few);
       fresh = λ q h. get-empty nat_cmp q;

@@ -11,7 +11,7 @@ use Rattle.cbi_base.specs.Arithmetic.{is_zero}
 use Rattle.cbi_base.specs.Kind.{wrapped}
 use Rattle.flow.specs.Laws.{is_string_byte}
 use Rattle.flow.specs.Now.{byte_of}
-use Rattle.flow.specs.Printing.{string_on, these, after_bytes, nothing}
+use Rattle.flow.specs.Printing.{string_on, these, after_bytes, nothing_printed}
 use Rattle.flow.specs.Rows.{char_of}
 
 low : (b : ℕ) → b < 128 → wrapped Char (pos b) ≡ pos b
@@ -54,7 +54,7 @@ parts b rest h = grind (arith, nat_tests)
 -- one more byte
 more : (b : ℕ) (cells : List Scalar) → 1 ≤ b → b < 256 → string_on (char_of b ∷ cells) ≡ after_bytes (b ∷ []) (string_on cells)
 more b cells f l =
-    ap (λ (t : Bool). cond t nothing (after_bytes (byte_of (wrapped Char (pos b)) ∷ []) (string_on cells))) (not_zero b f l)
+    ap (λ (t : Bool). cond t nothing_printed (after_bytes (byte_of (wrapped Char (pos b)) ∷ []) (string_on cells))) (not_zero b f l)
     ∙ ap (λ (n : ℕ). after_bytes (n ∷ []) (string_on cells)) (byte_back b l)
 
 pub strings : (bytes : List ℕ) (rest : List Scalar) → IsTrue (list_all is_string_byte bytes) → string_on (map char_of bytes ++ char_of 0 ∷ rest) ≡ these bytes

@@ -38,5 +38,5 @@ abbrev pub counts_of : List Site → List Observation → List Counts
 counts_of sites seen = counts_from 0 sites seen
 
 -- what a run comes to
-abbrev pub result_of : List Site → Ending → RunResult
-result_of sites ending = record { outcome = ending.outcome; output = ending.output; counts = counts_of sites ending.seen; work = ending.work }
+abbrev pub run_result : List Site → Ending → RunResult
+run_result sites ending = record { outcome = ending.outcome; output = ending.output; counts = counts_of sites ending.seen; work = ending.work }

@@ -8,7 +8,7 @@ use Rattle.flow.specs.declared.program.ProgramParts.{ProgramParts}
 use Rattle.flow.specs.declared.site.Site.{Site}
 use Rattle.flow.specs.declared.site.SiteKind.{SiteKind}
 use Rattle.flow.specs.declared.site.SiteKind.TheVariants.{Branch}
-use Rattle.flow.specs.Code.{node_of}
+use Rattle.flow.specs.Code.{view_in}
 use Rattle.flow.specs.View.{view}
 
 -- a node of a program as it is before it is sampled
@@ -40,4 +40,4 @@ BranchesFork at site_of =
 
 -- the visit of a condition's site stands before the fork on it
 abbrev pub IsReady : ProgramParts → Type 0
-IsReady p = BranchesFork (λ function place. node_of (slice_get p.functions function) place) (slice_get p.sites)
+IsReady p = BranchesFork (λ function place. view_in (slice_get p.functions function) place) (slice_get p.sites)

@@ -8,7 +8,9 @@ use Rattle.cbi_base.specs.Text.{spaced, text_of}
 use Rattle.cbi_base.specs.declared.scalar.Kind.{Kind}
 use Rattle.cbi_base.specs.declared.scalar.Kind.TheVariants.{Char, Int, Unsigned}
 use Rattle.flow.specs.declared.node.Node.{Node}
-use Rattle.flow.specs.declared.node.Node.TheVariants.{Push, Null, Local, Global, Text, Load, Store, Move, Member, Span, Math, Order, Sole, Convert, Dup, Drop, Swap, Over, Pass, Fork, Again, Call, Return, Leave, Get, Put, Puts, Format, Alloc, Free, Exit, Abort, Check, Clear, Zero, Spell, Mark, Skip, Test, Choose, Import, Export}
+use Rattle.flow.specs.declared.node.Node.TheVariants.{Push, Null, Local, Global, Text, Load, Store, Move, Member, Span, Math, Order, Sole, Convert, Dup}
+use Rattle.flow.specs.declared.node.Node.TheVariants.{Drop, Swap, Over, Pass, Fork, Again, Call, Return, Leave, Get, Put, Puts, Format, Alloc, Free, Exit}
+use Rattle.flow.specs.declared.node.Node.TheVariants.{Abort, Check, Clear, Zero, Spell, Mark, Skip, Test, Choose, Import, Export}
 use Rattle.cbi_base.specs.declared.scalar.Want.{Want}
 use Rattle.cbi_base.specs.declared.scalar.Want.TheVariants.{Number, Pointer}
 use Rattle.cbi_base.specs.declared.operators.Binary.{Binary}
@@ -157,15 +159,15 @@ with_cell c (run ∷ runs) =
     if same_cell c run.cell then record run { count = run.count + 1 } ∷ runs else record { count = 1; cell = c } ∷ run ∷ runs
 
 -- the cells by runs that are as long as can be, so that neighbouring runs have different values
-abbrev pub runs_of : List Cell → List Run
-runs_of [] = []
-runs_of (c ∷ cells) = with_cell c (runs_of cells)
+abbrev pub cell_runs : List Cell → List Run
+cell_runs [] = []
+cell_runs (c ∷ cells) = with_cell c (cell_runs cells)
 
 abbrev pub run_word : Run → List ℕ
 run_word run = decimal run.count ++ codes ":" ++ cell_word run.cell
 
 abbrev pub global_fields : Variable → List (List ℕ)
-global_fields g = codes "global" ∷ map run_word (runs_of g.cells)
+global_fields g = codes "global" ∷ map run_word (cell_runs g.cells)
 
 abbrev pub result_word : Bool → List ℕ
 result_word true = codes "value"
@@ -239,15 +241,15 @@ whole_list word fields items = list_rows word fields (length items) items
 abbrev pub end_row : List (List ℕ)
 end_row = codes "end" ∷ []
 
-abbrev pub rows_of : ProgramParts → List (List (List ℕ))
-rows_of p =
+abbrev pub program_rows : ProgramParts → List (List (List ℕ))
+program_rows p =
     (counted (codes "cbi-program") 1 ∷ whole_list (codes "texts") text_fields p.texts) ++ whole_list (codes "globals") global_fields p.globals
     ++ whole_list (codes "functions") head_fields (map head_of p.functions) ++ (counted (codes "main") p.main ∷ [])
     ++ whole_list (codes "sites") site_fields p.sites ++ flat_map body_rows p.functions ++ (end_row ∷ [])
 
 -- the text of a program
 abbrev pub program_text : ProgramParts → List ℕ
-program_text p = text_of (map spaced (rows_of p))
+program_text p = text_of (map spaced (program_rows p))
 
 -- the bytes are the text of this program
 pub record SpellsProgram (bytes : List ℕ) (p : ProgramParts) : Type 0 where

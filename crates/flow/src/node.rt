@@ -1,6 +1,6 @@
 ghost use Rattle.std.specs.Prelude.{◌≡◌};
 ghost use Rattle.flow.specs.View.{view, moved_to};
-ghost use Rattle.flow.specs.Nodes.{successors, listed};
+ghost use Rattle.flow.specs.Nodes.{successors, listed_ways};
 ghost use Rattle.flow.specs.declared.node.View.TheVariants.{Row};
 
 use cbi_base::{Binary, Kind, Order, Unary, Want};
@@ -272,7 +272,7 @@ pub fn with_next(node: Node, next: u32) -> Node
 
 /// The nodes to which a node leads.
 pub fn successors(node: Node) -> Ways
-    ensures { listed result ≡ successors node }
+    ensures { listed_ways result ≡ successors node }
 {
     match view_of(node) {
         View::Row { next, .. }

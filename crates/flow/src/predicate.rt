@@ -1,7 +1,8 @@
 ghost use Rattle.std.specs.Prelude.{◌≡◌, ◌≤◌, ◌<◌, [], ◌∷◌, ℕ, List, All, IfOk, Some, length};
 ghost use Rattle.cbi_base.specs.Text.{spaced};
 ghost use Rattle.flow.specs.declared.site.Site.{Site};
-ghost use Rattle.flow.specs.Predicates.{IsPlaced, IsPredicate, branch_word, partner_text, predicate_count, predicate_text, predicates_of, relation_sign, site_at, text_of_kind, truth_word};
+ghost use Rattle.flow.specs.Predicates.{IsPlaced, IsPredicate, branch_word, partner_text, predicate_count, predicate_text, predicates_of, relation_sign};
+ghost use Rattle.flow.specs.Predicates.{site_at, text_of_kind, truth_word};
 
 use crate::site::{BranchWord, Partner, Site, SiteKind, SiteTable};
 use cbi_base::{Memory, Name};
@@ -168,8 +169,11 @@ pub fn predicate_name(alloc: Global, table: &SiteTable, predicate: u32) -> Resul
 /// Laws: the text of a predicate is that of its site's kind with its number among the predicates of the site; and each number below the
 /// count is that of one predicate of one site.
 pub fn predicates_in_order()
-    ensures text { (sites : List Site) (predicate place number : ℕ) (site : Site) → IsPredicate sites predicate place site number → predicate_text sites predicate ≡ text_of_kind site.kind number }
-    ensures counted { (sites : List Site) (predicate place number : ℕ) (site : Site) → IsPredicate sites predicate place site number → predicate < predicate_count sites }
+    ensures text { (sites : List Site) (predicate place number : ℕ) (site : Site) → IsPredicate sites predicate place site number
+        → predicate_text sites predicate ≡ text_of_kind site.kind number }
+    ensures counted { (sites : List Site) (predicate place number : ℕ) (site : Site) → IsPredicate sites predicate place site number
+        → predicate < predicate_count sites }
     ensures placed { (sites : List Site) (predicate : ℕ) → predicate < predicate_count sites → IsPlaced sites predicate }
-    ensures once { (sites : List Site) (predicate one other m n : ℕ) (a b : Site) → IsPredicate sites predicate one a m → IsPredicate sites predicate other b n → (one ≡ other) × (m ≡ n) }
+    ensures once { (sites : List Site) (predicate one other m n : ℕ) (a b : Site) → IsPredicate sites predicate one a m
+        → IsPredicate sites predicate other b n → (one ≡ other) × (m ≡ n) }
 {}

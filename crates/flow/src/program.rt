@@ -155,13 +155,13 @@ pub struct Program {
 
 impl Model for Program {
     ghost use Rattle.flow.specs.declared.program.ProgramParts.{ProgramParts};
-    ghost use Rattle.flow.specs.Program.{IsKept, parts_of};
+    ghost use Rattle.flow.specs.Program.{IsProgramKept, parts_of};
 
     ghost Value = { ProgramParts };
 
     ghost view = { λ p. parts_of p.texts p.globals p.functions p.main p.table.sites };
 
-    ghost invariant = { λ p. IsKept (parts_of p.texts p.globals p.functions p.main p.table.sites) p.table };
+    ghost invariant = { λ p. IsProgramKept (parts_of p.texts p.globals p.functions p.main p.table.sites) p.table };
 }
 
 impl Program {

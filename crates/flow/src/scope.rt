@@ -2,7 +2,7 @@ ghost use Rattle.std.specs.Prelude.{◌≡◌, ◌↔◌, ◌≤◌, ◌&&◌, �
 ghost use Rattle.cbi_base.specs.Kind.{lies_in};
 ghost use Rattle.flow.specs.Limits.{node_limit};
 ghost use Rattle.flow.specs.View.{view};
-ghost use Rattle.flow.specs.Nodes.{NodesFit, is_format, is_own, is_step, leads_rightly, names_fit, node_fits};
+ghost use Rattle.flow.specs.Nodes.{NodesFit, is_format, is_node_step, is_own, leads_rightly, names_fit, node_fits};
 
 use crate::node::{Node, View, Ways, successors, view_of};
 use cbi_base::{Kind, Seq};
@@ -43,7 +43,7 @@ pub(crate) fn lies_in(kind: Kind, value: i64) -> bool
 }
 
 fn is_step(cells: i32) -> bool
-    ensures { result ≡ is_step cells }
+    ensures { result ≡ is_node_step cells }
 {
     let most = STEP_LIMIT as i32;
     (-most..=most).contains(&cells) && cells != 0

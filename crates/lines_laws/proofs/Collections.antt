@@ -8,12 +8,12 @@ use Rattle.report_file.specs.declared.report.Report.{Report}
 use Rattle.report_file.specs.declared.run_line.RunLine.{RunLine}
 use Rattle.report_file.specs.Grammar.{IsNextEntry}
 use Rattle.report_file.specs.Reading.{Reads}
-use Rattle.report_file.specs.RunLine.{IsRunLine, first_of, run_line_fields, second_of}
+use Rattle.report_file.specs.RunLine.{IsRunLine, first_run_line, run_line_fields, second_of}
 use Rattle.report_file.specs.Spelling.{site_fields}
 use Rattle.report_file.proofs.RunLines.{first-reads, second-reads}
 use Rattle.collector.specs.Collected.{mark_limit, report_limit}
-use Rattle.collector.specs.Grammar.{Comes, EndFollows, Ends, Follows, ProgramFollows, RunFollows, SiteFollows, TitleFollows, begun, closed, start, whole}
-use Rattle.collector.specs.Spelling.{SpellsBundle, title_fields}
+use Rattle.collector.specs.Grammar.{BundleEnds, BundleLineComes, BundleLineFollows, EndFollows, ProgramFollows, RunFollows, RunSiteFollows, TitleFollows, begun, bundle_start, closed, whole}
+use Rattle.collector.specs.Spelling.{SpellsBundle, bundle_title}
 use Rattle.collector.specs.declared.collection.Bundle.{Bundle}
 use Rattle.collector.specs.declared.draft.Draft.{Draft}
 use Rattle.collector.specs.declared.draft.Due.{Due}
@@ -27,7 +27,7 @@ use Rattle.lines_laws.proofs.Walking.{Holds, IsLineOf, Told, both-told, either-t
 
 title-line : (d : Draft) (line : List ℕ) → Told (TitleFollows d line)
 title-line d line =
-    elim (title-told title_fields line) [
+    elim (title-told bundle_title line) [
       | inl is ↦ inl (record d { due = due.Program; version = is.0 }, record { value = is.0; line_is = is.1.line_is; after_is = refl })
       | inr never ↦ inr (λ after s. never s.value (record { is_good = tt; line_is = s.line_is }))
     ]
@@ -41,11 +41,11 @@ program-line d line =
 
 -- the line of a run, in either version
 abbrev run_read : Version → List ℕ → Option RunLine
-run_read version.First line = first_of (fields_of line)
+run_read version.First line = first_run_line (fields_of line)
 run_read version.Second line = second_of (fields_of line)
 
 run-reads : (v : Version) (line : List ℕ) → Reads (run_line_fields v) (IsRunLine v) line (run_read v line)
-run-reads version.First line = first-reads line (first_of (fields_of line)) refl
+run-reads version.First line = first-reads line (first_run_line (fields_of line)) refl
 run-reads version.Second line = second-reads line (second_of (fields_of line)) refl
 
 abbrev RunMayCome : Draft → RunLine → Type 0
@@ -69,7 +69,7 @@ run-line d line =
     ]
 
 -- the line of a site of the run before it
-site-behind : (d : Draft) (line : List ℕ) (current : Option Report) → d.current ≡ current → Told (IsLineOf site_fields (IsNextEntry d.site) line) → Holds (d.marks < mark_limit) → Told (SiteFollows d line)
+site-behind : (d : Draft) (line : List ℕ) (current : Option Report) → d.current ≡ current → Told (IsLineOf site_fields (IsNextEntry d.site) line) → Holds (d.marks < mark_limit) → Told (RunSiteFollows d line)
 site-behind d line None is entry room = inr (λ after s. let e = sym is ∙ s.is_current in cc)
 site-behind d line (Some r) is (inr never) room = inr (λ after s. never s.value (record { is_good = s.is_next; line_is = s.line_is }))
 site-behind d line (Some r) is (inl entry) (inr full) = inr (λ after s. full s.room)
@@ -91,12 +91,12 @@ end-line : (d : Draft) (line : List ℕ) → Told (EndFollows d line)
 end-line d line =
     elim (word-told line (codes "end")) [ inl is ↦ inl (record (closed d) { due = due.Nothing }, record { line_is = is; after_is = refl }) | inr other ↦ inr (λ after s. other s.line_is) ]
 
-tells : (now : Due) (d : Draft) (line : List ℕ) → Told (Comes now d line)
+tells : (now : Due) (d : Draft) (line : List ℕ) → Told (BundleLineComes now d line)
 tells due.Title d line = title-line d line
 tells due.Program d line = program-line d line
 tells due.Runs d line =
-    either-told (RunFollows d line) (λ after. SiteFollows d line after ⊎ EndFollows d line after) (run-line d line)
-    (either-told (SiteFollows d line) (EndFollows d line) (site-behind d line d.current refl (entry-told d.site line) (lt-told d.marks mark_limit)) (end-line d line))
+    either-told (RunFollows d line) (λ after. RunSiteFollows d line after ⊎ EndFollows d line after) (run-line d line)
+    (either-told (RunSiteFollows d line) (EndFollows d line) (site-behind d line d.current refl (entry-told d.site line) (lt-told d.marks mark_limit)) (end-line d line))
 tells due.Nothing d line = inr (λ after s. s)
 
 may-end : (now : Due) → Holds (now ≡ due.Nothing)
@@ -108,9 +108,9 @@ may-end due.Nothing = inl refl
 same-bundle : (d : Draft) (b : Bundle) → d.program ≡ b.program → d.reports ≡ b.reports → bundle_in d ≡ b
 same-bundle d b program reports = ap (λ p. let x : Bundle = record { program = p; reports = d.reports } in x) program ∙ ap (λ rs. let x : Bundle = record { program = b.program; reports = rs } in x) reports
 
-spelled : (alloc : Global) (text : List ℕ) (b : Bundle) → SpellsBundle text b → IsReadAs Follows Ends (start alloc) bundle_in text b
+spelled : (alloc : Global) (text : List ℕ) (b : Bundle) → SpellsBundle text b → IsReadAs BundleLineFollows BundleEnds (bundle_start alloc) bundle_in text b
 spelled alloc text b is = let read = spelled-reads alloc text b is in record { to = read.to; reads = read.reads; said_is = same-bundle read.to b read.program_is read.reports_are }
 
 pub collections_are_lines : CollectionsAreLines
 collections_are_lines alloc =
-    the-spelling Follows Ends (start alloc) bundle_in SpellsBundle leads-once (λ d line. tells d.due d line) (λ d. may-end d.due) (λ text to reads. reads-spelled text alloc (start alloc) to refl reads) (spelled alloc)
+    the-spelling BundleLineFollows BundleEnds (bundle_start alloc) bundle_in SpellsBundle leads-once (λ d line. tells d.due d line) (λ d. may-end d.due) (λ text to reads. reads-spelled text alloc (bundle_start alloc) to refl reads) (spelled alloc)

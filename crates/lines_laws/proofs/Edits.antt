@@ -18,7 +18,7 @@ use Rattle.session_edits.specs.declared.draft.Reading.{Reading}
 use Rattle.session_edits.specs.declared.edit.Edit.{Edit}
 use Rattle.session_edits.specs.declared.edit.Edit.TheVariants.{Rank}
 use Rattle.session_edits.specs.Fields.{change_in}
-use Rattle.session_edits.specs.Grammar.{AddFollows, ChangeFollows, Comes, EndFollows, Ends, Follows, Goes, RankFollows, SiteFollows, TitleFollows, begun, closed, start, whole}
+use Rattle.session_edits.specs.Grammar.{AddFollows, AddedSiteFollows, ChangeFollows, EditLineComes, EditLineFollows, EditsEnd, EditsEndFollows, Goes, RankFollows, TitleFollows, begun, closed, edits_start, whole}
 use Rattle.session_edits.specs.Spelling.{IsChange, SpellsEdits, add_fields, edit_fields, rank_limit}
 use Rattle.session_edits.proofs.LineLemmas.{add-none, add-reads, change-reads}
 use Rattle.session_edits.proofs.Leads.{spelled-reads}
@@ -48,7 +48,7 @@ add-line d line =
     ]
 
 -- the line of a site of the run before it
-site-behind : (d : Draft) (line : List ℕ) (current : Option Report) → d.current ≡ current → Told (IsLineOf site_fields (IsNextEntry d.site) line) → Told (SiteFollows d line)
+site-behind : (d : Draft) (line : List ℕ) (current : Option Report) → d.current ≡ current → Told (IsLineOf site_fields (IsNextEntry d.site) line) → Told (AddedSiteFollows d line)
 site-behind d line None is entry = inr (λ after s. let e = sym is ∙ s.is_current in cc)
 site-behind d line (Some r) is (inr never) = inr (λ after s. never s.value (record { is_good = s.is_next; line_is = s.line_is }))
 site-behind d line (Some r) is (inl entry) =
@@ -81,26 +81,26 @@ rank-line d line =
       ]
     ]
 
-end-line : (d : Draft) (line : List ℕ) → Told (EndFollows d line)
+end-line : (d : Draft) (line : List ℕ) → Told (EditsEndFollows d line)
 end-line d line =
     elim (word-told line (codes "end")) [ inl is ↦ inl (record (closed d) { due = due.Nothing }, record { line_is = is; after_is = refl }) | inr other ↦ inr (λ after s. other s.line_is) ]
 
-comes-told : (now : Due) (d : Draft) (line : List ℕ) → Told (Comes now d line)
+comes-told : (now : Due) (d : Draft) (line : List ℕ) → Told (EditLineComes now d line)
 comes-told due.Title d line = title-line d line
 comes-told due.Edits d line =
-    either-told (AddFollows d line) (λ after. SiteFollows d line after ⊎ (ChangeFollows d line after ⊎ (RankFollows d line after ⊎ EndFollows d line after))) (add-line d line)
-    (either-told (SiteFollows d line) (λ after. ChangeFollows d line after ⊎ (RankFollows d line after ⊎ EndFollows d line after)) (site-behind d line d.current refl (entry-told d.site line))
-    (either-told (ChangeFollows d line) (λ after. RankFollows d line after ⊎ EndFollows d line after) (change-line d line)
-    (either-told (RankFollows d line) (EndFollows d line) (rank-line d line) (end-line d line))))
+    either-told (AddFollows d line) (λ after. AddedSiteFollows d line after ⊎ (ChangeFollows d line after ⊎ (RankFollows d line after ⊎ EditsEndFollows d line after))) (add-line d line)
+    (either-told (AddedSiteFollows d line) (λ after. ChangeFollows d line after ⊎ (RankFollows d line after ⊎ EditsEndFollows d line after)) (site-behind d line d.current refl (entry-told d.site line))
+    (either-told (ChangeFollows d line) (λ after. RankFollows d line after ⊎ EditsEndFollows d line after) (change-line d line)
+    (either-told (RankFollows d line) (EditsEndFollows d line) (rank-line d line) (end-line d line))))
 comes-told due.Nothing d line = inr (λ after s. s)
 
 -- and whether there is room for it
-with-room : (r : Reading) (line : List ℕ) → Holds (length line < r.room) → Told (Goes r.draft line) → Told (Follows r line)
+with-room : (r : Reading) (line : List ℕ) → Holds (length line < r.room) → Told (Goes r.draft line) → Told (EditLineFollows r line)
 with-room r line (inr full) goes = inr (λ after s. full s.fits)
 with-room r line (inl fits) (inr never) = inr (λ after s. never after.draft s.goes)
 with-room r line (inl fits) (inl next) = inl (let after : Reading = record { room = r.room - (length line + 1); draft = next.0 } in after, record { fits = fits; room_is = refl; goes = next.1 })
 
-tells : (r : Reading) (line : List ℕ) → Told (Follows r line)
+tells : (r : Reading) (line : List ℕ) → Told (EditLineFollows r line)
 tells r line = with-room r line (lt-told (length line) r.room) (comes-told r.draft.due r.draft line)
 
 may-end : (now : Due) → Holds (now ≡ due.Nothing)
@@ -111,9 +111,9 @@ may-end due.Nothing = inl refl
 abbrev said : Reading → List Edit
 said r = r.draft.edits
 
-spelled : (alloc : Global) (program : ProgramId) (text : List ℕ) (edits : List Edit) → SpellsEdits program text edits → IsReadAs Follows Ends (start alloc program) said text edits
+spelled : (alloc : Global) (program : ProgramId) (text : List ℕ) (edits : List Edit) → SpellsEdits program text edits → IsReadAs EditLineFollows EditsEnd (edits_start alloc program) said text edits
 spelled alloc program text edits is = let read = spelled-reads alloc program text edits is in record { to = read.to; reads = read.reads; said_is = read.edits_are }
 
 pub edits_are_lines : EditsAreLines
 edits_are_lines alloc program is_id =
-    the-spelling Follows Ends (start alloc program) said (SpellsEdits program) leads-once tells (λ r. may-end r.draft.due) (λ text to reads. reads-spelled program text alloc (start alloc program) to is_id refl reads) (spelled alloc program)
+    the-spelling EditLineFollows EditsEnd (edits_start alloc program) said (SpellsEdits program) leads-once tells (λ r. may-end r.draft.due) (λ text to reads. reads-spelled program text alloc (edits_start alloc program) to is_id refl reads) (spelled alloc program)

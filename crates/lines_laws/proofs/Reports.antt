@@ -15,7 +15,7 @@ use Rattle.report_file.specs.declared.draft.Draft.{Draft}
 use Rattle.report_file.specs.declared.report.Entry.{Entry}
 use Rattle.report_file.specs.declared.report.Report.{Report}
 use Rattle.report_file.specs.Fields.{alone, entry_of_fields, label_at, outcome_in, program_field, run_at, work_at}
-use Rattle.report_file.specs.Grammar.{Comes, EndFollows, Ends, Follows, IsNextEntry, Sets, SiteFollows, start, with_entry, with_label, with_outcome, with_program, with_run, with_version, with_work}
+use Rattle.report_file.specs.Grammar.{IsNextEntry, ReportEndFollows, ReportEnds, ReportLineComes, ReportLineFollows, Sets, SiteFollows, report_start, with_entry, with_label, with_outcome, with_program, with_run, with_version, with_work}
 use Rattle.report_file.specs.Report.{IsEntry, IsOutcome, IsRun, IsWork}
 use Rattle.report_file.specs.Spelling.{SpellsReport, label_fields, outcome_line, program_fields, run_fields, site_fields, title_fields, work_fields}
 use Rattle.report_file.proofs.LineLemmas.{entry-reads, label-reads, outcome-reads, program-none, program-some, run-reads, work-reads}
@@ -80,10 +80,10 @@ entry-told site line =
       | inr never ↦ inr (λ e is. never e (record { is_good = is.is_good.is_entry; line_is = is.line_is }, is.is_good.rises))
     ]
 
-end-told : (d : Draft) (line : List ℕ) → Told (EndFollows d line)
+end-told : (d : Draft) (line : List ℕ) → Told (ReportEndFollows d line)
 end-told d line = elim (word-told line (codes "end")) [ inl is ↦ inl (record d { due = due.Nothing }, (is, refl)) | inr other ↦ inr (λ after s. other s.0) ]
 
-tells : (now : Due) (d : Draft) (line : List ℕ) → Told (Comes now d line)
+tells : (now : Due) (d : Draft) (line : List ℕ) → Told (ReportLineComes now d line)
 tells due.Title d line = sets-told title_fields (λ _. Unit {0}) (with_version d) line (title-told title_fields line)
 tells due.Program d line = sets-told program_fields IsId (with_program d) line (program-told line)
 tells due.Run d line = sets-told run_fields IsRun (with_run d) line (read-told run_fields IsRun line (run_at (fields_of line) >>= alone) (run-reads line (run_at (fields_of line) >>= alone) refl))
@@ -91,7 +91,7 @@ tells due.Outcome d line = sets-told outcome_line IsOutcome (with_outcome d) lin
 tells due.Label d line =
     sets-told label_fields (λ _. Unit {0}) (with_label d) line (read-told label_fields (λ _. Unit {0}) line (label_at (fields_of line) >>= alone) (label-reads line (label_at (fields_of line) >>= alone) refl))
 tells due.Work d line = sets-told work_fields IsWork (with_work d) line (read-told work_fields IsWork line (work_at (fields_of line) >>= alone) (work-reads line (work_at (fields_of line) >>= alone) refl))
-tells due.Sites d line = either-told (SiteFollows d line) (EndFollows d line) (sets-told site_fields (IsNextEntry d.site) (with_entry d) line (entry-told d.site line)) (end-told d line)
+tells due.Sites d line = either-told (SiteFollows d line) (ReportEndFollows d line) (sets-told site_fields (IsNextEntry d.site) (with_entry d) line (entry-told d.site line)) (end-told d line)
 tells due.Nothing d line = inr (λ after s. s)
 
 may-end : (now : Due) → Holds (now ≡ due.Nothing)
@@ -107,9 +107,9 @@ may-end due.Nothing = inl refl
 abbrev said : Draft → Report
 said d = d.report
 
-spelled : (text : List ℕ) (r : Report) → SpellsReport text r → IsReadAs Follows Ends start said text r
+spelled : (text : List ℕ) (r : Report) → SpellsReport text r → IsReadAs ReportLineFollows ReportEnds report_start said text r
 spelled text r is = let read = spelled-reads text r is in record { to = read_whole read.version r; reads = read.reads; said_is = refl }
 
 pub reports_are_lines : ReportsAreLines
 reports_are_lines =
-    the-spelling Follows Ends start said SpellsReport leads-once (λ d line. tells d.due d line) (λ d. may-end d.due) (λ text to reads. reads-spelled text start to refl reads) spelled
+    the-spelling ReportLineFollows ReportEnds report_start said SpellsReport leads-once (λ d line. tells d.due d line) (λ d. may-end d.due) (λ text to reads. reads-spelled text report_start to refl reads) spelled

@@ -35,25 +35,26 @@ abbrev pub GoesWrong : {D : Type 0} → (D → List ℕ → D → Type 0) → (D
 GoesWrong follows ends from text = (line : ℕ) × IsBadLine follows ends from text line
 
 -- What the lines say is what the text spells, and a text is spelled exactly where it goes wrong at no line. Each text is the one or the other.
-pub record IsTheSpelling {D X : Type 0} (follows : D → List ℕ → D → Type 0) (ends : D → Type 0) (from : D) (said : D → X) (spells : List ℕ → X → Type 0) : Type 0 where
+pub record IsTheSpelling {D X : Type 0} (follows : D → List ℕ → D → Type 0) (ends : D → Type 0) (from : D) (said : D → X)
+    (spells : List ℕ → X → Type 0) : Type 0 where
   pub read : (text : List ℕ) (to : D) → ReadsLines follows ends from text to → spells text (said to)
   pub spelled : (text : List ℕ) (x : X) → spells text x → IsReadAs follows ends from said text x
   pub exactly : (text : List ℕ) → IsSpelled spells text ↔ ((line : ℕ) → ¬ (IsBadLine follows ends from text line))
   pub either : (text : List ℕ) → IsSpelled spells text ⊎ GoesWrong follows ends from text
 
 abbrev pub ReportsAreLines : Type 0
-ReportsAreLines = IsTheSpelling report.Follows report.Ends report.start (λ (d : report_draft.Draft). d.report) SpellsReport
+ReportsAreLines = IsTheSpelling report.ReportLineFollows report.ReportEnds report.report_start (λ (d : report_draft.Draft). d.report) SpellsReport
 
 -- the reports that were read, with the identity
 abbrev pub bundle_in : collection_draft.Draft → Bundle
 bundle_in d = record { program = d.program; reports = d.reports }
 
 abbrev pub CollectionsAreLines : Type 0
-CollectionsAreLines = (alloc : Global) → IsTheSpelling collection.Follows collection.Ends (collection.start alloc) bundle_in SpellsBundle
+CollectionsAreLines = (alloc : Global) → IsTheSpelling collection.BundleLineFollows collection.BundleEnds (collection.bundle_start alloc) bundle_in SpellsBundle
 
 abbrev pub EditsAreLines : Type 0
 EditsAreLines = (alloc : Global) (program : ProgramId) → IsId program
-    → IsTheSpelling edits.Follows edits.Ends (edits.start alloc program) (λ (r : Reading). r.draft.edits) (SpellsEdits program)
+    → IsTheSpelling edits.EditLineFollows edits.EditsEnd (edits.edits_start alloc program) (λ (r : Reading). r.draft.edits) (SpellsEdits program)
 
 -- numbers that make a bank, and their text
 abbrev pub SpellsNumbers : List ℕ → List ℕ → Type 0

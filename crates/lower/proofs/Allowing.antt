@@ -16,17 +16,17 @@ use Rattle.c_meaning.specs.Runs.{Source}
 use Rattle.lower_relation.specs.Functions.{BodyDoes, standing}
 use Rattle.lower_relation.specs.Paths.{Exits}
 use Rattle.lower_nodes.specs.Ends.{AllBelow, all_ends}
-use Rattle.lower_nodes.specs.Finished.{Finished, turned}
+use Rattle.lower_nodes.specs.Finished.{Finished, turned_number}
 use Rattle.lower_nodes.specs.Reach.{LeadOn}
 use Rattle.lower_nodes.specs.Made.{CameOut, Later, MadeAlone, MadeExits}
 use Rattle.lower_nodes.specs.Standing.{AllLike, AllStand, Allowed, Allowance, Stood, fork_at, forks, may_visit}
 use Rattle.lower_nodes.proofs.Building.{both_stand, later_self, later_trans, none_stand}
-use Rattle.lower_nodes_fit.specs.Fitting.{FitsAsBody, fitting}
-use Rattle.lower_nodes_fit.proofs.FittingNodes.{free_fits}
-use Rattle.lower_nodes_fit.proofs.NodesOfStatements as fits
-use Rattle.lower.specs.Bodies.{AtOnce, Before, Begins, LeavesPart}
+use Rattle.lower_fits.specs.Fitting.{FitsAsBody, fitting}
+use Rattle.lower_fits.proofs.FittingNodes.{free_fits}
+use Rattle.lower_fits.proofs.NodesOfStatements as fits
+use Rattle.lower.specs.Bodies.{AtOnce, Before, BodyBegins, LeavesPart}
 use Rattle.lower.specs.Fits.{HasFitting, StandIn, bounds_with}
-use Rattle.lower.specs.Keeps.{Apart, IsKept, Keeps}
+use Rattle.lower.specs.Keeps.{Apart, IsUnmarked, Keeps}
 use Rattle.lower.specs.Ready.{IsFree, is_condition}
 use Rattle.lower.proofs.Finishing.{allowance_in, finished_fit, finished_stand, renamed_fits, view_found}
 use Rattle.lower.proofs.Bodying.{begins_keeps}
@@ -53,7 +53,7 @@ module _ (names : Names) (bounds : Bounds) (site_of : ℕ → Option Site) (grap
   abbrev here : Allowance
   here = allowance_in names bounds site_of graph
 
-  kept_visits : (v : View) → IsKept v → IsTrue (may_visit here.frees here.forks_at v)
+  kept_visits : (v : View) → IsUnmarked v → IsTrue (may_visit here.frees here.forks_at v)
   kept_visits (view.Row op next) is = refl
   kept_visits (view.Halts op) is = refl
   kept_visits (view.Forks when_true when_false) is = refl
@@ -88,7 +88,7 @@ module _ (names : Names) (bounds : Bounds) (site_of : ℕ → Option Site) (grap
 
 module _ (facts : Facts) (sites : Sites) (apart : Apart (IsFree sites.site) sites) (names : Names) (bounds : Bounds) (is_main value : Bool) (f : Signature) (lo : ℕ) (body : EntryList)
     (n0 n1 n2 n3 : List Node) (entry start : ℕ) (x : Exits) (none : n0 ≡ []) (left : MadeAlone (LeavesPart is_main value) n0 n1 x.leaves x) (below : AllBelow (length n1) (all_ends x))
-    (runs : MadeExits (λ G. BodyDoes G facts sites f.result (Some body)) n1 n2 entry x) (begins : Begins n2 n3 start entry)
+    (runs : MadeExits (λ G. BodyDoes G facts sites f.result (Some body)) n1 n2 entry x) (begins : BodyBegins n2 n3 start entry)
     (fit : FitsAsBody facts sites names bounds f lo body) where
   abbrev s : Allowance
   s = allowance_in names bounds sites.site n3
@@ -118,7 +118,7 @@ module _ (facts : Facts) (sites : Sites) (apart : Apart (IsFree sites.site) site
       (fits.body_fits names bounds (standing n3) facts sites f lo body entry x fit done))
 
   -- the one at which it begins
-  start_stands : Begins n2 n3 start entry → AllStand s (length n2) n3
+  start_stands : BodyBegins n2 n3 start entry → AllStand s (length n2) n3
   start_stands (AtOnce e same) = subst (λ n. AllStand s (length n2) n) (sym same) (none_stand s n2)
   start_stands (Before made) =
       let came : CameOut (length n1) n2 entry = runs.leads below in
@@ -135,8 +135,8 @@ module _ (facts : Facts) (sites : Sites) (apart : Apart (IsFree sites.site) site
 -- The nodes of a function in the order of a program: where its body fits, each names what is there, and may stand.
 pub function_fits : (src : Source) → Apart (IsFree src.sites.site) src.sites → (names : Names) (number : ℕ) (is_main value : Bool) (f : Signature) (gives : ValueType) (body : Option EntryList)
     (n0 n1 n2 n3 nodes : List Node) (entry start : ℕ) (x : Exits) → f.result ≡ gives → n0 ≡ [] → MadeAlone (LeavesPart is_main value) n0 n1 x.leaves x →
-    AllBelow (length n1) (all_ends x) → MadeExits (λ G. BodyDoes G src.facts src.sites gives body) n1 n2 entry x → Begins n2 n3 start entry →
-    Finished n3 nodes (turned (length n3 - 1)) → length nodes ≡ length n3 → LeadOn nodes → HasFitting src names number f body → StandIn src names number f nodes
+    AllBelow (length n1) (all_ends x) → MadeExits (λ G. BodyDoes G src.facts src.sites gives body) n1 n2 entry x → BodyBegins n2 n3 start entry →
+    Finished n3 nodes (turned_number (length n3 - 1)) → length nodes ≡ length n3 → LeadOn nodes → HasFitting src names number f body → StandIn src names number f nodes
 function_fits src apart names number is_main value f gives None n0 n1 n2 n3 nodes entry start x same none left below runs begins finished long leads fit = absurd fit
 function_fits src apart names number is_main value f gives (Some body) n0 n1 n2 n3 nodes entry start x same none left below runs begins finished long leads fit =
     let bounds : Bounds = bounds_with number f (length nodes) in

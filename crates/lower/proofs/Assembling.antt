@@ -23,14 +23,14 @@ use Rattle.c_meaning.specs.Facts.{Signature}
 use Rattle.c_meaning.specs.Runs.{Source}
 use Rattle.c_meaning.specs.Literals.{literals, texts_of}
 use Rattle.c_meaning.specs.Texts.{source_of}
-use Rattle.lower_nodes_fit.specs.TextNames.{names_of_text}
+use Rattle.lower_fits.specs.TextNames.{names_of_text}
 use Rattle.lower_relation.specs.Functions.{IsGraphOf}
-use Rattle.lower_parts_fit.proofs.BegunGlobals.{objects_there}
-use Rattle.lower_parts_fit.proofs.DefinedFunctions.{as_many, few_defined}
-use Rattle.lower_parts_fit.proofs.Constants.{globals_begun}
-use Rattle.lower_parts_fit.proofs.Texts.{few_texts}
-use Rattle.lower_parts_fit.specs.Parts.{ArePartsOf, FitsAsFunction}
-use Rattle.lower_parts_fit.specs.Ready.{IsReadyText}
+use Rattle.lower_fits.proofs.BegunGlobals.{objects_there}
+use Rattle.lower_fits.proofs.DefinedFunctions.{as_many, few_defined}
+use Rattle.lower_fits.proofs.Constants.{globals_begun}
+use Rattle.lower_fits.proofs.Texts.{few_texts}
+use Rattle.lower_fits.specs.Parts.{ArePartsOf, FitsAsFunction}
+use Rattle.lower_fits.specs.Ready.{IsReadyText}
 use Rattle.lower_facts.specs.declared.facts.TreeFacts.{TreeFacts}
 use Rattle.lower_facts.specs.Facts.{facts_in, known_in, source_in, table_in, tree_in}
 use Rattle.lower_globals.specs.Objects.{begun_with}

@@ -11,8 +11,8 @@ use Rattle.c_meaning.specs.Facts.{Facts, Sites}
 use Rattle.c_meaning.specs.Trees.{has_value}
 use Rattle.lower_relation.specs.Functions.{BodyDoes, ComesTo, EndsAt, Leaves, Stays, Passes, standing}
 use Rattle.lower_relation.specs.Paths.{Exits, Graph, Stuck, Does}
-use Rattle.lower.specs.Bodies.{AtOnce, Before, Begins, BodyNodes, EndPart, GivesPart, LeavesPart}
-use Rattle.lower_nodes.specs.Finished.{Finished, turned}
+use Rattle.lower.specs.Bodies.{AtOnce, Before, BodyBegins, BodyNodes, EndPart, GivesPart, LeavesPart}
+use Rattle.lower_nodes.specs.Finished.{Finished, turned_number}
 use Rattle.lower_nodes.specs.Ends.{AllBelow, all_ends}
 use Rattle.lower_nodes.specs.Made.{Later, LeadBack, Made, MadeAlone, MadeExits, CameOut}
 use Rattle.lower_nodes.specs.Standing.{Allowed, Like, Allowance, Stood}
@@ -155,21 +155,21 @@ no_body facts sites gives n0 n1 i k x made = record {
   stands = λ s j y same like h. made.stands s j 0 tt tt h;
 }
 
-pub begins_at_once : (n : List Node) (i : ℕ) → Begins n n i i
+pub begins_at_once : (n : List Node) (i : ℕ) → BodyBegins n n i i
 begins_at_once n i = AtOnce refl refl
 
-pub begins_before : (n0 n1 : List Node) (i k : ℕ) → i ≡ length n0 → n1 ≡ n0 ++ node.Pass k ∷ [] → Begins n0 n1 i k
+pub begins_before : (n0 n1 : List Node) (i k : ℕ) → i ≡ length n0 → n1 ≡ n0 ++ node.Pass k ∷ [] → BodyBegins n0 n1 i k
 begins_before n0 n1 i k at is = Before (one_made (node.Pass 0) (node.Pass k) n0 n1 i k refl at is)
 
-pub begins_keeps : (n0 n1 : List Node) (i k : ℕ) → Begins n0 n1 i k → Later 0 n0 n1
+pub begins_keeps : (n0 n1 : List Node) (i k : ℕ) → BodyBegins n0 n1 i k → Later 0 n0 n1
 begins_keeps n0 n1 i k (AtOnce e same) = subst (λ n. Later 0 n0 n) (sym same) (later_self 0 n0)
 begins_keeps n0 n1 i k (Before made) = made.keeps
 
-begins_there : (n0 n1 : List Node) (i k : ℕ) → Begins n0 n1 i k → ComesTo (standing n1) i k
+begins_there : (n0 n1 : List Node) (i k : ℕ) → BodyBegins n0 n1 i k → ComesTo (standing n1) i k
 begins_there n0 n1 i k (AtOnce e same) = Stays e
 begins_there n0 n1 i k (Before made) = Passes (made.does n1 (later_self (length n0) n1))
 
-begins_back : (n0 n1 : List Node) (i k : ℕ) → k < length n0 → Begins n0 n1 i k → CameOut (length n0) n1 i
+begins_back : (n0 n1 : List Node) (i k : ℕ) → k < length n0 → BodyBegins n0 n1 i k → CameOut (length n0) n1 i
 begins_back n0 n1 i k low (AtOnce e same) =
     subst (λ n. CameOut (length n0) n i) (sym same) (subst (λ q. CameOut (length n0) n0 q) (sym e) (stays_put n0 k (low, tt)))
 begins_back n0 n1 i k low (Before made) = made.leads (low, tt)
@@ -177,14 +177,14 @@ begins_back n0 n1 i k low (Before made) = made.leads (low, tt)
 -- the whole function
 pub function_made : (facts : Facts) (sites : Sites) (is_main value : Bool) (gives : ValueType) (body : Option EntryList) (n0 n1 n2 n3 nodes : List Node) (entry start : ℕ) (x : Exits) →
     value ≡ has_value gives → MadeAlone (LeavesPart is_main value) n0 n1 x.leaves x → MadeExits (λ G. BodyDoes G facts sites gives body) n1 n2 entry x →
-    Begins n2 n3 start entry → length n3 ≡ start + 1 → Finished n3 nodes (turned (length n3 - 1)) → BodyNodes facts sites is_main gives body nodes
+    BodyBegins n2 n3 start entry → length n3 ≡ start + 1 → Finished n3 nodes (turned_number (length n3 - 1)) → BodyNodes facts sites is_main gives body nodes
 function_made facts sites is_main value gives body n0 n1 n2 n3 nodes entry start x e left runs begins long finished =
     let put : Later 0 n2 n3 = begins_keeps n2 n3 start entry begins in
     let second : Later (length n0) n2 n3 = later_trans 0 (length n0) n2 n2 n3 (omega arith) (later_self 0 n2) put in
     let first : Later (length n0) n1 n3 = later_trans (length n0) (length n0) n1 n2 n3 (omega arith) runs.keeps second in
     record {
       graph = n3;
-      ren = turned (length n3 - 1);
+      ren = turned_number (length n3 - 1);
       finished = finished;
       start = start;
       first_node = omega (arith, long);
@@ -198,7 +198,7 @@ function_made facts sites is_main value gives body n0 n1 n2 n3 nodes entry start
 -- its nodes lead back
 pub function_back : (facts : Facts) (sites : Sites) (is_main value : Bool) (gives : ValueType) (body : Option EntryList) (n0 n1 n2 n3 : List Node) (entry start : ℕ) (x : Exits) →
     n0 ≡ [] → MadeAlone (LeavesPart is_main value) n0 n1 x.leaves x → AllBelow (length n1) (all_ends x) → MadeExits (λ G. BodyDoes G facts sites gives body) n1 n2 entry x →
-    Begins n2 n3 start entry → LeadBack 0 n3
+    BodyBegins n2 n3 start entry → LeadBack 0 n3
 function_back facts sites is_main value gives body n0 n1 n2 n3 entry start x none left below runs begins =
     let first : CameOut (length n0) n1 x.leaves = left.leads tt in
     let second : CameOut (length n1) n2 entry = runs.leads below in

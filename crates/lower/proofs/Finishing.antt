@@ -14,11 +14,11 @@ use Rattle.flow.specs.Code.{view_at}
 use Rattle.flow.specs.Nodes.{NodesFit, is_again, leads_rightly, led_to, names_fit, node_fits}
 use Rattle.flow.specs.View.{view as view_of}
 use Rattle.lower_relation.specs.Stands.{renamed}
-use Rattle.lower_nodes.specs.Finished.{Finished, turned}
+use Rattle.lower_nodes.specs.Finished.{Finished, turned_number}
 use Rattle.lower_nodes.specs.Reach.{LeadOn, among}
-use Rattle.lower_nodes.specs.Standing.{AllStand, Allowance, Stands, bare, fork_at, forks}
-use Rattle.lower_nodes_fit.specs.Fitting.{fits_view}
-use Rattle.lower_nodes_fit.proofs.FittingNodes.{view_fits}
+use Rattle.lower_nodes.specs.Standing.{AllStand, Allowance, StandsRightly, bare, fork_at, forks}
+use Rattle.lower_fits.specs.Fitting.{fits_view}
+use Rattle.lower_fits.proofs.FittingNodes.{view_fits}
 use Rattle.lower.specs.Ready.{AllMayStand, is_condition, may_stand}
 
 -- what the nodes of a function may be, whose whole graph this is
@@ -82,17 +82,17 @@ module _ (site_of : ℕ → Option Site) (old new : List Node) (ren : ℕ → �
   still_stands (view.Exports next) e = e
   still_stands view.Nowhere e = refl
 
-module _ (names : Names) (bounds : Bounds) (site_of : ℕ → Option Site) (old new : List Node) (finished : Finished old new (turned (length old - 1)))
+module _ (names : Names) (bounds : Bounds) (site_of : ℕ → Option Site) (old new : List Node) (finished : Finished old new (turned_number (length old - 1)))
     (long : length new ≡ length old) (all : AllStand (allowance_in names bounds site_of old) 0 old) where
   abbrev ren : ℕ → ℕ
-  ren = turned (length old - 1)
+  ren = turned_number (length old - 1)
 
   -- each node was one of the graph
-  was : (place : ℕ) (n : Node) → slice_get new place ≡ Some n → (x : Node) × (view_of n ≡ renamed ren (view_of x)) × Stands (allowance_in names bounds site_of old) old (view_of x)
+  was : (place : ℕ) (n : Node) → slice_get new place ≡ Some n → (x : Node) × (view_of n ≡ renamed ren (view_of x)) × StandsRightly (allowance_in names bounds site_of old) old (view_of x)
   was place n at =
       let inside : place < length new = slice_get_within new place n at in
       let low : length old - 1 - place < length old = omega (arith, inside, long) in
-      let here : turned (length old - 1) (length old - 1 - place) ≡ place = omega (arith, inside, long) in
+      let here : turned_number (length old - 1) (length old - 1 - place) ≡ place = omega (arith, inside, long) in
       let x : Node = get_or old (length old - 1 - place) n in
       let first : slice_get old (length old - 1 - place) ≡ Some x = slice_get-get_or old (length old - 1 - place) n low in
       let found : option_map view_of (Some n) ≡ Some (renamed ren (view_of x)) =
@@ -101,7 +101,7 @@ module _ (names : Names) (bounds : Bounds) (site_of : ℕ → Option Site) (old 
       (x, same, all.each (length old - 1 - place) x (omega arith) first)
 
   -- a node of the graph may stand there
-  may_here : (v : View) → Stands (allowance_in names bounds site_of old) old v → may_stand site_of old v ≡ true
+  may_here : (v : View) → StandsRightly (allowance_in names bounds site_of old) old v → may_stand site_of old v ≡ true
   may_here (view.Marks site next) h = h.visits
   may_here (view.Skips by next) h = absurd (false≢true h.fits)
   may_here (view.Tests site next) h = absurd (false≢true h.fits)

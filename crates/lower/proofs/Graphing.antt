@@ -5,7 +5,7 @@ use Rattle.flow.specs.declared.node.View.{View}
 use Rattle.flow.specs.View.{view as view_of}
 use Rattle.flow.specs.declared.program.Function.{Function}
 use Rattle.flow.specs.declared.program.ProgramParts.{ProgramParts}
-use Rattle.flow.specs.Code.{callee_of, code_of, node_of, statics_of, view_at}
+use Rattle.flow.specs.Code.{callee_of, code_of, statics_of, view_at, view_in}
 use Rattle.c_meaning.specs.Facts.{Signature}
 use Rattle.c_meaning.specs.Runs.{Source}
 use Rattle.c_meaning.specs.Trees.{has_value}
@@ -50,7 +50,7 @@ seen old new ren i v (Some x) fin at e =
 stands_in : (p : ProgramParts) (bank : ℕ → ℕ) (number : ℕ) (f : Function) (old : List Node) (ren : ℕ → ℕ) → slice_get p.functions number ≡ Some f → Finished old f.nodes ren →
     Stands (code_of p bank) number (standing old) ren
 stands_in p bank number f old ren at fin = record {
-  at = λ i v e. ap (λ o. node_of o (ren i)) at ∙ seen old f.nodes ren i v (slice_get old i) fin refl e;
+  at = λ i v e. ap (λ o. view_in o (ren i)) at ∙ seen old f.nodes ren i v (slice_get old i) fin refl e;
 }
 
 body_of : (src : Source) (p : ProgramParts) (bank : ℕ → ℕ) (number : ℕ) (f : Function) (s : Signature) → slice_get p.functions number ≡ Some f →

@@ -13,8 +13,8 @@ use Rattle.c_syntax.specs.ExprTree as e
 use Rattle.c_syntax.specs.ExprTree.{ExprTree, ExprList, LinkList, PostfixList}
 use Rattle.c_syntax.specs.StatementTree as tree
 use Rattle.c_syntax.specs.StatementTree.{InitialTree, StartTree, DeclarationTree, ForStartTree, StatementTree, EntryList}
-use Rattle.c_rules.specs.declared.library.Library.{Library}
-use Rattle.c_rules.specs.declared.library.Library.TheVariants as library
+use Rattle.c_types_rules.specs.declared.library.Library.{Library}
+use Rattle.c_types_rules.specs.declared.library.Library.TheVariants as library
 use Rattle.c_types_expressions.specs.ExprWalk.{binary_of}
 use Rattle.flow.specs.declared.node.Node.{Node}
 use Rattle.flow.specs.declared.node.Node.TheVariants as node
@@ -33,10 +33,10 @@ use Rattle.c_meaning.specs.declared.value_type.ValueType.{ValueType}
 use Rattle.c_meaning.specs.declared.value_type.ValueType.TheVariants as type
 use Rattle.c_meaning.specs.Calls.{as_type, types_taken}
 use Rattle.c_meaning.specs.Conversions.{between, conversion, as_used, is_null_as}
-use Rattle.c_meaning.specs.Expressions.{is_other_pointer, is_struct}
+use Rattle.c_meaning.specs.Expressions.{is_other_pointer, is_struct_value}
 use Rattle.c_meaning.specs.Facts.{Facts, Signature, Sites}
 use Rattle.c_meaning.specs.Initialisers.{equals_token, want_of}
-use Rattle.c_meaning.specs.Meaning.{text_of}
+use Rattle.c_meaning.specs.Meaning.{text_of_string}
 use Rattle.c_meaning.specs.Operation.{left_kind, operation, right_kind, type_given}
 use Rattle.c_meaning.specs.Trees as meaning
 use Rattle.c_meaning.specs.Trees.{Assignment, Plain, By, Joint, Both, Computes, Unjoined, assignment, begins_null, called_as, count, ends_as_place, first_type, has_value, is_null_beside, is_place, joint, one_kind, operand_type, other_types, token_of, type_of}
@@ -47,7 +47,7 @@ use Rattle.lower_relation.specs.Expressions.{has_more, number_of_text}
 use Rattle.lower_relation.specs.Functions as f
 use Rattle.lower_relation.specs.Initialisers as i
 use Rattle.lower_relation.specs.Operators as o
-use Rattle.lower_relation.specs.Operators.{step}
+use Rattle.c_meaning.specs.Places.{step_operation}
 use Rattle.lower_relation.specs.Paths.{Graph, Path, ◌then◌, Ways, Exits, Emitted, Either, OneOf, Turned, Does, HaltsAt, Stuck, MarksAll, ForkTo, Tests, Only}
 use Rattle.lower_relation.specs.Statements as s
 use Rattle.lower_relation.specs.Statements.{Before, GoesOn, within_loop}
@@ -157,7 +157,7 @@ module _ (G H : Graph) (free : ℕ → Type 0) (keeps : Keeps G H free) where
   placed of a = record {
     value = then_into a (load of);
     place = a;
-    effect = then_into a (discarded (is_struct of) of);
+    effect = then_into a (discarded (is_struct_value of) of);
     truth = tests (then_into a (load of));
   }
 
@@ -230,7 +230,7 @@ module _ (G H : Graph) (free : ℕ → Type 0) (keeps : Keeps G H free) where
   through of a = record {
     value = then_into a (load_through of);
     place = then_into a pointed;
-    effect = then_into (then_into a pointed) (discarded (is_struct of) of);
+    effect = then_into (then_into a pointed) (discarded (is_struct_value of) of);
     truth = tests (then_into a (load_through of));
   }
 
@@ -277,8 +277,8 @@ module _ (G H : Graph) (free : ℕ → Type 0) (keeps : Keeps G H free) where
   text_place None = stuck
   text_place (Some number) = does (node.Text number 0)
 
-  prints : (number : Option ℕ) (format : Option Text) (n : ℕ) {R R' : c.Arguments} → ((types : List ValueType) → Into (R types) (R' types)) →
-      Into (c.Prints G number format n R) (c.Prints H number format n R')
+  prints : (number : Option ℕ) (format : Option Text) (n : ℕ) {R R' : c.ArgumentsPath} → ((types : List ValueType) → Into (R types) (R' types)) →
+      Into (c.PrintPath G number format n R) (c.PrintPath H number format n R')
   prints None None n a = stuck
   prints None (Some format) n a = stuck
   prints (Some number) None n a = stuck
@@ -304,13 +304,13 @@ module _ (G H : Graph) (free : ℕ → Type 0) (keeps : Keeps G H free) where
 
     stepped : (is_up : Bool) (token : ℕ) (of : Option ValueType) → Into (o.Stepped G facts sites is_up token of) (o.Stepped H facts sites is_up token of)
     stepped is_up token of =
-        then_into (does (node.Dup 0)) (then_into (load of) (then_into (does (node.Push (one_kind of) (pos 1) 0)) (updates token of (step is_up of))))
+        then_into (does (node.Dup 0)) (then_into (load of) (then_into (does (node.Push (one_kind of) (pos 1) 0)) (updates token of (step_operation is_up of))))
 
     stepped_behind : (is_up : Bool) (token : ℕ) (of : Option ValueType) → Into (o.SteppedBehind G facts sites is_up token of) (o.SteppedBehind H facts sites is_up token of)
     stepped_behind is_up token of =
         then_into (does (node.Dup 0)) (then_into (load of) (then_into (does (node.Swap 0)) (then_into (does (node.Over 0))
-        (then_into (does (node.Push (one_kind of) (pos 1) 0)) (then_into (operates (step is_up of))
-        (then_into (converts (conversion (type_given (step is_up of) of) of)) (then_into (assigned token) (does (node.Drop 0)))))))))
+        (then_into (does (node.Push (one_kind of) (pos 1) 0)) (then_into (operates (step_operation is_up of))
+        (then_into (converts (conversion (type_given (step_operation is_up of) of) of)) (then_into (assigned token) (does (node.Drop 0)))))))))
 
     stepped_as : (taken is_up : Bool) (token : ℕ) (of : Option ValueType) → Into (o.SteppedAs G facts sites taken is_up token of) (o.SteppedAs H facts sites taken is_up token of)
     stepped_as true is_up token of = stepped_behind is_up token of
@@ -370,13 +370,13 @@ module _ (G H : Graph) (free : ℕ → Type 0) (keeps : Keeps G H free) where
     calls : (number : ℕ) → Into (λ at k. G at (view.Calls number k)) (λ at k. H at (view.Calls number k))
     calls number = record { leads = λ at k h. keeps.kept at (view.Calls number k) tt h }
 
-    call_function : (token number : ℕ) (signature : Option Signature) (n : ℕ) {R R' : c.Arguments} → ((types : List ValueType) → Into (R types) (R' types)) →
+    call_function : (token number : ℕ) (signature : Option Signature) (n : ℕ) {R R' : c.ArgumentsPath} → ((types : List ValueType) → Into (R types) (R' types)) →
         EmittedInto (c.CallFunction G facts sites token number signature n R) (c.CallFunction H facts sites token number signature n R')
     call_function token number None n a = valued stuck
     call_function token number (Some one) n a =
         with_result token (has_value one.result) (only (n == length one.params) (then_into (a one.params) (calls number)))
 
-    call_library : (token : ℕ) (function : Library) (n : ℕ) {A A' : c.Argument} {P P' : Path ℕ} →
+    call_library : (token : ℕ) (function : Library) (n : ℕ) {A A' : c.ArgumentPath} {P P' : Path ℕ} →
         ((want : Option ValueType → Option ValueType) → Into (A want) (A' want)) → Into P P' →
         EmittedInto (c.CallLibrary G facts sites token function n A P) (c.CallLibrary H facts sites token function n A' P')
     call_library token library.Getchar n a p = returned token (only (n == 0) (does (node.Get 0)))
@@ -389,7 +389,7 @@ module _ (G H : Graph) (free : ℕ → Type 0) (keeps : Keeps G H free) where
     call_library token library.Assert n a p = effected (then_into (a as_used) (does (node.Check 0)))
     call_library token library.Printf n a p = effected p
 
-    call_does : (token : ℕ) (callee : Called) (n : ℕ) {R R' : c.Arguments} {A A' : c.Argument} {P P' : Path ℕ} →
+    call_does : (token : ℕ) (callee : Called) (n : ℕ) {R R' : c.ArgumentsPath} {A A' : c.ArgumentPath} {P P' : Path ℕ} →
         ((types : List ValueType) → Into (R types) (R' types)) → ((want : Option ValueType → Option ValueType) → Into (A want) (A' want)) → Into P P' →
         EmittedInto (c.CallDoes G facts sites token callee n R A P) (c.CallDoes H facts sites token callee n R' A' P')
     call_does token (called.Function number) n a b p = call_function token number (facts.signature number) n a
@@ -493,7 +493,7 @@ module _ (G H : Graph) (free : ℕ → Type 0) (keeps : Keeps G H free) where
 
       formatted : (y : ExprList) → Into (x.FormatDoes G facts sites y) (x.FormatDoes H facts sites y)
       formatted e.no_exprs = stuck
-      formatted (e.more_exprs first rest) = prints (number_of_text facts first) (text_of facts first) (count rest) (λ types. arguments types rest)
+      formatted (e.more_exprs first rest) = prints (number_of_text facts first) (text_of_string facts first) (count rest) (λ types. arguments types rest)
 
     condition : (token : ℕ) (y : ExprTree) → Into (x.Condition G facts sites token y) (x.Condition H facts sites token y)
     condition token y = condition_in token (expression y).value (expression y).truth
@@ -541,7 +541,7 @@ module _ (G H : Graph) (free : ℕ → Type 0) (keeps : Keeps G H free) where
     value_set token (Some type.Void) value = scalar token value
     value_set token (Some (type.Number kind)) value = scalar token value
     value_set token (Some (type.Pointer size)) value = scalar token value
-    value_set token (Some (type.Array size)) value = then_into (zeroed token) (on_local (facts.slot_at token) (spells (number_of_text facts value) (text_of facts value)))
+    value_set token (Some (type.Array size)) value = then_into (zeroed token) (on_local (facts.slot_at token) (spells (number_of_text facts value) (text_of_string facts value)))
     value_set token (Some type.Struct) value = scalar token value
 
     initialised : (token : ℕ) (y : Option InitialTree) → Into (i.Initialised G facts sites token y) (i.Initialised H facts sites token y)
@@ -556,7 +556,7 @@ module _ (G H : Graph) (free : ℕ → Type 0) (keeps : Keeps G H free) where
     all_start [] = same
     all_start (y ∷ ys) = then_into (starts y) (all_start ys)
 
-    declares : (d : DeclarationTree) → Into (i.Declares G facts sites d) (i.Declares H facts sites d)
+    declares : (d : DeclarationTree) → Into (i.DeclarationPath G facts sites d) (i.DeclarationPath H facts sites d)
     declares d = all_start d.starts
 
     -- statements

@@ -12,7 +12,7 @@ use Rattle.flow.specs.declared.program.ProgramParts.{ProgramParts}
 use Rattle.flow.specs.declared.site.Site.{Site}
 use Rattle.flow.specs.declared.site.SiteKind.{SiteKind}
 use Rattle.flow.specs.declared.site.SiteKind.TheVariants as kind
-use Rattle.flow.specs.Code.{node_of, view_at}
+use Rattle.flow.specs.Code.{view_at, view_in}
 use Rattle.flow.specs.View.{view as view_of}
 use Rattle.c_meaning.specs.Runs.{Source}
 use Rattle.c_meaning.specs.Texts.{is_branch}
@@ -87,7 +87,7 @@ module _ (src : Source) (site next : ℕ) (is : IsBranch (src.sites.site site)) 
       (condition_site (src.sites.site site) is) (subst (λ v. may_stand src.sites.site nodes v ≡ true) at (all.each place x here)))
 
   at_function : (functions : List Function) (function place : ℕ) (f : Option Function) → AreFunctionsOf src functions →
-      slice_get functions function ≡ f → node_of f place ≡ view.Marks site next → Behind (node_of f next)
+      slice_get functions function ≡ f → view_in f place ≡ view.Marks site next → Behind (view_in f next)
   at_function functions function place None are here at = absurd (cc)
   at_function functions function place (Some f) are here at = at_node f.nodes place (slice_get f.nodes place) (are function f here).stand refl at
 

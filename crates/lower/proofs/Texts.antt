@@ -15,25 +15,25 @@ use Rattle.c_meaning.specs.Known.{bodies, facts_of}
 use Rattle.c_meaning.specs.Runs.{Source}
 use Rattle.c_meaning.specs.Texts.{source_of, sites_by_table}
 use Rattle.sites.specs.Wanted.{no_schemes}
-use Rattle.c_types_never_stuck.specs.TypedSource.{TypedBody}
-use Rattle.c_types_never_stuck.specs.TypedText.{TypedText}
-use Rattle.c_types_sound.specs.Accepted.{IsAcceptedTree}
-use Rattle.c_types_sound.specs.Sited.{count_of}
-use Rattle.c_types_sound.proofs.Whole.{none_fits, table_fits}
+use Rattle.c_meaning_laws.specs.TypedSource.{TypedBody}
+use Rattle.c_meaning_laws.specs.TypedText.{TypedText}
+use Rattle.c_meaning_sound.specs.Accepted.{IsAcceptedTree}
+use Rattle.c_meaning_sound.specs.Sited.{count_of}
+use Rattle.c_meaning_sound.proofs.Whole.{none_fits, table_fits}
 use Rattle.lower_relation.specs.Room.{function_room, functions_room}
-use Rattle.lower_nodes_fit.specs.Owned.{BodyOwns}
-use Rattle.lower_nodes_fit.specs.TextNames.{names_of_text}
-use Rattle.lower_nodes_fit.proofs.FactsFitting.{facts_fit}
-use Rattle.lower_nodes_fit.proofs.NotesOfItems.{offsets_near}
-use Rattle.lower_nodes_fit.proofs.Owning.{none_owned, table_owned}
-use Rattle.lower_nodes_fit.proofs.RoomOfFunctions.{few_nodes, first_apart}
-use Rattle.lower_nodes_fit.specs.Fitting.{BodyStands}
-use Rattle.lower_nodes_fit.proofs.Bodies.{body_stands}
-use Rattle.lower_parts_fit.specs.Brought.{IsSigned}
-use Rattle.lower_parts_fit.proofs.LocalSizes.{definition_signed, locals_fit}
-use Rattle.lower_parts_fit.proofs.Variables.{locals_together}
-use Rattle.lower_nodes_fit.proofs.Formatting.{body_formatted}
-use Rattle.lower_parts_fit.specs.Ready.{AreSitesOf, IsReadyText}
+use Rattle.lower_fits.specs.Owned.{BodyOwns}
+use Rattle.lower_fits.specs.TextNames.{names_of_text}
+use Rattle.lower_fits.proofs.FactsFitting.{facts_fit}
+use Rattle.lower_fits.proofs.NotesOfItems.{offsets_near}
+use Rattle.lower_fits.proofs.Owning.{none_owned, table_owned}
+use Rattle.lower_fits.proofs.RoomOfFunctions.{few_nodes, first_apart}
+use Rattle.lower_fits.specs.Fitting.{BodyStands}
+use Rattle.lower_fits.proofs.Bodies.{body_stands}
+use Rattle.lower_fits.specs.Brought.{IsSigned}
+use Rattle.lower_fits.proofs.LocalSizes.{definition_signed, locals_fit}
+use Rattle.lower_fits.proofs.Variables.{locals_together}
+use Rattle.lower_fits.proofs.Formatting.{body_formatted}
+use Rattle.lower_fits.specs.Ready.{AreSitesOf, IsReadyText}
 use Rattle.lower.specs.Fits.{AreFitting, HasFitting, IsFitting}
 
 -- a place before the end of a list has something

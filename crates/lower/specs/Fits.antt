@@ -14,8 +14,8 @@ use Rattle.c_meaning.specs.Runs.{Source}
 use Rattle.lower_relation.specs.Room.{function_room}
 use Rattle.lower_facts.specs.declared.facts.TreeFacts.{TreeFacts}
 use Rattle.lower_facts.specs.Facts.{known_in, table_in, tree_in}
-use Rattle.lower_nodes_fit.specs.Fitting.{FitsAsBody}
-use Rattle.lower_nodes_fit.specs.TextNames.{names_of_text}
+use Rattle.lower_fits.specs.Fitting.{FitsAsBody}
+use Rattle.lower_fits.specs.TextNames.{names_of_text}
 use Rattle.lower.specs.Ready.{AllMayStand}
 
 -- what the nodes of the text's functions may name

@@ -16,17 +16,17 @@ pub record Apart (free : ℕ → Type 0) (sites : Sites) : Type 0 where
   pub pairs : (token : ℕ) → AllFree free (sites.pairs_at token)
 
 -- neither a visit nor a node of sampling
-abbrev pub IsKept : View → Type 0
-IsKept (Marks site next) = ⊥
-IsKept (Skips by next) = ⊥
-IsKept (Tests site next) = ⊥
-IsKept (Picks weight fast slow) = ⊥
-IsKept (Imports next) = ⊥
-IsKept (Exports next) = ⊥
-IsKept other = Unit {0}
+abbrev pub IsUnmarked : View → Type 0
+IsUnmarked (Marks site next) = ⊥
+IsUnmarked (Skips by next) = ⊥
+IsUnmarked (Tests site next) = ⊥
+IsUnmarked (Picks weight fast slow) = ⊥
+IsUnmarked (Imports next) = ⊥
+IsUnmarked (Exports next) = ⊥
+IsUnmarked other = Unit {0}
 
 -- all other nodes are kept, the visits of free sites, and those before a fork
 pub record Keeps (G H : Graph) (free : ℕ → Type 0) : Type 0 where
-  pub kept : (at : ℕ) (v : View) → IsKept v → G at v → H at v
+  pub kept : (at : ℕ) (v : View) → IsUnmarked v → G at v → H at v
   pub visit : (at site next : ℕ) → free site → G at (Marks site next) → H at (Marks site next)
   pub decided : (at site next when_true when_false : ℕ) → G at (Marks site next) → G next (Forks when_true when_false) → H at (Marks site next)

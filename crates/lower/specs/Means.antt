@@ -10,4 +10,5 @@ use Rattle.lower_relation.specs.Functions.{ending_of}
 -- visits of sites that the text's meaning has, one after another; and there is no other ending.
 pub record MeansText (src : Source) (p : ProgramParts) : Type 0 where
   pub ends : (input : List ℕ) (bank : ℕ → ℕ) (turns : ℕ) → MachineEnds p input bank turns (ending_of (meaning src input turns))
-  pub only : (input : List ℕ) (bank : ℕ → ℕ) (turns : ℕ) (ending : Ending) → MachineEnds p input bank turns ending → ending ≡ ending_of (meaning src input turns)
+  pub only : (input : List ℕ) (bank : ℕ → ℕ) (turns : ℕ) (ending : Ending) → MachineEnds p input bank turns ending
+      → ending ≡ ending_of (meaning src input turns)

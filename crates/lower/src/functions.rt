@@ -2,7 +2,7 @@ ghost use Rattle.std.specs.Prelude.{◌≡◌, ◌==◌, ◌+◌, ◌<◌, IfOk,
 ghost use Rattle.std.specs.Option.{option_copied};
 ghost use Rattle.c_syntax.specs.Plain.{plain_entries};
 ghost use Rattle.lower_relation.specs.Functions.{BodyDoes};
-ghost use Rattle.lower.specs.Bodies.{Begins, BodyNodes, EndPart, GivesPart, LeavesPart};
+ghost use Rattle.lower.specs.Bodies.{BodyBegins, BodyNodes, EndPart, GivesPart, LeavesPart};
 ghost use Rattle.lower_statements.specs.Exits.{exits_of};
 ghost use Rattle.lower.specs.Fits.{HasFitting, StandWhereFitting, bounds_with, names_in};
 ghost use Rattle.lower.specs.Ready.{AllMayStand};
@@ -88,8 +88,11 @@ fn put_body(
     exits: Exits,
 ) -> Result<u32, Memory>
     requires room { length graph.old + body_room (sites_in facts.now) (option_map plain_entries (option_copied body)) ≤ node_limit }
-    ensures made { IfOk result (λ i. MadeExits (λ G. BodyDoes G (facts_in facts.now) (sites_in facts.now) gives (option_map plain_entries (option_copied body.entry))) graph.old graph.new i (exits_of exits)) }
-    ensures few { IfOk result (λ i. length graph.new ≤ length graph.old + body_room (sites_in facts.now) (option_map plain_entries (option_copied body.entry))) }
+    ensures made { IfOk result (λ i. MadeExits
+        (λ G. BodyDoes G (facts_in facts.now) (sites_in facts.now) gives (option_map plain_entries (option_copied body.entry))) graph.old graph.new i
+        (exits_of exits)) }
+    ensures few { IfOk result (λ i. length graph.new ≤ length graph.old
+        + body_room (sites_in facts.now) (option_map plain_entries (option_copied body.entry))) }
 {
     match body {
         None => {
@@ -107,7 +110,7 @@ fn put_body(
 #[tactic(auto, using(crate::proofs::Bodying::start_parts))]
 fn put_start(graph: &mut Graph, entry: u32) -> Result<u32, Memory>
     requires room { length graph.old + 1 ≤ node_limit }
-    ensures begins { IfOk result (λ i. Begins graph.old graph.new i entry) }
+    ensures begins { IfOk result (λ i. BodyBegins graph.old graph.new i entry) }
     ensures last { IfOk result (λ i. length graph.new ≡ i + 1) }
     ensures few { IfOk result (λ i. length graph.new ≤ length graph.old + 1) }
 {
@@ -128,7 +131,8 @@ fn body_nodes(
     body: Option<&[Entry]>,
 ) -> Result<Vec<Node>, Memory>
     requires room { function_room (sites_in facts.now) (option_map plain_entries (option_copied body)) ≤ node_limit }
-    ensures body { IfOk result (λ nodes. BodyNodes (facts_in facts.now) (sites_in facts.now) is_main gives (option_map plain_entries (option_copied body.entry)) nodes.items) }
+    ensures body { IfOk result (λ nodes. BodyNodes (facts_in facts.now) (sites_in facts.now) is_main gives
+        (option_map plain_entries (option_copied body.entry)) nodes.items) }
     ensures stand { IfOk result (λ nodes. StandWhereFitting (source_in facts.now) gives (option_map plain_entries (option_copied body.entry)) nodes.items) }
     ensures some { IfOk result (λ nodes. 0 < length nodes.items) }
     ensures few { IfOk result (λ nodes. length nodes.items ≤ function_room (sites_in facts.now) (option_map plain_entries (option_copied body.entry))) }
@@ -151,7 +155,8 @@ pub fn emit_function(
 ) -> Result<Vec<Node>, Memory>
     requires fits { HasFitting (source_in facts.now) (names_in facts.now) number signature.now ((source_in facts.now).body number) }
     requires room { function_room (sites_in facts.now) ((source_in facts.now).body number) ≤ node_limit }
-    ensures body { IfOk result (λ nodes. BodyNodes (facts_in facts.now) (sites_in facts.now) (number == (source_in facts.now).main) signature.now.result ((source_in facts.now).body number) nodes.items) }
+    ensures body { IfOk result (λ nodes. BodyNodes (facts_in facts.now) (sites_in facts.now) (number == (source_in facts.now).main)
+        signature.now.result ((source_in facts.now).body number) nodes.items) }
     ensures stand { IfOk result (λ nodes. AllMayStand (sites_in facts.now).site nodes.items) }
     ensures entry { IfOk result (λ nodes. 0 < length nodes.items) }
     ensures fit { IfOk result (λ nodes. NodesFit (names_in facts.now) (bounds_with number signature.now (length nodes.items)) nodes.items) }

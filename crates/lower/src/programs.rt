@@ -11,7 +11,7 @@ ghost use Rattle.lower_relation.specs.Room.{function_room, functions_room};
 ghost use Rattle.lower.specs.Fits.{AreFitting, IsFitting, NodesStand, names_in};
 ghost use Rattle.lower.specs.Means.{MeansText};
 ghost use Rattle.lower.specs.Programs.{AreFunctionsOf, HasNoMore, IsFunctionOf, node_count};
-ghost use Rattle.lower_parts_fit.specs.Ready.{IsReadyText};
+ghost use Rattle.lower_fits.specs.Ready.{IsReadyText};
 ghost use Rattle.lower_facts.specs.Facts.{known_in, sites_in, source_in, table_in, tree_in};
 ghost use Rattle.c_syntax.specs.Spelling.{tree_kinds};
 
@@ -20,9 +20,8 @@ use c_types::Checked;
 use cbi_base::{Memory, Name, Seq};
 use flow::{Function, Program, ProgramParts, SiteTable, copy_of, copy_sites, copy_texts};
 use lower_facts::TreeFacts;
+use lower_fits::{an_accepted_text_has_few_nodes, parts_of_an_accepted_text_are_a_program};
 use lower_globals::globals_of_text;
-use lower_nodes_fit::an_accepted_text_has_few_nodes;
-use lower_parts_fit::parts_of_an_accepted_text_are_a_program;
 use lower_trees::has_value;
 use std::alloc::Global;
 
@@ -66,7 +65,8 @@ fn functions_of(
     ensures all { IfOk result (λ fs. HasNoMore (source_in facts.now) (length fs.items)) }
     ensures names { IfOk result (λ fs. map (λ f. f.name) fs.items ≡ called.now) }
     ensures stand { IfOk result (λ fs. (number : ℕ) (f : Function) → slice_get fs.items number ≡ Some f → NodesStand (names_in facts.now) number f) }
-    ensures few { IfOk result (λ fs. node_count fs.items ≤ functions_room (sites_in facts.now) (source_in facts.now).body (length (known_in facts.now).definitions)) }
+    ensures few { IfOk result (λ fs. node_count fs.items
+        ≤ functions_room (sites_in facts.now) (source_in facts.now).body (length (known_in facts.now).definitions)) }
 {
     let mut functions = Vec::new(alloc);
     for name in called {
@@ -90,7 +90,8 @@ fn named_functions(
     ensures all { IfOk result (λ fs. HasNoMore (source_in facts.now) (length fs.items)) }
     ensures names { IfOk result (λ fs. map (λ f. f.name) fs.items ≡ table.now.functions) }
     ensures stand { IfOk result (λ fs. (number : ℕ) (f : Function) → slice_get fs.items number ≡ Some f → NodesStand (names_in facts.now) number f) }
-    ensures few { IfOk result (λ fs. node_count fs.items ≤ functions_room (sites_in facts.now) (source_in facts.now).body (length (known_in facts.now).definitions)) }
+    ensures few { IfOk result (λ fs. node_count fs.items
+        ≤ functions_room (sites_in facts.now) (source_in facts.now).body (length (known_in facts.now).definitions)) }
 {
     let functions = functions_of(alloc, facts, table.functions())?;
     Ok(functions)
@@ -124,7 +125,8 @@ fn program_of(alloc: Global, facts: &TreeFacts<'_>, table: &SiteTable) -> Result
     Ok(program)
 }
 
-/// The program that does what an accepted text means, with the sites of the table and its names for the functions.
+/// The program that does what an accepted text means, with the sites of the table and its names for the functions. It has at most 16 nodes a token of
+/// the text, and one more a site.
 pub fn lower(alloc: Global, checked: &Checked, table: &SiteTable) -> Result<Program, Memory>
     requires { IsReadyText (tree_of checked.now) (known_of checked.now) table.now }
     ensures graph { IfOk result (λ p. IsGraphOf (source_of (tree_of checked.now) (known_of checked.now) table.now.sites) p) }

@@ -16,9 +16,9 @@ use Rattle.lower_relation.specs.Expressions.{LastDoes, emitted}
 use Rattle.lower_relation.specs.Operators.{Assign, Assigned, Changed, Comma}
 use Rattle.lower_relation.specs.Paths.{Graph, ◌then◌, Emitted, Stuck}
 use Rattle.lower_relation.specs.Values.{Valued, WantedValue}
-use Rattle.lower_nodes.specs.Made.{Made, MadeAlone, MadeFor, Part}
+use Rattle.lower_nodes.specs.Made.{GraphPath, Made, MadeAlone, MadeFor}
 use Rattle.lower_nodes.specs.Parts.{effect_part, place_part, serving, value_part}
-use Rattle.lower_nodes.specs.Purposes.{Serves, Takes, ways}
+use Rattle.lower_nodes.specs.Purposes.{PurposeTakes, Serves, ways}
 use Rattle.lower_nodes.specs.Standing.{Allowed, Allowance}
 use Rattle.lower_expressions.specs.Weights.{exprs_weight, weight}
 use Rattle.lower_nodes.specs.declared.purpose.Purpose.{Purpose}
@@ -37,25 +37,25 @@ alone (x ∷ xs) (suc j) d e at = alone xs j d (omega (arith, e)) at
 
 module _ (facts : Facts) (sites : Sites) where
   module _ (token : ℕ) (sign : Sign) (target value : ExprTree) (p : Purpose) where
-    abbrev assigns : Assignment → Part ℕ
+    abbrev assigns : Assignment → GraphPath ℕ
     assigns a G =
         Assign G facts sites token a (is_null_as (type_of facts target) value) (type_of facts target) (type_of facts value)
         (emitted G facts sites target) (emitted G facts sites value)
 
-    assign_made : (n0 n1 n2 : List Node) (after i : ℕ) → MadeFor (λ G. Takes G) n0 n1 after p → Made (assigns (assignment sign)) n1 n2 i after →
+    assign_made : (n0 n1 n2 : List Node) (after i : ℕ) → MadeFor (λ G. PurposeTakes G) n0 n1 after p → Made (assigns (assignment sign)) n1 n2 i after →
         MadeFor (serving facts sites (e.Assign token sign target value)) n0 n2 i p
     assign_made n0 n1 n2 after i taken made =
         both_ways (λ G. Serves (Valued G (assigns (assignment sign) G))) (serving facts sites (e.Assign token sign target value)) p (λ G i p h. h) (λ s i p h. h) n0 n2 i
         (valued_made (assigns (assignment sign)) p n0 n1 n2 i after taken made)
 
-    pub assign_plain : (n0 n1 n2 n3 n4 : List Node) (after stored found i : ℕ) → Plain ≡ assignment sign → MadeFor (λ G. Takes G) n0 n1 after p →
+    pub assign_plain : (n0 n1 n2 n3 n4 : List Node) (after stored found i : ℕ) → Plain ≡ assignment sign → MadeFor (λ G. PurposeTakes G) n0 n1 after p →
         Made (λ G. Assigned G facts sites token) n1 n2 stored after →
         Made (λ G. WantedValue G (is_null_as (type_of facts target) value) (type_of facts value) (type_of facts target) (emitted G facts sites value)) n2 n3 found stored →
         Made (place_part facts sites target) n3 n4 i found → MadeFor (serving facts sites (e.Assign token sign target value)) n0 n4 i p
     assign_plain n0 n1 n2 n3 n4 after stored found i is taken assigned wanted placed =
         assign_made n0 n1 n4 after i taken (subst (λ a. Made (assigns a) n1 n4 i after) is (placed and_then wanted and_then assigned))
 
-    pub assign_by : (o : Binary) (n0 n1 n2 n3 n4 : List Node) (after changed found i : ℕ) → By o ≡ assignment sign → MadeFor (λ G. Takes G) n0 n1 after p →
+    pub assign_by : (o : Binary) (n0 n1 n2 n3 n4 : List Node) (after changed found i : ℕ) → By o ≡ assignment sign → MadeFor (λ G. PurposeTakes G) n0 n1 after p →
         Made (λ G. Changed G facts sites token (type_of facts target) (operation o (type_of facts target) (type_of facts value))) n1 n2 changed after →
         Made (value_part facts sites value) n2 n3 found changed → Made (place_part facts sites target) n3 n4 i found →
         MadeFor (serving facts sites (e.Assign token sign target value)) n0 n4 i p
@@ -80,7 +80,7 @@ module _ (facts : Facts) (sites : Sites) where
   count_plain [] = refl
   count_plain (x ∷ xs) = ap suc (count_plain xs)
 
-  abbrev lasts : List Expr → Part Purpose
+  abbrev lasts : List Expr → GraphPath Purpose
   lasts xs G = Serves (LastDoes G facts sites (plain_exprs xs))
 
   comma_into : (G : Graph) (x : Expr) (xs : List Expr) (n : ℕ) (p : Purpose) (i : ℕ) → length xs ≡ suc n →
@@ -114,7 +114,7 @@ module _ (facts : Facts) (sites : Sites) where
   last_made p operands j d n0 n1 i e at made =
       subst (λ l. MadeFor (λ G. Serves (LastDoes G facts sites (plain_exprs l))) n0 n1 i p) (sym (alone operands j d e at)) made
 
-  pub none_made : (p : Purpose) (operands : List Expr) (n0 n1 n2 : List Node) (after i : ℕ) → length operands ≡ 0 → MadeFor (λ G. Takes G) n0 n1 after p →
+  pub none_made : (p : Purpose) (operands : List Expr) (n0 n1 n2 : List Node) (after i : ℕ) → length operands ≡ 0 → MadeFor (λ G. PurposeTakes G) n0 n1 after p →
       MadeAlone (λ G. Stuck G) n1 n2 i after → MadeFor (λ G. Serves (LastDoes G facts sites (plain_exprs operands))) n0 n2 i p
   none_made p [] n0 n1 n2 after i e taken made = valued_made (λ G. Stuck G) p n0 n1 n2 i after taken (surely_made (λ G. Stuck G) n1 n2 i after made)
   none_made p (x ∷ xs) n0 n1 n2 after i e taken made = absurd (omega (arith, e))

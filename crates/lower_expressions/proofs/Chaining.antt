@@ -14,21 +14,21 @@ use Rattle.c_meaning.specs.declared.value_type.ValueType.{ValueType}
 use Rattle.c_meaning.specs.Facts.{Facts, Sites}
 use Rattle.c_meaning.specs.Operation.{operation}
 use Rattle.c_meaning.specs.Trees as tree
-use Rattle.c_meaning.specs.Trees.{Joint, Both, Computes, Unjoined, begins_null, is_null_beside, joint, operand_type, type_of}
+use Rattle.c_meaning.specs.Trees.{Joint, Both, Computes, is_null_beside, joint, operand_type, type_of}
 use Rattle.lower_relation.specs.Expressions.{LinksDo, emitted}
 use Rattle.lower_relation.specs.Operators.{Flagged, Linked, Operates}
-use Rattle.lower_relation.specs.Paths.{◌then◌, Stuck}
+use Rattle.lower_relation.specs.Paths.{◌then◌}
 use Rattle.lower_relation.specs.Values.{NullOr, Valued}
 use Rattle.lower_operators.specs.Linking.{Shortcut, link_part, side_ends, sides, type_before}
 use Rattle.lower_nodes.specs.Ends.{Any, one_end}
-use Rattle.lower_nodes.specs.Made.{Made, MadeAlone, MadeFor, MadeTo, Part}
+use Rattle.lower_nodes.specs.Made.{GraphPath, Made, MadeFor, MadeTo}
 use Rattle.lower_nodes.specs.Parts.{serving, value_part}
-use Rattle.lower_nodes.specs.Purposes.{Serves, Takes}
+use Rattle.lower_nodes.specs.Purposes.{PurposeTakes, Serves}
 use Rattle.lower_expressions.specs.Weights.{links_weight, weight}
 use Rattle.lower_nodes.specs.declared.purpose.Purpose.{Purpose}
 use Rattle.lower_nodes.specs.declared.purpose.Purpose.TheVariants as purpose
 use Rattle.lower_operators.proofs.Linked.{type_after}
-use Rattle.lower_nodes.proofs.Building.{◌and_then◌, Joined, both_ways, joined_made, nothing_made, surely_made, then_made}
+use Rattle.lower_nodes.proofs.Building.{◌and_then◌, Joined, both_ways, joined_made, nothing_made, then_made}
 use Rattle.lower_nodes.proofs.Serving.{valued_made}
 use Rattle.lower_nodes.proofs.Wanting.{same_effect, same_value}
 
@@ -74,7 +74,7 @@ module _ (facts : Facts) (sites : Sites) where
       (then_made (link_part facts sites (type_before facts left links j) d.token d.sign (plain_expr d.operand))
       (λ G. LinksDo G facts sites (facts.type_at d.token) (plain_links (drop (j + 1) links))) n0 n1 n2 i entry k later made)
 
-  module _ (token : ℕ) (left right : Option ValueType) (R : Part ℕ) where
+  module _ (token : ℕ) (left right : Option ValueType) (R : GraphPath ℕ) where
     -- `&&` and `||`
     pub both_made : (n0 n1 n2 n3 : List Node) (flagged right_at i k : ℕ) → Made (λ G. Flagged G) n0 n1 flagged k → Made R n1 n2 right_at flagged →
         MadeTo side_ends Any (λ G. Shortcut G facts sites true token) n2 n3 i (sides right_at k) → Made (λ G. Linked G facts sites Both token left right (R G)) n0 n3 i k
@@ -96,9 +96,6 @@ module _ (facts : Facts) (sites : Sites) where
         Made (λ G. Linked G facts sites (Computes o) token left right (R G)) n0 n2 i k
     computes_made o n0 n1 n2 done i k operated made = made and_then operated
 
-    pub unjoined_made : (n0 n1 : List Node) (i k : ℕ) → MadeAlone {K = ℕ} (λ G. Stuck G) n0 n1 i k → Made (λ G. Linked G facts sites Unjoined token left right (R G)) n0 n1 i k
-    unjoined_made n0 n1 i k made = surely_made (λ G. Stuck G) n0 n1 i k made
-
   pub linked_by : (j : Joint) (left : Option ValueType) (token : ℕ) (sign : Sign) (operand : ExprTree) (n0 n1 : List Node) (i k : ℕ) → j ≡ joint sign →
       Made (λ G. Linked G facts sites j token left (operand_type (is_null_beside (binary_of sign) left operand) (type_of facts operand))
       (NullOr G (is_null_beside (binary_of sign) left operand) (emitted G facts sites operand))) n0 n1 i k →
@@ -109,7 +106,7 @@ module _ (facts : Facts) (sites : Sites) where
 
   -- the operators of one level, by their value
   pub chain_made : (first : ExprTree) (links : LinkList) (p : Purpose) (n0 n1 n2 : List Node) (after i : ℕ) → ((yes_at no_at : ℕ) → p ≡ purpose.Truth yes_at no_at → ⊥) →
-      MadeFor (λ G. Takes G) n0 n1 after p → Made (value_part facts sites (e.Chain 0 first links)) n1 n2 i after → MadeFor (serving facts sites (e.Chain 0 first links)) n0 n2 i p
+      MadeFor (λ G. PurposeTakes G) n0 n1 after p → Made (value_part facts sites (e.Chain 0 first links)) n1 n2 i after → MadeFor (serving facts sites (e.Chain 0 first links)) n0 n2 i p
   chain_made first links (purpose.Value next) n0 n1 n2 after i other taken made =
       same_value (λ G. Serves (Valued G (value_part facts sites (e.Chain 0 first links) G))) (serving facts sites (e.Chain 0 first links)) (λ G i k h. h) (λ s i k h. h) n0 n2 i next
       (valued_made (value_part facts sites (e.Chain 0 first links)) (purpose.Value next) n0 n1 n2 i after taken made)

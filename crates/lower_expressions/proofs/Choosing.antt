@@ -17,8 +17,8 @@ use Rattle.lower_relation.specs.Values.{ArmAs, ArmEffect, ArmValue, HandedValue,
 use Rattle.lower_nodes.specs.Made.{Made, MadeAlone, MadeFor, MadeWays}
 use Rattle.lower_expressions.specs.Arms.{arm_effect_part, arm_value_part}
 use Rattle.lower_nodes.specs.Parts.{serving, value_part}
-use Rattle.lower_nodes.specs.Purposes.{Serves, Takes, ways}
-use Rattle.lower_operators.specs.Voids.{is_void}
+use Rattle.lower_nodes.specs.Purposes.{PurposeTakes, Serves, ways}
+use Rattle.lower_operators.specs.Voids.{is_void_value}
 use Rattle.lower_nodes.specs.declared.purpose.Purpose.{Purpose}
 use Rattle.lower_nodes.specs.declared.purpose.Purpose.TheVariants as purpose
 use Rattle.lower_nodes.specs.Standing.{Allowed}
@@ -26,7 +26,7 @@ use Rattle.lower_nodes.proofs.Building.{◌and_then◌, both_ways, either_made, 
 use Rattle.lower_nodes.proofs.Serving.{valued_made}
 use Rattle.lower_nodes.proofs.Wanting.{as_effect, as_truth, as_value, effect_of, same_effect, same_truth, same_value}
 
-void_is : (want : Option ValueType) → is_void want ≡ true → want ≡ Some type.Void
+void_is : (want : Option ValueType) → is_void_value want ≡ true → want ≡ Some type.Void
 void_is None is = cc
 void_is (Some type.Void) is = refl
 void_is (Some (type.Number kind)) is = cc
@@ -34,7 +34,7 @@ void_is (Some (type.Pointer size)) is = cc
 void_is (Some (type.Array size)) is = cc
 void_is (Some type.Struct) is = cc
 
-cast_valued : (G : Graph) (is_null : Bool) (want : Option ValueType) (m : Emitted) → is_void want ≡ false → Valued G (HandedValue G is_null want m) ≡ Cast G is_null want m
+cast_valued : (G : Graph) (is_null : Bool) (want : Option ValueType) (m : Emitted) → is_void_value want ≡ false → Valued G (HandedValue G is_null want m) ≡ Cast G is_null want m
 cast_valued G is_null None m is = refl
 cast_valued G is_null (Some type.Void) m is = cc
 cast_valued G is_null (Some (type.Number kind)) m is = refl
@@ -43,8 +43,8 @@ cast_valued G is_null (Some (type.Array size)) m is = refl
 cast_valued G is_null (Some type.Struct) m is = refl
 
 -- a cast of a value
-pub cast_value : (is_null : Bool) (want : Option ValueType) (m : Graph → Emitted) (p : Purpose) (n0 n1 n2 : List Node) (i after : ℕ) → is_void want ≡ false →
-    MadeFor (λ G. Takes G) n0 n1 after p → Made (λ G. HandedValue G is_null want (m G)) n1 n2 i after → MadeFor (λ G. Serves (Cast G is_null want (m G))) n0 n2 i p
+pub cast_value : (is_null : Bool) (want : Option ValueType) (m : Graph → Emitted) (p : Purpose) (n0 n1 n2 : List Node) (i after : ℕ) → is_void_value want ≡ false →
+    MadeFor (λ G. PurposeTakes G) n0 n1 after p → Made (λ G. HandedValue G is_null want (m G)) n1 n2 i after → MadeFor (λ G. Serves (Cast G is_null want (m G))) n0 n2 i p
 cast_value is_null want m p n0 n1 n2 i after is taken made =
     both_ways (λ G. Serves (Valued G (HandedValue G is_null want (m G)))) (λ G. Serves (Cast G is_null want (m G))) p
     (λ G i p h. subst (λ x. Serves x i p) (cast_valued G is_null want (m G) is) h)
@@ -52,7 +52,7 @@ cast_value is_null want m p n0 n1 n2 i after is taken made =
     (valued_made (λ G. HandedValue G is_null want (m G)) p n0 n1 n2 i after taken made)
 
 -- a cast to `void`, for what the operand does
-pub cast_effect : (is_null : Bool) (want : Option ValueType) (m : Graph → Emitted) (n0 n1 : List Node) (i next : ℕ) → is_void want ≡ true →
+pub cast_effect : (is_null : Bool) (want : Option ValueType) (m : Graph → Emitted) (n0 n1 : List Node) (i next : ℕ) → is_void_value want ≡ true →
     MadeFor (λ G. Serves (m G)) n0 n1 i (purpose.Effect next) → MadeFor (λ G. Serves (Cast G is_null want (m G))) n0 n1 i (purpose.Effect next)
 cast_effect is_null want m n0 n1 i next is made =
     subst (λ w. MadeFor (λ G. Serves (Cast G is_null w (m G))) n0 n1 i (purpose.Effect next)) (sym (void_is want is))
@@ -68,12 +68,12 @@ cast_stuck is_null m (purpose.Truth yes_at no_at) n0 n1 i other made =
     as_truth (λ G. Stuck G) (λ G. Serves (Cast G is_null (Some type.Void) (m G))) (λ G i w h. h) (λ s i w h. h) n0 n1 i yes_at no_at
     (stuck_anywhere n0 n1 i 0 (ways yes_at no_at) made)
 
-pub cast_nothing : (is_null : Bool) (want : Option ValueType) (m : Graph → Emitted) (p : Purpose) (n0 n1 : List Node) (i : ℕ) → is_void want ≡ true →
+pub cast_nothing : (is_null : Bool) (want : Option ValueType) (m : Graph → Emitted) (p : Purpose) (n0 n1 : List Node) (i : ℕ) → is_void_value want ≡ true →
     ((next : ℕ) → p ≡ purpose.Effect next → ⊥) → MadeAlone {K = ℕ} (λ G. Stuck G) n0 n1 i 0 → MadeFor (λ G. Serves (Cast G is_null want (m G))) n0 n1 i p
 cast_nothing is_null want m p n0 n1 i is other made =
     subst (λ w. MadeFor (λ G. Serves (Cast G is_null w (m G))) n0 n1 i p) (sym (void_is want is)) (cast_stuck is_null m p n0 n1 i other made)
 
-arm_dropping : (G : Graph) (is_null : Bool) (have want : Option ValueType) (m : Emitted) → is_void want ≡ false →
+arm_dropping : (G : Graph) (is_null : Bool) (have want : Option ValueType) (m : Emitted) → is_void_value want ≡ false →
     (ArmValue G is_null have want m then Does G (node.Drop 0)) ≡ ArmEffect G is_null have want m
 arm_dropping G is_null have None m is = refl
 arm_dropping G is_null have (Some type.Void) m is = cc
@@ -83,14 +83,14 @@ arm_dropping G is_null have (Some (type.Array size)) m is = refl
 arm_dropping G is_null have (Some type.Struct) m is = refl
 
 -- an arm of `? :` where nothing takes the value
-pub arm_dropped : (is_null : Bool) (have want : Option ValueType) (m : Graph → Emitted) (n0 n1 n2 : List Node) (drop i k : ℕ) → is_void want ≡ false →
+pub arm_dropped : (is_null : Bool) (have want : Option ValueType) (m : Graph → Emitted) (n0 n1 n2 : List Node) (drop i k : ℕ) → is_void_value want ≡ false →
     drop ≡ length n0 → n1 ≡ n0 ++ node.Drop k ∷ [] → Made (λ G. ArmValue G is_null have want (m G)) n1 n2 i drop → Made (λ G. ArmEffect G is_null have want (m G)) n0 n2 i k
 arm_dropped is_null have want m n0 n1 n2 drop i k is at new made =
     both_ways (λ G. ArmValue G is_null have want (m G) then Does G (node.Drop 0)) (λ G. ArmEffect G is_null have want (m G)) k
     (λ G i k h. subst (λ (x : Path ℕ). x i k) (arm_dropping G is_null have want (m G) is) h)
     (λ s i k h. subst (λ (x : Path ℕ). x i k) (sym (arm_dropping (Allowed s) is_null have want (m (Allowed s)) is)) h) n0 n2 i (made and_then row (node.Drop 0) _ at new refl)
 
-pub arm_void : (is_null : Bool) (have want : Option ValueType) (m : Graph → Emitted) (n0 n1 : List Node) (i k : ℕ) → is_void want ≡ true →
+pub arm_void : (is_null : Bool) (have want : Option ValueType) (m : Graph → Emitted) (n0 n1 : List Node) (i k : ℕ) → is_void_value want ≡ true →
     MadeFor (λ G. Serves (m G)) n0 n1 i (purpose.Effect k) → Made (λ G. ArmEffect G is_null have want (m G)) n0 n1 i k
 arm_void is_null have want m n0 n1 i k is made =
     subst (λ w. Made (λ G. ArmEffect G is_null have w (m G)) n0 n1 i k) (sym (void_is want is))
@@ -120,7 +120,7 @@ module _ (facts : Facts) (sites : Sites) where
         n0 n1 n2 n3 i yes_at no_at k second first decided
 
     -- or its truth
-    pub conditional_taken : (p : Purpose) (n0 n1 n2 : List Node) (after i : ℕ) → ((next : ℕ) → p ≡ purpose.Effect next → ⊥) → MadeFor (λ G. Takes G) n0 n1 after p →
+    pub conditional_taken : (p : Purpose) (n0 n1 n2 : List Node) (after i : ℕ) → ((next : ℕ) → p ≡ purpose.Effect next → ⊥) → MadeFor (λ G. PurposeTakes G) n0 n1 after p →
         Made (value_part facts sites (e.Conditional token c x y)) n1 n2 i after → MadeFor (serving facts sites (e.Conditional token c x y)) n0 n2 i p
     conditional_taken (purpose.Value next) n0 n1 n2 after i other taken made =
         same_value (λ G. Serves (Valued G (value_part facts sites (e.Conditional token c x y) G))) (serving facts sites (e.Conditional token c x y)) (λ G i k h. h) (λ s i k h. h) n0 n2 i next

@@ -17,7 +17,7 @@ use Rattle.lower_relation.specs.Paths.{Graph, Path, ◌then◌, Emitted, ForkTo,
 use Rattle.lower_relation.specs.Values.{NullTruth}
 use Rattle.lower_relation.specs.Functions.{standing}
 use Rattle.lower_nodes.specs.Ends.{AllBelow, two_ends}
-use Rattle.lower_nodes.specs.Made.{Later, LeadBack, Made, MadeFor, MadeWays, CameOut, Part}
+use Rattle.lower_nodes.specs.Made.{Later, LeadBack, Made, MadeFor, MadeWays, CameOut, GraphPath}
 use Rattle.lower_nodes.specs.Parts.{serving, truth_part, value_part}
 use Rattle.lower_nodes.specs.Purposes.{Serves, ways}
 use Rattle.lower_nodes.specs.Standing.{AllLike, AllStand, Allowed, Like, Allowance, Stood}
@@ -270,7 +270,7 @@ by_decided G facts sites None j R T i w valued short h = cc
 by_decided G facts sites (Some site) j R T i w valued short h = h
 
 -- the left side, with the visit of its site, and then the right one
-module _ (facts : Facts) (sites : Sites) (token : ℕ) (left right_type : Option ValueType) (V : Part ℕ) (T : Part Ways) (S : Part ℕ) (U : Part Ways) where
+module _ (facts : Facts) (sites : Sites) (token : ℕ) (left right_type : Option ValueType) (V : GraphPath ℕ) (T : GraphPath Ways) (S : GraphPath ℕ) (U : GraphPath Ways) where
   sided_by : (j : Joint) (n0 n1 n2 n3 : List Node) (right decided i yes_at no_at : ℕ) → forks_at (sites.branch_at token) j ≡ false → is_short j ≡ true →
       MadeWays U n0 n1 right (ways yes_at no_at) →
       MadeWays (λ G. Decided G facts sites token) n1 n2 decided (ways (yes_before j right yes_at) (no_before j right no_at)) → Made V n2 n3 i decided →

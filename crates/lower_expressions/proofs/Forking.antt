@@ -1,7 +1,7 @@
 -- Where a graph of nodes that may be has the value of an expression, it has its truth: a fork may stand anywhere.
 use Rattle.std.proofs.Common.{inl, ℕ, zero, suc, refl, Bool, true, false, Option, Some, None}
-use Rattle.c_rules.specs.declared.library.Library.{Library}
-use Rattle.c_rules.specs.declared.library.Library.TheVariants as library
+use Rattle.c_types_rules.specs.declared.library.Library.{Library}
+use Rattle.c_types_rules.specs.declared.library.Library.TheVariants as library
 use Rattle.c_syntax.specs.ExprTree as e
 use Rattle.c_syntax.specs.ExprTree.{ExprTree, ExprList, LinkList}
 use Rattle.c_syntax.specs.declared.expr.PrefixOperator.{PrefixOperator}
@@ -15,7 +15,7 @@ use Rattle.c_meaning.specs.Facts.{Facts, Signature, Sites}
 use Rattle.c_meaning.specs.Trees as tree
 use Rattle.c_meaning.specs.Trees.{Joint, Both, Computes, Unjoined, begins_null, called_as, count, ends_as_place, has_value, is_null_beside, is_place, joint, operand_type, token_of, type_of}
 use Rattle.c_meaning.specs.Visits.{listed}
-use Rattle.lower_relation.specs.Calls.{Argument, Arguments, CallDoes, CallFunction, CallLibrary, WithResult}
+use Rattle.lower_relation.specs.Calls.{ArgumentPath, ArgumentsPath, CallDoes, CallFunction, CallLibrary, WithResult}
 use Rattle.lower_relation.specs.Expressions.{LastDoes, LinksDo, LinksHold, emitted}
 use Rattle.lower_relation.specs.Operators.{Cast, Comma, DecidesAt, Linked, LinkedTruth, Postfixed, Prefixed, SizeValue}
 use Rattle.lower_relation.specs.Paths.{Graph, Path, ◌then◌, Emitted, ForkTo, MarksAll, Ways}
@@ -57,12 +57,12 @@ module _ (p : Allowance) where
     result_forks token true R i k w h = (k, h, fork_stands k w)
     result_forks token false R i k w h = h
 
-    function_forks : (token number : ℕ) (f : Option Signature) (n : ℕ) (arguments : Arguments) →
+    function_forks : (token number : ℕ) (f : Option Signature) (n : ℕ) (arguments : ArgumentsPath) →
         Forks (CallFunction G facts sites token number f n arguments).value (CallFunction G facts sites token number f n arguments).truth
     function_forks token number None n arguments i k w h = (k, h, fork_stands k w)
     function_forks token number (Some f) n arguments i k w h = result_forks token (has_value f.result) _ i k w h
 
-    library_forks : (token : ℕ) (function : Library) (n : ℕ) (argument : Argument) (print : Path ℕ) →
+    library_forks : (token : ℕ) (function : Library) (n : ℕ) (argument : ArgumentPath) (print : Path ℕ) →
         Forks (CallLibrary G facts sites token function n argument print).value (CallLibrary G facts sites token function n argument print).truth
     library_forks token library.Getchar n argument print i k w h = (k, h, fork_stands k w)
     library_forks token library.Putchar n argument print i k w h = (k, h, fork_stands k w)
@@ -74,7 +74,7 @@ module _ (p : Allowance) where
     library_forks token library.Assert n argument print i k w h = h
     library_forks token library.Printf n argument print i k w h = h
 
-    call_forks : (token : ℕ) (what : Called) (n : ℕ) (arguments : Arguments) (argument : Argument) (print : Path ℕ) →
+    call_forks : (token : ℕ) (what : Called) (n : ℕ) (arguments : ArgumentsPath) (argument : ArgumentPath) (print : Path ℕ) →
         Forks (CallDoes G facts sites token what n arguments argument print).value (CallDoes G facts sites token what n arguments argument print).truth
     call_forks token (called.Function number) n arguments argument print i k w h = function_forks token number (facts.signature number) n arguments i k w h
     call_forks token (called.Library function) n arguments argument print i k w h = library_forks token function n argument print i k w h

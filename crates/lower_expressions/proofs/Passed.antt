@@ -4,8 +4,8 @@ use Rattle.std.specs.Option.{option_and_then}
 use Rattle.std.proofs.lemmas.Bool.{eqb-true}
 use Rattle.std.proofs.lemmas.Bool.Decides.{nat_tests}
 use Rattle.std.proofs.lemmas.List.{drop_all, drop_more}
-use Rattle.c_rules.specs.declared.library.Library.{Library}
-use Rattle.c_rules.specs.declared.library.Library.TheVariants as library
+use Rattle.c_types_rules.specs.declared.library.Library.{Library}
+use Rattle.c_types_rules.specs.declared.library.Library.TheVariants as library
 use Rattle.c_syntax.specs.ExprTree as e
 use Rattle.c_syntax.specs.ExprTree.{ExprTree, ExprList}
 use Rattle.c_syntax.specs.declared.expr.Expr.{Expr}
@@ -22,20 +22,20 @@ use Rattle.c_meaning.specs.declared.value_type.ValueType.TheVariants as type
 use Rattle.c_meaning.specs.Calls.{as_type}
 use Rattle.c_meaning.specs.Conversions.{as_used, is_null_as}
 use Rattle.c_meaning.specs.Facts.{Facts, Signature, Sites}
-use Rattle.c_meaning.specs.Meaning.{text_of}
+use Rattle.c_meaning.specs.Meaning.{text_of_string}
 use Rattle.c_meaning.specs.Trees.{called_as, count, first_type, other_types, type_of}
-use Rattle.lower_relation.specs.Calls.{Arguments, CallDoes, Prints}
+use Rattle.lower_relation.specs.Calls.{ArgumentsPath, CallDoes, PrintPath}
 use Rattle.lower_relation.specs.Expressions.{ArgumentsDo, FormatDoes, LoneDoes, emitted, number_of_text}
 use Rattle.lower_relation.specs.Paths.{Graph, Path, ◌then◌, Does, HaltsAt, Nothing, Only, Stuck}
 use Rattle.lower_relation.specs.Values.{HandedValue}
-use Rattle.lower_nodes.specs.Made.{Made, MadeAlone, MadeFor, Part}
+use Rattle.lower_nodes.specs.Made.{GraphPath, Made, MadeAlone, MadeFor}
 use Rattle.lower_nodes.specs.Parts.{serving}
 use Rattle.lower_nodes.specs.Purposes.{Serves}
 use Rattle.lower_nodes.specs.declared.purpose.Purpose.{Purpose}
 use Rattle.lower_nodes.specs.Standing.{Allowed}
 use Rattle.lower_nodes.proofs.Building.{both_ways, carried, nothing_made, surely_made, then_made}
 use Rattle.lower_operators.specs.Giving.{CalledDoes, FunctionDoes, Given, GivenTakes, LibraryDoes, giving_of, is_refused}
-use Rattle.lower_operators.specs.Passing.{Acts, Formats, LibraryActs, Unfit, fits, format_types, known, library_fits, library_types, number_of_first, others, params_of, passed, prints, takes, text_of_first, type_of_first, types_of_text, types_passed}
+use Rattle.lower_operators.specs.Passing.{Acts, Formats, LibraryActs, Unfit, fits, format_types, known, library_fits, library_types, number_of_first, others, passed, prints, takes_arguments, text_of_first, type_of_first, types_of_params, types_of_text, types_passed}
 use Rattle.lower_operators.specs.declared.giving.Giving.{Giving}
 use Rattle.lower_operators.proofs.Handing.{call_is, given_made, refused_serves, same_refused, serves_refused}
 
@@ -94,7 +94,7 @@ first_known None = refl
 first_known (Some t) = refl
 
 -- the text that an expression is has its number
-text_numbered : (facts : Facts) (x : ExprTree) → option_and_then (slice_get facts.statics.texts) (number_of_text facts x) ≡ text_of facts x
+text_numbered : (facts : Facts) (x : ExprTree) → option_and_then (slice_get facts.statics.texts) (number_of_text facts x) ≡ text_of_string facts x
 text_numbered facts (e.Comma token operands) = refl
 text_numbered facts (e.Assign token sign target value) = refl
 text_numbered facts (e.Conditional token condition first second) = refl
@@ -113,7 +113,7 @@ text_numbered facts (e.EndOfFile token) = refl
 
 module _ (facts : Facts) (sites : Sites) where
   -- what a call does, with its arguments
-  abbrev pub called_part : Called → ExprList → Part ℕ
+  abbrev pub called_part : Called → ExprList → GraphPath ℕ
   called_part c xs G =
       CalledDoes G facts c (count xs) (λ types. ArgumentsDo G facts sites types xs) (λ want. LoneDoes G facts sites want xs) (FormatDoes G facts sites xs)
 
@@ -136,7 +136,7 @@ module _ (facts : Facts) (sites : Sites) where
 
     numbered_passed : (number : Option ℕ) (text : Option Text) (xs : ExprList) (i k : ℕ) → option_and_then (slice_get facts.statics.texts) number ≡ text →
         prints text (count xs) ≡ true → (ArgumentsDo G facts sites (types_of_text text) xs then Formats G number (count xs)) i k →
-        Prints G number text (count xs) (λ types. ArgumentsDo G facts sites types xs) i k
+        PrintPath G number text (count xs) (λ types. ArgumentsDo G facts sites types xs) i k
     numbered_passed number None xs i k is fit h = cc
     numbered_passed None (Some format) xs i k is fit h = cc
     numbered_passed (Some number) (Some format) xs i k is fit h =
@@ -147,10 +147,10 @@ module _ (facts : Facts) (sites : Sites) where
         (others xs))) i k →
         FormatDoes G facts sites xs i k
     format_passed e.no_exprs i k fit h = cc
-    format_passed (e.more_exprs x rest) i k fit h = numbered_passed (number_of_text facts x) (text_of facts x) rest i k (text_numbered facts x) fit h
+    format_passed (e.more_exprs x rest) i k fit h = numbered_passed (number_of_text facts x) (text_of_string facts x) rest i k (text_numbered facts x) fit h
 
-    function_passed : (number : ℕ) (s : Option Signature) (xs : ExprList) (i k : ℕ) → takes s (count xs) ≡ true →
-        (ArgumentsDo G facts sites (params_of s) xs then (λ i k. G i (view.Calls number k))) i k →
+    function_passed : (number : ℕ) (s : Option Signature) (xs : ExprList) (i k : ℕ) → takes_arguments s (count xs) ≡ true →
+        (ArgumentsDo G facts sites (types_of_params s) xs then (λ i k. G i (view.Calls number k))) i k →
         FunctionDoes G number s (count xs) (λ types. ArgumentsDo G facts sites types xs) i k
     function_passed number None xs i k fit h = cc
     function_passed number (Some f) xs i k fit h =
@@ -189,7 +189,7 @@ module _ (facts : Facts) (sites : Sites) where
     passed_none R (e.more_exprs x rest) i k fit h = absurd (one_or_more (count rest) fit)
 
     passed_numbered : (number : Option ℕ) (text : Option Text) (xs : ExprList) (i k : ℕ) → option_and_then (slice_get facts.statics.texts) number ≡ text →
-        prints text (count xs) ≡ true → Prints G number text (count xs) (λ types. ArgumentsDo G facts sites types xs) i k →
+        prints text (count xs) ≡ true → PrintPath G number text (count xs) (λ types. ArgumentsDo G facts sites types xs) i k →
         (ArgumentsDo G facts sites (types_of_text text) xs then Formats G number (count xs)) i k
     passed_numbered number None xs i k is fit h = cc
     passed_numbered None (Some format) xs i k is fit h = cc
@@ -200,11 +200,11 @@ module _ (facts : Facts) (sites : Sites) where
         (ArgumentsDo G facts sites (types_of_text (text_of_first facts xs)) (others xs) then Formats G (number_of_first facts xs) (count
         (others xs))) i k
     passed_format e.no_exprs i k fit h = cc
-    passed_format (e.more_exprs x rest) i k fit h = passed_numbered (number_of_text facts x) (text_of facts x) rest i k (text_numbered facts x) fit h
+    passed_format (e.more_exprs x rest) i k fit h = passed_numbered (number_of_text facts x) (text_of_string facts x) rest i k (text_numbered facts x) fit h
 
-    passed_function : (number : ℕ) (s : Option Signature) (xs : ExprList) (i k : ℕ) → takes s (count xs) ≡ true →
+    passed_function : (number : ℕ) (s : Option Signature) (xs : ExprList) (i k : ℕ) → takes_arguments s (count xs) ≡ true →
         FunctionDoes G number s (count xs) (λ types. ArgumentsDo G facts sites types xs) i k →
-        (ArgumentsDo G facts sites (params_of s) xs then (λ i k. G i (view.Calls number k))) i k
+        (ArgumentsDo G facts sites (types_of_params s) xs then (λ i k. G i (view.Calls number k))) i k
     passed_function number None xs i k fit h = cc
     passed_function number (Some f) xs i k fit h =
         subst (λ b. Only G b (ArgumentsDo G facts sites f.params xs then (λ i k. G i (view.Calls number k))) i k) fit h
@@ -252,9 +252,9 @@ module _ (facts : Facts) (sites : Sites) where
     only_unfit : (b : Bool) (R S : Path ℕ) (i k : ℕ) → b ≡ false → (Stuck G then S) i k → Only G b R i k
     only_unfit b R S i k unfit h = subst (λ b. Only G b R i k) (sym unfit) h.1
 
-    numbered_unfit : (number : Option ℕ) (text : Option Text) (n : ℕ) (arguments : Arguments) (S : Path ℕ) (i k : ℕ) → prints text n ≡ false →
+    numbered_unfit : (number : Option ℕ) (text : Option Text) (n : ℕ) (arguments : ArgumentsPath) (S : Path ℕ) (i k : ℕ) → prints text n ≡ false →
         (Stuck G then S) i k →
-        Prints G number text n arguments i k
+        PrintPath G number text n arguments i k
     numbered_unfit None text n arguments S i k unfit h = h.1
     numbered_unfit (Some number) None n arguments S i k unfit h = h.1
     numbered_unfit (Some number) (Some format) n arguments S i k unfit h =
@@ -264,9 +264,9 @@ module _ (facts : Facts) (sites : Sites) where
         FormatDoes G facts sites xs i k
     format_unfit e.no_exprs S i k unfit h = h.1
     format_unfit (e.more_exprs x rest) S i k unfit h =
-        numbered_unfit (number_of_text facts x) (text_of facts x) (count rest) (λ types. ArgumentsDo G facts sites types rest) S i k unfit h
+        numbered_unfit (number_of_text facts x) (text_of_string facts x) (count rest) (λ types. ArgumentsDo G facts sites types rest) S i k unfit h
 
-    function_unfit : (number : ℕ) (s : Option Signature) (n : ℕ) (arguments : Arguments) (S : Path ℕ) (i k : ℕ) → takes s n ≡ false →
+    function_unfit : (number : ℕ) (s : Option Signature) (n : ℕ) (arguments : ArgumentsPath) (S : Path ℕ) (i k : ℕ) → takes_arguments s n ≡ false →
         (Stuck G then S) i k →
         FunctionDoes G number s n arguments i k
     function_unfit number None n arguments S i k unfit h = h.1
@@ -306,8 +306,8 @@ module _ (facts : Facts) (sites : Sites) where
     unfit_only : (b : Bool) (R : Path ℕ) (i k : ℕ) → b ≡ false → Only G b R i k → (Stuck G then Nothing) i k
     unfit_only b R i k unfit h = (k, subst (λ b. Only G b R i k) unfit h, refl)
 
-    unfit_numbered : (number : Option ℕ) (text : Option Text) (n : ℕ) (arguments : Arguments) (i k : ℕ) → prints text n ≡ false →
-        Prints G number text n arguments i k → (Stuck G then Nothing) i k
+    unfit_numbered : (number : Option ℕ) (text : Option Text) (n : ℕ) (arguments : ArgumentsPath) (i k : ℕ) → prints text n ≡ false →
+        PrintPath G number text n arguments i k → (Stuck G then Nothing) i k
     unfit_numbered None text n arguments i k unfit h = (k, h, refl)
     unfit_numbered (Some number) None n arguments i k unfit h = (k, h, refl)
     unfit_numbered (Some number) (Some format) n arguments i k unfit h =
@@ -316,9 +316,9 @@ module _ (facts : Facts) (sites : Sites) where
     unfit_format : (xs : ExprList) (i k : ℕ) → prints (text_of_first facts xs) (count (others xs)) ≡ false → FormatDoes G facts sites xs i k → (Stuck G then Nothing) i k
     unfit_format e.no_exprs i k unfit h = (k, h, refl)
     unfit_format (e.more_exprs x rest) i k unfit h =
-        unfit_numbered (number_of_text facts x) (text_of facts x) (count rest) (λ types. ArgumentsDo G facts sites types rest) i k unfit h
+        unfit_numbered (number_of_text facts x) (text_of_string facts x) (count rest) (λ types. ArgumentsDo G facts sites types rest) i k unfit h
 
-    unfit_function : (number : ℕ) (s : Option Signature) (n : ℕ) (arguments : Arguments) (i k : ℕ) → takes s n ≡ false →
+    unfit_function : (number : ℕ) (s : Option Signature) (n : ℕ) (arguments : ArgumentsPath) (i k : ℕ) → takes_arguments s n ≡ false →
         FunctionDoes G number s n arguments i k → (Stuck G then Nothing) i k
     unfit_function number None n arguments i k unfit h = (k, h, refl)
     unfit_function number (Some f) n arguments i k unfit h =

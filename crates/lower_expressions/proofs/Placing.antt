@@ -7,19 +7,19 @@ use Rattle.c_syntax.specs.declared.expr.PrefixOperator.{PrefixOperator}
 use Rattle.c_syntax.specs.declared.expr.PrefixOperator.TheVariants as prefix
 use Rattle.c_syntax.specs.Plain.{plain_expr, plain_exprs}
 use Rattle.flow.specs.declared.node.Node.{Node}
-use Rattle.c_rules.specs.declared.library.Library.{Library}
-use Rattle.c_rules.specs.declared.library.Library.TheVariants as library
+use Rattle.c_types_rules.specs.declared.library.Library.{Library}
+use Rattle.c_types_rules.specs.declared.library.Library.TheVariants as library
 use Rattle.c_meaning.specs.declared.value_type.Called.{Called}
 use Rattle.c_meaning.specs.declared.value_type.Called.TheVariants as called
 use Rattle.c_meaning.specs.declared.value_type.ValueType.{ValueType}
 use Rattle.c_meaning.specs.declared.value_type.ValueType.TheVariants as type
 use Rattle.c_meaning.specs.Facts.{Facts, Signature, Sites}
 use Rattle.c_meaning.specs.Trees.{called_as, ends_as_place, has_value, is_place, token_of, type_of}
-use Rattle.lower_relation.specs.Calls.{Argument, Arguments, CallDoes, CallFunction, CallLibrary, WithResult}
+use Rattle.lower_relation.specs.Calls.{ArgumentPath, ArgumentsPath, CallDoes, CallFunction, CallLibrary, WithResult}
 use Rattle.lower_relation.specs.Expressions.{LastDoes, emitted}
 use Rattle.lower_relation.specs.Operators.{Cast, Pointed, Postfixed, Prefixed, SizeValue}
 use Rattle.lower_relation.specs.Paths.{Graph, Path, Emitted, Stuck}
-use Rattle.lower_nodes.specs.Made.{Made, MadeAlone, Part}
+use Rattle.lower_nodes.specs.Made.{GraphPath, Made, MadeAlone}
 use Rattle.lower_nodes.specs.Parts.{place_part, value_part}
 use Rattle.lower_operators.specs.Spots.{is_nowhere, spots_part}
 use Rattle.lower_nodes.specs.Standing.{Allowed}
@@ -47,11 +47,11 @@ module _ (G : Graph) where
     result_nowhere token true R = refl
     result_nowhere token false R = refl
 
-    function_nowhere : (token number : ℕ) (f : Option Signature) (n : ℕ) (arguments : Arguments) → (CallFunction G facts sites token number f n arguments).place ≡ nowhere G
+    function_nowhere : (token number : ℕ) (f : Option Signature) (n : ℕ) (arguments : ArgumentsPath) → (CallFunction G facts sites token number f n arguments).place ≡ nowhere G
     function_nowhere token number None n arguments = refl
     function_nowhere token number (Some f) n arguments = result_nowhere token (has_value f.result) _
 
-    library_nowhere : (token : ℕ) (function : Library) (n : ℕ) (argument : Argument) (print : Path ℕ) →
+    library_nowhere : (token : ℕ) (function : Library) (n : ℕ) (argument : ArgumentPath) (print : Path ℕ) →
         (CallLibrary G facts sites token function n argument print).place ≡ nowhere G
     library_nowhere token library.Getchar n argument print = refl
     library_nowhere token library.Putchar n argument print = refl
@@ -63,7 +63,7 @@ module _ (G : Graph) where
     library_nowhere token library.Assert n argument print = refl
     library_nowhere token library.Printf n argument print = refl
 
-    call_nowhere : (token : ℕ) (what : Called) (n : ℕ) (arguments : Arguments) (argument : Argument) (print : Path ℕ) →
+    call_nowhere : (token : ℕ) (what : Called) (n : ℕ) (arguments : ArgumentsPath) (argument : ArgumentPath) (print : Path ℕ) →
         (CallDoes G facts sites token what n arguments argument print).place ≡ nowhere G
     call_nowhere token (called.Function number) n arguments argument print = function_nowhere token number (facts.signature number) n arguments
     call_nowhere token (called.Library function) n arguments argument print = library_nowhere token function n argument print
@@ -138,7 +138,7 @@ module _ (facts : Facts) (sites : Sites) where
       is_stuck (place_part facts sites (e.Comma token (plain_exprs xs))) (λ G. comma_nowhere G facts sites xs other) n0 n1 i k made
 
   module _ (primary : ExprTree) (operators : PostfixList) where
-    abbrev pub postfixed_place : Bool → Part ℕ
+    abbrev pub postfixed_place : Bool → GraphPath ℕ
     postfixed_place ends G =
         (Postfixed G ends (type_of facts (e.Postfix primary operators)) (spots_part facts sites true primary operators G) (spots_part facts sites false primary operators G)).place
 

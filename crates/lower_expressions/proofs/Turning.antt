@@ -10,9 +10,9 @@ use Rattle.c_meaning.specs.Facts.{Facts, Sites}
 use Rattle.lower_relation.specs.Operators.{Negated}
 use Rattle.lower_relation.specs.Paths.{Graph, ◌then◌, Does, Emitted, Stuck}
 use Rattle.lower_relation.specs.Values.{Valued}
-use Rattle.lower_nodes.specs.Made.{Made, MadeAlone, MadeFor, Part}
+use Rattle.lower_nodes.specs.Made.{GraphPath, Made, MadeAlone, MadeFor}
 use Rattle.lower_nodes.specs.Prefixes.{PrefixValue}
-use Rattle.lower_nodes.specs.Purposes.{Serves, Takes}
+use Rattle.lower_nodes.specs.Purposes.{PurposeTakes, Serves}
 use Rattle.lower_nodes.specs.declared.purpose.Purpose.{Purpose}
 use Rattle.lower_nodes.specs.declared.purpose.Purpose.TheVariants as purpose
 use Rattle.lower_nodes.proofs.Building.{is_stuck}
@@ -20,11 +20,11 @@ use Rattle.lower_nodes.proofs.Serving.{is_valued, valued_made}
 use Rattle.lower_nodes.proofs.Wanting.{same_effect, same_value}
 
 -- a negation whose truth isn't what is wanted
-abbrev turned : (Graph → Emitted) → Part ℕ
+abbrev turned : (Graph → Emitted) → GraphPath ℕ
 turned m G = (m G).value then Does G (node.Sole unary.Not 0)
 
 pub turned_made : (facts : Facts) (sites : Sites) (m : Graph → Emitted) (p : Purpose) (n0 n1 n2 : List Node) (after i : ℕ) →
-    ((yes_at no_at : ℕ) → p ≡ purpose.Truth yes_at no_at → ⊥) → MadeFor (λ G. Takes G) n0 n1 after p →
+    ((yes_at no_at : ℕ) → p ≡ purpose.Truth yes_at no_at → ⊥) → MadeFor (λ G. PurposeTakes G) n0 n1 after p →
     Made (λ G. (m G).value then Does G (node.Sole unary.Not 0)) n1 n2 i after → MadeFor (λ G. Serves (Negated G facts sites (m G))) n0 n2 i p
 turned_made facts sites m (purpose.Value next) n0 n1 n2 after i other taken made =
     same_value (λ G. Serves (Valued G (turned m G))) (λ G. Serves (Negated G facts sites (m G))) (λ G i k h. h) (λ s i k h. h) n0 n2 i next

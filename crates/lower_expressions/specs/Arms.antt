@@ -7,11 +7,11 @@ use Rattle.c_meaning.specs.Facts.{Facts, Sites}
 use Rattle.c_meaning.specs.Trees.{type_of}
 use Rattle.lower_relation.specs.Expressions.{emitted}
 use Rattle.lower_relation.specs.Values.{ArmEffect, ArmValue}
-use Rattle.lower_nodes.specs.Made.{Part}
+use Rattle.lower_nodes.specs.Made.{GraphPath}
 
 -- an arm as a value of the type of the whole, and where nothing takes that
-abbrev pub arm_value_part : Facts → Sites → Option ValueType → ExprTree → Part ℕ
+abbrev pub arm_value_part : Facts → Sites → Option ValueType → ExprTree → GraphPath ℕ
 arm_value_part facts sites want x G = ArmValue G (is_null_as want x) (type_of facts x) want (emitted G facts sites x)
 
-abbrev pub arm_effect_part : Facts → Sites → Option ValueType → ExprTree → Part ℕ
+abbrev pub arm_effect_part : Facts → Sites → Option ValueType → ExprTree → GraphPath ℕ
 arm_effect_part facts sites want x G = ArmEffect G (is_null_as want x) (type_of facts x) want (emitted G facts sites x)

@@ -11,7 +11,7 @@ use Rattle.lower_relation.specs.Expressions.{emitted}
 use Rattle.lower_relation.specs.Operators.{LinkedTruth}
 use Rattle.lower_relation.specs.Paths.{Graph, Path, ◌then◌, Ways}
 use Rattle.lower_relation.specs.Values.{NullOr, NullTruth}
-use Rattle.lower_nodes.specs.Made.{Part}
+use Rattle.lower_nodes.specs.Made.{GraphPath}
 use Rattle.lower_operators.specs.Linking.{link_part}
 
 module _ (facts : Facts) (sites : Sites) where
@@ -29,7 +29,8 @@ module _ (facts : Facts) (sites : Sites) where
 
     abbrev pub truth_behind : Option ValueType → Link → Path ℕ → Path Ways → Path Ways
     truth_behind left x R T =
-        LinkedTruth G facts sites (joint x.sign) x.token left (operand_type (is_null_beside (binary_of x.sign) left (plain_expr x.operand)) (type_of facts (plain_expr x.operand))) R T
+        LinkedTruth G facts sites (joint x.sign) x.token left
+        (operand_type (is_null_beside (binary_of x.sign) left (plain_expr x.operand)) (type_of facts (plain_expr x.operand))) R T
         (right_value left x) (right_truth left x)
 
     -- those of what stands before the operator with this index
@@ -48,15 +49,15 @@ module _ (facts : Facts) (sites : Sites) where
     abbrev pub begins_as : Option ValueType
     begins_as = operand_type (begins_null facts first (plain_links links)) (type_of facts first)
 
-    abbrev pub begins_with : Part ℕ
+    abbrev pub begins_with : GraphPath ℕ
     begins_with G = NullOr G (begins_null facts first (plain_links links)) (emitted G facts sites first)
 
-    abbrev pub begins_truly : Part Ways
+    abbrev pub begins_truly : GraphPath Ways
     begins_truly G = NullTruth G (begins_null facts first (plain_links links)) (emitted G facts sites first)
 
     -- the value and the truth of what stands before the operator with this index
-    abbrev pub chain_value : ℕ → Part ℕ
+    abbrev pub chain_value : ℕ → GraphPath ℕ
     chain_value j G = value_at G begins_as (begins_with G) links j
 
-    abbrev pub chain_truth : ℕ → Part Ways
+    abbrev pub chain_truth : ℕ → GraphPath Ways
     chain_truth j G = truth_at G begins_as (begins_with G) (begins_truly G) links j

@@ -29,7 +29,8 @@ pub fn emit_arguments(
     next: u32,
 ) -> Result<u32, Memory>
     requires room { length graph.old + exprs_room (sites_in facts.now) 3 (plain_exprs arguments.now) ≤ node_limit }
-    ensures made { IfOk result (λ i. Made (λ G. ArgumentsDo G (facts_in facts.now) (sites_in facts.now) (wanted_types wanted.entry) (plain_exprs arguments.now)) graph.old graph.new i next) }
+    ensures made { IfOk result (λ i. Made (λ G. ArgumentsDo G (facts_in facts.now) (sites_in facts.now) (wanted_types wanted.entry)
+        (plain_exprs arguments.now)) graph.old graph.new i next) }
     ensures few { IfOk result (λ i. length graph.new ≤ length graph.old + exprs_room (sites_in facts.now) 3 (plain_exprs arguments.now)) }
 {
     let mut entry = next;
@@ -51,7 +52,8 @@ pub fn emit_call(
     purpose: Purpose,
 ) -> Result<u32, Memory>
     requires room { length graph.old + expr_room (sites_in facts.now) (e.Call token name.now (plain_exprs arguments.now)) ≤ node_limit }
-    ensures made { IfOk result (λ i. MadeFor (serving (facts_in facts.now) (sites_in facts.now) (e.Call token name.now (plain_exprs arguments.now))) graph.old graph.new i purpose) }
+    ensures made { IfOk result (λ i. MadeFor (serving (facts_in facts.now) (sites_in facts.now) (e.Call token name.now (plain_exprs arguments.now)))
+        graph.old graph.new i purpose) }
     ensures few { IfOk result (λ i. length graph.new ≤ length graph.old + expr_room (sites_in facts.now) (e.Call token name.now (plain_exprs arguments.now))) }
 {
     let called = facts.called_as(token, name);

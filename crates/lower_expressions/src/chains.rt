@@ -34,7 +34,8 @@ pub fn emit_null_or(
     next: u32,
 ) -> Result<u32, Memory>
     requires room { length graph.old + (1 + expr_room (sites_in facts.now) (plain_expr x.now)) ≤ node_limit }
-    ensures made { IfOk result (λ i. Made (λ G. NullOr G is_null (emitted G (facts_in facts.now) (sites_in facts.now) (plain_expr x.now))) graph.old graph.new i next) }
+    ensures made { IfOk result (λ i. Made (λ G. NullOr G is_null (emitted G (facts_in facts.now) (sites_in facts.now) (plain_expr x.now)))
+        graph.old graph.new i next) }
     ensures few { IfOk result (λ i. length graph.new ≤ length graph.old + (1 + expr_room (sites_in facts.now) (plain_expr x.now))) }
 {
     if is_null {
@@ -54,9 +55,12 @@ pub fn emit_link(
     link: &Link,
     next: u32,
 ) -> Result<u32, Memory>
-    requires room { length graph.old + (7 + branches (sites_in facts.now) link.now.token + expr_room (sites_in facts.now) (plain_expr link.now.operand)) ≤ node_limit }
-    ensures made { IfOk result (λ i. Made (link_part (facts_in facts.now) (sites_in facts.now) left link.now.token link.now.sign (plain_expr link.now.operand)) graph.old graph.new i next) }
-    ensures few { IfOk result (λ i. length graph.new ≤ length graph.old + (7 + branches (sites_in facts.now) link.now.token + expr_room (sites_in facts.now) (plain_expr link.now.operand))) }
+    requires room { length graph.old + (7 + branches (sites_in facts.now) link.now.token
+        + expr_room (sites_in facts.now) (plain_expr link.now.operand)) ≤ node_limit }
+    ensures made { IfOk result (λ i. Made (link_part (facts_in facts.now) (sites_in facts.now) left link.now.token link.now.sign
+        (plain_expr link.now.operand)) graph.old graph.new i next) }
+    ensures few { IfOk result (λ i. length graph.new ≤ length graph.old
+        + (7 + branches (sites_in facts.now) link.now.token + expr_room (sites_in facts.now) (plain_expr link.now.operand))) }
 {
     let binary = binary_of(link.sign);
     let is_null = is_null_beside(binary, left, &link.operand);
@@ -120,9 +124,12 @@ pub fn emit_before(
     next: u32,
 ) -> Result<u32, Memory>
     requires within { count ≤ length links.now }
-    requires room { length graph.old + (1 + expr_room (sites_in facts.now) (plain_expr first.now) + links_room (sites_in facts.now) (plain_links (take count links.now))) ≤ node_limit }
-    ensures made { IfOk result (λ i. Made (chain_value (facts_in facts.now) (sites_in facts.now) (plain_expr first.now) links.now count) graph.old graph.new i next) }
-    ensures few { IfOk result (λ i. length graph.new ≤ length graph.old + (1 + expr_room (sites_in facts.now) (plain_expr first.now) + links_room (sites_in facts.now) (plain_links (take count links.now)))) }
+    requires room { length graph.old + (1 + expr_room (sites_in facts.now) (plain_expr first.now)
+        + links_room (sites_in facts.now) (plain_links (take count links.now))) ≤ node_limit }
+    ensures made { IfOk result (λ i. Made (chain_value (facts_in facts.now) (sites_in facts.now) (plain_expr first.now) links.now count)
+        graph.old graph.new i next) }
+    ensures few { IfOk result (λ i. length graph.new ≤ length graph.old
+        + (1 + expr_room (sites_in facts.now) (plain_expr first.now) + links_room (sites_in facts.now) (plain_links (take count links.now)))) }
 {
     let is_null = begins_null(facts, first, links);
     let own = facts.type_of(first);
@@ -142,8 +149,10 @@ pub fn emit_chain(
     purpose: Purpose,
 ) -> Result<u32, Memory>
     requires room { length graph.old + expr_room (sites_in facts.now) (e.Chain 0 (plain_expr first.now) (plain_links links.now)) ≤ node_limit }
-    ensures made { IfOk result (λ i. MadeFor (serving (facts_in facts.now) (sites_in facts.now) (e.Chain 0 (plain_expr first.now) (plain_links links.now))) graph.old graph.new i purpose) }
-    ensures few { IfOk result (λ i. length graph.new ≤ length graph.old + expr_room (sites_in facts.now) (e.Chain 0 (plain_expr first.now) (plain_links links.now))) }
+    ensures made { IfOk result (λ i. MadeFor
+        (serving (facts_in facts.now) (sites_in facts.now) (e.Chain 0 (plain_expr first.now) (plain_links links.now))) graph.old graph.new i purpose) }
+    ensures few { IfOk result (λ i. length graph.new ≤ length graph.old
+        + expr_room (sites_in facts.now) (e.Chain 0 (plain_expr first.now) (plain_links links.now))) }
 {
     match purpose {
         Purpose::Truth { yes, no } => {

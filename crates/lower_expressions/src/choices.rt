@@ -35,7 +35,8 @@ pub fn emit_handed(
     next: u32,
 ) -> Result<u32, Memory>
     requires room { length graph.old + (3 + expr_room (sites_in facts.now) (plain_expr x.now)) ≤ node_limit }
-    ensures made { IfOk result (λ i. Made (λ G. HandedValue G (is_null_as want (plain_expr x.now)) want (emitted G (facts_in facts.now) (sites_in facts.now) (plain_expr x.now))) graph.old graph.new i next) }
+    ensures made { IfOk result (λ i. Made (λ G. HandedValue G (is_null_as want (plain_expr x.now)) want
+        (emitted G (facts_in facts.now) (sites_in facts.now) (plain_expr x.now))) graph.old graph.new i next) }
     ensures few { IfOk result (λ i. length graph.new ≤ length graph.old + (3 + expr_room (sites_in facts.now) (plain_expr x.now))) }
 {
     if is_null_as(want, x) {
@@ -57,7 +58,9 @@ pub fn emit_cast(
     purpose: Purpose,
 ) -> Result<u32, Memory>
     requires room { length graph.old + (4 + expr_room (sites_in facts.now) (plain_expr operand.now)) ≤ node_limit }
-    ensures made { IfOk result (λ i. MadeFor (λ G. Serves (Cast G (is_null_as want (plain_expr operand.now)) want (emitted G (facts_in facts.now) (sites_in facts.now) (plain_expr operand.now)))) graph.old graph.new i purpose) }
+    ensures made { IfOk result (λ i. MadeFor
+        (λ G. Serves (Cast G (is_null_as want (plain_expr operand.now)) want
+        (emitted G (facts_in facts.now) (sites_in facts.now) (plain_expr operand.now)))) graph.old graph.new i purpose) }
     ensures few { IfOk result (λ i. length graph.new ≤ length graph.old + (4 + expr_room (sites_in facts.now) (plain_expr operand.now))) }
 {
     if !is_void(want) {
@@ -134,9 +137,13 @@ pub fn emit_chosen(
     second: &Expr,
     next: u32,
 ) -> Result<u32, Memory>
-    requires room { length graph.old + (7 + branches (sites_in facts.now) token + expr_room (sites_in facts.now) (plain_expr condition.now) + expr_room (sites_in facts.now) (plain_expr first.now) + expr_room (sites_in facts.now) (plain_expr second.now)) ≤ node_limit }
-    ensures made { IfOk result (λ i. Made (value_part (facts_in facts.now) (sites_in facts.now) (e.Conditional token (plain_expr condition.now) (plain_expr first.now) (plain_expr second.now))) graph.old graph.new i next) }
-    ensures few { IfOk result (λ i. length graph.new ≤ length graph.old + (7 + branches (sites_in facts.now) token + expr_room (sites_in facts.now) (plain_expr condition.now) + expr_room (sites_in facts.now) (plain_expr first.now) + expr_room (sites_in facts.now) (plain_expr second.now))) }
+    requires room { length graph.old + (7 + branches (sites_in facts.now) token + expr_room (sites_in facts.now) (plain_expr condition.now)
+        + expr_room (sites_in facts.now) (plain_expr first.now) + expr_room (sites_in facts.now) (plain_expr second.now)) ≤ node_limit }
+    ensures made { IfOk result (λ i. Made (value_part (facts_in facts.now) (sites_in facts.now)
+        (e.Conditional token (plain_expr condition.now) (plain_expr first.now) (plain_expr second.now))) graph.old graph.new i next) }
+    ensures few { IfOk result (λ i. length graph.new ≤ length graph.old
+        + (7 + branches (sites_in facts.now) token + expr_room (sites_in facts.now) (plain_expr condition.now)
+        + expr_room (sites_in facts.now) (plain_expr first.now) + expr_room (sites_in facts.now) (plain_expr second.now))) }
 {
     let want = facts.type_at(token);
     let no = emit_arm_value(graph, facts, want, second, next)?;
@@ -156,9 +163,13 @@ pub fn emit_conditional(
     second: &Expr,
     purpose: Purpose,
 ) -> Result<u32, Memory>
-    requires room { length graph.old + expr_room (sites_in facts.now) (e.Conditional token (plain_expr condition.now) (plain_expr first.now) (plain_expr second.now)) ≤ node_limit }
-    ensures made { IfOk result (λ i. MadeFor (serving (facts_in facts.now) (sites_in facts.now) (e.Conditional token (plain_expr condition.now) (plain_expr first.now) (plain_expr second.now))) graph.old graph.new i purpose) }
-    ensures few { IfOk result (λ i. length graph.new ≤ length graph.old + expr_room (sites_in facts.now) (e.Conditional token (plain_expr condition.now) (plain_expr first.now) (plain_expr second.now))) }
+    requires room { length graph.old + expr_room (sites_in facts.now)
+        (e.Conditional token (plain_expr condition.now) (plain_expr first.now) (plain_expr second.now)) ≤ node_limit }
+    ensures made { IfOk result (λ i. MadeFor
+        (serving (facts_in facts.now) (sites_in facts.now)
+        (e.Conditional token (plain_expr condition.now) (plain_expr first.now) (plain_expr second.now))) graph.old graph.new i purpose) }
+    ensures few { IfOk result (λ i. length graph.new ≤ length graph.old
+        + expr_room (sites_in facts.now) (e.Conditional token (plain_expr condition.now) (plain_expr first.now) (plain_expr second.now))) }
 {
     match purpose {
         Purpose::Effect { next } => {
@@ -185,7 +196,8 @@ pub fn emit_last(
     purpose: Purpose,
 ) -> Result<u32, Memory>
     requires room { length graph.old + (3 + exprs_room (sites_in facts.now) 0 (plain_exprs operands.now)) ≤ node_limit }
-    ensures made { IfOk result (λ i. MadeFor (λ G. Serves (LastDoes G (facts_in facts.now) (sites_in facts.now) (plain_exprs operands.now))) graph.old graph.new i purpose) }
+    ensures made { IfOk result (λ i. MadeFor (λ G. Serves (LastDoes G (facts_in facts.now) (sites_in facts.now) (plain_exprs operands.now)))
+        graph.old graph.new i purpose) }
     ensures few { IfOk result (λ i. length graph.new ≤ length graph.old + (3 + exprs_room (sites_in facts.now) 0 (plain_exprs operands.now))) }
 {
     if operands.len() == 0 {

@@ -26,8 +26,10 @@ pub fn emit_condition(
     no: u32,
 ) -> Result<u32, Memory>
     requires room { length graph.old + (1 + branches (sites_in facts.now) token + expr_room (sites_in facts.now) (plain_expr x.now)) ≤ node_limit }
-    ensures made { IfOk result (λ i. MadeWays (λ G. Condition G (facts_in facts.now) (sites_in facts.now) token (plain_expr x.now)) graph.old graph.new i (ways yes no)) }
-    ensures few { IfOk result (λ i. length graph.new ≤ length graph.old + (1 + branches (sites_in facts.now) token + expr_room (sites_in facts.now) (plain_expr x.now))) }
+    ensures made { IfOk result (λ i. MadeWays (λ G. Condition G (facts_in facts.now) (sites_in facts.now) token (plain_expr x.now))
+        graph.old graph.new i (ways yes no)) }
+    ensures few { IfOk result (λ i. length graph.new ≤ length graph.old
+        + (1 + branches (sites_in facts.now) token + expr_room (sites_in facts.now) (plain_expr x.now))) }
 {
     match facts.branch_at(token) {
         None => {

@@ -113,7 +113,8 @@ pub fn emit_wanted(
     next: u32,
 ) -> Result<u32, Memory>
     requires room { length graph.old + (2 + expr_room (sites_in facts.now) (plain_expr x.now)) ≤ node_limit }
-    ensures made { IfOk result (λ i. Made (λ G. WantedValue G (is_null_as want (plain_expr x.now)) (type_of (facts_in facts.now) (plain_expr x.now)) want (emitted G (facts_in facts.now) (sites_in facts.now) (plain_expr x.now))) graph.old graph.new i next) }
+    ensures made { IfOk result (λ i. Made (λ G. WantedValue G (is_null_as want (plain_expr x.now)) (type_of (facts_in facts.now) (plain_expr x.now))
+        want (emitted G (facts_in facts.now) (sites_in facts.now) (plain_expr x.now))) graph.old graph.new i next) }
     ensures few { IfOk result (λ i. length graph.new ≤ length graph.old + (2 + expr_room (sites_in facts.now) (plain_expr x.now))) }
 {
     if is_null_as(want, x) {

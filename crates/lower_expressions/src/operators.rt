@@ -41,8 +41,11 @@ pub fn emit_assign(
     purpose: Purpose,
 ) -> Result<u32, Memory>
     requires room { length graph.old + expr_room (sites_in facts.now) (e.Assign token sign (plain_expr target.now) (plain_expr value.now)) ≤ node_limit }
-    ensures made { IfOk result (λ i. MadeFor (serving (facts_in facts.now) (sites_in facts.now) (e.Assign token sign (plain_expr target.now) (plain_expr value.now))) graph.old graph.new i purpose) }
-    ensures few { IfOk result (λ i. length graph.new ≤ length graph.old + expr_room (sites_in facts.now) (e.Assign token sign (plain_expr target.now) (plain_expr value.now))) }
+    ensures made { IfOk result (λ i. MadeFor
+        (serving (facts_in facts.now) (sites_in facts.now) (e.Assign token sign (plain_expr target.now) (plain_expr value.now)))
+        graph.old graph.new i purpose) }
+    ensures few { IfOk result (λ i. length graph.new ≤ length graph.old
+        + expr_room (sites_in facts.now) (e.Assign token sign (plain_expr target.now) (plain_expr value.now))) }
 {
     let left = facts.type_of(target);
     let right = facts.type_of(value);
@@ -76,8 +79,11 @@ pub fn emit_prefix_value(
     next: u32,
 ) -> Result<u32, Memory>
     requires room { length graph.old + (13 + pairs (sites_in facts.now) token + expr_room (sites_in facts.now) (plain_expr operand.now)) ≤ node_limit }
-    ensures made { IfOk result (λ i. Made (λ G. PrefixValue G (facts_in facts.now) (sites_in facts.now) token operator (type_of (facts_in facts.now) (plain_expr operand.now)) (emitted G (facts_in facts.now) (sites_in facts.now) (plain_expr operand.now))) graph.old graph.new i next) }
-    ensures few { IfOk result (λ i. length graph.new ≤ length graph.old + (13 + pairs (sites_in facts.now) token + expr_room (sites_in facts.now) (plain_expr operand.now))) }
+    ensures made { IfOk result (λ i. Made (λ G. PrefixValue G (facts_in facts.now) (sites_in facts.now) token operator
+        (type_of (facts_in facts.now) (plain_expr operand.now)) (emitted G (facts_in facts.now) (sites_in facts.now) (plain_expr operand.now)))
+        graph.old graph.new i next) }
+    ensures few { IfOk result (λ i. length graph.new ≤ length graph.old
+        + (13 + pairs (sites_in facts.now) token + expr_room (sites_in facts.now) (plain_expr operand.now))) }
 {
     let of = facts.type_of(operand);
     match operator {
@@ -128,7 +134,8 @@ fn emit_negation(
     next: u32,
 ) -> Result<u32, Memory>
     requires room { length graph.old + (1 + expr_room (sites_in facts.now) (plain_expr operand.now)) ≤ node_limit }
-    ensures made { IfOk result (λ i. Made (λ G. (emitted G (facts_in facts.now) (sites_in facts.now) (plain_expr operand.now)).value then Does G (node.Sole unary.Not 0)) graph.old graph.new i next) }
+    ensures made { IfOk result (λ i. Made (λ G. (emitted G (facts_in facts.now) (sites_in facts.now) (plain_expr operand.now)).value then Does G
+        (node.Sole unary.Not 0)) graph.old graph.new i next) }
     ensures few { IfOk result (λ i. length graph.new ≤ length graph.old + (1 + expr_room (sites_in facts.now) (plain_expr operand.now))) }
 {
     let sole = graph.put(Node::Sole {
@@ -148,7 +155,9 @@ pub fn emit_not(
     purpose: Purpose,
 ) -> Result<u32, Memory>
     requires room { length graph.old + (2 + expr_room (sites_in facts.now) (plain_expr operand.now)) ≤ node_limit }
-    ensures made { IfOk result (λ i. MadeFor (λ G. Serves (Negated G (facts_in facts.now) (sites_in facts.now) (emitted G (facts_in facts.now) (sites_in facts.now) (plain_expr operand.now)))) graph.old graph.new i purpose) }
+    ensures made { IfOk result (λ i. MadeFor
+        (λ G. Serves (Negated G (facts_in facts.now) (sites_in facts.now)
+        (emitted G (facts_in facts.now) (sites_in facts.now) (plain_expr operand.now)))) graph.old graph.new i purpose) }
     ensures few { IfOk result (λ i. length graph.new ≤ length graph.old + (2 + expr_room (sites_in facts.now) (plain_expr operand.now))) }
 {
     match purpose {
@@ -175,7 +184,8 @@ pub fn emit_prefix(
     purpose: Purpose,
 ) -> Result<u32, Memory>
     requires room { length graph.old + expr_room (sites_in facts.now) (e.Prefix token operator (plain_expr operand.now)) ≤ node_limit }
-    ensures made { IfOk result (λ i. MadeFor (serving (facts_in facts.now) (sites_in facts.now) (e.Prefix token operator (plain_expr operand.now))) graph.old graph.new i purpose) }
+    ensures made { IfOk result (λ i. MadeFor (serving (facts_in facts.now) (sites_in facts.now) (e.Prefix token operator (plain_expr operand.now)))
+        graph.old graph.new i purpose) }
     ensures few { IfOk result (λ i. length graph.new ≤ length graph.old + expr_room (sites_in facts.now) (e.Prefix token operator (plain_expr operand.now))) }
 {
     match operator {

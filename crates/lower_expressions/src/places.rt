@@ -72,7 +72,8 @@ pub fn emit_prefix_place(
     next: u32,
 ) -> Result<u32, Memory>
     requires room { length graph.old + (3 + expr_room (sites_in facts.now) (plain_expr operand.now)) ≤ node_limit }
-    ensures made { IfOk result (λ i. (token : ℕ) → Made (place_part (facts_in facts.now) (sites_in facts.now) (e.Prefix token operator (plain_expr operand.now))) graph.old graph.new i next) }
+    ensures made { IfOk result (λ i. (token : ℕ)
+        → Made (place_part (facts_in facts.now) (sites_in facts.now) (e.Prefix token operator (plain_expr operand.now))) graph.old graph.new i next) }
     ensures few { IfOk result (λ i. length graph.new ≤ length graph.old + (3 + expr_room (sites_in facts.now) (plain_expr operand.now))) }
 {
     match operator {
@@ -97,7 +98,8 @@ pub fn emit_lone_place(
     next: u32,
 ) -> Result<u32, Memory>
     requires room { length graph.old + (3 + exprs_room (sites_in facts.now) 0 (plain_exprs operands.now)) ≤ node_limit }
-    ensures made { IfOk result (λ i. (token : ℕ) → Made (place_part (facts_in facts.now) (sites_in facts.now) (e.Comma token (plain_exprs operands.now))) graph.old graph.new i next) }
+    ensures made { IfOk result (λ i. (token : ℕ)
+        → Made (place_part (facts_in facts.now) (sites_in facts.now) (e.Comma token (plain_exprs operands.now))) graph.old graph.new i next) }
     ensures few { IfOk result (λ i. length graph.new ≤ length graph.old + (3 + exprs_room (sites_in facts.now) 0 (plain_exprs operands.now))) }
 {
     if operands.len() == 1 {

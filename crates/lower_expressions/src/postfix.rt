@@ -37,7 +37,8 @@ pub fn emit_operator(
     next: u32,
 ) -> Result<u32, Memory>
     requires room { length graph.old + postfix_room (sites_in facts.now) (plain_postfix operator.now e.no_postfix) ≤ node_limit }
-    ensures made { IfOk result (λ i. (rest : PostfixList) → Made (first_part (facts_in facts.now) (sites_in facts.now) taken known of (plain_postfix operator.now rest)) graph.old graph.new i next) }
+    ensures made { IfOk result (λ i. (rest : PostfixList)
+        → Made (first_part (facts_in facts.now) (sites_in facts.now) taken known of (plain_postfix operator.now rest)) graph.old graph.new i next) }
     ensures few { IfOk result (λ i. length graph.new ≤ length graph.old + postfix_room (sites_in facts.now) (plain_postfix operator.now e.no_postfix)) }
 {
     match operator {
@@ -83,7 +84,8 @@ pub fn emit_behind(
     next: u32,
 ) -> Result<u32, Memory>
     requires room { length graph.old + postfix_room (sites_in facts.now) (plain_operators operators.now) ≤ node_limit }
-    ensures made { IfOk result (λ i. Made (λ G. Behind G (facts_in facts.now) (sites_in facts.now) taken known of (plain_operators operators.now)) graph.old graph.new i next) }
+    ensures made { IfOk result (λ i. Made (λ G. Behind G (facts_in facts.now) (sites_in facts.now) taken known of (plain_operators operators.now))
+        graph.old graph.new i next) }
     ensures few { IfOk result (λ i. length graph.new ≤ length graph.old + postfix_room (sites_in facts.now) (plain_operators operators.now)) }
 {
     let mut entry = next;
@@ -107,7 +109,8 @@ pub fn emit_spot(
     next: u32,
 ) -> Result<u32, Memory>
     requires room { length graph.old + expr_room (sites_in facts.now) (plain_expr x.now) ≤ node_limit }
-    ensures made { IfOk result (λ i. Made (λ G. Spot G known (emitted G (facts_in facts.now) (sites_in facts.now) (plain_expr x.now))) graph.old graph.new i next) }
+    ensures made { IfOk result (λ i. Made (λ G. Spot G known (emitted G (facts_in facts.now) (sites_in facts.now) (plain_expr x.now)))
+        graph.old graph.new i next) }
     ensures few { IfOk result (λ i. length graph.new ≤ length graph.old + expr_room (sites_in facts.now) (plain_expr x.now)) }
 {
     if known {
@@ -128,9 +131,12 @@ pub fn emit_spots(
     operators: &[PostfixOperator],
     next: u32,
 ) -> Result<u32, Memory>
-    requires room { length graph.old + (expr_room (sites_in facts.now) (plain_expr primary.now) + postfix_room (sites_in facts.now) (plain_operators operators.now)) ≤ node_limit }
-    ensures made { IfOk result (λ i. Made (spots_part (facts_in facts.now) (sites_in facts.now) taken (plain_expr primary.now) (plain_operators operators.now)) graph.old graph.new i next) }
-    ensures few { IfOk result (λ i. length graph.new ≤ length graph.old + (expr_room (sites_in facts.now) (plain_expr primary.now) + postfix_room (sites_in facts.now) (plain_operators operators.now))) }
+    requires room { length graph.old + (expr_room (sites_in facts.now) (plain_expr primary.now)
+        + postfix_room (sites_in facts.now) (plain_operators operators.now)) ≤ node_limit }
+    ensures made { IfOk result (λ i. Made (spots_part (facts_in facts.now) (sites_in facts.now) taken (plain_expr primary.now)
+        (plain_operators operators.now)) graph.old graph.new i next) }
+    ensures few { IfOk result (λ i. length graph.new ≤ length graph.old
+        + (expr_room (sites_in facts.now) (plain_expr primary.now) + postfix_room (sites_in facts.now) (plain_operators operators.now))) }
 {
     let known = is_place(primary);
     let of = facts.type_of(primary);
@@ -149,8 +155,11 @@ pub fn emit_postfix(
     purpose: Purpose,
 ) -> Result<u32, Memory>
     requires room { length graph.old + expr_room (sites_in facts.now) (e.Postfix (plain_expr primary.now) (plain_operators operators.now)) ≤ node_limit }
-    ensures made { IfOk result (λ i. MadeFor (serving (facts_in facts.now) (sites_in facts.now) (e.Postfix (plain_expr primary.now) (plain_operators operators.now))) graph.old graph.new i purpose) }
-    ensures few { IfOk result (λ i. length graph.new ≤ length graph.old + expr_room (sites_in facts.now) (e.Postfix (plain_expr primary.now) (plain_operators operators.now))) }
+    ensures made { IfOk result (λ i. MadeFor
+        (serving (facts_in facts.now) (sites_in facts.now) (e.Postfix (plain_expr primary.now) (plain_operators operators.now)))
+        graph.old graph.new i purpose) }
+    ensures few { IfOk result (λ i. length graph.new ≤ length graph.old
+        + expr_room (sites_in facts.now) (e.Postfix (plain_expr primary.now) (plain_operators operators.now))) }
 {
     let known = is_place(primary);
     if ends_as_place(known, operators) {
@@ -177,8 +186,10 @@ pub fn emit_postfix_place(
     next: u32,
 ) -> Result<u32, Memory>
     requires room { length graph.old + expr_room (sites_in facts.now) (e.Postfix (plain_expr primary.now) (plain_operators operators.now)) ≤ node_limit }
-    ensures made { IfOk result (λ i. Made (place_part (facts_in facts.now) (sites_in facts.now) (e.Postfix (plain_expr primary.now) (plain_operators operators.now))) graph.old graph.new i next) }
-    ensures few { IfOk result (λ i. length graph.new ≤ length graph.old + expr_room (sites_in facts.now) (e.Postfix (plain_expr primary.now) (plain_operators operators.now))) }
+    ensures made { IfOk result (λ i. Made (place_part (facts_in facts.now) (sites_in facts.now)
+        (e.Postfix (plain_expr primary.now) (plain_operators operators.now))) graph.old graph.new i next) }
+    ensures few { IfOk result (λ i. length graph.new ≤ length graph.old
+        + expr_room (sites_in facts.now) (e.Postfix (plain_expr primary.now) (plain_operators operators.now))) }
 {
     let known = is_place(primary);
     if ends_as_place(known, operators) {

@@ -38,7 +38,8 @@ pub fn emit_null_truth(
     no: u32,
 ) -> Result<u32, Memory>
     requires room { length graph.old + (2 + expr_room (sites_in facts.now) (plain_expr x.now)) ≤ node_limit }
-    ensures made { IfOk result (λ i. MadeWays (λ G. NullTruth G is_null (emitted G (facts_in facts.now) (sites_in facts.now) (plain_expr x.now))) graph.old graph.new i (ways yes no)) }
+    ensures made { IfOk result (λ i. MadeWays (λ G. NullTruth G is_null (emitted G (facts_in facts.now) (sites_in facts.now) (plain_expr x.now)))
+        graph.old graph.new i (ways yes no)) }
     ensures few { IfOk result (λ i. length graph.new ≤ length graph.old + (2 + expr_room (sites_in facts.now) (plain_expr x.now))) }
 {
     if is_null {
@@ -64,7 +65,10 @@ fn emit_right_truth(
 ) -> Result<u32, Memory>
     requires within { place < length links.now }
     requires room { length graph.old + (2 + expr_room (sites_in facts.now) (plain_expr link.now.operand)) ≤ node_limit }
-    ensures made { IfOk result (λ i. MadeWays (λ G. right_truth (facts_in facts.now) (sites_in facts.now) G (type_before (facts_in facts.now) (begins_as (facts_in facts.now) (sites_in facts.now) (plain_expr first.now) links.now) links.now place) link.now) graph.old graph.new i (ways yes no)) }
+    ensures made { IfOk result (λ i. MadeWays
+        (λ G. right_truth (facts_in facts.now) (sites_in facts.now) G
+        (type_before (facts_in facts.now) (begins_as (facts_in facts.now) (sites_in facts.now) (plain_expr first.now) links.now) links.now place)
+        link.now) graph.old graph.new i (ways yes no)) }
     ensures few { IfOk result (λ i. length graph.new ≤ length graph.old + (2 + expr_room (sites_in facts.now) (plain_expr link.now.operand))) }
 {
     let begins = begins_null(facts, first, links);
@@ -92,9 +96,12 @@ fn emit_valued_truth(
     requires within { place < length links.now }
     requires here { link.now ≡ get_or links.now place link.now }
     requires valued { forks_at ((sites_in facts.now).branch_at link.now.token) (joint link.now.sign) ≡ false }
-    requires room { length graph.old + (2 + expr_room (sites_in facts.now) (plain_expr first.now) + links_room (sites_in facts.now) (plain_links (take (place + 1) links.now))) ≤ node_limit }
-    ensures made { IfOk result (λ i. MadeWays (chain_truth (facts_in facts.now) (sites_in facts.now) (plain_expr first.now) links.now (place + 1)) graph.old graph.new i (ways yes no)) }
-    ensures few { IfOk result (λ i. length graph.new ≤ length graph.old + (2 + expr_room (sites_in facts.now) (plain_expr first.now) + links_room (sites_in facts.now) (plain_links (take (place + 1) links.now)))) }
+    requires room { length graph.old + (2 + expr_room (sites_in facts.now) (plain_expr first.now)
+        + links_room (sites_in facts.now) (plain_links (take (place + 1) links.now))) ≤ node_limit }
+    ensures made { IfOk result (λ i. MadeWays (chain_truth (facts_in facts.now) (sites_in facts.now) (plain_expr first.now) links.now (place + 1))
+        graph.old graph.new i (ways yes no)) }
+    ensures few { IfOk result (λ i. length graph.new ≤ length graph.old
+        + (2 + expr_room (sites_in facts.now) (plain_expr first.now) + links_room (sites_in facts.now) (plain_links (take (place + 1) links.now)))) }
 {
     if !is_short(link.sign) {
         let fork = graph.put(Node::Fork { yes, no })?;
@@ -120,8 +127,11 @@ pub fn emit_chain_truth(
     no: u32,
 ) -> Result<u32, Memory>
     requires room { length graph.old + expr_room (sites_in facts.now) (e.Chain 0 (plain_expr first.now) (plain_links links.now)) ≤ node_limit }
-    ensures made { IfOk result (λ i. MadeFor (serving (facts_in facts.now) (sites_in facts.now) (e.Chain 0 (plain_expr first.now) (plain_links links.now))) graph.old graph.new i (purpose.Truth yes no)) }
-    ensures few { IfOk result (λ i. length graph.new ≤ length graph.old + expr_room (sites_in facts.now) (e.Chain 0 (plain_expr first.now) (plain_links links.now))) }
+    ensures made { IfOk result (λ i. MadeFor
+        (serving (facts_in facts.now) (sites_in facts.now) (e.Chain 0 (plain_expr first.now) (plain_links links.now))) graph.old graph.new i
+        (purpose.Truth yes no)) }
+    ensures few { IfOk result (λ i. length graph.new ≤ length graph.old
+        + expr_room (sites_in facts.now) (e.Chain 0 (plain_expr first.now) (plain_links links.now))) }
 {
     let begins = begins_null(facts, first, links);
     let mut yes_at = yes;

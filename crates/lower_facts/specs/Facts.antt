@@ -35,5 +35,5 @@ abbrev pub source_in : TreeFacts → Source
 source_in f = source_of (tree_in f) (known_in f) (table_in f)
 
 -- the place of the first byte of the string with this number: the strings are the objects after the globals
-abbrev pub place_of : Facts → ℕ → Scalar
-place_of facts number = Place (facts.statics.globals + number) 0
+abbrev pub string_place : Facts → ℕ → Scalar
+string_place facts number = Place (facts.statics.globals + number) 0

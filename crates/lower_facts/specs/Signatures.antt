@@ -1,9 +1,9 @@
 -- The signatures of the defined functions.
 use Rattle.std.specs.Prelude.{◌≤◌, List, Option, Some}
 use Rattle.std.specs.List.{All}
-use Rattle.c_rules.specs.declared.layout.StructType.{StructType}
-use Rattle.c_rules.specs.Sizes.{cells_of, most_cells}
-use Rattle.c_rules.specs.TypeTree.{TypeTree}
+use Rattle.c_types_rules.specs.declared.layout.StructType.{StructType}
+use Rattle.c_types_rules.specs.Sizes.{cells_of, most_cells}
+use Rattle.c_types_rules.specs.TypeTree.{TypeTree}
 use Rattle.c_types_expressions.specs.declared.walk.Definition.{Definition}
 use Rattle.c_types_expressions.specs.declared.walk.Walk.{Walk}
 use Rattle.c_meaning.specs.Facts.{Signature}

@@ -1,19 +1,19 @@
 ghost use Rattle.std.specs.Prelude.{◌≡◌, ℕ, map};
 ghost use Rattle.c_types.specs.Answers.{known_of, tree_of};
 ghost use Rattle.c_meaning.specs.Literals.{literals, number_from, texts_of};
-ghost use Rattle.c_meaning.specs.Texts.{first_of, is_branch, is_pair, is_return, main_of, sites_from};
+ghost use Rattle.c_meaning.specs.Texts.{head_site, is_branch, is_pair, is_return, main_of, sites_from};
 ghost use Rattle.lower_trees.specs.Bodies.{defining};
-ghost use Rattle.lower_trees.specs.Places.{listed};
+ghost use Rattle.lower_trees.specs.Places.{all_at};
 ghost use Rattle.lower_facts.specs.Signatures.{signature_of_entry};
 
 use crate::function_types::Signature;
 use crate::functions::{Functions, functions_of};
 use crate::values::{element_type, object_cells, value_type};
 use c_meaning::{Called, ValueType};
-use c_rules::{CType, StructType, library_named};
 use c_syntax::{Base, Entry, Expr, Item};
 use c_types::Checked;
 use c_types_expressions::Variable;
+use c_types_rules::{CType, StructType, library_named};
 use cbi_base::{Memory, Name, Scalar};
 use flow::{Site, SiteTable, Slot, Text};
 use lower_trees::{
@@ -30,10 +30,10 @@ pub struct TreeFacts<'a> {
     sites: SiteLists,
     strings: TextLists,
     functions: Functions,
-    ghost branches_stand: { (token : ℕ) → listed sites.branches.items token ≡ sites_from 0 is_branch token table.now.sites },
-    ghost returns_stand: { (token : ℕ) → listed sites.returns.items token ≡ sites_from 0 is_return token table.now.sites },
-    ghost pairs_stand: { (token : ℕ) → listed sites.pairs.items token ≡ sites_from 0 is_pair token table.now.sites },
-    ghost strings_stand: { (token : ℕ) → first_of (listed strings.numbers.items token) ≡ number_from 0 token (literals (tree_of checked.now)) },
+    ghost branches_stand: { (token : ℕ) → all_at sites.branches.items token ≡ sites_from 0 is_branch token table.now.sites },
+    ghost returns_stand: { (token : ℕ) → all_at sites.returns.items token ≡ sites_from 0 is_return token table.now.sites },
+    ghost pairs_stand: { (token : ℕ) → all_at sites.pairs.items token ≡ sites_from 0 is_pair token table.now.sites },
+    ghost strings_stand: { (token : ℕ) → head_site (all_at strings.numbers.items token) ≡ number_from 0 token (literals (tree_of checked.now)) },
     ghost texts_stand: { strings.texts ≡ texts_of (literals (tree_of checked.now)) },
     ghost signatures_stand: { functions.signatures ≡ map (signature_of_entry (known_of checked.now)) (known_of checked.now).definitions },
     ghost bodies_stand: { functions.bodies.items ≡ defining 0 (tree_of checked.now).items },
@@ -44,7 +44,7 @@ impl<'a> TreeFacts<'a> {
     ghost use Rattle.std.specs.Prelude.{◌≡◌, ◌≤◌, ◌+◌, IfOk, option_map, length};
     ghost use Rattle.std.specs.Option.{option_copied};
     ghost use Rattle.c_syntax.specs.Plain.{plain_entries, plain_expr, plain_item};
-    ghost use Rattle.c_rules.specs.Plain.{plain_type};
+    ghost use Rattle.c_types_rules.specs.Plain.{plain_type};
     ghost use Rattle.c_types.specs.Answers.{declared_at, known_of, tree_of};
     ghost use Rattle.c_types.specs.Fault.{walk_tree};
     ghost use Rattle.c_types_expressions.specs.Walked.{Fine};
@@ -52,7 +52,7 @@ impl<'a> TreeFacts<'a> {
     ghost use Rattle.c_meaning.specs.Literals.{literals};
     ghost use Rattle.c_meaning.specs.Trees.{called_as, token_of, type_of};
     ghost use Rattle.lower_facts.specs.Signatures.{AreSized};
-    ghost use Rattle.lower_facts.specs.Facts.{facts_in, known_in, place_of, sites_in, source_in, table_in, tree_in};
+    ghost use Rattle.lower_facts.specs.Facts.{facts_in, known_in, sites_in, source_in, string_place, table_in, tree_in};
 
     /// What is known of a checked tree and a table of its sites.
     pub fn new(
@@ -199,7 +199,7 @@ impl<'a> TreeFacts<'a> {
 
     /// The place of the first byte of the string at the token.
     pub fn text_place(&self, token: u32) -> Option<Scalar>
-        ensures { result ≡ option_map (place_of (facts_in self.now)) ((facts_in self.now).text_at token) }
+        ensures { result ≡ option_map (string_place (facts_in self.now)) ((facts_in self.now).text_at token) }
     {
         match self.text_at(token) {
             None => None,

@@ -1,15 +1,15 @@
 ghost use Rattle.std.specs.Prelude.{◌≡◌, ◌≤◌, map, drop, take, IfOk, length, slice_get, Some};
-ghost use Rattle.c_rules.specs.Sizes.{cells_of, most_cells};
+ghost use Rattle.c_types_rules.specs.Sizes.{cells_of, most_cells};
 ghost use Rattle.c_meaning.specs.Facts as facts;
-ghost use Rattle.c_meaning.specs.Known.{signature_with, sizes_of, value_type};
+ghost use Rattle.c_meaning.specs.Known.{computed_type, signature_with, sizes_of};
 ghost use Rattle.c_types.specs.Answers.{known_of};
 ghost use Rattle.lower_facts.specs.Signatures.{AllSized, AreSized, signature_of_entry};
 
 use crate::values::value_type;
 use c_meaning::ValueType;
-use c_rules::{CType, StructType, Type, cells_of};
 use c_types::Checked;
 use c_types_expressions::{Definition, FunctionEntry};
+use c_types_rules::{CType, StructType, Type, cells_of};
 use cbi_base::{Memory, Seq};
 use std::alloc::Global;
 use std::marker::Model;
@@ -69,7 +69,7 @@ fn value_types(
     structs: &[StructType],
     types: &[Type],
 ) -> Result<Seq<ValueType>, Memory>
-    ensures { IfOk result (λ values. values ≡ map (value_type structs.now) types.now) }
+    ensures { IfOk result (λ values. values ≡ map (computed_type structs.now) types.now) }
 {
     let mut values = Vec::new(alloc);
     for ctype in types {

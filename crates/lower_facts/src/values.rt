@@ -1,9 +1,9 @@
 ghost use Rattle.std.specs.Prelude.{◌≡◌};
-ghost use Rattle.c_rules.specs.Plain.{plain_type};
-ghost use Rattle.c_meaning.specs.Known.{element_cells, element_type, object_cells, value_type};
+ghost use Rattle.c_types_rules.specs.Plain.{plain_type};
+ghost use Rattle.c_meaning.specs.Known.{computed_type, element_cells, element_type, object_cells};
 
 use c_meaning::ValueType;
-use c_rules::{CType, StructType, cells_of, is_object};
+use c_types_rules::{CType, StructType, cells_of, is_object};
 use cbi_base::Kind;
 
 /// How many cells an object of the type has, where it has any.
@@ -26,7 +26,7 @@ fn element_cells(structs: &[StructType], ctype: &CType) -> u32
 
 /// What the type is where values are computed.
 pub fn value_type(structs: &[StructType], ctype: &CType) -> ValueType
-    ensures { result ≡ value_type structs.now (plain_type ctype.now) }
+    ensures { result ≡ computed_type structs.now (plain_type ctype.now) }
 {
     match ctype {
         CType::Void => ValueType::Void,

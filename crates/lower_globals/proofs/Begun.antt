@@ -45,15 +45,12 @@ module _ (f : TreeFacts) where
   -- as many globals as are known of
   pub counted : (gs : List Global) → walk_tree (tree_in f) ≡ Fine tt (known_in f) → objects_in f (Some gs) ≡ all_objects f declared → length gs ≡ (facts_in f).statics.globals
   counted gs fine is =
-      sym (length-map gs (machine.global_object (facts_in f).statics.globals))
-      ∙ as_many (facts_in f) (known_in f) declared (map (machine.global_object (facts_in f).statics.globals) gs) is
+      sym (length-map gs (machine.object_of_global (facts_in f).statics.globals))
+      ∙ as_many (facts_in f) (known_in f) declared (map (machine.object_of_global (facts_in f).statics.globals) gs) is
       ∙ sym (globals_are (tree_in f) (known_in f) fine)
 
   pub begun : (gs : List Global) → walk_tree (tree_in f) ≡ Fine tt (known_in f) → objects_in f (Some gs) ≡ all_objects f declared →
       Some (begun_with (facts_in f).statics.texts gs) ≡ (source_in f).objects
   begun gs fine is =
-      ap (λ n. Some (map (machine.global_object n) gs ++ map machine.text_object (facts_in f).statics.texts)) (counted gs fine is)
+      ap (λ n. Some (map (machine.object_of_global n) gs ++ map machine.text_object (facts_in f).statics.texts)) (counted gs fine is)
       ∙ ap (option_map (then_strings (tree_in f))) is
-
-  pub not_begun : objects_in f None ≡ all_objects f declared → None ≡ (source_in f).objects
-  not_begun is = ap (option_map (then_strings (tree_in f))) is

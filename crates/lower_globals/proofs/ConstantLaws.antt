@@ -1,11 +1,10 @@
 -- What a constant gives to a global.
-use Rattle.std.proofs.Common.{◌≡◌, ℕ, ℤ, true, false, Option, Some, None, Result, Ok, Err, refl, sym, ap, ◌∙◌}
+use Rattle.std.proofs.Common.{◌≡◌, ℕ, ℤ, false, Option, Result, Ok, Err, refl, sym, ap, ◌∙◌}
 use Rattle.std.proofs.Math.Bool.{and-false}
 use Rattle.cbi_base.specs.declared.operators.Unary.TheVariants.{Neg}
-use Rattle.cbi_base.specs.declared.outcome.Outcome.{Outcome}
 use Rattle.cbi_base.specs.declared.scalar.Kind.{Kind}
 use Rattle.cbi_base.specs.declared.scalar.Scalar.{Scalar}
-use Rattle.cbi_base.specs.declared.scalar.Scalar.TheVariants.{Number, Null}
+use Rattle.cbi_base.specs.declared.scalar.Scalar.TheVariants.{Number}
 use Rattle.cbi_base.specs.declared.trap.Trap.{Trap}
 use Rattle.cbi_base.specs.Scalars.{applied_to_one}
 use Rattle.c_syntax.specs.declared.expr.PrefixOperator.TheVariants.{Minus}
@@ -17,13 +16,13 @@ use Rattle.c_syntax.specs.Plain.{plain_expr}
 use Rattle.c_syntax.proofs.PlainExprs.{plain_constant}
 use Rattle.c_meaning.specs.declared.conversion.Conversion.{Conversion}
 use Rattle.c_meaning.specs.declared.value_type.ValueType.{ValueType}
-use Rattle.c_meaning.specs.Conversions.{as_wanted, conversion, converts, is_null_as, is_pointer}
+use Rattle.c_meaning.specs.Conversions.{as_wanted, conversion, converts, is_null_as, is_pointer_value}
 use Rattle.c_meaning.specs.Expressions.{wanted_value}
 use Rattle.c_meaning.specs.Facts.{Facts}
 use Rattle.c_meaning.specs.Globals.{before_all, constant, given_by, nowhere}
 use Rattle.c_meaning.specs.Meaning.{expr}
 use Rattle.c_meaning.specs.Trees.{type_of}
-use Rattle.c_meaning.specs.World.{World, Go, Stop, answered, bind}
+use Rattle.c_meaning.specs.World.{Go, answered, bind}
 use Rattle.lower_globals.specs.Cells.{given, negative, negative_given, wanted_given}
 
 given_answered : (r : Result Scalar Trap) → given_by (answered r nowhere) ≡ given r
@@ -31,10 +30,6 @@ given_answered (Ok v) = refl
 given_answered (Err t) = refl
 
 module _ (facts : Facts) (of : Option ValueType) (x : ExprTree) where
-  -- a null constant where a pointer is wanted
-  pub as_null : is_null_as of x ≡ true → constant facts of x ≡ Some Null
-  as_null h = ap (λ b. given_by (wanted_value b (type_of facts x) of (expr (before_all facts) x) nowhere)) h
-
   by_value : is_null_as of x ≡ false → constant facts of x ≡ given_by (bind ((expr (before_all facts) x).value nowhere) (as_wanted (conversion (type_of facts x) of)))
   by_value h = ap (λ b. given_by (wanted_value b (type_of facts x) of (expr (before_all facts) x) nowhere)) h
 
@@ -43,9 +38,6 @@ module _ (facts : Facts) (of : Option ValueType) (x : ExprTree) where
       constant facts of x ≡ given (converts (conversion (type_of facts x) of) v)
   as_value v h is =
       by_value h ∙ ap (λ m. given_by (bind m (as_wanted (conversion (type_of facts x) of)))) is ∙ given_answered (converts (conversion (type_of facts x) of) v)
-
-  pub as_nothing : (o : Outcome) (w : World) → is_null_as of x ≡ false → (expr (before_all facts) x).value nowhere ≡ Stop o w → constant facts of x ≡ None
-  as_nothing o w h is = by_value h ∙ ap (λ m. given_by (bind m (as_wanted (conversion (type_of facts x) of)))) is
 
 then_wanted : (c : Conversion) (r : Result Scalar Trap) → given_by (bind (answered r nowhere) (as_wanted c)) ≡ wanted_given c (given r)
 then_wanted c (Ok v) = given_answered (converts c v)
@@ -61,7 +53,7 @@ pub as_negative : (facts : Facts) (of : Option ValueType) (token inner : ℕ) (k
     constant facts of (e.Prefix token Minus (e.Constant inner kind value))
     ≡ negative (conversion (facts.type_at inner) (facts.type_at token)) (conversion (facts.type_at token) of) (Number kind value)
 as_negative facts of token inner kind value =
-    by_value facts of (e.Prefix token Minus (e.Constant inner kind value)) (and-false (is_pointer of))
+    by_value facts of (e.Prefix token Minus (e.Constant inner kind value)) (and-false (is_pointer_value of))
     ∙ then_negated (conversion (facts.type_at token) of) (converts (conversion (facts.type_at inner) (facts.type_at token)) (Number kind value))
 
 abbrev negative_from : Facts → ℕ → ℕ → Kind → ℤ → Conversion → Option Scalar

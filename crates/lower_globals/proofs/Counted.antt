@@ -13,7 +13,7 @@ use Rattle.c_syntax.specs.ItemTree.{ItemTree, SourceTree}
 use Rattle.c_types_expressions.specs.declared.walk.Walk.{Walk}
 use Rattle.c_types_expressions.specs.Beginning.{beginning}
 use Rattle.c_types.specs.Fault.{walk_tree}
-use Rattle.c_types_walk.specs.ItemWalk.{listed}
+use Rattle.c_types_walk.specs.ItemWalk.{listed_params}
 use Rattle.c_types.specs.Parts.{Part, Expression, Use, Declared, Begins, entries_parts, expr_parts, exprs_parts, for_start_parts, initial_parts, item_parts, items_parts, links_parts, named_parts, optional_parts, params_parts, parts_of, postfix_parts, starts_parts, statement_parts}
 use Rattle.c_types_expressions.specs.Walked.{Fine}
 use Rattle.c_types.proofs.Noted.{Seen, noting, noting_all, plainly, seen}
@@ -145,7 +145,7 @@ in_item : (x : ItemTree) → globals_in (item_parts x) ≡ length (starts_of x)
 in_item (i.Struct token tag members) = refl
 in_item (i.Function token b stars name ps None) = refl
 in_item (i.Function token b stars name ps (Some body)) =
-    none_in (params_parts (listed ps)) (entries_parts body) (in_params (listed ps)) (in_entries body)
+    none_in (params_parts (listed_params ps)) (entries_parts body) (in_params (listed_params ps)) (in_entries body)
 in_item (i.Declaration declaration) = in_globals declaration.starts
 
 in_items : (xs : List ItemTree) → globals_in (items_parts xs) ≡ length (flat_map starts_of xs)

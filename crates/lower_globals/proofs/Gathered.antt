@@ -12,14 +12,14 @@ use Rattle.c_types_expressions.specs.declared.walk.Walk.{Walk}
 use Rattle.c_meaning.specs.Facts.{Facts}
 use Rattle.c_meaning.specs.Globals as meaning
 use Rattle.c_meaning.specs.Globals.{global_objects, one_more, starts_of}
-use Rattle.lower_globals.specs.Objects.{behind}
+use Rattle.lower_globals.specs.Objects.{objects_behind}
 use Rattle.lower_trees.proofs.Placed.{first_left}
 
 abbrev both : Option (List Object) → Option (List Object) → Option (List Object)
 both None q = None
-both (Some xs) q = behind xs q
+both (Some xs) q = objects_behind xs q
 
-none_before : (q : Option (List Object)) → q ≡ behind [] q
+none_before : (q : Option (List Object)) → q ≡ objects_behind [] q
 none_before None = refl
 none_before (Some xs) = refl
 
@@ -35,7 +35,7 @@ objects_append facts w (x ∷ xs) ys =
     ap (one_more (meaning.global_object facts w x)) (objects_append facts w xs ys)
     ∙ one_more_both (meaning.global_object facts w x) (global_objects facts w xs) (global_objects facts w ys)
 
-behind_twice : (before xs : List Object) (q : Option (List Object)) → behind before (behind xs q) ≡ behind (before ++ xs) q
+behind_twice : (before xs : List Object) (q : Option (List Object)) → objects_behind before (objects_behind xs q) ≡ objects_behind (before ++ xs) q
 behind_twice before xs None = refl
 behind_twice before xs (Some ys) = ap Some (sym (append_assoc before xs ys))
 
@@ -44,31 +44,31 @@ module _ (facts : Facts) (w : Walk) (items : List Item) (i : ℕ) (x : Item) (be
   abbrev left : List Item → Option (List Object)
   left xs = global_objects facts w (flat_map starts_of (map plain_item xs))
 
-  opened : behind before (left (drop i items)) ≡ behind before (both (global_objects facts w (starts_of (plain_item x))) (left (drop (suc i) items)))
+  opened : objects_behind before (left (drop i items)) ≡ objects_behind before (both (global_objects facts w (starts_of (plain_item x))) (left (drop (suc i) items)))
   opened =
-      ap (λ l. behind before (global_objects facts w (flat_map starts_of (map plain_item l)))) (first_left items i x inside is)
-      ∙ ap (λ l. behind before (global_objects facts w l)) (flat_map-cons starts_of (plain_item x) (map plain_item (drop (suc i) items)))
-      ∙ ap (behind before) (objects_append facts w (starts_of (plain_item x)) (flat_map starts_of (map plain_item (drop (suc i) items))))
+      ap (λ l. objects_behind before (global_objects facts w (flat_map starts_of (map plain_item l)))) (first_left items i x inside is)
+      ∙ ap (λ l. objects_behind before (global_objects facts w l)) (flat_map-cons starts_of (plain_item x) (map plain_item (drop (suc i) items)))
+      ∙ ap (objects_behind before) (objects_append facts w (starts_of (plain_item x)) (flat_map starts_of (map plain_item (drop (suc i) items))))
 
   -- one more item, whose globals are these objects
-  pub gathered : (more : List Object) → behind before (global_objects facts w (flat_map starts_of (map plain_item (drop i items)))) ≡ total →
+  pub gathered : (more : List Object) → objects_behind before (global_objects facts w (flat_map starts_of (map plain_item (drop i items)))) ≡ total →
       Some more ≡ global_objects facts w (starts_of (plain_item x)) →
-      behind (before ++ more) (global_objects facts w (flat_map starts_of (map plain_item (drop (i + 1) items)))) ≡ total
+      objects_behind (before ++ more) (global_objects facts w (flat_map starts_of (map plain_item (drop (i + 1) items)))) ≡ total
   gathered more h found =
-      ap (λ k. behind (before ++ more) (left (drop k items))) (add-one i)
+      ap (λ k. objects_behind (before ++ more) (left (drop k items))) (add-one i)
       ∙ sym (behind_twice before more (left (drop (suc i) items)))
-      ∙ ap (λ o. behind before (both o (left (drop (suc i) items)))) found
+      ∙ ap (λ o. objects_behind before (both o (left (drop (suc i) items)))) found
       ∙ sym opened ∙ h
 
   -- an item without its globals
-  pub given_up : behind before (global_objects facts w (flat_map starts_of (map plain_item (drop i items)))) ≡ total →
+  pub given_up : objects_behind before (global_objects facts w (flat_map starts_of (map plain_item (drop i items)))) ≡ total →
       None ≡ global_objects facts w (starts_of (plain_item x)) → None ≡ total
-  given_up h missing = ap (λ o. behind before (both o (left (drop (suc i) items)))) missing ∙ sym opened ∙ h
+  given_up h missing = ap (λ o. objects_behind before (both o (left (drop (suc i) items)))) missing ∙ sym opened ∙ h
 
 -- no item is left
 pub all_gathered : (facts : Facts) (w : Walk) (items : List Item) (i : ℕ) (before : List Object) (total : Option (List Object)) → length items ≤ i →
-    behind before (global_objects facts w (flat_map starts_of (map plain_item (drop i items)))) ≡ total → Some before ≡ total
+    objects_behind before (global_objects facts w (flat_map starts_of (map plain_item (drop i items)))) ≡ total → Some before ≡ total
 all_gathered facts w items i before total past is =
     ap Some (sym (append-nil before))
-    ∙ sym (ap (λ l. behind before (global_objects facts w (flat_map starts_of (map plain_item l)))) (drop_all i items past))
+    ∙ sym (ap (λ l. objects_behind before (global_objects facts w (flat_map starts_of (map plain_item l)))) (drop_all i items past))
     ∙ is

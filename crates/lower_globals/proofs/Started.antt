@@ -8,10 +8,10 @@ use Rattle.c_syntax.specs.Plain.{plain_start}
 use Rattle.c_types_expressions.specs.declared.walk.Walk.{Walk}
 use Rattle.c_meaning.specs.Facts.{Facts}
 use Rattle.c_meaning.specs.Globals.{global_object, global_objects, one_more}
-use Rattle.lower_globals.specs.Objects.{behind}
+use Rattle.lower_globals.specs.Objects.{objects_behind}
 use Rattle.lower_trees.proofs.Placed.{first_left}
 
-behind_one : (before : List Object) (object : Object) (q : Option (List Object)) → behind before (one_more (Some object) q) ≡ behind (before ++ object ∷ []) q
+behind_one : (before : List Object) (object : Object) (q : Option (List Object)) → objects_behind before (one_more (Some object) q) ≡ objects_behind (before ++ object ∷ []) q
 behind_one before object None = refl
 behind_one before object (Some objects) = ap Some (sym (append_assoc before (object ∷ []) objects))
 
@@ -20,24 +20,24 @@ module _ (facts : Facts) (w : Walk) (starts : List Start) (i : ℕ) (x : Start) 
   abbrev left : List Start → Option (List Object)
   left xs = global_objects facts w (map plain_start xs)
 
-  opened : behind before (left (drop i starts)) ≡ behind before (one_more (global_object facts w (plain_start x)) (left (drop (suc i) starts)))
-  opened = ap (λ l. behind before (left l)) (first_left starts i x inside is)
+  opened : objects_behind before (left (drop i starts)) ≡ objects_behind before (one_more (global_object facts w (plain_start x)) (left (drop (suc i) starts)))
+  opened = ap (λ l. objects_behind before (left l)) (first_left starts i x inside is)
 
   -- one more variable, whose global is this object
-  pub one_gathered : (object : Object) → behind before (global_objects facts w (map plain_start (drop i starts))) ≡ total →
-      Some object ≡ global_object facts w (plain_start x) → behind (before ++ object ∷ []) (global_objects facts w (map plain_start (drop (i + 1) starts))) ≡ total
+  pub one_gathered : (object : Object) → objects_behind before (global_objects facts w (map plain_start (drop i starts))) ≡ total →
+      Some object ≡ global_object facts w (plain_start x) → objects_behind (before ++ object ∷ []) (global_objects facts w (map plain_start (drop (i + 1) starts))) ≡ total
   one_gathered object h found =
-      ap (λ k. behind (before ++ object ∷ []) (left (drop k starts))) (add-one i)
+      ap (λ k. objects_behind (before ++ object ∷ []) (left (drop k starts))) (add-one i)
       ∙ sym (behind_one before object (left (drop (suc i) starts)))
-      ∙ ap (λ o. behind before (one_more o (left (drop (suc i) starts)))) found
+      ∙ ap (λ o. objects_behind before (one_more o (left (drop (suc i) starts)))) found
       ∙ sym opened ∙ h
 
   -- a variable whose initialiser gives it nothing
-  pub one_given_up : behind before (global_objects facts w (map plain_start (drop i starts))) ≡ total → None ≡ global_object facts w (plain_start x) → None ≡ total
-  one_given_up h missing = ap (λ o. behind before (one_more o (left (drop (suc i) starts)))) missing ∙ sym opened ∙ h
+  pub one_given_up : objects_behind before (global_objects facts w (map plain_start (drop i starts))) ≡ total → None ≡ global_object facts w (plain_start x) → None ≡ total
+  one_given_up h missing = ap (λ o. objects_behind before (one_more o (left (drop (suc i) starts)))) missing ∙ sym opened ∙ h
 
 -- no variable is left
 pub all_started : (facts : Facts) (w : Walk) (starts : List Start) (i : ℕ) (before : List Object) (total : Option (List Object)) → length starts ≤ i →
-    behind before (global_objects facts w (map plain_start (drop i starts))) ≡ total → Some before ≡ total
+    objects_behind before (global_objects facts w (map plain_start (drop i starts))) ≡ total → Some before ≡ total
 all_started facts w starts i before total past is =
-    ap Some (sym (append-nil before)) ∙ sym (ap (λ l. behind before (global_objects facts w (map plain_start l))) (drop_all i starts past)) ∙ is
+    ap Some (sym (append-nil before)) ∙ sym (ap (λ l. objects_behind before (global_objects facts w (map plain_start l))) (drop_all i starts past)) ∙ is

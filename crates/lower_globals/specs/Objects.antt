@@ -3,14 +3,14 @@ use Rattle.std.specs.Prelude.{List, ◌++◌, length, map, Option}
 use Rattle.std.specs.Option.{option_map}
 use Rattle.cbi_base.specs.Objects.{Object}
 use Rattle.c_syntax.specs.StatementTree.{InitialTree, StartTree}
-use Rattle.c_rules.specs.TypeTree.{TypeTree}
+use Rattle.c_types_rules.specs.TypeTree.{TypeTree}
 use Rattle.c_types_expressions.specs.declared.walk.Walk.{Walk}
 use Rattle.flow.specs.declared.program.Global.{Global}
 use Rattle.flow.specs.declared.program.Text.{Text}
 use Rattle.flow.specs.Machine as machine
 use Rattle.c_meaning.specs.Facts.{Facts}
 use Rattle.c_meaning.specs.Globals.{filled_up, given_to, global_objects, static_object, zeros_of}
-use Rattle.c_meaning.specs.Known.{element_type, value_type}
+use Rattle.c_meaning.specs.Known.{computed_type, element_type}
 use Rattle.lower_facts.specs.declared.facts.TreeFacts.{TreeFacts}
 use Rattle.lower_facts.specs.Facts.{facts_in, known_in}
 
@@ -18,20 +18,20 @@ use Rattle.lower_facts.specs.Facts.{facts_in, known_in}
 abbrev pub initial_object : Facts → Walk → TypeTree → Option InitialTree → Option Object
 initial_object facts w of initial =
     option_map (λ given. static_object (filled_up (zeros_of w.structs of) given))
-    (given_to facts (value_type w.structs of) (element_type w.structs of) initial)
+    (given_to facts (computed_type w.structs of) (element_type w.structs of) initial)
 
 -- the objects that these globals of a program are
 abbrev pub objects_in : TreeFacts → Option (List Global) → Option (List Object)
-objects_in f globals = option_map (map (machine.global_object (facts_in f).statics.globals)) globals
+objects_in f globals = option_map (map (machine.object_of_global (facts_in f).statics.globals)) globals
 
 -- the objects of the declared variables
 abbrev pub all_objects : TreeFacts → List StartTree → Option (List Object)
 all_objects f starts = global_objects (facts_in f) (known_in f) starts
 
 -- the objects behind others, where there are any
-abbrev pub behind : List Object → Option (List Object) → Option (List Object)
-behind before objects = option_map (λ more. before ++ more) objects
+abbrev pub objects_behind : List Object → Option (List Object) → Option (List Object)
+objects_behind before objects = option_map (λ more. before ++ more) objects
 
 -- the objects that these globals of a program are, and its texts behind them
 abbrev pub begun_with : List Text → List Global → List Object
-begun_with texts globals = map (machine.global_object (length globals)) globals ++ map machine.text_object texts
+begun_with texts globals = map (machine.object_of_global (length globals)) globals ++ map machine.text_object texts

@@ -29,10 +29,10 @@ AreStarts e.no_exprs = Unit {0}
 AreStarts (e.more_exprs x rest) = IsStart x × AreStarts rest
 
 -- an initialiser of a global, where it has one
-abbrev pub Begins : Option InitialTree → Type 0
-Begins None = Unit {0}
-Begins (Some (tree.Value x)) = IsStart x
-Begins (Some (tree.Braced token items comma)) = AreStarts items
+abbrev pub IsGlobalStart : Option InitialTree → Type 0
+IsGlobalStart None = Unit {0}
+IsGlobalStart (Some (tree.Value x)) = IsStart x
+IsGlobalStart (Some (tree.Braced token items comma)) = AreStarts items
 
 -- A value with which a cell of a global begins. A place is that of a string, at its first byte: the strings are the objects behind the globals.
 abbrev pub IsFirst : ℕ → Scalar → Type 0
@@ -48,7 +48,7 @@ IfFirst globals (Some object) = All (IsFirst globals) object.cells
 
 -- a global that begins with constants, and with their values in its cells
 pub record IsBegun (facts : Facts) (w : Walk) (x : StartTree) : Type 0 where
-  pub initial : Begins x.initial
+  pub initial : IsGlobalStart x.initial
   pub cells : IfFirst facts.statics.globals (global_object facts w x)
 
 -- so do all globals that an item declares

@@ -2,7 +2,7 @@
 use Rattle.std.specs.Prelude.{ℕ, List, replicate}
 use Rattle.std.specs.List.{flat_map}
 use Rattle.cbi_base.specs.declared.scalar.Scalar.{Scalar}
-use Rattle.c_rules.specs.declared.layout.Member.{Member}
+use Rattle.c_types_rules.specs.declared.layout.Member.{Member}
 use Rattle.c_meaning.specs.Globals.{zero_cells}
 
 -- the cells, so many times

@@ -3,9 +3,9 @@ ghost use Rattle.std.specs.Option.{option_copied};
 ghost use Rattle.c_syntax.specs.Plain.{plain_expr, plain_exprs, plain_initial};
 ghost use Rattle.flow.specs.Rows.{char_of};
 ghost use Rattle.c_meaning.specs.Globals.{constant, constants, given_to, spelled_cells};
-ghost use Rattle.c_meaning.specs.Meaning.{text_of};
+ghost use Rattle.c_meaning.specs.Meaning.{text_of_string};
 ghost use Rattle.lower_facts.specs.Facts.{facts_in};
-ghost use Rattle.lower_globals.specs.Starts.{AreStarts, Begins, IsStart};
+ghost use Rattle.lower_globals.specs.Starts.{AreStarts, IsGlobalStart, IsStart};
 
 use crate::constants::constant;
 use crate::zeros::one;
@@ -72,7 +72,7 @@ fn text_numbered(texts: &[Text], number: u32) -> Option<&Text>
 
 /// The string that an expression is.
 fn text_of<'a>(facts: &'a TreeFacts<'_>, expr: &Expr) -> Option<&'a Text>
-    ensures { option_copied result ≡ text_of (facts_in facts.now) (plain_expr expr.now) }
+    ensures { option_copied result ≡ text_of_string (facts_in facts.now) (plain_expr expr.now) }
 {
     match expr {
         Expr::Strings { token, .. } => match facts.text_at(*token) {
@@ -112,7 +112,7 @@ fn spelled_cells(
     facts: &TreeFacts<'_>,
     value: &Expr,
 ) -> Result<Option<Seq<Scalar>>, Memory>
-    ensures { IfOk result (λ cells. cells ≡ spelled_cells (text_of (facts_in facts.now) (plain_expr value.now))) }
+    ensures { IfOk result (λ cells. cells ≡ spelled_cells (text_of_string (facts_in facts.now) (plain_expr value.now))) }
 {
     match text_of(facts, value) {
         None => Ok(None),
@@ -131,7 +131,7 @@ pub(crate) fn given_to(
     element: Option<ValueType>,
     initial: &Option<Initial>,
 ) -> Result<Option<Seq<Scalar>>, Memory>
-    requires { Begins (option_map plain_initial initial.now) }
+    requires { IsGlobalStart (option_map plain_initial initial.now) }
     ensures { IfOk result (λ cells. cells ≡ given_to (facts_in facts.now) of element (option_map plain_initial initial.now)) }
 {
     match initial {

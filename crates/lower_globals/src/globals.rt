@@ -1,20 +1,20 @@
 ghost use Rattle.std.specs.Prelude.{◌≡◌, [], IfOk, map, option_map};
 ghost use Rattle.std.specs.List.{All};
 ghost use Rattle.c_syntax.specs.Plain.{plain_initial, plain_start};
-ghost use Rattle.c_rules.specs.Plain.{plain_type};
+ghost use Rattle.c_types_rules.specs.Plain.{plain_type};
 ghost use Rattle.cbi_base.specs.declared.scalar.Scalar.TheVariants.{Place};
 ghost use Rattle.flow.specs.Machine as machine;
 ghost use Rattle.flow.specs.Machine.{cell_value};
-ghost use Rattle.c_meaning.specs.Globals.{static_object, struct_cells};
+ghost use Rattle.c_meaning.specs.Globals.{cells_of_structs, static_object};
 ghost use Rattle.c_meaning.specs.Globals as meaning;
 ghost use Rattle.lower_facts.specs.Facts.{facts_in, known_in};
 ghost use Rattle.lower_globals.specs.Objects.{all_objects, initial_object, objects_in};
-ghost use Rattle.lower_globals.specs.Starts.{Begins, IfFirst, IsBegun, IsFirst};
+ghost use Rattle.lower_globals.specs.Starts.{IfFirst, IsBegun, IsFirst, IsGlobalStart};
 
 use crate::global_cells::given_to;
 use crate::zeros::{filled_up, struct_zeros, zero_cells};
-use c_rules::CType;
 use c_syntax::{Initial, Start};
+use c_types_rules::CType;
 use cbi_base::{Memory, Scalar, Seq};
 use flow::{Cell, Global};
 use lower_facts::{TreeFacts, element_type, value_type};
@@ -47,7 +47,7 @@ fn cell_of(globals: u32, value: Scalar) -> Cell
 /// The global that begins with these values.
 fn global_with(alloc: Heap, globals: u32, values: &[Scalar]) -> Result<Global, Memory>
     requires { All (IsFirst globals) values.now }
-    ensures { IfOk result (λ g. machine.global_object globals g ≡ static_object values.now) }
+    ensures { IfOk result (λ g. machine.object_of_global globals g ≡ static_object values.now) }
 {
     let mut cells = Vec::new(alloc);
     for value in values {
@@ -66,11 +66,12 @@ fn object_with(
     ctype: &CType,
     initial: &Option<Initial>,
 ) -> Result<Option<Global>, Memory>
-    requires zeros { zeros.now ≡ struct_cells (known_in facts.now).structs [] }
-    requires begins { Begins (option_map plain_initial initial.now) }
+    requires zeros { zeros.now ≡ cells_of_structs (known_in facts.now).structs [] }
+    requires begins { IsGlobalStart (option_map plain_initial initial.now) }
     requires cells { IfFirst (facts_in facts.now).statics.globals
         (initial_object (facts_in facts.now) (known_in facts.now) (plain_type ctype.now) (option_map plain_initial initial.now)) }
-    ensures { IfOk result (λ g. option_map (machine.global_object (facts_in facts.now).statics.globals) g ≡ initial_object (facts_in facts.now) (known_in facts.now) (plain_type ctype.now) (option_map plain_initial initial.now)) }
+    ensures { IfOk result (λ g. option_map (machine.object_of_global (facts_in facts.now).statics.globals) g
+        ≡ initial_object (facts_in facts.now) (known_in facts.now) (plain_type ctype.now) (option_map plain_initial initial.now)) }
 {
     let structs = facts.structs();
     let of = value_type(structs, ctype);
@@ -90,9 +91,10 @@ fn global_of(
     zeros: &[Seq<Scalar>],
     start: &Start,
 ) -> Result<Option<Global>, Memory>
-    requires zeros { zeros.now ≡ struct_cells (known_in facts.now).structs [] }
+    requires zeros { zeros.now ≡ cells_of_structs (known_in facts.now).structs [] }
     requires begun { IsBegun (facts_in facts.now) (known_in facts.now) (plain_start start.now) }
-    ensures { IfOk result (λ g. option_map (machine.global_object (facts_in facts.now).statics.globals) g ≡ meaning.global_object (facts_in facts.now) (known_in facts.now) (plain_start start.now)) }
+    ensures { IfOk result (λ g. option_map (machine.object_of_global (facts_in facts.now).statics.globals) g
+        ≡ meaning.global_object (facts_in facts.now) (known_in facts.now) (plain_start start.now)) }
 {
     match facts.declared_type(start.declarator.name_token) {
         None => Ok(None),
@@ -108,7 +110,7 @@ pub fn globals_of_starts(
     zeros: &[Seq<Scalar>],
     starts: &[Start],
 ) -> Result<Option<Seq<Global>>, Memory>
-    requires zeros { zeros.now ≡ struct_cells (known_in facts.now).structs [] }
+    requires zeros { zeros.now ≡ cells_of_structs (known_in facts.now).structs [] }
     requires begun { All (IsBegun (facts_in facts.now) (known_in facts.now)) (map plain_start starts.now) }
     ensures { IfOk result (λ gs. objects_in facts.now gs ≡ all_objects facts.now (map plain_start starts.now)) }
 {
@@ -124,7 +126,7 @@ pub fn globals_of_starts(
 
 /// Zero in each cell of each struct, by its number: what globals begin with. They take as many values as the structs have cells together.
 pub fn zeros_of_structs(alloc: Heap, facts: &TreeFacts<'_>) -> Result<Seq<Seq<Scalar>>, Memory>
-    ensures { IfOk result (λ zeros. zeros ≡ struct_cells (known_in facts.now).structs []) }
+    ensures { IfOk result (λ zeros. zeros ≡ cells_of_structs (known_in facts.now).structs []) }
 {
     struct_zeros(alloc, facts.structs())
 }

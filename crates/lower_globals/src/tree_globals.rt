@@ -1,7 +1,7 @@
 ghost use Rattle.std.specs.Prelude.{◌≡◌, ◌++◌, [], IfOk, IfSome, OnOk, length, map, option_map};
 ghost use Rattle.std.specs.List.{All, flat_map};
 ghost use Rattle.c_syntax.specs.Plain.{plain_item};
-ghost use Rattle.c_meaning.specs.Globals.{starts_of, struct_cells};
+ghost use Rattle.c_meaning.specs.Globals.{cells_of_structs, starts_of};
 ghost use Rattle.lower_facts.specs.Facts.{facts_in, known_in, source_in, tree_in};
 ghost use Rattle.lower_globals.specs.Objects.{all_objects, begun_with, objects_in};
 ghost use Rattle.lower_globals.specs.Starts.{IsBegunItem};
@@ -20,7 +20,7 @@ fn globals_of_item(
     zeros: &[Seq<Scalar>],
     item: &Item,
 ) -> Result<Option<Seq<Global>>, Memory>
-    requires zeros { zeros.now ≡ struct_cells (known_in facts.now).structs [] }
+    requires zeros { zeros.now ≡ cells_of_structs (known_in facts.now).structs [] }
     requires begun { IsBegunItem (facts_in facts.now) (known_in facts.now) (plain_item item.now) }
     ensures { IfOk result (λ gs. objects_in facts.now gs ≡ all_objects facts.now (starts_of (plain_item item.now))) }
 {
@@ -48,7 +48,7 @@ fn globals_of_items(
     zeros: &[Seq<Scalar>],
     items: &[Item],
 ) -> Result<Option<Seq<Global>>, Memory>
-    requires zeros { zeros.now ≡ struct_cells (known_in facts.now).structs [] }
+    requires zeros { zeros.now ≡ cells_of_structs (known_in facts.now).structs [] }
     requires begun { All (IsBegunItem (facts_in facts.now) (known_in facts.now)) (map plain_item items.now) }
     ensures { IfOk result (λ gs. objects_in facts.now gs ≡ all_objects facts.now (flat_map starts_of (map plain_item items.now))) }
 {

@@ -1,9 +1,9 @@
 ghost use Rattle.std.specs.Prelude.{◌≡◌, ◌∷◌, [], IfOk, drop, slice_get, unwrap_or};
-ghost use Rattle.c_rules.specs.Plain.{plain_type};
-ghost use Rattle.c_meaning.specs.Globals.{filled_up, struct_cells, zero_cells};
+ghost use Rattle.c_types_rules.specs.Plain.{plain_type};
+ghost use Rattle.c_meaning.specs.Globals.{cells_of_structs, filled_up, zero_cells};
 ghost use Rattle.lower_globals.specs.Zeros.{member_zeros, repeated};
 
-use c_rules::{CType, Member, StructType};
+use c_types_rules::{CType, Member, StructType};
 use cbi_base::{Kind, Memory, Scalar, Seq};
 use std::alloc::Global;
 
@@ -99,7 +99,7 @@ pub(crate) fn struct_zeros(
     alloc: Global,
     structs: &[StructType],
 ) -> Result<Seq<Seq<Scalar>>, Memory>
-    ensures { IfOk result (λ all. all ≡ struct_cells structs.now []) }
+    ensures { IfOk result (λ all. all ≡ cells_of_structs structs.now []) }
 {
     let mut all = Vec::new(alloc);
     for known in structs {

@@ -16,8 +16,8 @@ use Rattle.lower_relation.specs.Paths as paths
 use Rattle.lower_relation.specs.Paths.{Graph, Path, Ways, ◌then◌, Either, Nothing}
 use Rattle.lower_relation.specs.Functions.{standing}
 use Rattle.lower_nodes.specs.Ends.{AllBelow, Any, no_ends}
-use Rattle.lower_nodes.specs.Made.{Later, LeadBack, LeadsBack, Made, MadeAlone, MadeTo, MadeWays, Part, CameOut}
-use Rattle.lower_nodes.specs.Standing.{AllLike, AllStand, Allowed, Like, Allowance, Stands, Stood, bare, fork_at, forks, may_visit}
+use Rattle.lower_nodes.specs.Made.{Later, LeadBack, LeadsBack, Made, MadeAlone, MadeTo, MadeWays, GraphPath, CameOut}
+use Rattle.lower_nodes.specs.Standing.{AllLike, AllStand, Allowed, Like, Allowance, StandsRightly, Stood, bare, fork_at, forks, may_visit}
 
 pub later_trans : (lo lo' : ℕ) (a b fin : List Node) → lo ≤ lo' → Later 0 a b → Later lo b fin → Later lo' a fin
 later_trans lo lo' a b fin le f g = record {
@@ -100,11 +100,11 @@ visits_more frees f g more (view.Marks site next) e = or_more (frees site) (f ne
 visits_more frees f g more other e = e
 
 -- where there are no fewer forks, a node stands as well
-pub stands_by : (s : Allowance) (a b : List Node) (v : View) → ((n : ℕ) → fork_at a n ≡ true → fork_at b n ≡ true) → Stands s a v → Stands s b v
+pub stands_by : (s : Allowance) (a b : List Node) (v : View) → ((n : ℕ) → fork_at a n ≡ true → fork_at b n ≡ true) → StandsRightly s a v → StandsRightly s b v
 stands_by s a b v more h = record { fits = h.fits; visits = visits_more s.frees (fork_at a) (fork_at b) more v h.visits }
 
 stand_by : (s : Allowance) (low : ℕ) (a b : List Node) (i : ℕ) (x : Node) → AllStand s low a → Later 0 a b → AllStand s (length a) b → low ≤ i → slice_get b i ≡ Some x →
-    (early : Bool) → nat_lt i (length a) ≡ early → Stands s b (view_of x)
+    (early : Bool) → nat_lt i (length a) ≡ early → StandsRightly s b (view_of x)
 stand_by s low a b i x first later second at is true e =
     let inside : i < length a = grind (arith, nat_tests) in
     stands_by s a b (view_of x) (λ n f. fork_more a b n later f) (first.each i x at (sym (later.same i (omega arith) inside) ∙ is))
@@ -148,7 +148,7 @@ visit_resembles s nodes site k l like = record {
 one_stood : (s : Allowance) (old : List Node) (x : Node) (v w : View) (j : ℕ) → view_of x ≡ v → Resembles s old v w → Allowed s j w → Stood s (length old) (old ++ x ∷ []) (length old) j
 one_stood s old x v w j e like h =
     let fin : List Node = old ++ x ∷ [] in
-    let here : Stands s fin v = record {
+    let here : StandsRightly s fin v = record {
       fits = subst (λ b. IsTrue (s.fits b)) like.same h.fits;
       visits = visits_more s.frees (fork_at old) (fork_at fin) (λ n f. fork_more old fin n (later_put old x) f) v (like.visits h.visits);
     } in
@@ -158,7 +158,7 @@ one_stood s old x v w j e like h =
             let place : i ≡ length old = omega (arith, low, slice_get_within fin i y is, length-append old (x ∷ [])) in
             let some : Some y ≡ Some x = sym is ∙ ap (slice_get fin) place ∙ slice_end old x in
             let same : y ≡ x = cc in
-            subst (λ z. Stands s fin (view_of z)) (sym same) (subst (λ u. Stands s fin u) (sym e) here);
+            subst (λ z. StandsRightly s fin (view_of z)) (sym same) (subst (λ u. StandsRightly s fin u) (sym e) here);
       };
       like = λ f. ap (λ o. forks (view_at o)) (slice_end old x) ∙ ap forks e ∙ like.fork (h.turns f);
     }
@@ -189,7 +189,7 @@ nothing_made old k = record {
   stands = λ s j l same like h. stood_put s old k j (subst (λ q. Like s old k q) (sym h) like.0);
 }
 
-pub then_made : {K : Type 0} → {ends : K → List ℕ} → {SameForm : K → K → Type 0} → (R : Part ℕ) (S : Part K) (n0 n1 n2 : List Node) (i m : ℕ) (k : K) →
+pub then_made : {K : Type 0} → {ends : K → List ℕ} → {SameForm : K → K → Type 0} → (R : GraphPath ℕ) (S : GraphPath K) (n0 n1 n2 : List Node) (i m : ℕ) (k : K) →
     MadeTo ends SameForm S n0 n1 m k → Made R n1 n2 i m → MadeTo ends SameForm (λ G. R G then S G) n0 n2 i k
 then_made R S n0 n1 n2 i m k s r = record {
   does = λ fin l. (
@@ -210,7 +210,7 @@ then_made R S n0 n1 n2 i m k s r = record {
 
 -- one part before another, and a row, where the rest is known from what was put
 infixr 8 ◌and_then◌
-pub ◌and_then◌ : {K : Type 0} → {ends : K → List ℕ} → {SameForm : K → K → Type 0} → {R : Part ℕ} → {S : Part K} → {n0 n1 n2 : List Node} → {i m : ℕ} → {k : K} → Made R n1 n2 i m →
+pub ◌and_then◌ : {K : Type 0} → {ends : K → List ℕ} → {SameForm : K → K → Type 0} → {R : GraphPath ℕ} → {S : GraphPath K} → {n0 n1 n2 : List Node} → {i m : ℕ} → {k : K} → Made R n1 n2 i m →
     MadeTo ends SameForm S n0 n1 m k → MadeTo ends SameForm (λ G. R G then S G) n0 n2 i k
 ◌and_then◌ {R = R} {S = S} {n0 = n0} {n1 = n1} {n2 = n2} {i = i} {m = m} {k = k} r s = then_made R S n0 n1 n2 i m k s r
 
@@ -219,7 +219,7 @@ pub row : (op x : Node) → {old new : List Node} → {i k : ℕ} → i ≡ leng
 row op x {old = old} {new = new} {i = i} {k = k} at is e = one_made op x old new i k e at is
 
 -- What is made for one part is made for another one that follows from it, and goes on where that one does, if the second part follows back.
-pub carried : {K L : Type 0} → {f : K → List ℕ} → {g : L → List ℕ} → {SameK : K → K → Type 0} → {SameL : L → L → Type 0} → (R : Part K) (S : Part L) (k : K) (l : L) →
+pub carried : {K L : Type 0} → {f : K → List ℕ} → {g : L → List ℕ} → {SameK : K → K → Type 0} → {SameL : L → L → Type 0} → (R : GraphPath K) (S : GraphPath L) (k : K) (l : L) →
     ((G : Graph) (i : ℕ) → R G i k → S G i l) → ((n : ℕ) → AllBelow n (g l) → AllBelow n (f k)) →
     ((p : Allowance) (n : List Node) (j : ℕ) (m : L) → SameL l m → AllLike p n (g l) (g m) → S (Allowed p) j m → (q : K) × SameK k q × AllLike p n (f k) (f q) × R (Allowed p) j q) →
     (old new : List Node) (i : ℕ) → MadeTo f SameK R old new i k → MadeTo g SameL S old new i l
@@ -231,13 +231,13 @@ carried R S k l into ends back old new i made = record {
 }
 
 -- so it is with parts of one kind, where in a graph of nodes that may be each follows from the other
-pub both_ways : {K : Type 0} → {ends : K → List ℕ} → {SameForm : K → K → Type 0} → (R S : Part K) (k : K) → ((G : Graph) (i : ℕ) (k : K) → R G i k → S G i k) →
+pub both_ways : {K : Type 0} → {ends : K → List ℕ} → {SameForm : K → K → Type 0} → (R S : GraphPath K) (k : K) → ((G : Graph) (i : ℕ) (k : K) → R G i k → S G i k) →
     ((p : Allowance) (i : ℕ) (k : K) → S (Allowed p) i k → R (Allowed p) i k) → (old new : List Node) (i : ℕ) → MadeTo ends SameForm R old new i k → MadeTo ends SameForm S old new i k
 both_ways R S k into out old new i made =
     carried R S k k (λ G i h. into G i k h) (λ n b. b) (λ p n j m same like h. (m, same, like, out p j m h)) old new i made
 
 -- what goes on nowhere goes on anywhere
-pub surely_made : {K : Type 0} → {ends : K → List ℕ} → {SameForm : K → K → Type 0} → (R : Part K) (old new : List Node) (i : ℕ) (k : K) → MadeAlone R old new i k →
+pub surely_made : {K : Type 0} → {ends : K → List ℕ} → {SameForm : K → K → Type 0} → (R : GraphPath K) (old new : List Node) (i : ℕ) (k : K) → MadeAlone R old new i k →
     MadeTo ends SameForm R old new i k
 surely_made R old new i k made = record {
   does = λ fin l. made.does fin l;
@@ -253,17 +253,17 @@ stuck_anywhere old new i k l made =
     carried (λ G. paths.Stuck G) (λ G. paths.Stuck G) k l (λ G i h. h) (λ n b. tt) (λ p n j m same like h. (k, tt, tt, h)) old new i made
 
 -- what is no part but that
-pub is_stuck : (R : Part ℕ) → ((G : Graph) → R G ≡ paths.Stuck G) → (old new : List Node) (i k : ℕ) → MadeAlone {K = ℕ} (λ G. paths.Stuck G) old new i k → Made R old new i k
+pub is_stuck : (R : GraphPath ℕ) → ((G : Graph) → R G ≡ paths.Stuck G) → (old new : List Node) (i k : ℕ) → MadeAlone {K = ℕ} (λ G. paths.Stuck G) old new i k → Made R old new i k
 is_stuck R stuck old new i k made =
     carried (λ G. paths.Stuck G) R k k (λ G i h. subst (λ (P : Path ℕ). P i k) (sym (stuck G)) h) (λ n b. tt)
     (λ p n j m same like h. (k, tt, tt, subst (λ (P : Path ℕ). P j m) (stuck (Allowed p)) h)) old new i made
 
 -- one part, and then a second one: the first goes on at the entry of the second, and both where the whole does
-abbrev pub Joined : {K L M : Type 0} → Part K → Part L → (ℕ → M → K) → (M → L) → Part M
+abbrev pub Joined : {K L M : Type 0} → GraphPath K → GraphPath L → (ℕ → M → K) → (M → L) → GraphPath M
 Joined R S first second G i t = (m : ℕ) × R G i (first m t) × S G m (second t)
 
 -- the second part was put, and then the first one
-pub joined_made : {K L M : Type 0} → {f : K → List ℕ} → {g : L → List ℕ} → {h : M → List ℕ} → (R : Part K) (S : Part L) (first : ℕ → M → K) (second : M → L) (n0 n1 n2 : List Node)
+pub joined_made : {K L M : Type 0} → {f : K → List ℕ} → {g : L → List ℕ} → {h : M → List ℕ} → (R : GraphPath K) (S : GraphPath L) (first : ℕ → M → K) (second : M → L) (n0 n1 n2 : List Node)
     (i m : ℕ) (t : M) → ((n : ℕ) → AllBelow n (h t) → AllBelow n (g (second t))) → ((n : ℕ) → AllBelow n (h t) → m < n → AllBelow n (f (first m t))) →
     ((s : Allowance) (n : List Node) (u : M) → AllLike s n (h t) (h u) → AllLike s n (g (second t)) (g (second u))) →
     ((s : Allowance) (n : List Node) (u : M) (k : ℕ) → AllLike s n (h t) (h u) → Like s n m k → AllLike s n (f (first m t)) (f (first k u))) →
@@ -287,7 +287,7 @@ joined_made {h = h} R S first second n0 n1 n2 i m t below_second below_first lik
 }
 
 -- two ways, and the condition before them
-pub either_made : {K : Type 0} → {ends : K → List ℕ} → {SameForm : K → K → Type 0} → (D : Part Ways) (R S : Part K) (n0 n1 n2 n3 : List Node) (i yes_at no_at : ℕ) (k : K) →
+pub either_made : {K : Type 0} → {ends : K → List ℕ} → {SameForm : K → K → Type 0} → (D : GraphPath Ways) (R S : GraphPath K) (n0 n1 n2 n3 : List Node) (i yes_at no_at : ℕ) (k : K) →
     MadeTo ends SameForm S n0 n1 no_at k → MadeTo ends SameForm R n1 n2 yes_at k → MadeWays D n2 n3 i (record { yes_to = yes_at; no_to = no_at }) →
     MadeTo ends SameForm (λ G. Either (D G) (R G) (S G)) n0 n3 i k
 either_made {ends = ends} D R S n0 n1 n2 n3 i yes_at no_at k s r d = record {
@@ -328,10 +328,10 @@ stuck_made old n1 n2 m i k at is at' is' =
     record { does = λ fin l. both.does fin l; keeps = both.keeps; leads = λ below. both.leads tt; stands = λ s j l same like h. both.stands s j 0 tt tt h }
 
 -- the same for parts that go on at one node
-pub then_one : (R S : Part ℕ) (n0 n1 n2 : List Node) (i m k : ℕ) → Made S n0 n1 m k → Made R n1 n2 i m → Made (λ G. R G then S G) n0 n2 i k
+pub then_one : (R S : GraphPath ℕ) (n0 n1 n2 : List Node) (i m k : ℕ) → Made S n0 n1 m k → Made R n1 n2 i m → Made (λ G. R G then S G) n0 n2 i k
 then_one R S n0 n1 n2 i m k s r = then_made R S n0 n1 n2 i m k s r
 
-pub surely_one : (R : Part ℕ) (old new : List Node) (i k : ℕ) → MadeAlone R old new i k → Made R old new i k
+pub surely_one : (R : GraphPath ℕ) (old new : List Node) (i k : ℕ) → MadeAlone R old new i k → Made R old new i k
 surely_one R old new i k made = surely_made R old new i k made
 
 -- a part that is found from these

@@ -3,12 +3,12 @@ use Rattle.std.proofs.Common.{◌≡◌, ℕ, ◌+◌, ◌<◌, sym, subst, List
 use Rattle.std.proofs.lemmas.List.{drop_more}
 use Rattle.flow.specs.declared.node.Node.{Node}
 use Rattle.lower_relation.specs.Paths.{Graph, ◌then◌}
-use Rattle.lower_nodes.specs.Made.{Made, MadeTo, Part}
+use Rattle.lower_nodes.specs.Made.{GraphPath, Made, MadeTo}
 use Rattle.lower_nodes.specs.Standing.{Allowed, Allowance}
 use Rattle.lower_nodes.proofs.Building.{both_ways, then_made}
 
 -- one more item is put before those that were put
-pub list_step : {X K : Type 0} → {ends : K → List ℕ} → {SameForm : K → K → Type 0} → (part : List X → Part K) (one : Part ℕ) (xs : List X) (m j : ℕ) (d : X) (n0 n1 n2 : List Node)
+pub list_step : {X K : Type 0} → {ends : K → List ℕ} → {SameForm : K → K → Type 0} → (part : List X → GraphPath K) (one : GraphPath ℕ) (xs : List X) (m j : ℕ) (d : X) (n0 n1 n2 : List Node)
     (entry i : ℕ) (k : K) → m ≡ j + 1 → j < length xs →
     ((G : Graph) (i : ℕ) (k : K) → (one G then part (drop (j + 1) xs) G) i k → part (get_or xs j d ∷ drop (j + 1) xs) G i k) →
     ((p : Allowance) (i : ℕ) (k : K) → part (get_or xs j d ∷ drop (j + 1) xs) (Allowed p) i k → (one (Allowed p) then part (drop (j + 1) xs) (Allowed p)) i k) →

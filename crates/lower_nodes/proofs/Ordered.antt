@@ -10,7 +10,7 @@ use Rattle.flow.specs.Nodes.{is_again, leads_rightly, led_to}
 use Rattle.flow.specs.View.{view as view_of}
 use Rattle.lower_relation.specs.Stands.{renamed}
 use Rattle.lower_nodes.specs.Ends.{AllBelow}
-use Rattle.lower_nodes.specs.Finished.{Finished, turned}
+use Rattle.lower_nodes.specs.Finished.{Finished, turned_number}
 use Rattle.lower_nodes.specs.Made.{LeadBack, LeadsBack}
 use Rattle.lower_nodes.specs.Reach.{LeadOn, among}
 
@@ -51,8 +51,8 @@ renamed_again ren view.Nowhere = refl
 abbrev leads_to : ℕ → ℕ → Bool → ℕ → Bool
 leads_to count place again next = nat_lt next count && (again || nat_lt place next)
 
-one_on : (count place i : ℕ) (again : Bool) (x : ℕ) → place ≡ turned (count - 1) i → i < count → x < (if again then count else i) →
-    IsTrue (leads_to count place again (turned (count - 1) x))
+one_on : (count place i : ℕ) (again : Bool) (x : ℕ) → place ≡ turned_number (count - 1) i → i < count → x < (if again then count else i) →
+    IsTrue (leads_to count place again (turned_number (count - 1) x))
 one_on count place i true x e inside low = grind (arith, nat_tests)
 one_on count place i false x e inside low = grind (arith, nat_tests)
 
@@ -60,32 +60,32 @@ both_true : (a b : Bool) → IsTrue a → IsTrue b → IsTrue (a && b)
 both_true true b p q = q
 both_true false b p q = p
 
-all_on : (count place i : ℕ) (again : Bool) (xs : List ℕ) → place ≡ turned (count - 1) i → i < count → AllBelow (if again then count else i) xs →
-    IsTrue (list_all (leads_to count place again) (map (turned (count - 1)) xs))
+all_on : (count place i : ℕ) (again : Bool) (xs : List ℕ) → place ≡ turned_number (count - 1) i → i < count → AllBelow (if again then count else i) xs →
+    IsTrue (list_all (leads_to count place again) (map (turned_number (count - 1)) xs))
 all_on count place i again [] e inside below = refl
 all_on count place i again (x ∷ xs) e inside below =
-    both_true (leads_to count place again (turned (count - 1) x)) (list_all (leads_to count place again) (map (turned (count - 1)) xs))
+    both_true (leads_to count place again (turned_number (count - 1) x)) (list_all (leads_to count place again) (map (turned_number (count - 1)) xs))
     (one_on count place i again x e inside below.0) (all_on count place i again xs e inside below.1)
 
-leads_turned : (count place i : ℕ) (v : View) → place ≡ turned (count - 1) i → i < count → LeadsBack i count v →
-    IsTrue (leads_rightly (among count) place (renamed (turned (count - 1)) v))
+leads_turned : (count place i : ℕ) (v : View) → place ≡ turned_number (count - 1) i → i < count → LeadsBack i count v →
+    IsTrue (leads_rightly (among count) place (renamed (turned_number (count - 1)) v))
 unfolding leads_rightly
 leads_turned count place i v e inside back =
-    subst (λ l. IsTrue (list_all (leads_to count place (is_again (renamed (turned (count - 1)) v))) l)) (sym (renamed_leads (turned (count - 1)) v))
-    (subst (λ b. IsTrue (list_all (leads_to count place b) (map (turned (count - 1)) (led_to v)))) (sym (renamed_again (turned (count - 1)) v))
+    subst (λ l. IsTrue (list_all (leads_to count place (is_again (renamed (turned_number (count - 1)) v))) l)) (sym (renamed_leads (turned_number (count - 1)) v))
+    (subst (λ b. IsTrue (list_all (leads_to count place b) (map (turned_number (count - 1)) (led_to v)))) (sym (renamed_again (turned_number (count - 1)) v))
     (all_on count place i (is_again v) (led_to v) e inside back))
 
-pub leads_on : (old new : List Node) → length new ≡ length old → Finished old new (turned (length old - 1)) → LeadBack 0 old → LeadOn new
+pub leads_on : (old new : List Node) → length new ≡ length old → Finished old new (turned_number (length old - 1)) → LeadBack 0 old → LeadOn new
 leads_on old new long finished back = record {
   each = λ place n at.
       let inside : place < length new = slice_get_within new place n at in
       let low : length old - 1 - place < length old = omega (arith, inside, long) in
-      let here : turned (length old - 1) (length old - 1 - place) ≡ place = omega (arith, inside, long) in
+      let here : turned_number (length old - 1) (length old - 1 - place) ≡ place = omega (arith, inside, long) in
       let was : slice_get old (length old - 1 - place) ≡ Some (get_or old (length old - 1 - place) n) = slice_get-get_or old (length old - 1 - place) n low in
-      let found : option_map view_of (Some n) ≡ Some (renamed (turned (length old - 1)) (view_of (get_or old (length old - 1 - place) n))) =
+      let found : option_map view_of (Some n) ≡ Some (renamed (turned_number (length old - 1)) (view_of (get_or old (length old - 1 - place) n))) =
       ap (option_map view_of) (sym at) ∙ ap (λ p. option_map view_of (slice_get new p)) (sym here)
       ∙ finished.each (length old - 1 - place) (get_or old (length old - 1 - place) n) was in
-      let same : view_of n ≡ renamed (turned (length old - 1)) (view_of (get_or old (length old - 1 - place) n)) = cc in
+      let same : view_of n ≡ renamed (turned_number (length old - 1)) (view_of (get_or old (length old - 1 - place) n)) = cc in
       subst (λ c. IsTrue (leads_rightly (among c) place (view_of n))) (sym long)
       (subst (λ v. IsTrue (leads_rightly (among (length old)) place v)) (sym same)
       (leads_turned (length old) place (length old - 1 - place) (view_of (get_or old (length old - 1 - place) n)) (sym here) low

@@ -11,31 +11,31 @@ use Rattle.lower_relation.specs.Operators.{Negated, Prefixed, Through}
 use Rattle.lower_relation.specs.Paths.{Graph, Path, ◌then◌, Does, Emitted, Ways}
 use Rattle.lower_relation.specs.Values.{Placed, Valued}
 use Rattle.lower_nodes.specs.Ends.{WantedAlike, purpose_ends}
-use Rattle.lower_nodes.specs.Made.{Made, MadeFor, MadeWays, Part}
+use Rattle.lower_nodes.specs.Made.{GraphPath, Made, MadeFor, MadeWays}
 use Rattle.lower_nodes.specs.Prefixes.{PrefixValue}
-use Rattle.lower_nodes.specs.Purposes.{Serves, Takes, TakesPlace, TakesThrough, ways}
+use Rattle.lower_nodes.specs.Purposes.{PurposeTakes, Serves, TakesPlace, TakesThrough, ways}
 use Rattle.lower_nodes.specs.Standing.{AllLike, Allowed, Allowance}
 use Rattle.lower_nodes.specs.declared.purpose.Purpose.{Purpose}
 use Rattle.lower_nodes.specs.declared.purpose.Purpose.TheVariants as purpose
 use Rattle.lower_nodes.proofs.Building.{◌and_then◌, both_ways, carried, one_made, row, then_made}
 use Rattle.lower_nodes.proofs.Wanting.{as_effect, as_value, effect_of, truth_of, value_of}
 
-serves_valued : (G : Graph) (R : Path ℕ) (p : Purpose) (i : ℕ) → (R then Takes G) i p → Serves (Valued G R) i p
+serves_valued : (G : Graph) (R : Path ℕ) (p : Purpose) (i : ℕ) → (R then PurposeTakes G) i p → Serves (Valued G R) i p
 serves_valued G R (purpose.Value next) i h = subst (λ k. R i k) h.2 h.1
 serves_valued G R (purpose.Effect next) i h = h
 serves_valued G R (purpose.Truth yes_at no_at) i h = h
 
-valued_serves : (G : Graph) (R : Path ℕ) (p : Purpose) (i : ℕ) → Serves (Valued G R) i p → (R then Takes G) i p
+valued_serves : (G : Graph) (R : Path ℕ) (p : Purpose) (i : ℕ) → Serves (Valued G R) i p → (R then PurposeTakes G) i p
 valued_serves G R (purpose.Value next) i h = (next, h, refl)
 valued_serves G R (purpose.Effect next) i h = h
 valued_serves G R (purpose.Truth yes_at no_at) i h = h
 
 -- an expression that is no place
-pub valued_made : (R : Part ℕ) (p : Purpose) (n0 n1 n2 : List Node) (i m : ℕ) → MadeFor (λ G. Takes G) n0 n1 m p → Made R n1 n2 i m →
+pub valued_made : (R : GraphPath ℕ) (p : Purpose) (n0 n1 n2 : List Node) (i m : ℕ) → MadeFor (λ G. PurposeTakes G) n0 n1 m p → Made R n1 n2 i m →
     MadeFor (λ G. Serves (Valued G (R G))) n0 n2 i p
 valued_made R p n0 n1 n2 i m taken made =
-    both_ways (λ G. R G then Takes G) (λ G. Serves (Valued G (R G))) p (λ G i p h. serves_valued G (R G) p i h) (λ s i p h. valued_serves (Allowed s) (R (Allowed s)) p i h) n0 n2 i
-    (then_made R (λ G. Takes G) n0 n1 n2 i m p taken made)
+    both_ways (λ G. R G then PurposeTakes G) (λ G. Serves (Valued G (R G))) p (λ G i p h. serves_valued G (R G) p i h) (λ s i p h. valued_serves (Allowed s) (R (Allowed s)) p i h) n0 n2 i
+    (then_made R (λ G. PurposeTakes G) n0 n1 n2 i m p taken made)
 
 serves_placed : (G : Graph) (of : Option ValueType) (P : Path ℕ) (p : Purpose) (i : ℕ) → (P then TakesPlace G of) i p → Serves (Placed G of P) i p
 serves_placed G of P (purpose.Value next) i h = h
@@ -48,7 +48,7 @@ placed_serves G of P (purpose.Effect next) i h = h
 placed_serves G of P (purpose.Truth yes_at no_at) i h = (h.1.0, h.1.1, (h.0, h.1.2, h.2))
 
 -- a place
-pub placed_made : (of : Option ValueType) (P : Part ℕ) (p : Purpose) (n0 n1 n2 : List Node) (i m : ℕ) → MadeFor (λ G. TakesPlace G of) n0 n1 m p → Made P n1 n2 i m →
+pub placed_made : (of : Option ValueType) (P : GraphPath ℕ) (p : Purpose) (n0 n1 n2 : List Node) (i m : ℕ) → MadeFor (λ G. TakesPlace G of) n0 n1 m p → Made P n1 n2 i m →
     MadeFor (λ G. Serves (Placed G of (P G))) n0 n2 i p
 placed_made of P p n0 n1 n2 i m taken made =
     both_ways (λ G. P G then TakesPlace G of) (λ G. Serves (Placed G of (P G))) p (λ G i p h. serves_placed G of (P G) p i h) (λ s i p h. placed_serves (Allowed s) of (P (Allowed s)) p i h) n0 n2 i
@@ -65,7 +65,7 @@ through_serves G of R (purpose.Effect next) i h = (h.1.0, h.1.1, (h.0, h.1.2, h.
 through_serves G of R (purpose.Truth yes_at no_at) i h = (h.1.0, h.1.1, (h.0, h.1.2, h.2))
 
 -- the place that a pointer's value is
-pub through_made : (of : Option ValueType) (R : Part ℕ) (p : Purpose) (n0 n1 n2 : List Node) (i m : ℕ) → MadeFor (λ G. TakesThrough G of) n0 n1 m p → Made R n1 n2 i m →
+pub through_made : (of : Option ValueType) (R : GraphPath ℕ) (p : Purpose) (n0 n1 n2 : List Node) (i m : ℕ) → MadeFor (λ G. TakesThrough G of) n0 n1 m p → Made R n1 n2 i m →
     MadeFor (λ G. Serves (Through G of (R G))) n0 n2 i p
 through_made of R p n0 n1 n2 i m taken made =
     both_ways (λ G. R G then TakesThrough G of) (λ G. Serves (Through G of (R G))) p (λ G i p h. serves_through G of (R G) p i h) (λ s i p h. through_serves (Allowed s) of (R (Allowed s)) p i h) n0 n2 i
@@ -101,7 +101,7 @@ prefix_valued G facts sites token prefix.Indirection of cells m is = cc
 prefix_valued G facts sites token prefix.Not of cells m is = cc
 prefix_valued G facts sites token prefix.SizeOf of cells m is = cc
 
-abbrev negation : (Graph → Emitted) → Part ℕ
+abbrev negation : (Graph → Emitted) → GraphPath ℕ
 negation m G = (m G).value then Does G (node.Sole unary.Not 0)
 
 -- where a graph of nodes that may be has the value, it has the truth, which may go on at any two nodes
@@ -128,7 +128,7 @@ module _ (facts : Facts) (sites : Sites) (m : Graph → Emitted) where
       carried (λ G. Serves (m G)) (λ G. Serves (Negated G facts sites (m G))) (purpose.Truth no_at yes_at) (purpose.Truth yes_at no_at) (λ G i h. inr h) (λ n b. (b.1.0, (b.0, tt)))
       (λ p n j q same like h. turned_back forks p n j yes_at no_at q same like h) n0 n1 i made
 
-  pub negated_value : (n0 n1 n2 n3 : List Node) (after sole i next : ℕ) → MadeFor (λ G. Takes G) n0 n1 after (purpose.Value next) →
+  pub negated_value : (n0 n1 n2 n3 : List Node) (after sole i next : ℕ) → MadeFor (λ G. PurposeTakes G) n0 n1 after (purpose.Value next) →
       sole ≡ length n1 → n2 ≡ n1 ++ node.Sole unary.Not after ∷ [] → Made (λ G. (m G).value) n2 n3 i sole →
       MadeFor (λ G. Serves (Negated G facts sites (m G))) n0 n3 i (purpose.Value next)
   negated_value n0 n1 n2 n3 after sole i next taken at is made =
@@ -136,7 +136,7 @@ module _ (facts : Facts) (sites : Sites) (m : Graph → Emitted) where
       (for_value (λ G. Valued G (negation m G)) n0 n3 i next
       (valued_made (negation m) (purpose.Value next) n0 n1 n3 i after taken (made and_then row (node.Sole unary.Not 0) _ at is refl)))
 
-  pub negated_effect : (n0 n1 n2 n3 : List Node) (after sole i next : ℕ) → MadeFor (λ G. Takes G) n0 n1 after (purpose.Effect next) →
+  pub negated_effect : (n0 n1 n2 n3 : List Node) (after sole i next : ℕ) → MadeFor (λ G. PurposeTakes G) n0 n1 after (purpose.Effect next) →
       sole ≡ length n1 → n2 ≡ n1 ++ node.Sole unary.Not after ∷ [] → Made (λ G. (m G).value) n2 n3 i sole →
       MadeFor (λ G. Serves (Negated G facts sites (m G))) n0 n3 i (purpose.Effect next)
   negated_effect n0 n1 n2 n3 after sole i next taken at is made =
@@ -146,7 +146,7 @@ module _ (facts : Facts) (sites : Sites) (m : Graph → Emitted) where
 
 -- the operators that have a value
 pub prefixed_made : (facts : Facts) (sites : Sites) (token : ℕ) (operator : PrefixOperator) (of : Option ValueType) (cells : Option ℕ) (m : Graph → Emitted) (p : Purpose)
-    (n0 n1 n2 : List Node) (i after : ℕ) → is_valued operator ≡ true → MadeFor (λ G. Takes G) n0 n1 after p →
+    (n0 n1 n2 : List Node) (i after : ℕ) → is_valued operator ≡ true → MadeFor (λ G. PurposeTakes G) n0 n1 after p →
     Made (λ G. PrefixValue G facts sites token operator of (m G)) n1 n2 i after → MadeFor (λ G. Serves (Prefixed G facts sites token operator of cells (m G))) n0 n2 i p
 prefixed_made facts sites token operator of cells m p n0 n1 n2 i after is taken made =
     both_ways (λ G. Serves (Valued G (PrefixValue G facts sites token operator of (m G)))) (λ G. Serves (Prefixed G facts sites token operator of cells (m G))) p

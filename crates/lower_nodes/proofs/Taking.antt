@@ -6,12 +6,12 @@ use Rattle.flow.specs.declared.node.Node.TheVariants as node
 use Rattle.flow.specs.declared.node.View.TheVariants as view
 use Rattle.c_meaning.specs.declared.value_type.ValueType.{ValueType}
 use Rattle.c_meaning.specs.declared.value_type.ValueType.TheVariants as type
-use Rattle.c_meaning.specs.Expressions.{is_struct}
+use Rattle.c_meaning.specs.Expressions.{is_struct_value}
 use Rattle.lower_relation.specs.Paths.{◌then◌, Does, Either, ForkTo, Nothing, Ways}
 use Rattle.lower_relation.specs.Operators.{LoadThrough, Pointed}
 use Rattle.lower_relation.specs.Values.{Discarded, LoadAt}
-use Rattle.lower_nodes.specs.Made.{Made, MadeFor, MadeWays, Part}
-use Rattle.lower_nodes.specs.Purposes.{Takes, TakesPlace, TakesThrough, is_single, ways}
+use Rattle.lower_nodes.specs.Made.{GraphPath, Made, MadeFor, MadeWays}
+use Rattle.lower_nodes.specs.Purposes.{PurposeTakes, TakesPlace, TakesThrough, is_single, ways}
 use Rattle.lower_nodes.specs.Ends.{WantedAlike, purpose_ends}
 use Rattle.lower_nodes.specs.Standing.{AllLike, Allowed, Like, Allowance, Stood}
 use Rattle.lower_nodes.specs.declared.purpose.Purpose.{Purpose}
@@ -25,17 +25,17 @@ fork_made n0 n1 i yes_at no_at at is =
     (λ s l same like. record { same = refl; visits = λ h. h; fork = λ f. f })
 
 -- a path before a fork
-pub tests_made : (R : Part ℕ) (n0 n1 n2 : List Node) (f i yes_at no_at : ℕ) → f ≡ length n0 → n1 ≡ n0 ++ node.Fork yes_at no_at ∷ [] → Made R n1 n2 i f →
+pub tests_made : (R : GraphPath ℕ) (n0 n1 n2 : List Node) (f i yes_at no_at : ℕ) → f ≡ length n0 → n1 ≡ n0 ++ node.Fork yes_at no_at ∷ [] → Made R n1 n2 i f →
     MadeWays (λ G. R G then ForkTo G) n0 n2 i (ways yes_at no_at)
 tests_made R n0 n1 n2 f i yes_at no_at at is made = then_made R (λ G. ForkTo G) n0 n1 n2 i f (ways yes_at no_at) (fork_made n0 n1 f yes_at no_at at is) made
 
-took_value : (s : Allowance) (n : List Node) (next j : ℕ) (l : Purpose) → WantedAlike (purpose.Value next) l → AllLike s n (next ∷ []) (purpose_ends l) → Takes (Allowed s) j l →
+took_value : (s : Allowance) (n : List Node) (next j : ℕ) (l : Purpose) → WantedAlike (purpose.Value next) l → AllLike s n (next ∷ []) (purpose_ends l) → PurposeTakes (Allowed s) j l →
     Stood s (length n) n next j
 took_value s n next j (purpose.Value to) same like h = stood_put s n next j (subst (λ q. Like s n next q) (sym h) like.0)
 took_value s n next j (purpose.Effect to) same like h = absurd same
 took_value s n next j (purpose.Truth yes_at no_at) same like h = absurd same
 
-pub take_value : (n : List Node) (next : ℕ) → MadeFor (λ G. Takes G) n n next (purpose.Value next)
+pub take_value : (n : List Node) (next : ℕ) → MadeFor (λ G. PurposeTakes G) n n next (purpose.Value next)
 take_value n next = record {
   does = λ fin l. refl;
   keeps = later_self 0 n;
@@ -43,20 +43,20 @@ take_value n next = record {
   stands = λ s j l same like h. took_value s n next j l same like h;
 }
 
-pub take_effect : (n0 n1 : List Node) (i next : ℕ) → i ≡ length n0 → n1 ≡ n0 ++ node.Drop next ∷ [] → MadeFor (λ G. Takes G) n0 n1 i (purpose.Effect next)
+pub take_effect : (n0 n1 : List Node) (i next : ℕ) → i ≡ length n0 → n1 ≡ n0 ++ node.Drop next ∷ [] → MadeFor (λ G. PurposeTakes G) n0 n1 i (purpose.Effect next)
 take_effect n0 n1 i next at is =
-    as_effect (λ G. Does G (node.Drop 0)) (λ G. Takes G) (λ G i k h. h) (λ G i k h. h) n0 n1 i next (one_made (node.Drop 0) (node.Drop next) n0 n1 i next refl at is)
+    as_effect (λ G. Does G (node.Drop 0)) (λ G. PurposeTakes G) (λ G i k h. h) (λ G i k h. h) n0 n1 i next (one_made (node.Drop 0) (node.Drop next) n0 n1 i next refl at is)
 
-pub take_truth : (n0 n1 : List Node) (i yes_at no_at : ℕ) → i ≡ length n0 → n1 ≡ n0 ++ node.Fork yes_at no_at ∷ [] → MadeFor (λ G. Takes G) n0 n1 i (purpose.Truth yes_at no_at)
-take_truth n0 n1 i yes_at no_at at is = as_truth (λ G. ForkTo G) (λ G. Takes G) (λ G i w h. h) (λ G i w h. h) n0 n1 i yes_at no_at (fork_made n0 n1 i yes_at no_at at is)
+pub take_truth : (n0 n1 : List Node) (i yes_at no_at : ℕ) → i ≡ length n0 → n1 ≡ n0 ++ node.Fork yes_at no_at ∷ [] → MadeFor (λ G. PurposeTakes G) n0 n1 i (purpose.Truth yes_at no_at)
+take_truth n0 n1 i yes_at no_at at is = as_truth (λ G. ForkTo G) (λ G. PurposeTakes G) (λ G i w h. h) (λ G i w h. h) n0 n1 i yes_at no_at (fork_made n0 n1 i yes_at no_at at is)
 
 pub place_value : (of : Option ValueType) (n0 n1 : List Node) (i next : ℕ) → Made (λ G. LoadAt G of) n0 n1 i next → MadeFor (λ G. TakesPlace G of) n0 n1 i (purpose.Value next)
 place_value of n0 n1 i next made = as_value (λ G. LoadAt G of) (λ G. TakesPlace G of) (λ G i k h. h) (λ G i k h. h) n0 n1 i next made
 
-pub place_effect : (of : Option ValueType) (n0 n1 : List Node) (i next : ℕ) → Made (λ G. Discarded G (is_struct of) of) n0 n1 i next →
+pub place_effect : (of : Option ValueType) (n0 n1 : List Node) (i next : ℕ) → Made (λ G. Discarded G (is_struct_value of) of) n0 n1 i next →
     MadeFor (λ G. TakesPlace G of) n0 n1 i (purpose.Effect next)
 place_effect of n0 n1 i next made =
-    as_effect (λ G. Discarded G (is_struct of) of) (λ G. TakesPlace G of) (λ G i k h. h) (λ G i k h. h) n0 n1 i next made
+    as_effect (λ G. Discarded G (is_struct_value of) of) (λ G. TakesPlace G of) (λ G i k h. h) (λ G i k h. h) n0 n1 i next made
 
 pub place_truth : (of : Option ValueType) (n0 n1 n2 : List Node) (f i yes_at no_at : ℕ) → f ≡ length n0 → n1 ≡ n0 ++ node.Fork yes_at no_at ∷ [] →
     Made (λ G. LoadAt G of) n1 n2 i f → MadeFor (λ G. TakesPlace G of) n0 n2 i (purpose.Truth yes_at no_at)
@@ -77,11 +77,11 @@ pub through_value : (of : Option ValueType) (n0 n1 : List Node) (i next : ℕ) �
     MadeFor (λ G. TakesThrough G of) n0 n1 i (purpose.Value next)
 through_value of n0 n1 i next made = as_value (λ G. LoadThrough G of) (λ G. TakesThrough G of) (λ G i k h. h) (λ G i k h. h) n0 n1 i next made
 
-pub through_effect : (of : Option ValueType) (n0 n1 n2 : List Node) (m i next : ℕ) → Made (λ G. Discarded G (is_struct of) of) n0 n1 m next → Made (λ G. Pointed G) n1 n2 i m →
+pub through_effect : (of : Option ValueType) (n0 n1 n2 : List Node) (m i next : ℕ) → Made (λ G. Discarded G (is_struct_value of) of) n0 n1 m next → Made (λ G. Pointed G) n1 n2 i m →
     MadeFor (λ G. TakesThrough G of) n0 n2 i (purpose.Effect next)
 through_effect of n0 n1 n2 m i next discarded made =
-    as_effect (λ G. Pointed G then Discarded G (is_struct of) of) (λ G. TakesThrough G of) (λ G i k h. h) (λ G i k h. h) n0 n2 i next
-    (then_made (λ G. Pointed G) (λ G. Discarded G (is_struct of) of) n0 n1 n2 i m next discarded made)
+    as_effect (λ G. Pointed G then Discarded G (is_struct_value of) of) (λ G. TakesThrough G of) (λ G i k h. h) (λ G i k h. h) n0 n2 i next
+    (then_made (λ G. Pointed G) (λ G. Discarded G (is_struct_value of) of) n0 n1 n2 i m next discarded made)
 
 pub through_truth : (of : Option ValueType) (n0 n1 n2 : List Node) (f i yes_at no_at : ℕ) → f ≡ length n0 → n1 ≡ n0 ++ node.Fork yes_at no_at ∷ [] →
     Made (λ G. LoadThrough G of) n1 n2 i f → MadeFor (λ G. TakesThrough G of) n0 n2 i (purpose.Truth yes_at no_at)

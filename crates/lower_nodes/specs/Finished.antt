@@ -5,8 +5,8 @@ use Rattle.flow.specs.View.{view}
 use Rattle.lower_relation.specs.Stands.{renamed}
 
 -- the number of a node, counted from the last one down
-abbrev pub turned : ℕ → ℕ → ℕ
-turned last i = last - i
+abbrev pub turned_number : ℕ → ℕ → ℕ
+turned_number last i = last - i
 
 -- each node stands at its new number, with its successors renamed
 pub record Finished (old new : List Node) (ren : ℕ → ℕ) : Type 0 where

@@ -29,33 +29,33 @@ pub record CameOut (low : ℕ) (nodes : List Node) (i : ℕ) : Type 0 where
   pub back : LeadBack low nodes
 
 -- a path, whatever the graph is
-abbrev pub Part : Type 0 → Type 1
-Part K = Graph → Path K
+abbrev pub GraphPath : Type 0 → Type 1
+GraphPath K = Graph → Path K
 
 -- The nodes that were put make this part, from node i to k. Where it goes on at nodes that were there before, each of them leads back. And where
 -- nodes that may be in a function do the part, from j to what is of the same form as k, those that were put may be there too.
-pub record MadeTo {K : Type 0} (ends : K → List ℕ) (SameForm : K → K → Type 0) (R : Part K) (old new : List Node) (i : ℕ) (k : K) : Type 0 where
+pub record MadeTo {K : Type 0} (ends : K → List ℕ) (SameForm : K → K → Type 0) (R : GraphPath K) (old new : List Node) (i : ℕ) (k : K) : Type 0 where
   pub does : (fin : List Node) → Later (length old) new fin → R (standing fin) i k
   pub keeps : Later 0 old new
   pub leads : AllBelow (length old) (ends k) → CameOut (length old) new i
   pub stands : (s : Allowance) (j : ℕ) (l : K) → SameForm k l → AllLike s old (ends k) (ends l) → R (Allowed s) j l → Stood s (length old) new i j
 
 -- a part that goes on at one node
-abbrev pub Made : Part ℕ → List Node → List Node → ℕ → ℕ → Type 0
+abbrev pub Made : GraphPath ℕ → List Node → List Node → ℕ → ℕ → Type 0
 Made R old new i k = MadeTo one_end Any R old new i k
 
 -- one that goes on at one of two
-abbrev pub MadeWays : Part Ways → List Node → List Node → ℕ → Ways → Type 0
+abbrev pub MadeWays : GraphPath Ways → List Node → List Node → ℕ → Ways → Type 0
 MadeWays R old new i k = MadeTo two_ends Any R old new i k
 
 -- one that goes on where its value is wanted
-abbrev pub MadeFor : Part Purpose → List Node → List Node → ℕ → Purpose → Type 0
+abbrev pub MadeFor : GraphPath Purpose → List Node → List Node → ℕ → Purpose → Type 0
 MadeFor R old new i k = MadeTo purpose_ends WantedAlike R old new i k
 
 -- one that goes on where a statement is left
-abbrev pub MadeExits : Part Exits → List Node → List Node → ℕ → Exits → Type 0
+abbrev pub MadeExits : GraphPath Exits → List Node → List Node → ℕ → Exits → Type 0
 MadeExits R old new i k = MadeTo all_ends Any R old new i k
 
 -- one that goes on nowhere
-abbrev pub MadeAlone : {K : Type 0} → Part K → List Node → List Node → ℕ → K → Type 0
+abbrev pub MadeAlone : {K : Type 0} → GraphPath K → List Node → List Node → ℕ → K → Type 0
 MadeAlone R old new i k = MadeTo no_ends Any R old new i k

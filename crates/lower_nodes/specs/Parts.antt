@@ -5,22 +5,22 @@ use Rattle.c_meaning.specs.Facts.{Facts, Sites}
 use Rattle.lower_relation.specs.Expressions.{emitted}
 use Rattle.lower_relation.specs.Paths.{Ways}
 use Rattle.lower_nodes.specs.declared.purpose.Purpose.{Purpose}
-use Rattle.lower_nodes.specs.Made.{Part}
+use Rattle.lower_nodes.specs.Made.{GraphPath}
 use Rattle.lower_nodes.specs.Purposes.{Serves}
 
 module _ (facts : Facts) (sites : Sites) (x : ExprTree) where
   -- the expression, for what its value is wanted for
-  abbrev pub serving : Part Purpose
+  abbrev pub serving : GraphPath Purpose
   serving G = Serves (emitted G facts sites x)
 
-  abbrev pub value_part : Part ℕ
+  abbrev pub value_part : GraphPath ℕ
   value_part G = (emitted G facts sites x).value
 
-  abbrev pub place_part : Part ℕ
+  abbrev pub place_part : GraphPath ℕ
   place_part G = (emitted G facts sites x).place
 
-  abbrev pub effect_part : Part ℕ
+  abbrev pub effect_part : GraphPath ℕ
   effect_part G = (emitted G facts sites x).effect
 
-  abbrev pub truth_part : Part Ways
+  abbrev pub truth_part : GraphPath Ways
   truth_part G = (emitted G facts sites x).truth

@@ -3,7 +3,7 @@ use Rattle.std.specs.Prelude.{ℕ, Bool, true, false, Option, Some}
 use Rattle.flow.specs.declared.node.Node.TheVariants as node
 use Rattle.c_meaning.specs.declared.value_type.ValueType.{ValueType}
 use Rattle.c_meaning.specs.declared.value_type.ValueType.TheVariants as type
-use Rattle.c_meaning.specs.Expressions.{is_struct}
+use Rattle.c_meaning.specs.Expressions.{is_struct_value}
 use Rattle.lower_relation.specs.Paths.{Graph, Path, ◌then◌, Does, Emitted, ForkTo, Nothing, Ways}
 use Rattle.lower_relation.specs.Operators.{LoadThrough, Pointed}
 use Rattle.lower_relation.specs.Values.{Discarded, LoadAt}
@@ -28,19 +28,19 @@ Serves m i (purpose.Truth yes_at no_at) = m.truth i (ways yes_at no_at)
 
 module _ (G : Graph) where
   -- what becomes of a value on top
-  abbrev pub Takes : Path Purpose
-  Takes i (purpose.Value next) = Nothing i next
-  Takes i (purpose.Effect next) = Does G (node.Drop 0) i next
-  Takes i (purpose.Truth yes_at no_at) = ForkTo G i (ways yes_at no_at)
+  abbrev pub PurposeTakes : Path Purpose
+  PurposeTakes i (purpose.Value next) = Nothing i next
+  PurposeTakes i (purpose.Effect next) = Does G (node.Drop 0) i next
+  PurposeTakes i (purpose.Truth yes_at no_at) = ForkTo G i (ways yes_at no_at)
 
   -- of the value of a place of the type
   abbrev pub TakesPlace : Option ValueType → Path Purpose
   TakesPlace of i (purpose.Value next) = LoadAt G of i next
-  TakesPlace of i (purpose.Effect next) = Discarded G (is_struct of) of i next
+  TakesPlace of i (purpose.Effect next) = Discarded G (is_struct_value of) of i next
   TakesPlace of i (purpose.Truth yes_at no_at) = (LoadAt G of then ForkTo G) i (ways yes_at no_at)
 
   -- of the value at a pointer to the type
   abbrev pub TakesThrough : Option ValueType → Path Purpose
   TakesThrough of i (purpose.Value next) = LoadThrough G of i next
-  TakesThrough of i (purpose.Effect next) = (Pointed G then Discarded G (is_struct of) of) i next
+  TakesThrough of i (purpose.Effect next) = (Pointed G then Discarded G (is_struct_value of) of) i next
   TakesThrough of i (purpose.Truth yes_at no_at) = (LoadThrough G of then ForkTo G) i (ways yes_at no_at)

@@ -11,6 +11,6 @@ use Rattle.lower_relation.specs.Paths.{Graph, Path, ◌then◌, Does}
 use Rattle.lower_relation.specs.Values.{Converts}
 
 -- the result of an operation is converted, stored and dropped
-abbrev pub Replaces : Graph → Facts → Sites → ℕ → Option ValueType → Operation → Path ℕ
-Replaces G facts sites token of o =
+abbrev pub StoresResult : Graph → Facts → Sites → ℕ → Option ValueType → Operation → Path ℕ
+StoresResult G facts sites token of o =
     Operates G o then Converts G (conversion (type_given o of) of) then Assigned G facts sites token then Does G (node.Drop 0)

@@ -40,13 +40,13 @@ pub record Allowed (s : Allowance) (at : ℕ) (v : View) : Type 0 where
   pub turns : s.forks_at at ≡ true → forks v ≡ true
 
 -- a node with this view stands rightly among these
-pub record Stands (s : Allowance) (nodes : List Node) (v : View) : Type 0 where
+pub record StandsRightly (s : Allowance) (nodes : List Node) (v : View) : Type 0 where
   pub fits : IsTrue (s.fits (bare v))
   pub visits : IsTrue (may_visit s.frees (fork_at nodes) v)
 
 -- all from one on do
 pub record AllStand (s : Allowance) (low : ℕ) (nodes : List Node) : Type 0 where
-  pub each : (i : ℕ) (x : Node) → low ≤ i → slice_get nodes i ≡ Some x → Stands s nodes (view x)
+  pub each : (i : ℕ) (x : Node) → low ≤ i → slice_get nodes i ≡ Some x → StandsRightly s nodes (view x)
 
 -- where a fork alone may stand at one number, the node with the other number is a fork
 abbrev pub Like : Allowance → List Node → ℕ → ℕ → Type 0

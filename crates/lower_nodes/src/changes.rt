@@ -3,11 +3,12 @@ ghost use Rattle.std.specs.Prelude.{◌≡◌, IfOk, length, ◌≤◌, ◌+◌}
 ghost use Rattle.cbi_base.specs.Arithmetic.{kind_given};
 ghost use Rattle.c_meaning.specs.Conversions.{conversion};
 ghost use Rattle.c_meaning.specs.Operation.{type_given};
-ghost use Rattle.lower_relation.specs.Operators.{Changed, Operates, Stepped, SteppedAs, SteppedBehind, Updates, step};
+ghost use Rattle.lower_relation.specs.Operators.{Changed, Operates, Stepped, SteppedAs, SteppedBehind, Updates};
+ghost use Rattle.c_meaning.specs.Places.{step_operation};
 ghost use Rattle.lower_relation.specs.Values.{Converts};
 ghost use Rattle.lower_relation.specs.Room.{pairs};
 ghost use Rattle.lower_nodes.specs.Made.{Made};
-ghost use Rattle.lower_nodes.specs.Replacing.{Replaces};
+ghost use Rattle.lower_nodes.specs.Replacing.{StoresResult};
 ghost use Rattle.lower_facts.specs.Facts.{facts_in, sites_in};
 
 use crate::graph::Graph;
@@ -63,7 +64,7 @@ pub fn put_converted(
 
 /// The operation of `++` and `--`.
 fn step(up: bool, of: Option<ValueType>) -> Operation
-    ensures { result ≡ step up of }
+    ensures { result ≡ step_operation up of }
 {
     let one = Some(ValueType::Number { kind: one_kind(of) });
     operation_of(step_of(up), of, one)
@@ -142,7 +143,7 @@ fn put_replaced(
     next: u32,
 ) -> Result<u32, Memory>
     requires room { length graph.old + (10 + pairs (sites_in facts.now) token) ≤ node_limit }
-    ensures made { IfOk result (λ i. Made (λ G. Replaces G (facts_in facts.now) (sites_in facts.now) token of operation) graph.old graph.new i next) }
+    ensures made { IfOk result (λ i. Made (λ G. StoresResult G (facts_in facts.now) (sites_in facts.now) token of operation) graph.old graph.new i next) }
     ensures few { IfOk result (λ i. length graph.new ≤ length graph.old + (10 + pairs (sites_in facts.now) token)) }
 {
     let drop = graph.put(Node::Drop { next })?;

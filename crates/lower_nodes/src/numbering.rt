@@ -2,7 +2,7 @@ ghost use Rattle.std.specs.Prelude.{◌≡◌, ◌≤◌, ◌-◌, IfOk, length}
 ghost use Rattle.flow.specs.Limits.{node_limit};
 ghost use Rattle.flow.specs.View.{view};
 ghost use Rattle.lower_relation.specs.Stands.{renamed};
-ghost use Rattle.lower_nodes.specs.Finished.{Finished, turned};
+ghost use Rattle.lower_nodes.specs.Finished.{Finished, turned_number};
 ghost use Rattle.lower_nodes.specs.Made.{LeadBack};
 ghost use Rattle.lower_nodes.specs.Reach.{LeadOn};
 
@@ -13,7 +13,7 @@ use std::alloc::Global;
 
 /// The node with the other numbers of its successors: they are counted from the last one down.
 fn renumbered(node: Node, last: u32) -> Node
-    ensures { view result ≡ renamed (turned last) (view node) }
+    ensures { view result ≡ renamed (turned_number last) (view node) }
 {
     match node {
         Node::Fork { yes, no } => Node::Fork {
@@ -34,7 +34,7 @@ fn renumbered(node: Node, last: u32) -> Node
 
 /// The nodes of a graph in the order of the program: the last one that was put is the first. They are no more than a program may have.
 pub fn finish(alloc: Global, graph: &Graph) -> Result<Vec<Node>, Memory>
-    ensures finished { IfOk result (λ nodes. Finished graph.now nodes.items (turned (length graph.now - 1))) }
+    ensures finished { IfOk result (λ nodes. Finished graph.now nodes.items (turned_number (length graph.now - 1))) }
     ensures as_many { IfOk result (λ nodes. length nodes.items ≡ length graph.now) }
     ensures most { IfOk result (λ nodes. length nodes.items ≤ node_limit) }
     ensures leads { IfOk result (λ nodes. LeadBack 0 graph.now → LeadOn nodes.items) }

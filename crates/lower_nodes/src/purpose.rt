@@ -1,9 +1,9 @@
 ghost use Rattle.flow.specs.Limits.{node_limit};
 ghost use Rattle.std.specs.Prelude.{◌≡◌, IfOk, length, ◌≤◌, ◌+◌};
-ghost use Rattle.lower_nodes.specs.Purposes.{Takes, TakesPlace, TakesThrough, is_single};
+ghost use Rattle.lower_nodes.specs.Purposes.{PurposeTakes, TakesPlace, TakesThrough, is_single};
 ghost use Rattle.lower_relation.specs.Operators.{LoadThrough, Pointed};
 ghost use Rattle.lower_relation.specs.Values.{Discarded};
-ghost use Rattle.c_meaning.specs.Expressions.{is_struct};
+ghost use Rattle.c_meaning.specs.Expressions.{is_struct_value};
 ghost use Rattle.lower_nodes.specs.Made.{Made, MadeFor};
 
 use crate::graph::Graph;
@@ -27,7 +27,7 @@ pub enum Purpose {
 #[tactic(auto, using(crate::proofs::Taking::takes_made))]
 pub fn put_taken(graph: &mut Graph, purpose: Purpose) -> Result<u32, Memory>
     requires room { length graph.old + 1 ≤ node_limit }
-    ensures made { IfOk result (λ i. MadeFor (λ G. Takes G) graph.old graph.new i purpose) }
+    ensures made { IfOk result (λ i. MadeFor (λ G. PurposeTakes G) graph.old graph.new i purpose) }
     ensures few { IfOk result (λ i. length graph.new ≤ length graph.old + 1) }
 {
     match purpose {
@@ -45,7 +45,7 @@ pub fn put_taken(graph: &mut Graph, purpose: Purpose) -> Result<u32, Memory>
 
 /// Whether the type is that of a struct.
 fn is_struct(of: Option<ValueType>) -> bool
-    ensures { result ≡ is_struct of }
+    ensures { result ≡ is_struct_value of }
 {
     matches!(of, Some(ValueType::Struct))
 }
@@ -54,7 +54,7 @@ fn is_struct(of: Option<ValueType>) -> bool
 #[tactic(auto, using(crate::proofs::Building::parts_made))]
 fn put_discarded(graph: &mut Graph, of: Option<ValueType>, next: u32) -> Result<u32, Memory>
     requires room { length graph.old + 3 ≤ node_limit }
-    ensures made { IfOk result (λ i. Made (λ G. Discarded G (is_struct of) of) graph.old graph.new i next) }
+    ensures made { IfOk result (λ i. Made (λ G. Discarded G (is_struct_value of) of) graph.old graph.new i next) }
     ensures few { IfOk result (λ i. length graph.new ≤ length graph.old + 3) }
 {
     let drop = graph.put(Node::Drop { next })?;

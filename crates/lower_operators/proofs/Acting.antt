@@ -1,7 +1,7 @@
 -- How many arguments there are, and what calls do behind them.
 use Rattle.std.proofs.Common.{◌≡◌, ◌≤◌, arith, ℕ, suc, ◌∙◌, ap, subst, refl, List, [], ◌∷◌, ◌++◌, length, Option, Some, None}
-use Rattle.c_rules.specs.declared.library.Library.{Library}
-use Rattle.c_rules.specs.declared.library.Library.TheVariants as library
+use Rattle.c_types_rules.specs.declared.library.Library.{Library}
+use Rattle.c_types_rules.specs.declared.library.Library.TheVariants as library
 use Rattle.c_syntax.specs.ExprTree.{ExprList}
 use Rattle.c_syntax.specs.declared.expr.Expr.{Expr}
 use Rattle.c_syntax.specs.Plain.{plain_exprs}

@@ -1,19 +1,19 @@
 -- What becomes of what calls give.
 use Rattle.std.proofs.Common.{◌≡◌, ℕ, subst, refl, ◌∙◌, List, Option, Some, None, Bool, true, false}
-use Rattle.c_rules.specs.declared.library.Library.{Library}
-use Rattle.c_rules.specs.declared.library.Library.TheVariants as library
+use Rattle.c_types_rules.specs.declared.library.Library.{Library}
+use Rattle.c_types_rules.specs.declared.library.Library.TheVariants as library
 use Rattle.flow.specs.declared.node.Node.{Node}
 use Rattle.c_meaning.specs.declared.value_type.Called.{Called}
 use Rattle.c_meaning.specs.declared.value_type.Called.TheVariants as called
 use Rattle.c_meaning.specs.Facts.{Facts, Signature, Sites}
 use Rattle.c_meaning.specs.Trees.{has_value}
 use Rattle.c_meaning.specs.Visits.{listed}
-use Rattle.lower_relation.specs.Calls.{Argument, Arguments, CallDoes, CallFunction, CallLibrary, WithResult}
+use Rattle.lower_relation.specs.Calls.{ArgumentPath, ArgumentsPath, CallDoes, CallFunction, CallLibrary, WithResult}
 use Rattle.lower_relation.specs.Paths.{Graph, Path, ◌then◌, MarksAll, Nothing, Stuck}
 use Rattle.lower_operators.specs.Giving.{CalledDoes, FunctionDoes, Given, GivenTakes, LibraryDoes, function_gives, giving_of, is_refused, library_gives, result_gives}
 use Rattle.lower_nodes.specs.Ends.{WantedAlike}
-use Rattle.lower_nodes.specs.Made.{Made, MadeAlone, MadeFor, Part}
-use Rattle.lower_nodes.specs.Purposes.{Serves, Takes, ways}
+use Rattle.lower_nodes.specs.Made.{GraphPath, Made, MadeAlone, MadeFor}
+use Rattle.lower_nodes.specs.Purposes.{PurposeTakes, Serves, ways}
 use Rattle.lower_nodes.specs.Standing.{Allowed}
 use Rattle.lower_operators.specs.declared.giving.Giving.{Giving}
 use Rattle.lower_operators.specs.declared.giving.Giving.TheVariants as giving
@@ -23,17 +23,17 @@ use Rattle.lower_nodes.proofs.Building.{both_ways, carried, nothing_made, stuck_
 use Rattle.lower_nodes.proofs.Wanting.{as_effect, as_truth, as_value}
 
 module _ (facts : Facts) (sites : Sites) (token : ℕ) where
-  pub given_value : (p : Purpose) (n0 n1 : List Node) (i : ℕ) → MadeFor (λ G. Takes G) n0 n1 i p →
+  pub given_value : (p : Purpose) (n0 n1 : List Node) (i : ℕ) → MadeFor (λ G. PurposeTakes G) n0 n1 i p →
       MadeFor (λ G. GivenTakes G facts sites token giving.Value) n0 n1 i p
-  given_value p n0 n1 i made = both_ways (λ G. Takes G) (λ G. GivenTakes G facts sites token giving.Value) p (λ G i p h. h) (λ G i p h. h) n0 n1 i made
+  given_value p n0 n1 i made = both_ways (λ G. PurposeTakes G) (λ G. GivenTakes G facts sites token giving.Value) p (λ G i p h. h) (λ G i p h. h) n0 n1 i made
 
   pub given_returned : (site : Option ℕ) (p : Purpose) (n0 n1 n2 : List Node) (after i : ℕ) → site ≡ sites.return_at token →
-      MadeFor (λ G. Takes G) n0 n1 after p →
+      MadeFor (λ G. PurposeTakes G) n0 n1 after p →
       Made (λ G. MarksAll G (listed site)) n1 n2 i after → MadeFor (λ G. GivenTakes G facts sites token giving.Returned) n0 n2 i p
   given_returned site p n0 n1 n2 after i e taken marked =
-      both_ways (λ G. MarksAll G (listed (sites.return_at token)) then Takes G) (λ G. GivenTakes G facts sites token giving.Returned) p
+      both_ways (λ G. MarksAll G (listed (sites.return_at token)) then PurposeTakes G) (λ G. GivenTakes G facts sites token giving.Returned) p
       (λ G i p h. h) (λ G i p h. h) n0 n2 i
-      (then_made (λ G. MarksAll G (listed (sites.return_at token))) (λ G. Takes G) n0 n1 n2 i after p taken
+      (then_made (λ G. MarksAll G (listed (sites.return_at token))) (λ G. PurposeTakes G) n0 n1 n2 i after p taken
       (subst (λ s. Made (λ G. MarksAll G (listed s)) n1 n2 i after) e marked))
 
   pub given_nothing : (n : List Node) (next : ℕ) → MadeFor (λ G. GivenTakes G facts sites token giving.Nothing) n n next (purpose.Effect next)
@@ -88,7 +88,7 @@ module _ (facts : Facts) (sites : Sites) (token : ℕ) where
   serves_given G giving.Nothing R (purpose.Effect next) i e h = (next, h, refl)
   serves_given G giving.Nothing R (purpose.Truth yes_at no_at) i e h = cc
 
-  pub given_made : (g : Giving) (R : Part ℕ) (p : Purpose) (n0 n1 n2 : List Node) (after i : ℕ) → is_refused g p ≡ false →
+  pub given_made : (g : Giving) (R : GraphPath ℕ) (p : Purpose) (n0 n1 n2 : List Node) (after i : ℕ) → is_refused g p ≡ false →
       MadeFor (λ G. GivenTakes G facts sites token g) n0 n1 after p → Made R n1 n2 i after → MadeFor (λ G. Serves (Given G facts sites token g (R G))) n0 n2 i p
   given_made g R p n0 n1 n2 after i e taken made =
       carried (λ G. R G then GivenTakes G facts sites token g) (λ G. Serves (Given G facts sites token g (R G))) p p (λ G i h. given_serves G g
@@ -117,12 +117,12 @@ module _ (facts : Facts) (sites : Sites) (token : ℕ) where
   result_is G true R = refl
   result_is G false R = refl
 
-  function_is : (G : Graph) (number : ℕ) (s : Option Signature) (n : ℕ) (arguments : Arguments) →
+  function_is : (G : Graph) (number : ℕ) (s : Option Signature) (n : ℕ) (arguments : ArgumentsPath) →
       Given G facts sites token (function_gives s) (FunctionDoes G number s n arguments) ≡ CallFunction G facts sites token number s n arguments
   function_is G number None n arguments = refl
   function_is G number (Some f) n arguments = result_is G (has_value f.result) (FunctionDoes G number (Some f) n arguments)
 
-  library_is : (G : Graph) (f : Library) (n : ℕ) (argument : Argument) (print : Path ℕ) →
+  library_is : (G : Graph) (f : Library) (n : ℕ) (argument : ArgumentPath) (print : Path ℕ) →
       Given G facts sites token (library_gives f) (LibraryDoes G f n argument print) ≡ CallLibrary G facts sites token f n argument print
   library_is G library.Getchar n argument print = refl
   library_is G library.Putchar n argument print = refl
@@ -134,7 +134,7 @@ module _ (facts : Facts) (sites : Sites) (token : ℕ) where
   library_is G library.Assert n argument print = refl
   library_is G library.Printf n argument print = refl
 
-  pub call_is : (G : Graph) (c : Called) (n : ℕ) (arguments : Arguments) (argument : Argument) (print : Path ℕ) →
+  pub call_is : (G : Graph) (c : Called) (n : ℕ) (arguments : ArgumentsPath) (argument : ArgumentPath) (print : Path ℕ) →
       Given G facts sites token (giving_of facts c) (CalledDoes G facts c n arguments argument print) ≡ CallDoes G facts sites token c n arguments
       argument print
   call_is G (called.Function number) n arguments argument print = function_is G number (facts.signature number) n arguments

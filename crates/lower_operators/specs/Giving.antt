@@ -1,8 +1,8 @@
 -- What calls give, and how they are done.
 use Rattle.std.specs.Prelude.{ℕ, ◌==◌, Bool, true, false, length, if◌then◌else◌, Option, Some, None}
 use Rattle.cbi_base.specs.declared.scalar.Kind.TheVariants.{Int, Unsigned}
-use Rattle.c_rules.specs.declared.library.Library.{Library}
-use Rattle.c_rules.specs.declared.library.Library.TheVariants as library
+use Rattle.c_types_rules.specs.declared.library.Library.{Library}
+use Rattle.c_types_rules.specs.declared.library.Library.TheVariants as library
 use Rattle.flow.specs.declared.node.Node.TheVariants as node
 use Rattle.flow.specs.declared.node.View.TheVariants as view
 use Rattle.c_meaning.specs.declared.value_type.Called.{Called}
@@ -13,10 +13,10 @@ use Rattle.c_meaning.specs.Conversions.{as_used}
 use Rattle.c_meaning.specs.Facts.{Facts, Signature, Sites}
 use Rattle.c_meaning.specs.Trees.{has_value}
 use Rattle.c_meaning.specs.Visits.{listed}
-use Rattle.lower_relation.specs.Calls.{Argument, Arguments, Returned}
+use Rattle.lower_relation.specs.Calls.{ArgumentPath, ArgumentsPath, Returned}
 use Rattle.lower_relation.specs.Paths.{Graph, Path, ◌then◌, Does, Emitted, HaltsAt, MarksAll, Nothing, Only, Stuck}
 use Rattle.lower_relation.specs.Values.{Effected, Valued}
-use Rattle.lower_nodes.specs.Purposes.{Takes}
+use Rattle.lower_nodes.specs.Purposes.{PurposeTakes}
 use Rattle.lower_operators.specs.declared.giving.Giving.{Giving}
 use Rattle.lower_operators.specs.declared.giving.Giving.TheVariants as giving
 use Rattle.lower_nodes.specs.declared.purpose.Purpose.{Purpose}
@@ -51,7 +51,7 @@ is_refused g p = false
 
 module _ (G : Graph) where
   -- a function of the library, with so many arguments
-  abbrev pub LibraryDoes : Library → ℕ → Argument → Path ℕ → Path ℕ
+  abbrev pub LibraryDoes : Library → ℕ → ArgumentPath → Path ℕ → Path ℕ
   LibraryDoes library.Getchar n argument print = Only G (n == 0) (Does G (node.Get 0))
   LibraryDoes library.Putchar n argument print = argument (as_type (type.Number Int)) then Does G (node.Put 0)
   LibraryDoes library.Puts n argument print = argument (as_type (type.Pointer 1)) then Does G (node.Puts 0)
@@ -63,11 +63,11 @@ module _ (G : Graph) where
   LibraryDoes library.Printf n argument print = print
 
   -- a function of the text
-  abbrev pub FunctionDoes : ℕ → Option Signature → ℕ → Arguments → Path ℕ
+  abbrev pub FunctionDoes : ℕ → Option Signature → ℕ → ArgumentsPath → Path ℕ
   FunctionDoes number None n arguments = Stuck G
   FunctionDoes number (Some f) n arguments = Only G (n == length f.params) (arguments f.params then (λ i k. G i (view.Calls number k)))
 
-  abbrev pub CalledDoes : Facts → Called → ℕ → Arguments → Argument → Path ℕ → Path ℕ
+  abbrev pub CalledDoes : Facts → Called → ℕ → ArgumentsPath → ArgumentPath → Path ℕ → Path ℕ
   CalledDoes facts (called.Function number) n arguments argument print = FunctionDoes number (facts.signature number) n arguments
   CalledDoes facts (called.Library f) n arguments argument print = LibraryDoes f n argument print
   CalledDoes facts called.Unknown n arguments argument print = Stuck G
@@ -81,7 +81,7 @@ module _ (G : Graph) where
 
     -- what becomes of what it gives
     abbrev pub GivenTakes : Giving → Path Purpose
-    GivenTakes giving.Value i p = Takes G i p
-    GivenTakes giving.Returned i p = (MarksAll G (listed (sites.return_at token)) then Takes G) i p
+    GivenTakes giving.Value i p = PurposeTakes G i p
+    GivenTakes giving.Returned i p = (MarksAll G (listed (sites.return_at token)) then PurposeTakes G) i p
     GivenTakes giving.Nothing i (purpose.Effect next) = Nothing i next
     GivenTakes giving.Nothing i p = Stuck G i p

@@ -13,10 +13,10 @@ use Rattle.lower_relation.specs.Expressions.{emitted}
 use Rattle.lower_relation.specs.Operators.{Decided, Linked}
 use Rattle.lower_relation.specs.Paths.{Graph, Path, Does, Either}
 use Rattle.lower_relation.specs.Values.{NullOr}
-use Rattle.lower_nodes.specs.Made.{Part}
+use Rattle.lower_nodes.specs.Made.{GraphPath}
 
 -- an operator with its right operand, where what stands before them has the type `left`
-abbrev pub link_part : Facts → Sites → Option ValueType → ℕ → Sign → ExprTree → Part ℕ
+abbrev pub link_part : Facts → Sites → Option ValueType → ℕ → Sign → ExprTree → GraphPath ℕ
 link_part facts sites left token sign operand G =
     Linked G facts sites (joint sign) token left (operand_type (is_null_beside (binary_of sign) left operand) (type_of facts operand))
     (NullOr G (is_null_beside (binary_of sign) left operand) (emitted G facts sites operand))

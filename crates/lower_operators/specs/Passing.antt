@@ -1,8 +1,8 @@
 -- Which arguments a call passes, as which types, and what is done behind them.
 use Rattle.std.specs.Prelude.{ℕ, ◌==◌, Bool, true, false, List, [], ◌∷◌, length, Option, Some, None}
 use Rattle.cbi_base.specs.declared.scalar.Kind.TheVariants.{Int, Unsigned}
-use Rattle.c_rules.specs.declared.library.Library.{Library}
-use Rattle.c_rules.specs.declared.library.Library.TheVariants as library
+use Rattle.c_types_rules.specs.declared.library.Library.{Library}
+use Rattle.c_types_rules.specs.declared.library.Library.TheVariants as library
 use Rattle.c_syntax.specs.ExprTree as e
 use Rattle.c_syntax.specs.ExprTree.{ExprList}
 use Rattle.flow.specs.declared.node.Node.{Node}
@@ -17,7 +17,7 @@ use Rattle.c_meaning.specs.declared.value_type.ValueType.TheVariants as type
 use Rattle.c_meaning.specs.Calls.{types_taken}
 use Rattle.c_meaning.specs.Conversions.{as_used}
 use Rattle.c_meaning.specs.Facts.{Facts, Signature}
-use Rattle.c_meaning.specs.Meaning.{text_of}
+use Rattle.c_meaning.specs.Meaning.{text_of_string}
 use Rattle.c_meaning.specs.Trees.{count, type_of}
 use Rattle.lower_relation.specs.Expressions.{number_of_text}
 use Rattle.lower_relation.specs.Paths.{Graph, Path, Does, HaltsAt, Nothing}
@@ -31,9 +31,9 @@ types_of_text None = []
 types_of_text (Some format) = format_types format.bytes
 
 -- the types of the parameters
-abbrev pub params_of : Option Signature → List ValueType
-params_of None = []
-params_of (Some f) = f.params
+abbrev pub types_of_params : Option Signature → List ValueType
+types_of_params None = []
+types_of_params (Some f) = f.params
 
 -- a type, where it is known
 abbrev pub known : Option ValueType → List ValueType
@@ -47,7 +47,7 @@ type_of_first facts (e.more_exprs x rest) = type_of facts x
 
 abbrev pub text_of_first : Facts → ExprList → Option Text
 text_of_first facts e.no_exprs = None
-text_of_first facts (e.more_exprs x rest) = text_of facts x
+text_of_first facts (e.more_exprs x rest) = text_of_string facts x
 
 abbrev pub number_of_first : Facts → ExprList → Option ℕ
 number_of_first facts e.no_exprs = None
@@ -72,7 +72,7 @@ library_types facts library.Printf xs = types_of_text (text_of_first facts xs)
 
 -- the types that the arguments of a call become
 abbrev pub types_passed : Facts → Called → ExprList → List ValueType
-types_passed facts (called.Function number) xs = params_of (facts.signature number)
+types_passed facts (called.Function number) xs = types_of_params (facts.signature number)
 types_passed facts (called.Library f) xs = library_types facts f xs
 types_passed facts called.Unknown xs = []
 
@@ -82,9 +82,9 @@ passed (called.Library library.Printf) xs = others xs
 passed c xs = xs
 
 -- whether a function with this signature takes so many arguments
-abbrev pub takes : Option Signature → ℕ → Bool
-takes None n = false
-takes (Some f) n = n == length f.params
+abbrev pub takes_arguments : Option Signature → ℕ → Bool
+takes_arguments None n = false
+takes_arguments (Some f) n = n == length f.params
 
 -- whether a format has so many conversions
 abbrev pub prints : Option Text → ℕ → Bool
@@ -99,7 +99,7 @@ library_fits facts f xs = count xs == 1
 
 -- whether a call has the arguments that it takes
 abbrev pub fits : Facts → Called → ExprList → Bool
-fits facts (called.Function number) xs = takes (facts.signature number) (count xs)
+fits facts (called.Function number) xs = takes_arguments (facts.signature number) (count xs)
 fits facts (called.Library f) xs = library_fits facts f xs
 fits facts called.Unknown xs = false
 

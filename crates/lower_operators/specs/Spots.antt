@@ -10,10 +10,10 @@ use Rattle.c_meaning.specs.Trees.{is_place, type_of}
 use Rattle.lower_relation.specs.Expressions.{Behind, emitted}
 use Rattle.lower_relation.specs.Operators.{Member, Operates, Settled, Spot, SteppedAs}
 use Rattle.lower_relation.specs.Paths.{◌then◌, Nothing, Only}
-use Rattle.lower_nodes.specs.Made.{Part}
+use Rattle.lower_nodes.specs.Made.{GraphPath}
 
 -- The first of the operators: `known` says whether what stands before it is a place, and `taken` whether something takes its value.
-abbrev pub first_part : Facts → Sites → Bool → Bool → Option ValueType → PostfixList → Part ℕ
+abbrev pub first_part : Facts → Sites → Bool → Bool → Option ValueType → PostfixList → GraphPath ℕ
 first_part facts sites taken known of e.no_postfix G = Nothing
 first_part facts sites taken known of (e.index token i rest) G =
     Settled G known of then (emitted G facts sites i).value then Operates G (operation op.Add of (type_of facts i))
@@ -56,7 +56,7 @@ type_behind facts of l zero = of
 type_behind facts of l (suc j) = type_behind facts (facts.type_at (token_after l)) (others l) j
 
 -- an operand, and the operators behind it
-abbrev pub spots_part : Facts → Sites → Bool → ExprTree → PostfixList → Part ℕ
+abbrev pub spots_part : Facts → Sites → Bool → ExprTree → PostfixList → GraphPath ℕ
 spots_part facts sites taken primary operators G =
     Spot G (is_place primary) (emitted G facts sites primary) then Behind G facts sites taken (is_place primary) (type_of facts primary) operators
 

@@ -6,11 +6,11 @@ use Rattle.lower_nodes.specs.declared.purpose.Purpose.{Purpose}
 use Rattle.lower_nodes.specs.declared.purpose.Purpose.TheVariants as purpose
 
 -- whether the type is `void`
-abbrev pub is_void : Option ValueType → Bool
-is_void (Some type.Void) = true
-is_void of = false
+abbrev pub is_void_value : Option ValueType → Bool
+is_void_value (Some type.Void) = true
+is_void_value of = false
 
 -- whether something takes the value, or its truth
-abbrev pub is_taken : Purpose → Bool
-is_taken (purpose.Effect next) = false
-is_taken p = true
+abbrev pub is_value_taken : Purpose → Bool
+is_value_taken (purpose.Effect next) = false
+is_value_taken p = true

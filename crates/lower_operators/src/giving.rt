@@ -6,7 +6,7 @@ ghost use Rattle.lower_operators.specs.Giving.{GivenTakes, giving_of, is_refused
 ghost use Rattle.lower_facts.specs.Facts.{facts_in, sites_in};
 
 use c_meaning::Called;
-use c_rules::Library;
+use c_types_rules::Library;
 use cbi_base::Memory;
 use lower_facts::TreeFacts;
 use lower_nodes::{Graph, Purpose, put_mark, put_stuck, put_taken};

@@ -5,14 +5,15 @@ ghost use Rattle.c_meaning.specs.Trees.{count};
 ghost use Rattle.c_syntax.specs.Plain.{plain_expr, plain_exprs};
 ghost use Rattle.lower_relation.specs.Expressions.{number_of_text};
 ghost use Rattle.lower_nodes.specs.Made.{Made};
-ghost use Rattle.lower_operators.specs.Passing.{Acts, Formats, LibraryActs, Unfit, number_of_first, text_of_first, type_of_first, fits, library_fits, library_node, library_types, others, passed, takes, takes_one, types_passed};
+ghost use Rattle.lower_operators.specs.Passing.{Acts, Formats, LibraryActs, Unfit, number_of_first, text_of_first, type_of_first, fits, library_fits};
+ghost use Rattle.lower_operators.specs.Passing.{library_node, library_types, others, passed, takes_arguments, takes_one, types_passed};
 ghost use Rattle.lower_operators.specs.Taken.{wanted_types};
 ghost use Rattle.lower_facts.specs.Facts.{facts_in};
 
 use crate::printing::{Wanted, conversion_count};
 use c_meaning::{Called, ValueType, as_used};
-use c_rules::Library;
 use c_syntax::Expr;
+use c_types_rules::Library;
 use cbi_base::{Kind, Memory};
 use flow::{Node, Text};
 use lower_facts::TreeFacts;

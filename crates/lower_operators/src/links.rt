@@ -57,7 +57,8 @@ pub fn put_shortcut(
     next: u32,
 ) -> Result<u32, Memory>
     requires room { length graph.old + (2 + branches (sites_in facts.now) token) ≤ node_limit }
-    ensures made { IfOk result (λ i. MadeTo side_ends Any (λ G. Shortcut G (facts_in facts.now) (sites_in facts.now) is_both token) graph.old graph.new i (sides right next)) }
+    ensures made { IfOk result (λ i. MadeTo side_ends Any (λ G. Shortcut G (facts_in facts.now) (sites_in facts.now) is_both token)
+        graph.old graph.new i (sides right next)) }
     ensures few { IfOk result (λ i. length graph.new ≤ length graph.old + (2 + branches (sites_in facts.now) token)) }
 {
     if is_both {

@@ -48,7 +48,8 @@ pub fn put_stepped_place(
     next: u32,
 ) -> Result<u32, Memory>
     requires room { length graph.old + (16 + pairs (sites_in facts.now) token) ≤ node_limit }
-    ensures made { IfOk result (λ i. Made (λ G. Only G known (SteppedAs G (facts_in facts.now) (sites_in facts.now) taken up token of)) graph.old graph.new i next) }
+    ensures made { IfOk result (λ i. Made (λ G. Only G known (SteppedAs G (facts_in facts.now) (sites_in facts.now) taken up token of))
+        graph.old graph.new i next) }
     ensures few { IfOk result (λ i. length graph.new ≤ length graph.old + (16 + pairs (sites_in facts.now) token)) }
 {
     if known {

@@ -1,7 +1,7 @@
 -- A condition may go by its value, whatever the expression.
 use Rattle.std.proofs.Common.{ℕ, zero, suc, subst, inl, Option, Some, None, Bool, true, false}
-use Rattle.c_rules.specs.declared.library.Library.{Library}
-use Rattle.c_rules.specs.declared.library.Library.TheVariants as library
+use Rattle.c_types_rules.specs.declared.library.Library.{Library}
+use Rattle.c_types_rules.specs.declared.library.Library.TheVariants as library
 use Rattle.c_syntax.specs.declared.expr.PrefixOperator.{PrefixOperator}
 use Rattle.c_syntax.specs.declared.expr.PrefixOperator.TheVariants as prefix
 use Rattle.c_syntax.specs.ExprTree as e
@@ -13,9 +13,9 @@ use Rattle.c_meaning.specs.declared.value_type.ValueType.TheVariants as type
 use Rattle.c_meaning.specs.Conversions.{is_null_as}
 use Rattle.c_meaning.specs.Facts.{Facts, Signature, Sites}
 use Rattle.c_meaning.specs.Trees.{called_as, count, ends_as_place, has_value, is_place, token_of, type_of}
-use Rattle.lower_relation.specs.Calls.{Argument, Arguments, CallDoes, CallFunction, CallLibrary, WithResult}
-use Rattle.lower_relation.specs.Expressions.{Condition, LastDoes, emitted}
-use Rattle.lower_relation.specs.Operators.{Cast, Comma, Decided, Decides, DecidesAt, Postfixed, Prefixed, SizeValue}
+use Rattle.lower_relation.specs.Calls.{ArgumentPath, ArgumentsPath, CallDoes, CallFunction, CallLibrary, WithResult}
+use Rattle.lower_relation.specs.Expressions.{LastDoes, emitted}
+use Rattle.lower_relation.specs.Operators.{Cast, Comma, DecidesAt, Postfixed, Prefixed, SizeValue}
 use Rattle.lower_relation.specs.Paths.{Emitted, Graph, MarksAll, Path, ◌then◌, Tests, ForkTo, Ways}
 use Rattle.c_meaning.specs.Visits.{listed}
 
@@ -57,11 +57,11 @@ module _ (G : Graph) where
     result_by token true R i k h = h
     result_by token false R i k h = h.1
 
-    function_by : (token number : ℕ) (o : Option Signature) (n : ℕ) (R : Arguments) → ByValue (CallFunction G facts sites token number o n R)
+    function_by : (token number : ℕ) (o : Option Signature) (n : ℕ) (R : ArgumentsPath) → ByValue (CallFunction G facts sites token number o n R)
     function_by token number None n R i k h = h
     function_by token number (Some f) n R i k h = result_by token (has_value f.result) _ i k h
 
-    library_by : (token : ℕ) (f : Library) (n : ℕ) (R : Argument) (P : Path ℕ) → ByValue (CallLibrary G facts sites token f n R P)
+    library_by : (token : ℕ) (f : Library) (n : ℕ) (R : ArgumentPath) (P : Path ℕ) → ByValue (CallLibrary G facts sites token f n R P)
     library_by token library.Getchar n R P i k h = h
     library_by token library.Putchar n R P i k h = h
     library_by token library.Puts n R P i k h = h
@@ -72,7 +72,7 @@ module _ (G : Graph) where
     library_by token library.Assert n R P i k h = h.1
     library_by token library.Printf n R P i k h = h.1
 
-    call_by : (token : ℕ) (c : Called) (n : ℕ) (R : Arguments) (S : Argument) (P : Path ℕ) → ByValue (CallDoes G facts sites token c n R S P)
+    call_by : (token : ℕ) (c : Called) (n : ℕ) (R : ArgumentsPath) (S : ArgumentPath) (P : Path ℕ) → ByValue (CallDoes G facts sites token c n R S P)
     call_by token (called.Function number) n R S P i k h = function_by token number (facts.signature number) n R i k h
     call_by token (called.Library f) n R S P i k h = library_by token f n S P i k h
     call_by token called.Unknown n R S P i k h = h
@@ -110,13 +110,3 @@ module _ (G : Graph) where
         → (i : ℕ) (k : Ways) → (R then MarksAll G (listed o) then ForkTo G) i k → DecidesAt G facts sites o R T i k
     decides_by None R T a i k h = a i k (h.2.0, subst (λ j. R i j) h.2.1 h.1, h.2.2)
     decides_by (Some site) R T a i k h = h
-
-    -- any operand's truth, by its value, with the visit of the token's site
-    pub decided_by_value : (token : ℕ) (x : ExprTree) (i : ℕ) (k : Ways) → ((emitted G facts sites x).value then Decided G facts sites token) i k
-        → Decides G facts sites token (emitted G facts sites x).value (emitted G facts sites x).truth i k
-    decided_by_value token x i k h = decides_by (sites.branch_at token) _ _ (by_value x) i k h
-
-    -- a condition may go by its value
-    pub condition_by_value : (token : ℕ) (x : ExprTree) (i : ℕ) (k : Ways) → ((emitted G facts sites x).value then Decided G facts sites token) i k
-        → Condition G facts sites token x i k
-    condition_by_value token x i k h = decided_by_value token x i k h

@@ -8,8 +8,8 @@ use Rattle.cbi_base.specs.declared.scalar.Scalar.TheVariants.{Number, Place, Nul
 use Rattle.cbi_base.specs.declared.trap.Trap.{Trap}
 use Rattle.cbi_base.specs.Objects.{released}
 use Rattle.cbi_base.specs.Scalars.{truth_of}
-use Rattle.c_rules.specs.declared.library.Library.{Library}
-use Rattle.c_rules.specs.declared.library.Library.TheVariants as library
+use Rattle.c_types_rules.specs.declared.library.Library.{Library}
+use Rattle.c_types_rules.specs.declared.library.Library.TheVariants as library
 use Rattle.flow.specs.declared.node.Node.TheVariants as node
 use Rattle.flow.specs.declared.node.View.TheVariants as view
 use Rattle.flow.specs.declared.program.Text.{Text}
@@ -29,7 +29,7 @@ use Rattle.c_meaning.specs.Conversions.{as_used}
 use Rattle.c_meaning.specs.Facts.{Facts, Setting, Signature, Sites}
 use Rattle.c_meaning.specs.Trees.{has_value}
 use Rattle.c_meaning.specs.Visits.{listed, truth}
-use Rattle.c_meaning.specs.World.{World, Out, Caller, Done, answered, bind}
+use Rattle.c_meaning.specs.World.{World, Out, Caller, OutDone, answered, bind}
 use Rattle.lower_relation.specs.Calls as way
 use Rattle.lower_relation.specs.Paths.{Path, Does, HaltsAt}
 use Rattle.lower_relation.specs.Stands.{Agrees}
@@ -73,7 +73,7 @@ module _ (z : Standing) where
   abort_ok = record { runs = λ i k xs w le h. ends_over z.code _ _ (halts z node.Abort i xs w h) }
 
   checked : (i k : ℕ) (v : Scalar) (xs : Stack) (w : World) (r : Result Bool Trap)
-      → step z.code (state z i (v ∷ xs) w) ≡ go_on (z.ren k) (state z i (v ∷ xs) w) (with_answer r (now z xs w) (λ holds. machine.assert holds (now z xs w)))
+      → step z.code (state z i (v ∷ xs) w) ≡ go_on (z.ren k) (state z i (v ∷ xs) w) (with_answer r (now z xs w) (λ holds. machine.assert_then holds (now z xs w)))
       → Reach z.code z.watch (state z i (v ∷ xs) w) w.turns (bind (answered r w) mean.assert) (λ a u. state z k xs u)
   checked i k v xs w (Ok true) e = (leads_one z.code _ _ e, le_self w.turns)
   checked i k v xs w (Ok false) e = ends_over z.code _ _ e
@@ -84,28 +84,28 @@ module _ (z : Standing) where
   check_ok v = record { runs = λ i k xs w le h. checked i k v xs w (truth_of v) (row z (node.Check 0) i k (v ∷ xs) w h) }
 
   -- arguments of any types do what they mean, and are so many
-  pub record ArgumentsSound (n : ℕ) (m : Arguments) (R : way.Arguments) : Type 0 where
+  pub record ArgumentsSound (n : ℕ) (m : Arguments) (R : way.ArgumentsPath) : Type 0 where
     pub sound : (types : List ValueType) → Sound z bare (m types) (R types) to (λ found xs. found ++ xs)
     pub many : (types : List ValueType) (w : World) → Holds (λ found. length found ≡ n) (m types w)
 
   -- the one argument of any type does what it means
-  pub record ArgumentSound (m : Argument) (R : way.Argument) : Type 0 where
+  pub record ArgumentSound (m : Argument) (R : way.ArgumentPath) : Type 0 where
     pub sound : (want : Option ValueType → Option ValueType) → Sound z bare (m want) (R want) to plus
 
   module _ (facts : Facts) (sites : Sites) (agrees : Agrees z.code facts sites) (call : Caller) (calls : CallsSound z.code z.watch facts z.turns call) where
     abbrev s : Setting
     s = setting z facts sites call
 
-    printed_ok : (number : ℕ) (o : Option Text) (n : ℕ) {m : Arguments} {R : way.Arguments} → slice_get facts.statics.texts number ≡ o → ArgumentsSound n m R
-        → Sound z bare (mean.print_by o n m) (way.Prints z.graph (Some number) o n R) to none
+    printed_ok : (number : ℕ) (o : Option Text) (n : ℕ) {m : Arguments} {R : way.ArgumentsPath} → slice_get facts.statics.texts number ≡ o → ArgumentsSound n m R
+        → Sound z bare (mean.print_by o n m) (way.PrintPath z.graph (Some number) o n R) to none
     printed_ok number None n e a = stuck_ok z bare to none
     printed_ok number (Some format) n e a = only_ok z (n == length (types_taken (pieces_of format.bytes))) (λ same.
         seq_with z (λ found. length found ≡ n) (a.many (types_taken (pieces_of format.bytes))) (a.sound (types_taken (pieces_of format.bytes))) (λ found l.
         format_ok z number n format found (ap (λ st. slice_get st.texts number) agrees.statics ∙ e) l))
 
-    pub print_ok : (number : Option ℕ) (n : ℕ) {m : Arguments} {R : way.Arguments} → ArgumentsSound n m R
+    pub print_ok : (number : Option ℕ) (n : ℕ) {m : Arguments} {R : way.ArgumentsPath} → ArgumentsSound n m R
         → Sound z bare (mean.print_by (option_and_then (slice_get facts.statics.texts) number) n m)
-        (way.Prints z.graph number (option_and_then (slice_get facts.statics.texts) number) n R) to none
+        (way.PrintPath z.graph number (option_and_then (slice_get facts.statics.texts) number) n R) to none
     print_ok None n a = stuck_ok z bare to none
     print_ok (Some number) n a = printed_ok number (slice_get facts.statics.texts number) n refl a
 
@@ -125,14 +125,14 @@ module _ (z : Standing) where
           calls.by z.function z.below z.locals number f (z.ren i) (z.ren k) args xs w le (z.stands.at i _ h) e l;
     }
 
-    call_function_ok : (token number : ℕ) (o : Option Signature) (n : ℕ) {m : Arguments} {R : way.Arguments} → facts.signature number ≡ o → ArgumentsSound n m R
+    call_function_ok : (token number : ℕ) (o : Option Signature) (n : ℕ) {m : Arguments} {R : way.ArgumentsPath} → facts.signature number ≡ o → ArgumentsSound n m R
         → SenseSound z (mean.call_function s token number o n m) (way.CallFunction z.graph facts sites token number o n R)
     call_function_ok token number None n e a = valued_ok z (stuck_ok z bare to plus)
     call_function_ok token number (Some f) n e a = with_result_ok token (has_value f.result) (only_ok z (n == length f.params) (λ same.
         seq_with z (λ found. length found ≡ n) (a.many f.params) (a.sound f.params)
         (λ found l. call_ok number f found e (l ∙ equal_numbers n (length f.params) same))))
 
-    call_library_ok : (token : ℕ) (function : Library) (n : ℕ) {m : Argument} {R : way.Argument} {p : World → Done} {P : Path ℕ}
+    call_library_ok : (token : ℕ) (function : Library) (n : ℕ) {m : Argument} {R : way.ArgumentPath} {p : World → OutDone} {P : Path ℕ}
         → ArgumentSound m R → Sound z bare p P to none
         → SenseSound z (mean.call_library s token function n m p) (way.CallLibrary z.graph facts sites token function n R P)
     call_library_ok token library.Getchar n a p = returned_ok token (only_ok z (n == 0) (λ _. get_ok z))
@@ -145,7 +145,7 @@ module _ (z : Standing) where
     call_library_ok token library.Assert n a p = effected_ok z (seq z (a.sound as_used) (λ v. check_ok v))
     call_library_ok token library.Printf n a p = effected_ok z p
 
-    pub call_sense_ok : (token : ℕ) (c : Called) (n : ℕ) {m : Arguments} {R : way.Arguments} {q : Argument} {S : way.Argument} {p : World → Done} {P : Path ℕ}
+    pub call_sense_ok : (token : ℕ) (c : Called) (n : ℕ) {m : Arguments} {R : way.ArgumentsPath} {q : Argument} {S : way.ArgumentPath} {p : World → OutDone} {P : Path ℕ}
         → ArgumentsSound n m R → ArgumentSound q S → Sound z bare p P to none
         → SenseSound z (mean.call_sense s token c n m q p) (way.CallDoes z.graph facts sites token c n R S P)
     call_sense_ok token (called.Function number) n a b p = call_function_ok token number (facts.signature number) n refl a

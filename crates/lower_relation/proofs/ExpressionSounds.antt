@@ -17,13 +17,13 @@ use Rattle.c_meaning.specs.Conversions.{is_null_as}
 use Rattle.c_meaning.specs.Expressions as mean_of
 use Rattle.c_meaning.specs.Facts.{Facts, Setting, Sites}
 use Rattle.c_meaning.specs.Meaning as mean
-use Rattle.c_meaning.specs.Meaning.{text_of}
+use Rattle.c_meaning.specs.Meaning.{text_of_string}
 use Rattle.c_meaning.specs.Operation.{operation}
 use Rattle.c_meaning.specs.Places.{stepped_behind}
 use Rattle.c_meaning.specs.Trees.{token_of, type_of, ends_as_place, is_place, count, assignment, joint, is_null_beside, begins_null, operand_type, called_as, first_type, other_types}
 use Rattle.c_meaning.specs.Visits.{truth}
 use Rattle.c_meaning.specs.World.{World, Go, Out, Caller, bind, choose, done, stuck}
-use Rattle.lower_relation.specs.Calls.{Prints}
+use Rattle.lower_relation.specs.Calls.{PrintPath}
 use Rattle.lower_relation.specs.Expressions as way_of
 use Rattle.lower_relation.specs.Expressions.{has_more, number_of_text}
 use Rattle.lower_relation.specs.Operators.{Stepped, SteppedAs, SteppedBehind}
@@ -37,7 +37,7 @@ use Rattle.lower_relation.proofs.OperatorSounds.{assign_ok, cast_ok, comma_ok, c
 use Rattle.lower_relation.proofs.CallSounds.{call_sense_ok, print_ok}
 
 -- the string that an expression is, by its number
-pub text_found : (facts : Facts) (x : ExprTree) → text_of facts x ≡ option_and_then (slice_get facts.statics.texts) (number_of_text facts x)
+pub text_found : (facts : Facts) (x : ExprTree) → text_of_string facts x ≡ option_and_then (slice_get facts.statics.texts) (number_of_text facts x)
 text_found facts (e.Comma token operands) = refl
 text_found facts (e.Assign token sign target value) = refl
 text_found facts (e.Conditional token condition first second) = refl
@@ -112,9 +112,9 @@ module _ (z : Standing) (facts : Facts) (sites : Sites) (agrees : Agrees z.code 
   step_ok known is_up token of v = only_ok z known (λ _. stepped_behind_ok z facts sites agrees call is_up token of v)
 
   untaken_step_ok : (known is_up : Bool) (token : ℕ) (of : Option ValueType) (rest : PostfixList) (v : Scalar)
-      → ((x : Scalar) → Sound z (plus x) (λ w. done (mean.behind s false (facts.type_at token) rest x w))
+      → ((x : Scalar) → Sound z (plus x) (λ w. done (mean.onward s false (facts.type_at token) rest x w))
       (Dropped z.graph (way_of.Behind z.graph facts sites false false (facts.type_at token) rest)) to none)
-      → Sound z (plus v) (λ w. done (bind (choose known (stepped_behind s is_up token of v) stuck w) (mean.behind s false (facts.type_at token) rest)))
+      → Sound z (plus v) (λ w. done (bind (choose known (stepped_behind s is_up token of v) stuck w) (mean.onward s false (facts.type_at token) rest)))
       (Dropped z.graph (Only z.graph known (SteppedAs z.graph facts sites (has_more rest) is_up token of)
       then way_of.Behind z.graph facts sites false false (facts.type_at token) rest)) to none
   untaken_step_ok known is_up token of e.no_postfix v a = last_step_ok known is_up token of v
@@ -159,7 +159,7 @@ module _ (z : Standing) (facts : Facts) (sites : Sites) (agrees : Agrees z.code 
     expr_ok (e.EndOfFile token) = valued_ok z (push_ok z Int (negsuc 0))
 
     pub behind_ok : (known : Bool) (of : Option ValueType) (x : PostfixList) (v : Scalar)
-        → Sound z (plus v) (mean.behind s known of x v) (way_of.Behind z.graph facts sites true known of x) to plus
+        → Sound z (plus v) (mean.onward s known of x v) (way_of.Behind z.graph facts sites true known of x) to plus
     behind_ok known of e.no_postfix v = unchanged z v
     behind_ok known of (e.index token i rest) v =
         seq z (settled_ok z known of v) (λ p. seq z (under z (plus p) (expr_ok i).value) (λ x.
@@ -174,7 +174,7 @@ module _ (z : Standing) (facts : Facts) (sites : Sites) (agrees : Agrees z.code 
 
     -- where nothing takes their value
     untaken_ok : (known : Bool) (of : Option ValueType) (x : PostfixList) (v : Scalar)
-        → Sound z (plus v) (λ w. done (mean.behind s known of x v w)) (Dropped z.graph (way_of.Behind z.graph facts sites false known of x)) to none
+        → Sound z (plus v) (λ w. done (mean.onward s known of x v w)) (Dropped z.graph (way_of.Behind z.graph facts sites false known of x)) to none
     untaken_ok known of e.no_postfix v = done_ok z (unchanged z v)
     untaken_ok known of (e.index token i rest) v =
         seq_done z _ (settled_ok z known of v) (λ p. seq_done z _ (under z (plus p) (expr_ok i).value) (λ x.
@@ -219,7 +219,7 @@ module _ (z : Standing) (facts : Facts) (sites : Sites) (agrees : Agrees z.code 
     formatted_ok e.no_exprs = stuck_ok z bare to none
     formatted_ok (e.more_exprs x rest) =
         subst (λ o. Sound z bare (print_by o (count rest) (λ types. mean.arguments_value s types rest []))
-        (Prints z.graph (number_of_text facts x) o (count rest) (λ types. way_of.ArgumentsDo z.graph facts sites types rest)) to none)
+        (PrintPath z.graph (number_of_text facts x) o (count rest) (λ types. way_of.ArgumentsDo z.graph facts sites types rest)) to none)
         (sym (text_found facts x))
         (print_ok z facts sites agrees call calls (number_of_text facts x) (count rest)
         (record { sound = λ types. arguments_ok types rest []; many = λ types w. many types rest [] (count rest) (omega arith) w }))

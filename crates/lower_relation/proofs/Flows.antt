@@ -3,7 +3,7 @@ use Rattle.std.proofs.Common.{◌≡◌, ℕ, ◌≤◌, refl, sym, arith, Some,
 use Rattle.std.specs.Prelude.{Option}
 use Rattle.cbi_base.specs.declared.scalar.Scalar.{Scalar}
 use Rattle.c_meaning.specs.Statements.{after_entry}
-use Rattle.c_meaning.specs.World.{World, Out, Go, Done, Flow, Next, Broken, Continued, Returned, bind}
+use Rattle.c_meaning.specs.World.{World, Out, Go, OutDone, Flow, Next, Broken, Continued, Returned, bind}
 use Rattle.lower_relation.specs.Paths.{Path, Exits}
 use Rattle.lower_relation.specs.Statements.{Before}
 use Rattle.lower_relation.proofs.Reach.{Stack, Reach, here, le_self, reach_bind}
@@ -37,7 +37,7 @@ module _ (z : Standing) where
   simply a pick e p = record { runs = λ i x xs w le h. (rw (h, sym (e x), p xs) (here z.code z.watch _), le_self w.turns) }
 
   -- what gives nothing, and then control goes on
-  pub effect_then : {m : World → Done} {R : Path ℕ} → Sound z bare m R to none → Executes (λ w. bind (m w) (λ _. Go Next)) (λ i x. R i x.next)
+  pub effect_then : {m : World → OutDone} {R : Path ℕ} → Sound z bare m R to none → Executes (λ w. bind (m w) (λ _. Go Next)) (λ i x. R i x.next)
   effect_then {m = m} a = record {
     runs = λ i x xs w le h.
         reach_bind z.code z.watch _ _ (m w) _ _ _ (a.runs i x.next xs w le h) (λ y u l. (here z.code z.watch _, le_self u.turns));

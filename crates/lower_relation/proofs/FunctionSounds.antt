@@ -20,7 +20,7 @@ use Rattle.flow.specs.State.{Frame, State, Watch, over}
 use Rattle.flow.proofs.Endings.{ends_over, leads_one}
 use Rattle.c_meaning.specs.Calls.{all_defined}
 use Rattle.c_meaning.specs.Facts.{Signature}
-use Rattle.c_meaning.specs.Runs.{Source, call_at, enter, enter_with, inside, left, locals_at, run_body, value_left, variables_of, gives_value}
+use Rattle.c_meaning.specs.Runs.{Source, call_at, enter_function, enter_with, inside, left_function, locals_at, run_body, value_left, locals_of, gives_value}
 use Rattle.c_meaning.specs.Trees.{has_value}
 use Rattle.c_meaning.specs.Visits.{now_of}
 use Rattle.c_meaning.specs.World.{World, Out, Go, Stop, Flow, bind, spend}
@@ -69,7 +69,7 @@ module _ (code : Code) (watch : Watch) (src : Source) (lowered : Lowered code sr
 
       -- what comes after the body
       abbrev leaves : World → Flow → World → Out Scalar
-      leaves w flow y = bind (value_left (number == src.main) (has_value s.result) flow y) (left (locals_at s w))
+      leaves w flow y = bind (value_left (number == src.main) (has_value s.result) flow y) (left_function (locals_at s w))
 
       -- the caller waits
       abbrev waits : ℕ → Stack → World → State
@@ -112,7 +112,7 @@ module _ (code : Code) (watch : Watch) (src : Source) (lowered : Lowered code sr
           (state_at watch f below locals i (args ++ operands) u)
           → Reach code watch (state_at watch f below locals i (args ++ operands) w) m
           (bind (if defined then Go (reverse args) u else Stop (Trapped trap.Undefined) u)
-          (λ vs _. bind (enter src (call_at src n) n number (Some s) vs u) (leaves u))) caller
+          (λ vs _. bind (enter_function src (call_at src n) n number (Some s) vs u) (leaves u))) caller
       taken_ok i m args w u false le lt e = ends_over code _ _ e
       taken_ok i m args w u true le lt e =
           entry_ok i m (args ++ operands) w u (nat_lt u.active active_limit) (all_made (first_cells (reverse args) s.locals) u.objects) le lt e
@@ -133,7 +133,7 @@ module _ (code : Code) (watch : Watch) (src : Source) (lowered : Lowered code sr
       turn_ok : (i : ℕ) (args : Stack) (w : World) (t : ℕ) → t ≤ suc n → code.at f i ≡ view.Calls number node → length args ≡ length s.params
           → Reach code watch (state_at watch f below locals i (args ++ operands) (record w { turns = t })) t
           (spend t (record w { turns = t }) (λ u.
-          bind (all_defined args u) (λ vs _. bind (enter src (call_at src n) n number (Some s) vs u) (leaves u)))) caller
+          bind (all_defined args u) (λ vs _. bind (enter_function src (call_at src n) n number (Some s) vs u) (leaves u)))) caller
       unfolding next_of
       turn_ok i args w zero le at l =
           ends_over code _ _ (ap (λ v. next_of code v (state_at watch f below locals i (args ++ operands) (record w { turns = 0 }))) at)
@@ -158,8 +158,8 @@ module _ (code : Code) (watch : Watch) (src : Source) (lowered : Lowered code sr
   calls_ok (suc n) = record {
     by = λ f below locals number s i k args xs w le at sig l.
         subst (λ o. Reach code watch (state_at watch f below locals i (args ++ xs) w) w.turns
-        (spend w.turns w (λ u. bind (all_defined args u) (λ vs _. bind (enter src (call_at src n) n number o vs u) (λ flow y.
-        bind (value_left (number == src.main) (gives_value o) flow y) (left (variables_of o u))))))
+        (spend w.turns w (λ u. bind (all_defined args u) (λ vs _. bind (enter_function src (call_at src n) n number o vs u) (λ flow y.
+        bind (value_left (number == src.main) (gives_value o) flow y) (left_function (locals_of o u))))))
         (λ v u. state_at watch f below locals k (result_on (has_value s.result) v xs) u))
         (sym sig) (turn_ok n (calls_ok n) f k xs locals below number s sig i args w w.turns le at l);
   }

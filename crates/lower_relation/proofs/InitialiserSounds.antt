@@ -16,7 +16,7 @@ use Rattle.flow.specs.declared.site.Slot.{Slot}
 use Rattle.flow.specs.declared.site.Slot.TheVariants as slot
 use Rattle.flow.specs.Machine.{go_on, step}
 use Rattle.flow.specs.Now.{Goes, local_at, with_answer, with_named, with_objects}
-use Rattle.flow.specs.Rows.{act, spelled, zero_of}
+use Rattle.flow.specs.Rows.{act, spelled, zero_value}
 use Rattle.flow.proofs.Endings.{ends_over, leads_one}
 use Rattle.c_meaning.specs.declared.value_type.ValueType.{ValueType}
 use Rattle.c_meaning.specs.declared.value_type.ValueType.TheVariants as type
@@ -24,9 +24,9 @@ use Rattle.c_meaning.specs.Conversions.{is_null_as}
 use Rattle.c_meaning.specs.Facts.{Facts, Setting, Sites}
 use Rattle.c_meaning.specs.Initialisers as mean
 use Rattle.c_meaning.specs.Initialisers.{equals_token, object_of, on_object, want_of}
-use Rattle.c_meaning.specs.Meaning.{text_of}
+use Rattle.c_meaning.specs.Meaning.{text_of_string}
 use Rattle.c_meaning.specs.Trees.{type_of}
-use Rattle.c_meaning.specs.World.{World, Caller, Done, answered, bind, nothing, stuck}
+use Rattle.c_meaning.specs.World.{World, Caller, OutDone, answered, bind, nothing, stuck}
 use Rattle.lower_relation.specs.Expressions.{number_of_text}
 use Rattle.lower_relation.specs.Initialisers as way
 use Rattle.lower_relation.specs.Paths.{Path}
@@ -61,7 +61,7 @@ module _ (z : Standing) where
   zeroes_ok None index = same_meaning z (stuck_on (local_at index z.locals)) (stuck_ok z bare to none)
   zeroes_ok (Some wanted) index = record {
     runs = λ i k xs w le h.
-        sets_on i k xs w (local_at index z.locals) (λ number. filled number (zero_of wanted)) (row z (node.Zero index wanted 0) i k xs w h);
+        sets_on i k xs w (local_at index z.locals) (λ number. filled number (zero_value wanted)) (row z (node.Zero index wanted 0) i k xs w h);
   }
 
   spelt : (i k : ℕ) (xs : Stack) (w : World) (r : Result Objects Trap)
@@ -92,7 +92,7 @@ module _ (z : Standing) where
     abbrev s : Setting
     s = setting z facts sites call
 
-    on_local_ok : (at : Option Slot) (m : ℕ → World → Done) (R : ℕ → Path ℕ)
+    on_local_ok : (at : Option Slot) (m : ℕ → World → OutDone) (R : ℕ → Path ℕ)
         → ((index : ℕ) → Sound z bare (on_object (local_at index z.locals) m) (R index) to none)
         → Sound z bare (on_object (object_of s at) m) (way.OnLocal z.graph at R) to none
     on_local_ok None m R a = stuck_ok z bare to none
@@ -106,8 +106,8 @@ module _ (z : Standing) where
     spells_ok (Some number) index = spells_by number index (slice_get facts.statics.texts number) (ap (λ st. slice_get st.texts number) agrees.statics)
 
     text_ok : (x : ExprTree) (index : ℕ)
-        → Sound z bare (on_object (local_at index z.locals) (mean.spell (text_of facts x)))
-        (way.Spells z.graph (number_of_text facts x) (text_of facts x) index) to none
+        → Sound z bare (on_object (local_at index z.locals) (mean.spell (text_of_string facts x)))
+        (way.Spells z.graph (number_of_text facts x) (text_of_string facts x) index) to none
     text_ok x index = subst (λ o. Sound z bare (on_object (local_at index z.locals) (mean.spell o))
         (way.Spells z.graph (number_of_text facts x) o index) to none)
         (sym (text_found facts x)) (spells_ok (number_of_text facts x) index)
@@ -157,5 +157,5 @@ module _ (z : Standing) where
     all_started_ok [] = nothing_ok z
     all_started_ok (x ∷ xs) = seq z (started_ok x) (λ _. all_started_ok xs)
 
-    pub declares_ok : (d : DeclarationTree) → Sound z bare (mean.declares s d) (way.Declares z.graph facts sites d) to none
+    pub declares_ok : (d : DeclarationTree) → Sound z bare (mean.declares s d) (way.DeclarationPath z.graph facts sites d) to none
     declares_ok d = all_started_ok d.starts

@@ -7,12 +7,12 @@ use Rattle.cbi_base.specs.declared.scalar.Scalar.TheVariants.{Number, Place, Nul
 use Rattle.flow.specs.declared.node.Node.TheVariants as node
 use Rattle.flow.specs.declared.node.View.TheVariants as view
 use Rattle.flow.specs.Calls.{give, has_result, quit}
-use Rattle.flow.specs.Machine.{Leads, next_of, step}
+use Rattle.flow.specs.Machine.{RunLeads, next_of, step}
 use Rattle.flow.specs.Now.{Locals, Takes}
 use Rattle.flow.specs.Rows.{act}
 use Rattle.flow.specs.State.{Frame, State}
 use Rattle.flow.proofs.Endings.{ends_over, leads_one}
-use Rattle.c_meaning.specs.Runs.{left, value_left}
+use Rattle.c_meaning.specs.Runs.{left_function, value_left}
 use Rattle.c_meaning.specs.World.{World, Out, Go, Flow, Next, Broken, Continued, Returned, bind, stuck}
 use Rattle.lower_relation.specs.Functions.{ComesTo, Stays, Passes, EndsAt, GivesAt, Leaves}
 use Rattle.lower_relation.specs.Paths.{Does, Exits, Stuck}
@@ -32,12 +32,12 @@ module _ (z : Standing) (has : Bool) (result : has_result (z.code.callee z.funct
   quits_step i u g = ap (λ x. next_of z.code x (state z i [] u)) (z.stands.at i _ g) ∙ ap (λ b. quit z.below b (state z i [] u)) result
 
   -- `main` ends with 0
-  pub zero_pushed : (i k : ℕ) (u : World) → Does z.graph (node.Push Int (pos 0) 0) i k → Leads z.code (state z i [] u) (state z k (Number Int (pos 0) ∷ []) u)
+  pub zero_pushed : (i k : ℕ) (u : World) → Does z.graph (node.Push Int (pos 0) 0) i k → RunLeads z.code (state z i [] u) (state z k (Number Int (pos 0) ∷ []) u)
   unfolding act
   zero_pushed i k u h = row_goes z (node.Push Int (pos 0) 0) i k [] (Number Int (pos 0) ∷ []) u u h refl refl refl refl
 
 -- control comes to the body
-pub comes_ok : (z : Standing) (i k : ℕ) (xs : Stack) (w : World) → ComesTo z.graph i k → Leads z.code (state z i xs w) (state z k xs w)
+pub comes_ok : (z : Standing) (i k : ℕ) (xs : Stack) (w : World) → ComesTo z.graph i k → RunLeads z.code (state z i xs w) (state z k xs w)
 unfolding act
 comes_ok z i k xs w (Stays e) = stay z i k xs w e
 comes_ok z i k xs w (Passes h) = row_goes z (node.Pass 0) i k xs xs w w h refl refl refl refl
@@ -56,7 +56,7 @@ module _ (below_it : Standing) (f node : ℕ) (operands : Stack) (locals : Local
   back has v u = state_at z.watch f below_it.below locals node (result_on has v operands) u
 
   abbrev pub Returns : ℕ → Stack → World → Bool → Out Scalar → Type 0
-  Returns i xs u has m = Reach z.code z.watch (state z i xs u) u.turns (bind m (left z.locals)) (back has)
+  Returns i xs u has m = Reach z.code z.watch (state z i xs u) u.turns (bind m (left_function z.locals)) (back has)
 
   given_ok : (i : ℕ) (v : Scalar) (u : World) → step z.code (state z i (v ∷ []) u) ≡ give true (Takes v (now z [] u)) (state z i (v ∷ []) u)
       → (is_main : Bool) → Returns i (v ∷ []) u true (value_left is_main true (Returned (Some v)) u)
@@ -75,7 +75,7 @@ module _ (below_it : Standing) (f node : ℕ) (operands : Stack) (locals : Local
   ended_ok : (x : Exits) (is_main has : Bool) → has_result (z.code.callee z.function) ≡ has → z.graph x.leaves view.Quits → GivesAt z.graph has x.gives
       → EndsAt z.graph is_main has x → (u : World) → Returns x.next [] u has (value_left is_main has Next u)
   ended_ok x true true result leaves gives ends u =
-      first z.code z.watch _ _ u.turns u.turns (bind (value_left true true Next u) (left z.locals)) (back true)
+      first z.code z.watch _ _ u.turns u.turns (bind (value_left true true Next u) (left_function z.locals)) (back true)
       (zero_pushed z true result x.next x.gives u ends) (le_self u.turns)
       (given_ok x.gives (Number Int (pos 0)) u (gives_step z true result x.gives (Number Int (pos 0)) u gives) true)
   ended_ok x false true result leaves gives ends u = rw ends (left_ok x.leaves u true (quits_step z true result x.leaves u leaves))

@@ -29,7 +29,7 @@ use Rattle.flow.specs.declared.site.SiteKind.TheVariants.{Branch, Return, Pair}
 use Rattle.flow.specs.declared.site.Slot.{Slot}
 use Rattle.flow.specs.declared.site.Slot.TheVariants as slot
 use Rattle.flow.specs.Countdown.{at_node, observed}
-use Rattle.flow.specs.Machine.{Leads, branch, go_on, next_of, step}
+use Rattle.flow.specs.Machine.{RunLeads, branch, go_on, next_of, step}
 use Rattle.flow.specs.Now.{Goes, Locals, Now, gives, local_at, with_answer, with_named}
 use Rattle.flow.specs.Rows.{act, moved_by}
 use Rattle.flow.specs.State.{On}
@@ -43,13 +43,13 @@ use Rattle.c_meaning.specs.Conversions.{as_wanted, between, conversion, converts
 use Rattle.c_meaning.specs.Expressions as mean
 use Rattle.c_meaning.specs.Expressions.{Sense}
 use Rattle.c_meaning.specs.Facts.{Facts, Setting, Sites}
-use Rattle.c_meaning.specs.Operation.{counted, flag_value, flagged, left_kind, operate, operation, right_kind, type_given}
+use Rattle.c_meaning.specs.Operation.{counted_value, flag_value, flagged, left_kind, operate, operation, right_kind, type_given}
 use Rattle.c_meaning.specs.Places as place
 use Rattle.c_meaning.specs.Trees as tree
 use Rattle.c_meaning.specs.Trees.{Assignment, Plain, By, Joint, Both, Computes, Unjoined, one_kind}
 use Rattle.c_meaning.specs.Visits as visit
-use Rattle.c_meaning.specs.Visits.{listed, now_of, truth, with_seen}
-use Rattle.c_meaning.specs.World.{World, Out, Go, Caller, Done, answered, bind, choose, done, stuck}
+use Rattle.c_meaning.specs.Visits.{listed, now_of, truth, world_with_seen}
+use Rattle.c_meaning.specs.World.{World, Out, Go, Caller, OutDone, answered, bind, choose, done, stuck}
 use Rattle.lower_relation.specs.Operators as way
 use Rattle.lower_relation.specs.Values.{Dropped}
 use Rattle.lower_relation.specs.Paths.{Path, ◌then◌, Does, Either, Emitted, ForkTo, MarksAll, Nothing, Ways}
@@ -97,7 +97,7 @@ flag_answer (Ok holds) d = refl
 flag_answer (Err t) d = refl
 
 count_answer : (r : Result ℤ Trap) (d : Now)
-    → with_answer r d (λ count. gives d (Number Int count)) ≡ with_answer (counted r) d (λ v. Goes (record d { operands = v ∷ d.operands }))
+    → with_answer r d (λ count. gives d (Number Int count)) ≡ with_answer (counted_value r) d (λ v. Goes (record d { operands = v ∷ d.operands }))
 count_answer (Ok count) d = refl
 count_answer (Err t) d = refl
 
@@ -159,9 +159,9 @@ module _ (z : Standing) where
       (λ xs w. flag_answer (compared o x y w.objects) (now z xs w))
 
   span_ok : (size : ℕ) (x y : Scalar)
-      → Sound z (λ xs. y ∷ x ∷ xs) (λ w. answered (counted (difference x y size w.objects)) w) (Does z.graph (node.Span size 0)) to plus
+      → Sound z (λ xs. y ∷ x ∷ xs) (λ w. answered (counted_value (difference x y size w.objects)) w) (Does z.graph (node.Span size 0)) to plus
   unfolding act
-  span_ok size x y = answers z (node.Span size 0) (λ xs. y ∷ x ∷ xs) (λ w. counted (difference x y size w.objects))
+  span_ok size x y = answers z (node.Span size 0) (λ xs. y ∷ x ∷ xs) (λ w. counted_value (difference x y size w.objects))
       (λ xs w. count_answer (difference x y size w.objects) (now z xs w))
 
   pub operate_ok : (o : Operation) (x y : Scalar) → Sound z (λ xs. y ∷ x ∷ xs) (λ w. answered (operate o x y w.objects) w) (way.Operates z.graph o) to plus
@@ -188,7 +188,7 @@ module _ (z : Standing) where
 
   -- what the fork does with a value whose truth is known
   fork_goes : (holds : Bool) (i yes_at no_at : ℕ) (v : Scalar) (xs : Stack) (w : World) → truth_of v ≡ Ok holds → z.graph i (view.Forks yes_at no_at)
-      → Leads z.code (state z i (v ∷ xs) w) (state z (if holds then yes_at else no_at) xs w)
+      → RunLeads z.code (state z i (v ∷ xs) w) (state z (if holds then yes_at else no_at) xs w)
   unfolding next_of
   fork_goes true i yes_at no_at v xs w e h = leads_one z.code _ _ (ap (λ x. next_of z.code x (state z i (v ∷ xs) w)) (z.stands.at i _ h)
       ∙ ap (λ r. branch (z.ren yes_at) (z.ren no_at) (now z xs w) r (state z i (v ∷ xs) w)) e)
@@ -220,7 +220,7 @@ module _ (z : Standing) where
   zero_pointed true kind value e = pointed_false (Number kind value) trap.Internal (ap (λ b. Ok (not b)) e) (λ o. refl)
   zero_pointed false kind value e = pointed_true (Number kind value) (ap (λ b. Ok (not b)) e)
 
-  pub pointed_ok : (v : Scalar) → Sound z (plus v) (λ w. answered (place.pointed v) w) (way.Pointed z.graph) to plus
+  pub pointed_ok : (v : Scalar) → Sound z (plus v) (λ w. answered (place.pointed_place v) w) (way.Pointed z.graph) to plus
   unfolding act loaded next_of
   pointed_ok (Number kind value) = before z (node.Dup 0) (plus (Number kind value)) (λ xs w. refl) (zero_pointed (is_zero value) kind value refl)
   pointed_ok (Place o a) = before z (node.Dup 0) (plus (Place o a)) (λ xs w. refl) (pointed_true (Place o a) refl)
@@ -232,7 +232,7 @@ module _ (z : Standing) where
 
   -- a load looks at its pointer as well
   looked_at : (wanted : Want) (v : Scalar) (w : World)
-      → answered (loaded wanted v w.objects) w ≡ bind (answered (place.pointed v) w) (λ p u. answered (loaded wanted p u.objects) u)
+      → answered (loaded wanted v w.objects) w ≡ bind (answered (place.pointed_place v) w) (λ p u. answered (loaded wanted p u.objects) u)
   unfolding loaded
   looked_at wanted Undefined w = refl
   looked_at wanted Null w = refl
@@ -240,7 +240,7 @@ module _ (z : Standing) where
   looked_at wanted (Number kind value) w = number_looked_at wanted kind value (is_zero value) w
 
   load_through_ok : (of : Option ValueType) (v : Scalar)
-      → Sound z (plus v) (λ w. bind (answered (place.pointed v) w) (load_at of)) (way.LoadThrough z.graph of) to plus
+      → Sound z (plus v) (λ w. bind (answered (place.pointed_place v) w) (load_at of)) (way.LoadThrough z.graph of) to plus
   load_through_ok None v = seq z (pointed_ok v) (λ p. load_ok z None p)
   load_through_ok (Some type.Void) v = seq z (pointed_ok v) (λ p. load_ok z (Some type.Void) p)
   load_through_ok (Some type.Struct) v = seq z (pointed_ok v) (λ p. load_ok z (Some type.Struct) p)
@@ -249,10 +249,10 @@ module _ (z : Standing) where
   load_through_ok (Some (type.Pointer size)) v = same_meaning z (looked_at want.Pointer v) (load_ok z (Some (type.Pointer size)) v)
 
   through_ok : (of : Option ValueType) {m : World → Out Scalar} {R : Path ℕ} → Sound z bare m R to plus
-      → SenseSound z (mean.placed of (λ w. bind (m w) (λ v u. answered (place.pointed v) u))) (way.Through z.graph of R)
+      → SenseSound z (mean.placed of (λ w. bind (m w) (λ v u. answered (place.pointed_place v) u))) (way.Through z.graph of R)
   through_ok of {m = m} a =
-      let value : Sound z bare (λ w. bind (bind (m w) (λ v u. answered (place.pointed v) u)) (load_at of)) _ to plus =
-      same_meaning z (λ w. sym (bind_bind (m w) (λ v u. answered (place.pointed v) u) (load_at of))) (seq z a (λ v. load_through_ok of v))
+      let value : Sound z bare (λ w. bind (bind (m w) (λ v u. answered (place.pointed_place v) u)) (load_at of)) _ to plus =
+      same_meaning z (λ w. sym (bind_bind (m w) (λ v u. answered (place.pointed_place v) u) (load_at of))) (seq z a (λ v. load_through_ok of v))
       in
       record {
         value = value;
@@ -316,14 +316,14 @@ module _ (z : Standing) where
 
     marked : (site i k : ℕ) (v : Scalar) (xs : Stack) (w : World) (r : Result Seen Trap)
         → step z.code (state z i (v ∷ xs) w) ≡ observed r site (state z i (v ∷ xs) w) (λ t. On (at_node (z.ren k) t))
-        → Reach z.code z.watch (state z i (v ∷ xs) w) w.turns (bind (answered r w) (λ seen u. Go v (with_seen site seen u))) (λ a u. state z k (a ∷ xs) u)
+        → Reach z.code z.watch (state z i (v ∷ xs) w) w.turns (bind (answered r w) (λ seen u. Go v (world_with_seen site seen u))) (λ a u. state z k (a ∷ xs) u)
     marked site i k v xs w (Ok seen) e = (leads_one z.code _ _ e, le_self w.turns)
     marked site i k v xs w (Err t) e = ends_over z.code _ _ e
 
     sees : (site : ℕ) (v : Scalar) (xs : Stack) (w : World) → looked (z.code.site site) (now z (v ∷ xs) w) ≡ looked (sites.site site) (now z (v ∷ []) w)
     sees site v xs w = ap (λ o. looked o (now z (v ∷ xs) w)) (agrees.site site) ∙ looked_same (sites.site site) z.locals v xs [] w
 
-    mark_ok : (site : ℕ) (v : Scalar) → Sound z (plus v) (visit.observed s site v) (λ i k. z.graph i (view.Marks site k)) to plus
+    mark_ok : (site : ℕ) (v : Scalar) → Sound z (plus v) (visit.observed_value s site v) (λ i k. z.graph i (view.Marks site k)) to plus
     unfolding next_of
     mark_ok site v = record {
       runs = λ i k xs w le h.
@@ -343,7 +343,7 @@ module _ (z : Standing) where
     unfolding act
     store_ok p v = changes z (node.Store 0) (λ xs. v ∷ p ∷ xs) v plus (λ w. stored p v w.objects) (λ xs w. refl)
 
-    pub assigned_ok : (token : ℕ) (p v : Scalar) → Sound z (λ xs. v ∷ p ∷ xs) (place.assigned s token p v) (way.Assigned z.graph facts sites token) to plus
+    pub assigned_ok : (token : ℕ) (p v : Scalar) → Sound z (λ xs. v ∷ p ∷ xs) (place.assigned_at s token p v) (way.Assigned z.graph facts sites token) to plus
     assigned_ok token p v = seq z (store_ok p v) (λ x. marks_ok (sites.pairs_at token) x)
 
     pub variable_ok : (at : Option Slot) → Sound z bare (place.variable s at) (way.Variable z.graph at) to plus
@@ -357,7 +357,7 @@ module _ (z : Standing) where
 
     updates_ok : (token : ℕ) (of : Option ValueType) (o : Operation) (p old right : Scalar)
         → Sound z (λ xs. right ∷ old ∷ p ∷ xs) (λ u. bind (answered (operate o old right u.objects) u) (λ x y.
-        bind (as_wanted (conversion (type_given o of) of) x y) (place.assigned s token p))) (way.Updates z.graph facts sites token of o) to plus
+        bind (as_wanted (conversion (type_given o of) of) x y) (place.assigned_at s token p))) (way.Updates z.graph facts sites token of o) to plus
     updates_ok token of o p old right =
         seq z (under z (plus p) (operate_ok o old right))
         (λ x. seq z (under z (plus p) (converts_ok z (conversion (type_given o of) of) x)) (λ y. assigned_ok token p y))
@@ -370,12 +370,12 @@ module _ (z : Standing) where
         before z (node.Swap 0) (λ xs. old ∷ right ∷ p ∷ xs) (λ xs w. refl) (updates_ok token of o p old right)))
 
     stepped_ok : (is_up : Bool) (token : ℕ) (of : Option ValueType) (p : Scalar)
-        → Sound z (plus p) (place.stepped s is_up token of p) (way.Stepped z.graph facts sites is_up token of) to plus
+        → Sound z (plus p) (place.stepped_value s is_up token of p) (way.Stepped z.graph facts sites is_up token of) to plus
     unfolding act
     stepped_ok is_up token of p =
         before z (node.Dup 0) (plus p) (λ xs w. refl) (seq z (under z (plus p) (load_ok z of p)) (λ old.
         before z (node.Push (one_kind of) (pos 1) 0) (λ xs. old ∷ p ∷ xs) (λ xs w. refl)
-        (updates_ok token of (way.step is_up of) p old (Number (one_kind of) (pos 1)))))
+        (updates_ok token of (place.step_operation is_up of) p old (Number (one_kind of) (pos 1)))))
 
     pub stepped_behind_ok : (is_up : Bool) (token : ℕ) (of : Option ValueType) (p : Scalar)
         → Sound z (plus p) (place.stepped_behind s is_up token of p) (way.SteppedBehind z.graph facts sites is_up token of) to plus
@@ -384,21 +384,21 @@ module _ (z : Standing) where
         before z (node.Dup 0) (plus p) (λ xs w. refl) (seq z (under z (plus p) (load_ok z of p)) (λ old.
         before z (node.Swap 0) (λ xs. old ∷ p ∷ xs) (λ xs w. refl) (before z (node.Over 0) (λ xs. p ∷ old ∷ xs) (λ xs w. refl)
         (before z (node.Push (one_kind of) (pos 1) 0) (λ xs. old ∷ p ∷ old ∷ xs) (λ xs w. refl)
-        (seq z (under z (λ xs. p ∷ old ∷ xs) (operate_ok (way.step is_up of) old (Number (one_kind of) (pos 1)))) (λ x.
-        seq z (under z (λ xs. p ∷ old ∷ xs) (converts_ok z (conversion (type_given (way.step is_up of) of) of) x)) (λ y.
+        (seq z (under z (λ xs. p ∷ old ∷ xs) (operate_ok (place.step_operation is_up of) old (Number (one_kind of) (pos 1)))) (λ x.
+        seq z (under z (λ xs. p ∷ old ∷ xs) (converts_ok z (conversion (type_given (place.step_operation is_up of) of) of) x)) (λ y.
         seq z (under z (plus old) (assigned_ok token p y)) (λ v. dropped_ok z old v))))))))
 
     -- where nothing takes the old value the new one does as well
     new_as_old : (is_up : Bool) (token : ℕ) (of : Option ValueType) (p : Scalar) (w : World)
-        → done (place.stepped s is_up token of p w) ≡ done (place.stepped_behind s is_up token of p w)
+        → done (place.stepped_value s is_up token of p w) ≡ done (place.stepped_behind s is_up token of p w)
     new_as_old is_up token of p w =
         bind_bind (load_at of p w) _ _ ∙ bind_same (load_at of p w) _ _ (λ old u.
-        bind_bind (answered (operate (way.step is_up of) old (Number (one_kind of) (pos 1)) u.objects) u) _ _
-        ∙ bind_same (answered (operate (way.step is_up of) old (Number (one_kind of) (pos 1)) u.objects) u) _ _ (λ x y.
-        bind_bind (as_wanted (conversion (type_given (way.step is_up of) of) of) x y) _ _
-        ∙ bind_same (as_wanted (conversion (type_given (way.step is_up of) of) of) x y) _ _ (λ v a. sym (bind_bind (place.assigned s token p v a) _ _))
-        ∙ sym (bind_bind (as_wanted (conversion (type_given (way.step is_up of) of) of) x y) _ _))
-        ∙ sym (bind_bind (answered (operate (way.step is_up of) old (Number (one_kind of) (pos 1)) u.objects) u) _ _))
+        bind_bind (answered (operate (place.step_operation is_up of) old (Number (one_kind of) (pos 1)) u.objects) u) _ _
+        ∙ bind_same (answered (operate (place.step_operation is_up of) old (Number (one_kind of) (pos 1)) u.objects) u) _ _ (λ x y.
+        bind_bind (as_wanted (conversion (type_given (place.step_operation is_up of) of) of) x y) _ _
+        ∙ bind_same (as_wanted (conversion (type_given (place.step_operation is_up of) of) of) x y) _ _ (λ v a. sym (bind_bind (place.assigned_at s token p v a) _ _))
+        ∙ sym (bind_bind (as_wanted (conversion (type_given (place.step_operation is_up of) of) of) x y) _ _))
+        ∙ sym (bind_bind (answered (operate (place.step_operation is_up of) old (Number (one_kind of) (pos 1)) u.objects) u) _ _))
         ∙ sym (bind_bind (load_at of p w) _ _)
 
     pub dropped_step_ok : (is_up : Bool) (token : ℕ) (of : Option ValueType) (p : Scalar)
@@ -451,7 +451,7 @@ module _ (z : Standing) where
     linked_truth_ok Unjoined token left right {m = m} a b c d = same_meaning z (λ w. sym (bind_bind (m w) (λ v. stuck) truth))
         (seq z a (λ v. stuck_ok z (plus v) way none))
 
-    pub conditional_ok : (token : ℕ) {c : Sense} {C : Emitted} {m q : World → Out Scalar} {R S : Path ℕ} {f g : World → Done} {F H : Path ℕ}
+    pub conditional_ok : (token : ℕ) {c : Sense} {C : Emitted} {m q : World → Out Scalar} {R S : Path ℕ} {f g : World → OutDone} {F H : Path ℕ}
         → SenseSound z c C → Sound z bare m R to plus → Sound z bare q S to plus → Sound z bare f F to none → Sound z bare g H to none
         → SenseSound z (mean.conditional s token c m q f g) (way.Conditional z.graph facts sites token C R S F H)
     conditional_ok token {c = t} {m = m} {q = q} {f = f} {g = g} a b c d e =
@@ -475,7 +475,7 @@ module _ (z : Standing) where
     }
 
     pub prefixed_ok : (token : ℕ) (o : PrefixOperator) (of : Option ValueType) (cells : Option ℕ) {m : Sense} {R : Emitted} → SenseSound z m R
-        → SenseSound z (mean.prefixed s token o of cells m) (way.Prefixed z.graph facts sites token o of cells R)
+        → SenseSound z (mean.prefixed_sense s token o of cells m) (way.Prefixed z.graph facts sites token o of cells R)
     prefixed_ok token prefix.Increment of cells a = valued_ok z (seq z a.place (λ p. stepped_ok true token of p))
     prefixed_ok token prefix.Decrement of cells a = valued_ok z (seq z a.place (λ p. stepped_ok false token of p))
     prefixed_ok token prefix.Address of cells a = valued_ok z a.place

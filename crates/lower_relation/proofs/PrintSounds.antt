@@ -46,7 +46,7 @@ module _ (z : Standing) where
 
   stops_on : {A : Type 0} (a : A) (i k : ℕ) (xs ys : Stack) (zs : A → Stack) (w : World) (o : List ℕ) (stop : Option Trap) (next : Now → Effect)
       → next (now z ys (wrote w o)) ≡ Goes (now z (zs a) (wrote w o))
-      → step z.code (state z i xs w) ≡ go_on (z.ren k) (state z i xs w) (machine.stop_or stop (now z ys (wrote w o)) next)
+      → step z.code (state z i xs w) ≡ go_on (z.ren k) (state z i xs w) (machine.stop_or_then stop (now z ys (wrote w o)) next)
       → Reach z.code z.watch (state z i xs w) w.turns (bind (mean.stop_or stop (wrote w o)) (λ _. Go a)) (λ b y. state z k (zs b) y)
   stops_on a i k xs ys zs w o None next goes e = (leads_one z.code _ _ (e ∙ ap (go_on (z.ren k) (state z i xs w)) goes), le_self w.turns)
   stops_on a i k xs ys zs w o (Some t) next goes e = ends_over z.code _ _ e
@@ -54,12 +54,12 @@ module _ (z : Standing) where
   -- bytes and then perhaps a trap, before the row goes on
   print_on : {A : Type 0} (a : A) (i k : ℕ) (xs ys : Stack) (zs : A → Stack) (w : World) (p : Printed) (next : Now → Effect)
       → ((u : World) → next (now z ys u) ≡ Goes (now z (zs a) u))
-      → step z.code (state z i xs w) ≡ go_on (z.ren k) (state z i xs w) (machine.print p (now z ys w) next)
+      → step z.code (state z i xs w) ≡ go_on (z.ren k) (state z i xs w) (machine.print_then p (now z ys w) next)
       → Reach z.code z.watch (state z i xs w) w.turns (bind (print p w) (λ _. Go a)) (λ b y. state z k (zs b) y)
   print_on a i k xs ys zs w p next goes e =
       subst (λ o. Reach z.code z.watch (state z i xs w) w.turns o (λ b y. state z k (zs b) y))
       (sym (bind_bind (written p.bytes w) (λ _. mean.stop_or p.stop) (λ _. Go a)))
-      (written_on i k xs ys w p.bytes (nat_le (length w.output + length p.bytes) output_limit) (λ d. machine.stop_or p.stop d next)
+      (written_on i k xs ys w p.bytes (nat_le (length w.output + length p.bytes) output_limit) (λ d. machine.stop_or_then p.stop d next)
       (λ _ u. bind (mean.stop_or p.stop u) (λ _. Go a)) (λ b y. state z k (zs b) y) e
       (λ f. stops_on a i k xs ys zs w (w.output ++ p.bytes) p.stop next (goes (wrote w (w.output ++ p.bytes))) f))
 
@@ -104,7 +104,7 @@ module _ (z : Standing) where
   -- the values by the format, where each conversion takes its value
   formatted_on : (i k : ℕ) (ys xs : Stack) (w : World) (format : List ℕ) (values : List Scalar) (takes : Bool)
       → step z.code (state z i ys w) ≡ go_on (z.ren k) (state z i ys w)
-      (if takes then machine.print (printed (pieces_of format) values w.objects) (now z xs w) (λ d. Goes d) else Stops (Trapped trap.Internal) w.output)
+      (if takes then machine.print_then (printed (pieces_of format) values w.objects) (now z xs w) (λ d. Goes d) else Stops (Trapped trap.Internal) w.output)
       → Reach z.code z.watch (state z i ys w) w.turns (choose takes (print (printed (pieces_of format) values w.objects)) stuck w) (λ a u. state z k xs u)
   formatted_on i k ys xs w format values true e =
       subst (λ o. Reach z.code z.watch (state z i ys w) w.turns o (λ a u. state z k xs u)) (bind_go (print (printed (pieces_of format) values w.objects) w))
@@ -114,7 +114,7 @@ module _ (z : Standing) where
   all_on : (i k : ℕ) (ys xs : Stack) (w : World) (format : Text) (vs : List Scalar) (defined : Bool)
       → step z.code (state z i ys w) ≡ go_on (z.ren k) (state z i ys w)
       (with_taken (if defined then Takes (reverse vs) (now z xs w) else Lacks trap.Undefined) (now z ys w)
-      (λ values e. machine.put_format format.bytes values e (λ d. Goes d)))
+      (λ values e. machine.put_format_then format.bytes values e (λ d. Goes d)))
       → Reach z.code z.watch (state z i ys w) w.turns
       (bind (if defined then Go (reverse vs) w else Stop (Trapped trap.Undefined) w) (put_format format.bytes)) (λ a u. state z k xs u)
   all_on i k ys xs w format vs true e = formatted_on i k ys xs w format.bytes (reverse vs) (take_values (pieces_of format.bytes) (reverse vs)) e
@@ -129,8 +129,8 @@ module _ (z : Standing) where
         (row z (node.Format number count 0) i k (vs ++ xs) w h
         ∙ ap (λ t. go_on (z.ren k) (state z i (vs ++ xs) w)
         (with_named t (now z (vs ++ xs) w) (λ text. with_taken (several count (now z (vs ++ xs) w)) (now z (vs ++ xs) w)
-        (λ values e. machine.put_format text.bytes values e (λ d. Goes d))))) at
+        (λ values e. machine.put_format_then text.bytes values e (λ d. Goes d))))) at
         ∙ ap (λ t. go_on (z.ren k) (state z i (vs ++ xs) w)
-        (with_taken t (now z (vs ++ xs) w) (λ values e. machine.put_format format.bytes values e (λ d. Goes d))))
+        (with_taken t (now z (vs ++ xs) w) (λ values e. machine.put_format_then format.bytes values e (λ d. Goes d))))
         (ap (λ c. several c (now z (vs ++ xs) w)) (sym l) ∙ several_on z.locals vs xs w));
   }

@@ -3,7 +3,7 @@ use Rattle.std.proofs.Common.{◌≡◌, refl, ℕ, ◌≤◌, arith, List}
 use Rattle.cbi_base.specs.declared.outcome.Outcome.{Outcome}
 use Rattle.cbi_base.specs.declared.scalar.Scalar.{Scalar}
 use Rattle.flow.specs.Code.{Code}
-use Rattle.flow.specs.Machine.{Ends, Leads}
+use Rattle.flow.specs.Machine.{Ends, RunLeads}
 use Rattle.flow.specs.Now.{Locals}
 use Rattle.flow.specs.State.{Ending, Frame, State, Watch}
 use Rattle.flow.proofs.Endings.{leads_self, leads_trans}
@@ -61,14 +61,14 @@ le_self t = omega arith
 module _ (code : Code) (watch : Watch) where
   -- From the state the machine comes to the state after what the part means, with no more than so many turns left, or it ends as the part does.
   abbrev pub Reach : {A : Type 0} → State → ℕ → Out A → (A → World → State) → Type 0
-  Reach s t (Go a u) k = Leads code s (k a u) × (u.turns ≤ t)
+  Reach s t (Go a u) k = RunLeads code s (k a u) × (u.turns ≤ t)
   Reach s t (Stop o u) k = Ends code s (ending watch o u)
 
-  pub here : (s : State) → Leads code s s
+  pub here : (s : State) → RunLeads code s s
   here s = leads_self code s
 
   -- steps before the part
-  pub first : {B : Type 0} (s s' : State) (t t' : ℕ) (o : Out B) (l : B → World → State) → Leads code s s' → t' ≤ t → Reach s' t' o l → Reach s t o l
+  pub first : {B : Type 0} (s s' : State) (t t' : ℕ) (o : Out B) (l : B → World → State) → RunLeads code s s' → t' ≤ t → Reach s' t' o l → Reach s t o l
   first s s' t t' (Go b u) l a le r = (leads_trans code s s' (l b u) a r.0, omega (arith, r.1, le))
   first s s' t t' (Stop o u) l a le r = a.by _ r
 

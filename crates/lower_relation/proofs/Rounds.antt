@@ -6,7 +6,7 @@ use Rattle.flow.specs.Machine.{next_of}
 use Rattle.flow.specs.State.{State}
 use Rattle.flow.proofs.Endings.{ends_over, leads_one}
 use Rattle.c_meaning.specs.Statements.{after_body, do_round, for_round, rounds, while_round}
-use Rattle.c_meaning.specs.World.{World, Out, Go, Stop, Done, Flow, Next, Broken, Continued, Returned, bind, choose, spend}
+use Rattle.c_meaning.specs.World.{World, Out, Go, Stop, OutDone, Flow, Next, Broken, Continued, Returned, bind, choose, spend}
 use Rattle.lower_relation.specs.Paths.{Path, Exits, Ways}
 use Rattle.lower_relation.specs.Statements.{DoDo, ForLoop, WhileDo, within_loop}
 use Rattle.lower_relation.proofs.Flows.{Executes, Flows, flow_at, flow_post, returned_on}
@@ -99,7 +99,7 @@ module _ (z : Standing) where
         z.turns (le_self z.turns) w le;
   }
 
-  pub for_ok : {c : World → Out Bool} {C : Path Ways} {step : World → Done} {S : Path ℕ} {body : World → Out Flow} {B : Path Exits}
+  pub for_ok : {c : World → Out Bool} {C : Path Ways} {step : World → OutDone} {S : Path ℕ} {body : World → Out Flow} {B : Path Exits}
       → Sound z bare c C way none → Sound z bare step S to none → Executes z body B
       → Executes z (rounds z.turns (for_round c body step)) (ForLoop z.graph C S B)
   for_ok {c = c} {C = C} {step = step} {body = body} {B = B} cs ss bs = record {

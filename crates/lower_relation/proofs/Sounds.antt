@@ -11,7 +11,7 @@ use Rattle.flow.specs.declared.node.Node.{Node}
 use Rattle.flow.specs.declared.node.Node.TheVariants as node
 use Rattle.flow.specs.declared.node.View.TheVariants as view
 use Rattle.flow.specs.Code.{Code}
-use Rattle.flow.specs.Machine.{Leads, next_of, step, go_on, halt, branch}
+use Rattle.flow.specs.Machine.{RunLeads, next_of, step, go_on, halt, branch}
 use Rattle.flow.specs.Now.{Locals, Now, Goes, with_answer}
 use Rattle.flow.specs.Rows.{act}
 use Rattle.flow.specs.State.{Frame, State, Watch}
@@ -154,7 +154,7 @@ module _ (z : Standing) where
   row op i k xs w h = ap (λ v. next_of z.code v (state i xs w)) (z.stands.at i _ h)
 
   pub row_goes : (op : Node) (i k : ℕ) (xs ys : Stack) (w u : World) → z.graph i (view.Row op k) → act z.code.statics op (now xs w) ≡ Goes (now ys u)
-      → u.turns ≡ w.turns → u.active ≡ w.active → u.seen ≡ w.seen → Leads z.code (state i xs w) (state k ys u)
+      → u.turns ≡ w.turns → u.active ≡ w.active → u.seen ≡ w.seen → RunLeads z.code (state i xs w) (state k ys u)
   row_goes op i k xs ys w u h e t a s = leads_one z.code _ _ (rw (row op i k xs w h, e, t, a, s) refl)
 
   pub row_answers : (op : Node) (i k : ℕ) (xs ys : Stack) (w : World) (r : Result Scalar Trap) → z.graph i (view.Row op k)
@@ -169,7 +169,7 @@ module _ (z : Standing) where
   unfolding next_of
   halts op i xs w h = ap (λ v. next_of z.code v (state i xs w)) (z.stands.at i _ h)
 
-  pub stay : (i k : ℕ) (xs : Stack) (w : World) → i ≡ k → Leads z.code (state i xs w) (state k xs w)
+  pub stay : (i k : ℕ) (xs : Stack) (w : World) → i ≡ k → RunLeads z.code (state i xs w) (state k xs w)
   stay i k xs w h = rw h (here z.code z.watch _)
 
   -- a row that only moves operands about

@@ -22,7 +22,7 @@ use Rattle.c_meaning.specs.Conversions as mean
 use Rattle.c_meaning.specs.Expressions as mean_of
 use Rattle.c_meaning.specs.Expressions.{Sense}
 use Rattle.c_meaning.specs.Visits.{truth}
-use Rattle.c_meaning.specs.World.{World, Out, Go, Done, answered, bind, choose, done, nothing}
+use Rattle.c_meaning.specs.World.{World, Out, Go, OutDone, answered, bind, choose, done, nothing}
 use Rattle.lower_relation.specs.Paths.{Path, ◌then◌, Does, Emitted, Tests}
 use Rattle.lower_relation.specs.Values as way
 use Rattle.lower_relation.proofs.Reach.{bind_go}
@@ -130,11 +130,11 @@ module _ (z : Standing) where
   placed_ok of a = record {
     value = seq z a (λ p. load_ok of p);
     place = a;
-    effect = seq z a (λ p. discarded_ok (mean_of.is_struct of) of p);
+    effect = seq z a (λ p. discarded_ok (mean_of.is_struct_value of) of p);
     truth = tests_ok (seq z a (λ p. load_ok of p));
   }
 
-  pub effected_ok : {m : World → Done} {R : Path ℕ} → Sound z bare m R to none → SenseSound z (mean_of.effected m) (way.Effected z.graph R)
+  pub effected_ok : {m : World → OutDone} {R : Path ℕ} → Sound z bare m R to none → SenseSound z (mean_of.effected m) (way.Effected z.graph R)
   effected_ok a = record { value = stuck_ok z bare to plus; place = stuck_ok z bare to plus; effect = a; truth = stuck_ok z bare sound.way none }
 
   pub null_or_ok : (b : Bool) {m : Sense} {R : Emitted} → SenseSound z m R → Sound z bare (mean_of.null_or b m) (way.NullOr z.graph b R) to plus

@@ -11,12 +11,12 @@ use Rattle.flow.specs.declared.program.ProgramParts.{ProgramParts}
 use Rattle.flow.specs.Calls.{give, has_result, quit}
 use Rattle.flow.specs.Calls as flow_calls
 use Rattle.flow.specs.Code.{Code, code_of}
-use Rattle.flow.specs.Machine.{Ends, EndsFrom, MachineEnds, at_start, begin, begin_with, each_made, first_objects, no_work, step}
+use Rattle.flow.specs.Machine.{Ends, EndsFrom, MachineEnds, at_start, begin, begin_with, each_made, no_work, program_objects, step}
 use Rattle.flow.specs.Now.{Takes}
 use Rattle.flow.specs.State.{Ending, State, Watch}
 use Rattle.flow.proofs.Endings.{ends_over, one_end_from}
 use Rattle.c_meaning.specs.Facts.{Signature}
-use Rattle.c_meaning.specs.Runs.{Source, beginning, behaves, call_at, enter, enter_with, gives_value, inside, locals_at, meaning, run_body, run_from, run_main, value_left}
+use Rattle.c_meaning.specs.Runs.{Source, behaves, call_at, enter_function, enter_with, first_world, gives_value, inside, locals_at, meaning, run_body, run_from, run_main, value_left}
 use Rattle.c_meaning.specs.Trees.{has_value}
 use Rattle.c_meaning.specs.World.{World, Out, Go, Stop, Flow, Next, Broken, Continued, Returned, bind, stuck}
 use Rattle.lower_relation.specs.Functions.{BodyIn, EndsAt, GivesAt, IsGraphOf, Leaves, Lowered, callee_with, ending_of}
@@ -106,15 +106,15 @@ module _ (src : Source) (p : ProgramParts) (is : IsGraphOf src p) (input : List 
   -- the variables of `main` are made
   made_ok : (s : Signature) → src.facts.signature src.main ≡ Some s → (objects : Objects) (made : Option Objects)
       → EndsFrom code (flow_calls.entered src.main (callee_with s) (at_start code input turns objects) made)
-      (ending_of (behaves (bind (enter_with src (call_at src turns) turns src.main s (beginning objects input turns) made)
+      (ending_of (behaves (bind (enter_with src (call_at src turns) turns src.main s (first_world objects input turns) made)
       (value_left true (has_value s.result)))))
   made_ok s sig objects None = refl
-  made_ok s sig objects (Some made) = main_ok s sig (beginning objects input turns) (inside made (beginning objects input turns)) (le_self turns)
+  made_ok s sig objects (Some made) = main_ok s sig (first_world objects input turns) (inside made (first_world objects input turns)) (le_self turns)
 
   -- `main` is entered
   entered_ok : (objects : Objects) (o : Option Signature) → src.facts.signature src.main ≡ o
       → EndsFrom code (flow_calls.enter (option_map callee_with o) src.main [] (at_start code input turns objects))
-      (ending_of (behaves (bind (enter src (call_at src turns) turns src.main o [] (beginning objects input turns)) (value_left true (gives_value o)))))
+      (ending_of (behaves (bind (enter_function src (call_at src turns) turns src.main o [] (first_world objects input turns)) (value_left true (gives_value o)))))
   entered_ok objects None sig = refl
   entered_ok objects (Some s) sig = made_ok s sig objects _
 
@@ -129,11 +129,11 @@ module _ (src : Source) (p : ProgramParts) (is : IsGraphOf src p) (input : List 
   pub run_ok : MachineEnds p input bank turns (ending_of (meaning src input turns))
   unfolding meaning
   run_ok =
-      subst (λ main. EndsFrom code (begin_with code main input turns (each_made (first_objects p) no_objects))
+      subst (λ main. EndsFrom code (begin_with code main input turns (each_made (program_objects p) no_objects))
       (ending_of (behaves (run_main src input turns src.objects)))) (sym is.main)
-      (subst (λ o. EndsFrom code (begin_with code src.main input turns (each_made (first_objects p) no_objects))
+      (subst (λ o. EndsFrom code (begin_with code src.main input turns (each_made (program_objects p) no_objects))
       (ending_of (behaves (run_main src input turns o)))) (sym is.objects)
-      (begun_ok (each_made (first_objects p) no_objects)))
+      (begun_ok (each_made (program_objects p) no_objects)))
 
   pub only_ending : (ending : Ending) → MachineEnds p input bank turns ending → ending ≡ ending_of (meaning src input turns)
   only_ending ending h = one_end_from code (begin p input bank turns) ending (ending_of (meaning src input turns)) h run_ok

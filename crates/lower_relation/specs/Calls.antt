@@ -1,8 +1,8 @@
 -- What a graph does for each call (C99 6.5.2.2, 7.2, 7.19, 7.20).
 use Rattle.std.specs.Prelude.{ℕ, ◌==◌, Bool, true, false, List, length, Option, Some, None}
 use Rattle.cbi_base.specs.declared.scalar.Kind.TheVariants.{Int, Unsigned}
-use Rattle.c_rules.specs.declared.library.Library.{Library}
-use Rattle.c_rules.specs.declared.library.Library.TheVariants as library
+use Rattle.c_types_rules.specs.declared.library.Library.{Library}
+use Rattle.c_types_rules.specs.declared.library.Library.TheVariants as library
 use Rattle.flow.specs.declared.node.Node.TheVariants as node
 use Rattle.flow.specs.declared.node.View.TheVariants as view
 use Rattle.flow.specs.declared.program.Text.{Text}
@@ -20,19 +20,19 @@ use Rattle.lower_relation.specs.Paths.{Graph, Path, ◌then◌, Does, Emitted, H
 use Rattle.lower_relation.specs.Values.{Effected, Valued}
 
 -- arguments of these types
-abbrev pub Arguments : Type 1
-Arguments = List ValueType → Path ℕ
+abbrev pub ArgumentsPath : Type 1
+ArgumentsPath = List ValueType → Path ℕ
 
 -- the one argument, of the type that is wanted where its own one is this
-abbrev pub Argument : Type 1
-Argument = (Option ValueType → Option ValueType) → Path ℕ
+abbrev pub ArgumentPath : Type 1
+ArgumentPath = (Option ValueType → Option ValueType) → Path ℕ
 
 module _ (G : Graph) where
   -- `printf` with the string that has this number as its format, and so many other arguments
-  abbrev pub Prints : Option ℕ → Option Text → ℕ → Arguments → Path ℕ
-  Prints (Some number) (Some format) n arguments =
+  abbrev pub PrintPath : Option ℕ → Option Text → ℕ → ArgumentsPath → Path ℕ
+  PrintPath (Some number) (Some format) n arguments =
       Only G (n == length (types_taken (pieces_of format.bytes))) (arguments (types_taken (pieces_of format.bytes)) then Does G (node.Format number n 0))
-  Prints number format n arguments = Stuck G
+  PrintPath number format n arguments = Stuck G
 
   module _ (facts : Facts) (sites : Sites) where
     -- a returned value, with the visit of its site
@@ -45,13 +45,13 @@ module _ (G : Graph) where
     WithResult token false R = Effected G R
 
     -- a function of the text: its arguments, and then its body
-    abbrev pub CallFunction : ℕ → ℕ → Option Signature → ℕ → Arguments → Emitted
+    abbrev pub CallFunction : ℕ → ℕ → Option Signature → ℕ → ArgumentsPath → Emitted
     CallFunction token number None n arguments = Valued G (Stuck G)
     CallFunction token number (Some f) n arguments =
         WithResult token (has_value f.result) (Only G (n == length f.params) (arguments f.params then (λ i k. G i (view.Calls number k))))
 
     -- a function of the library
-    abbrev pub CallLibrary : ℕ → Library → ℕ → Argument → Path ℕ → Emitted
+    abbrev pub CallLibrary : ℕ → Library → ℕ → ArgumentPath → Path ℕ → Emitted
     CallLibrary token library.Getchar n argument print = Returned token (Only G (n == 0) (Does G (node.Get 0)))
     CallLibrary token library.Putchar n argument print = Valued G (argument (as_type (type.Number Int)) then Does G (node.Put 0))
     CallLibrary token library.Puts n argument print = Valued G (argument (as_type (type.Pointer 1)) then Does G (node.Puts 0))
@@ -63,7 +63,7 @@ module _ (G : Graph) where
     CallLibrary token library.Printf n argument print = Effected G print
 
     -- a call by what it calls, with so many arguments
-    abbrev pub CallDoes : ℕ → Called → ℕ → Arguments → Argument → Path ℕ → Emitted
+    abbrev pub CallDoes : ℕ → Called → ℕ → ArgumentsPath → ArgumentPath → Path ℕ → Emitted
     CallDoes token (called.Function number) n arguments argument print = CallFunction token number (facts.signature number) n arguments
     CallDoes token (called.Library function) n arguments argument print = CallLibrary token function n argument print
     CallDoes token called.Unknown n arguments argument print = Valued G (Stuck G)

@@ -9,11 +9,13 @@ use Rattle.flow.specs.declared.node.Node.TheVariants as node
 use Rattle.c_meaning.specs.declared.value_type.ValueType.{ValueType}
 use Rattle.c_meaning.specs.Conversions.{is_null_as}
 use Rattle.c_meaning.specs.Facts.{Facts, Sites}
-use Rattle.c_meaning.specs.Meaning.{text_of}
+use Rattle.c_meaning.specs.Meaning.{text_of_string}
 use Rattle.c_meaning.specs.Operation.{operation}
-use Rattle.c_meaning.specs.Trees.{token_of, type_of, ends_as_place, is_place, count, assignment, joint, is_null_beside, begins_null, operand_type, called_as, first_type, other_types}
-use Rattle.lower_relation.specs.Calls.{CallDoes, Prints}
-use Rattle.lower_relation.specs.Operators.{Assign, Cast, Comma, Conditional, Decides, Linked, LinkedTruth, Member, Operates, Postfixed, Prefixed, Settled, SizeValue, Spot, SteppedAs, Variable}
+use Rattle.c_meaning.specs.Trees.{token_of, type_of, ends_as_place, is_place, count, assignment, joint, is_null_beside, begins_null, operand_type}
+use Rattle.c_meaning.specs.Trees.{called_as, first_type, other_types}
+use Rattle.lower_relation.specs.Calls.{CallDoes, PrintPath}
+use Rattle.lower_relation.specs.Operators.{Assign, Cast, Comma, Conditional, Decides, Linked, LinkedTruth, Member, Operates, Postfixed, Prefixed, Settled}
+use Rattle.lower_relation.specs.Operators.{SizeValue, Spot, SteppedAs, Variable}
 use Rattle.lower_relation.specs.Paths.{Graph, Path, ◌then◌, Does, Emitted, Nothing, OneOf, Only, Stuck, Tests, Ways}
 use Rattle.lower_relation.specs.Values.{ArmEffect, ArmValue, HandedValue, NullOr, NullTruth, Placed, Valued}
 
@@ -125,7 +127,7 @@ module _ (G : Graph) where
       -- what `printf` does with its arguments
       pub FormatDoes : ExprList → Path ℕ
       FormatDoes e.no_exprs = Stuck G
-      FormatDoes (e.more_exprs x rest) = Prints G (number_of_text facts x) (text_of facts x) (count rest) (λ types. ArgumentsDo types rest)
+      FormatDoes (e.more_exprs x rest) = PrintPath G (number_of_text facts x) (text_of_string facts x) (count rest) (λ types. ArgumentsDo types rest)
 
     -- a condition, with the visit of its statement's site
     abbrev pub Condition : ℕ → ExprTree → Path Ways

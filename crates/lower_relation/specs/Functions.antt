@@ -9,7 +9,7 @@ use Rattle.flow.specs.declared.node.View.{View}
 use Rattle.flow.specs.declared.node.View.TheVariants.{Gives, Quits}
 use Rattle.flow.specs.declared.program.ProgramParts.{ProgramParts}
 use Rattle.flow.specs.Code.{Callee, Code, code_of}
-use Rattle.flow.specs.Machine.{MachineEnds, first_objects, no_work}
+use Rattle.flow.specs.Machine.{MachineEnds, no_work, program_objects}
 use Rattle.flow.specs.State.{Ending}
 use Rattle.flow.specs.View.{view}
 use Rattle.c_meaning.specs.declared.value_type.ValueType.{ValueType}
@@ -77,7 +77,7 @@ pub record Lowered (code : Code) (src : Source) : Type 0 where
 pub record IsGraphOf (src : Source) (p : ProgramParts) : Type 0 where
   pub lowered : (bank : ℕ → ℕ) → Lowered (code_of p bank) src
   pub main : p.main ≡ src.main
-  pub objects : src.objects ≡ Some (first_objects p)
+  pub objects : src.objects ≡ Some (program_objects p)
 
 -- how a run ends that goes so: a program without sampling nodes draws one number, and does no work of sampling
 abbrev pub ending_of : Behaviour → Ending

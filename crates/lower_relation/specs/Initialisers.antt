@@ -14,7 +14,7 @@ use Rattle.c_meaning.specs.declared.value_type.ValueType.TheVariants as type
 use Rattle.c_meaning.specs.Conversions.{is_null_as}
 use Rattle.c_meaning.specs.Facts.{Facts, Sites}
 use Rattle.c_meaning.specs.Initialisers.{equals_token, want_of}
-use Rattle.c_meaning.specs.Meaning.{text_of}
+use Rattle.c_meaning.specs.Meaning.{text_of_string}
 use Rattle.c_meaning.specs.Trees.{type_of}
 use Rattle.lower_relation.specs.Expressions.{emitted, number_of_text}
 use Rattle.lower_relation.specs.Operators.{Assigned, Member, Variable}
@@ -66,7 +66,7 @@ module _ (G : Graph) where
 
     abbrev pub ValueSet : ℕ → Option ValueType → ExprTree → Path ℕ
     ValueSet token (Some (type.Array size)) value =
-        ArrayZeroed token then OnLocal (facts.slot_at token) (Spells (number_of_text facts value) (text_of facts value))
+        ArrayZeroed token then OnLocal (facts.slot_at token) (Spells (number_of_text facts value) (text_of_string facts value))
     ValueSet token of value = ScalarSet token value
 
     abbrev pub Initialised : ℕ → Option InitialTree → Path ℕ
@@ -82,5 +82,5 @@ module _ (G : Graph) where
     AllStart [] = Nothing
     AllStart (x ∷ xs) = Starts x then AllStart xs
 
-    abbrev pub Declares : DeclarationTree → Path ℕ
-    Declares d = AllStart d.starts
+    abbrev pub DeclarationPath : DeclarationTree → Path ℕ
+    DeclarationPath d = AllStart d.starts

@@ -16,15 +16,12 @@ use Rattle.c_meaning.specs.declared.value_type.ValueType.TheVariants as type
 use Rattle.c_meaning.specs.Conversions.{between, conversion}
 use Rattle.c_meaning.specs.Facts.{Facts, Sites}
 use Rattle.c_meaning.specs.Operation.{left_kind, operation, right_kind, type_given}
+use Rattle.c_meaning.specs.Places.{step_operation}
 use Rattle.c_meaning.specs.Trees as tree
-use Rattle.c_meaning.specs.Trees.{Assignment, Plain, By, Joint, Both, Computes, Unjoined, one_kind, step_of}
+use Rattle.c_meaning.specs.Trees.{Assignment, Plain, By, Joint, Both, Computes, Unjoined, one_kind}
 use Rattle.c_meaning.specs.Visits.{listed}
 use Rattle.lower_relation.specs.Paths.{Graph, Path, ◌then◌, Does, Either, Emitted, Falsely, ForkTo, MarksAll, Nothing, OneOf, Stuck, Tests, Truly, Turned, Ways}
 use Rattle.lower_relation.specs.Values.{Converts, ConvertsBelow, Dropped, Effected, Handed, HandedValue, LoadAt, Placed, Pushed, Valued, WantedValue}
-
--- the operation of `++` and `--`
-abbrev pub step : Bool → Option ValueType → Operation
-step is_up of = operation (step_of is_up) of (Some (type.Number (one_kind of)))
 
 module _ (G : Graph) where
   -- what is done with two values, the right one on top
@@ -132,13 +129,14 @@ module _ (G : Graph) where
     -- `++` and `--` before a place
     abbrev pub Stepped : Bool → ℕ → Option ValueType → Path ℕ
     Stepped is_up token of =
-        Does G (node.Dup 0) then LoadAt G of then Does G (node.Push (one_kind of) (pos 1) 0) then Updates token of (step is_up of)
+        Does G (node.Dup 0) then LoadAt G of then Does G (node.Push (one_kind of) (pos 1) 0) then Updates token of (step_operation is_up of)
 
     -- behind a place they leave the old value
     abbrev pub SteppedBehind : Bool → ℕ → Option ValueType → Path ℕ
     SteppedBehind is_up token of =
         Does G (node.Dup 0) then LoadAt G of then Does G (node.Swap 0) then Does G (node.Over 0) then Does G (node.Push (one_kind of) (pos 1) 0)
-        then Operates (step is_up of) then Converts G (conversion (type_given (step is_up of) of) of) then Assigned token then Does G (node.Drop 0)
+        then Operates (step_operation is_up of) then Converts G (conversion (type_given (step_operation is_up of) of) of) then Assigned token
+        then Does G (node.Drop 0)
 
     -- behind a place they leave the old value, or where nothing takes it perhaps the new one
     abbrev pub SteppedAs : Bool → Bool → ℕ → Option ValueType → Path ℕ

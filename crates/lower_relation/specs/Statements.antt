@@ -10,7 +10,7 @@ use Rattle.c_meaning.specs.Facts.{Facts, Sites}
 use Rattle.c_meaning.specs.Trees.{type_of}
 use Rattle.lower_relation.specs.Paths.{Graph, Path, ◌then◌, Ways, Exits, Nothing, Either, Truly}
 use Rattle.lower_relation.specs.Expressions.{Condition, emitted}
-use Rattle.lower_relation.specs.Initialisers.{Declares}
+use Rattle.lower_relation.specs.Initialisers.{DeclarationPath}
 use Rattle.lower_relation.specs.Values.{WantedValue}
 
 -- within a loop that goes on at a node, and after it at another one
@@ -50,7 +50,7 @@ module _ (G : Graph) where
     OptionalCondition token (Some x) = Condition G facts sites token x
 
     abbrev pub ForStarts : ForStartTree → Path ℕ
-    ForStarts (tree.Declares d) = Declares G facts sites d
+    ForStarts (tree.Declares d) = DeclarationPath G facts sites d
     ForStarts (tree.Computes x) = OptionalEffect x
 
     -- `return`, with the value as one of the function's type
@@ -76,5 +76,5 @@ module _ (G : Graph) where
 
       pub RunsAll : ValueType → EntryList → Path Exits
       RunsAll result tree.no_entries i x = GoesOn i x
-      RunsAll result (tree.declared d rest) i x = (Declares G facts sites d then RunsAll result rest) i x
+      RunsAll result (tree.declared d rest) i x = (DeclarationPath G facts sites d then RunsAll result rest) i x
       RunsAll result (tree.stated statement rest) i x = Before (Runs result statement) (RunsAll result rest) i x

@@ -9,7 +9,7 @@ use Rattle.c_meaning.specs.declared.conversion.Conversion.TheVariants.{Keep, To,
 use Rattle.c_meaning.specs.declared.value_type.ValueType.{ValueType}
 use Rattle.c_meaning.specs.declared.value_type.ValueType.TheVariants as type
 use Rattle.c_meaning.specs.Conversions.{conversion, as_used}
-use Rattle.c_meaning.specs.Expressions.{is_other_pointer, is_struct}
+use Rattle.c_meaning.specs.Expressions.{is_other_pointer, is_struct_value}
 use Rattle.lower_relation.specs.Paths.{Graph, Path, ◌then◌, Does, Emitted, Nothing, Stuck, Tests, Ways}
 
 module _ (G : Graph) where
@@ -56,7 +56,7 @@ module _ (G : Graph) where
   Placed of P = record {
     value = P then LoadAt of;
     place = P;
-    effect = P then Discarded (is_struct of) of;
+    effect = P then Discarded (is_struct_value of) of;
     truth = Tests G (P then LoadAt of);
   }
 

@@ -25,15 +25,15 @@ use Rattle.c_meaning.specs.Conversions.{is_null_as}
 use Rattle.c_meaning.specs.Facts.{Facts, Sites}
 use Rattle.c_meaning.specs.Trees.{type_of}
 use Rattle.lower_relation.specs.Expressions.{Condition, emitted}
-use Rattle.lower_relation.specs.Initialisers.{Declares}
+use Rattle.lower_relation.specs.Initialisers.{DeclarationPath}
 use Rattle.lower_relation.specs.Paths.{Graph, Exits, Ways}
 use Rattle.lower_relation.specs.Statements.{DoDo, ForLoop, GoesOn, ReturnDo, Runs, RunsAll, WhileDo, within_loop}
 use Rattle.lower_relation.specs.Values.{WantedValue}
 use Rattle.lower_statements.specs.Exits.{SecondRuns}
 use Rattle.lower_relation.specs.Functions.{standing}
 use Rattle.lower_nodes.specs.Ends.{AllBelow, Any, all_ends}
-use Rattle.lower_nodes.specs.Made.{Later, LeadBack, LeadsBack, Made, MadeExits, MadeTo, MadeWays, Part, CameOut}
-use Rattle.lower_nodes.specs.Standing.{AllLike, AllStand, Allowed, Like, Allowance, Stands, Stood, fork_at, forks}
+use Rattle.lower_nodes.specs.Made.{Later, LeadBack, LeadsBack, Made, MadeExits, MadeTo, MadeWays, GraphPath, CameOut}
+use Rattle.lower_nodes.specs.Standing.{AllLike, AllStand, Allowed, Like, Allowance, StandsRightly, Stood, fork_at, forks}
 use Rattle.lower_nodes.specs.Purposes.{ways}
 use Rattle.lower_nodes.proofs.Building.{Joined, below_more, both_ways, either_made, joined_made, later_self, likes_more, slice_append, slice_end, stands_by, stays_put, stood_put}
 
@@ -102,24 +102,24 @@ module _ (p : Allowance) (again head : ℕ) (n2 n3 : List Node) (was : slice_get
   fork_stays : (n : ℕ) → fork_at n2 n ≡ true → fork_at n3 n ≡ true
   fork_stays n e = fork_by n e (nat_eq again n) refl
 
-  aimed_by : (low : ℕ) → again < length n2 → AllStand p (suc again) n2 → Stands p n3 (view.Turns head) → again ≡ low → (i : ℕ) (x : Node) → low ≤ i →
-      slice_get n3 i ≡ Some x → (here : Bool) → nat_eq again i ≡ here → Stands p n3 (view_of x)
+  aimed_by : (low : ℕ) → again < length n2 → AllStand p (suc again) n2 → StandsRightly p n3 (view.Turns head) → again ≡ low → (i : ℕ) (x : Node) → low ≤ i →
+      slice_get n3 i ≡ Some x → (here : Bool) → nat_eq again i ≡ here → StandsRightly p n3 (view_of x)
   aimed_by low above all turns e i x at is true same =
       let place : i ≡ again = grind (arith, nat_tests) in
       let some : Some x ≡ Some (node.Again head) = sym is ∙ ap (slice_get n3) place ∙ rw set (set_same n2 again (node.Again head) above) in
       let x_is : x ≡ node.Again head = cc in
-      subst (λ y. Stands p n3 (view_of y)) (sym x_is) turns
+      subst (λ y. StandsRightly p n3 (view_of y)) (sym x_is) turns
   aimed_by low above all turns e i x at is false same =
       let other : again ≢ i = λ q. absurd (grind (arith, nat_tests, q)) in
       let still : slice_get n2 i ≡ Some x = sym (set_other n2 again i (node.Again head) other) ∙ rw set at is in
       stands_by p n2 n3 (view_of x) fork_stays (all.each i x (grind (arith, nat_tests)) still)
 
   -- the nodes still stand, with the `again`
-  aimed_stand : (low : ℕ) → again < length n2 → AllStand p (suc again) n2 → Stands p n3 (view.Turns head) → again ≡ low → AllStand p low n3
+  aimed_stand : (low : ℕ) → again < length n2 → AllStand p (suc again) n2 → StandsRightly p n3 (view.Turns head) → again ≡ low → AllStand p low n3
   aimed_stand low above all turns e = record { each = λ i x at is. aimed_by low above all turns e i x at is (nat_eq again i) refl }
 
 -- An `again` that is put first, and aimed when what goes on at it was put. The part between goes on at it, or where the whole does.
-pub aimed_made : (R : Part Loop) (S : Part Exits) (n0 n1 n2 n3 : List Node) (again i : ℕ) (x : Exits) →
+pub aimed_made : (R : GraphPath Loop) (S : GraphPath Exits) (n0 n1 n2 n3 : List Node) (again i : ℕ) (x : Exits) →
     ((G : Graph) → R G i (loop again x) → G again (view.Turns i) → S G i x) →
     ((G : Graph) (j : ℕ) (y : Exits) → S G j y → (a : ℕ) × R G j (loop a y) × G a (view.Turns j)) →
     again ≡ length n0 → n1 ≡ n0 ++ node.Again 0 ∷ [] → MadeTo loop_ends Any R n1 n2 i (loop again x) → n3 ≡ slice_set n2 again (node.Again i) → MadeExits S n0 n3 i x
@@ -153,7 +153,7 @@ aimed_made R S n0 n1 n2 n3 again i x into out at is r set =
           let o = out (Allowed p) j y done in
           let inner : Stood p (length n1) n2 i j =
           r.stands p j (loop o.0 y) tt ((λ e. absurd (false≢true (o.2.turns e))), likes_more p n0 n1 (all_ends x) (all_ends y) begun like) o.1 in
-          let turns : Stands p n3 (view.Turns i) = record { fits = o.2.fits; visits = refl } in
+          let turns : StandsRightly p n3 (view.Turns i) = record { fits = o.2.fits; visits = refl } in
           record {
             all = aimed_stand p again i n2 n3 was set (length n0) above (subst (λ n. AllStand p n n2) low inner.all) turns at;
             like = λ e. fork_stays p again i n2 n3 was set i (inner.like e);
@@ -161,7 +161,7 @@ aimed_made R S n0 n1 n2 n3 again i x into out at is r set =
     }
 
 -- what was put since the `again` lies behind it
-pub again_below : {K : Type 0} → {f : K → List ℕ} → {SameForm : K → K → Type 0} → (R : Part K) (n0 n1 n2 : List Node) (again i : ℕ) (k : K) → again ≡ length n0 → n1 ≡ n0 ++ node.Again 0 ∷ [] → MadeTo f SameForm R n1 n2 i k → again < length n2
+pub again_below : {K : Type 0} → {f : K → List ℕ} → {SameForm : K → K → Type 0} → (R : GraphPath K) (n0 n1 n2 : List Node) (again i : ℕ) (k : K) → again ≡ length n0 → n1 ≡ n0 ++ node.Again 0 ∷ [] → MadeTo f SameForm R n1 n2 i k → again < length n2
 again_below R n0 n1 n2 again i k at is r =
     let one : length n1 ≡ suc (length n0) = rw is (omega (arith, length-append n0 (node.Again 0 ∷ []))) in
     omega (arith, one, r.keeps.longer, at)
@@ -182,16 +182,16 @@ abbrev out_of_loop : Loop → Ways
 out_of_loop l = ways l.again l.exits.next
 
 -- the condition, and then the body
-abbrev WhileParts : Part Ways → Part Exits → Part Loop
+abbrev WhileParts : GraphPath Ways → GraphPath Exits → GraphPath Loop
 WhileParts C B = Joined C B into_loop in_loop
 
-pub while_parts : (C : Part Ways) (B : Part Exits) (n1 n2 n3 : List Node) (again body i : ℕ) (x : Exits) →
+pub while_parts : (C : GraphPath Ways) (B : GraphPath Exits) (n1 n2 n3 : List Node) (again body i : ℕ) (x : Exits) →
     MadeExits B n1 n2 body (within_loop again x.next x) → MadeWays C n2 n3 i (ways body x.next) → MadeTo loop_ends Any (WhileParts C B) n1 n3 i (loop again x)
 while_parts C B n1 n2 n3 again body i x inside test =
     joined_made C B into_loop in_loop n1 n2 n3 i body (loop again x) (λ n b. (b.0, (b.1.0, (b.0, b.1.1.1.1)))) (λ n b m. (m, (b.1.0, tt)))
     (λ s n u b. (b.0, (b.1.0, (b.0, b.1.1.1.1)))) (λ s n u k b m. (m, (b.1.0, tt))) inside test
 
-pub while_made : (C : Part Ways) (B : Part Exits) (n0 n1 n2 n3 n4 : List Node) (again body i : ℕ) (x : Exits) →
+pub while_made : (C : GraphPath Ways) (B : GraphPath Exits) (n0 n1 n2 n3 n4 : List Node) (again body i : ℕ) (x : Exits) →
     again ≡ length n0 → n1 ≡ n0 ++ node.Again 0 ∷ [] → MadeExits B n1 n2 body (within_loop again x.next x) → MadeWays C n2 n3 i (ways body x.next) →
     n4 ≡ slice_set n3 again (node.Again i) → MadeExits (λ G. WhileDo G (C G) (B G)) n0 n4 i x
 while_made C B n0 n1 n2 n3 n4 again body i x at is inside test set =
@@ -199,16 +199,16 @@ while_made C B n0 n1 n2 n3 n4 again body i x at is inside test set =
     (while_parts C B n1 n2 n3 again body i x inside test) set
 
 -- the body, and then the condition
-abbrev DoParts : Part Ways → Part Exits → Part Loop
+abbrev DoParts : GraphPath Ways → GraphPath Exits → GraphPath Loop
 DoParts C B = Joined B C in_round out_of_loop
 
-pub do_parts : (C : Part Ways) (B : Part Exits) (n1 n2 n3 : List Node) (again test i : ℕ) (x : Exits) →
+pub do_parts : (C : GraphPath Ways) (B : GraphPath Exits) (n1 n2 n3 : List Node) (again test i : ℕ) (x : Exits) →
     MadeWays C n1 n2 test (ways again x.next) → MadeExits B n2 n3 i (within_loop test x.next x) → MadeTo loop_ends Any (DoParts C B) n1 n3 i (loop again x)
 do_parts C B n1 n2 n3 again test i x tested inside =
     joined_made B C in_round out_of_loop n1 n2 n3 i test (loop again x) (λ n b. (b.0, (b.1.0, tt))) (λ n b t. (t, (b.1.0, (t, b.1.1.1.1))))
     (λ s n u b. (b.0, (b.1.0, tt))) (λ s n u k b t. (t, (b.1.0, (t, b.1.1.1.1)))) tested inside
 
-pub do_made : (C : Part Ways) (B : Part Exits) (n0 n1 n2 n3 n4 : List Node) (again test i : ℕ) (x : Exits) →
+pub do_made : (C : GraphPath Ways) (B : GraphPath Exits) (n0 n1 n2 n3 n4 : List Node) (again test i : ℕ) (x : Exits) →
     again ≡ length n0 → n1 ≡ n0 ++ node.Again 0 ∷ [] → MadeWays C n1 n2 test (ways again x.next) → MadeExits B n2 n3 i (within_loop test x.next x) →
     n4 ≡ slice_set n3 again (node.Again i) → MadeExits (λ G. DoDo G (C G) (B G)) n0 n4 i x
 do_made C B n0 n1 n2 n3 n4 again test i x at is tested inside set =
@@ -216,14 +216,14 @@ do_made C B n0 n1 n2 n3 n4 again test i x at is tested inside set =
     (do_parts C B n1 n2 n3 again test i x tested inside) set
 
 -- the body, and then the third part
-abbrev InnerParts : Part ℕ → Part Exits → Part Loop
+abbrev InnerParts : GraphPath ℕ → GraphPath Exits → GraphPath Loop
 InnerParts S B = Joined B S in_round (λ l. l.again)
 
 -- the condition, and then those two
-abbrev ForParts : Part Ways → Part ℕ → Part Exits → Part Loop
+abbrev ForParts : GraphPath Ways → GraphPath ℕ → GraphPath Exits → GraphPath Loop
 ForParts C S B = Joined C (InnerParts S B) into_loop (λ l. l)
 
-pub for_parts : (C : Part Ways) (S : Part ℕ) (B : Part Exits) (n1 n2 n3 n4 : List Node) (again step body i : ℕ) (x : Exits) →
+pub for_parts : (C : GraphPath Ways) (S : GraphPath ℕ) (B : GraphPath Exits) (n1 n2 n3 n4 : List Node) (again step body i : ℕ) (x : Exits) →
     Made S n1 n2 step again → MadeExits B n2 n3 body (within_loop step x.next x) → MadeWays C n3 n4 i (ways body x.next) →
     MadeTo loop_ends Any (ForParts C S B) n1 n4 i (loop again x)
 for_parts C S B n1 n2 n3 n4 again step body i x stepped inside test =
@@ -231,7 +231,7 @@ for_parts C S B n1 n2 n3 n4 again step body i x stepped inside test =
     (joined_made {h = loop_ends} B S in_round (λ l. l.again) n1 n2 n3 body step (loop again x) (λ n b. (b.0, tt)) (λ n b t. (t, (b.1.0, (t, b.1.1.1.1))))
     (λ s n u b. (b.0, tt)) (λ s n u k b t. (t, (b.1.0, (t, b.1.1.1.1)))) stepped inside) test
 
-pub for_made : (C : Part Ways) (S : Part ℕ) (B : Part Exits) (n0 n1 n2 n3 n4 n5 : List Node) (again step body i : ℕ) (x : Exits) →
+pub for_made : (C : GraphPath Ways) (S : GraphPath ℕ) (B : GraphPath Exits) (n0 n1 n2 n3 n4 n5 : List Node) (again step body i : ℕ) (x : Exits) →
     again ≡ length n0 → n1 ≡ n0 ++ node.Again 0 ∷ [] → Made S n1 n2 step again → MadeExits B n2 n3 body (within_loop step x.next x) → MadeWays C n3 n4 i (ways body x.next) →
     n5 ≡ slice_set n4 again (node.Again i) → MadeExits (λ G. ForLoop G (C G) (S G) (B G)) n0 n5 i x
 for_made C S B n0 n1 n2 n3 n4 n5 again step body i x at is stepped inside test set =
@@ -295,14 +295,14 @@ module _ (facts : Facts) (sites : Sites) (gives : ValueType) where
   entries_step entries m j d n0 n1 n2 first i x e low is rest made =
       let more : drop j entries ≡ d ∷ drop m entries =
       drop_more entries j d low ∙ ap (λ q. get_or entries j d ∷ drop q entries) (sym e) ∙ ap (λ y. y ∷ drop m entries) (sym is) in
-      let one : Part Exits = λ G. RunsAll G facts sites gives (plain_entry d no_entries) in
-      let rest_part : Part Exits = λ G. RunsAll G facts sites gives (plain_entries (drop m entries)) in
+      let one : GraphPath Exits = λ G. RunsAll G facts sites gives (plain_entry d no_entries) in
+      let rest_part : GraphPath Exits = λ G. RunsAll G facts sites gives (plain_entries (drop m entries)) in
       subst (λ l. MadeExits (λ G. RunsAll G facts sites gives (plain_entries l)) n0 n2 i x) (sym more)
       (both_ways (Joined one rest_part (λ q y. record y { next = q }) (λ y. y)) (λ G. RunsAll G facts sites gives (plain_entry d (plain_entries (drop m entries)))) x
       (λ G i y h. entry_before G d (plain_entries (drop m entries)) i h.0 y h.1 h.2) (λ p i y h. entry_behind (Allowed p) d (plain_entries (drop m entries)) i y h) n0 n2 i
       (joined_made one rest_part (λ q y. record y { next = q }) (λ y. y) n0 n1 n2 i first x (λ n b. b) (λ n b q. (q, b.1)) (λ s n u l. l) (λ s n u k l q. (q, l.1)) rest made))
 
-  pub declared_made : (d : Declaration) (n0 n1 : List Node) (i : ℕ) (x : Exits) → Made (λ G. Declares G facts sites (plain_declaration d)) n0 n1 i x.next →
+  pub declared_made : (d : Declaration) (n0 n1 : List Node) (i : ℕ) (x : Exits) → Made (λ G. DeclarationPath G facts sites (plain_declaration d)) n0 n1 i x.next →
       MadeExits (λ G. RunsAll G facts sites gives (plain_entry (entry.Declaration d) no_entries)) n0 n1 i x
   declared_made d n0 n1 i x made =
       subst (λ l. MadeExits (λ G. RunsAll G facts sites gives l) n0 n1 i x) (sym (plain_declared_before d no_entries))

@@ -1,7 +1,6 @@
 -- How much room the parts of a function have.
-use Rattle.std.proofs.Common.{◌≡◌, ℕ, zero, suc, [], ◌+◌, ◌<◌, ◌≤◌, ◌∙◌, Box, ap, sym, arith, List, ◌∷◌, length, drop, get_or, map, Option, Some, None}
+use Rattle.std.proofs.Common.{◌≡◌, ℕ, zero, suc, [], ◌+◌, ◌<◌, ◌≤◌, ◌∙◌, ap, sym, arith, List, ◌∷◌, length, drop, get_or, map}
 use Rattle.std.specs.List.{sum_by}
-use Rattle.std.specs.Global.{Global as Alloc}
 use Rattle.std.proofs.lemmas.List.{drop_more}
 use Rattle.std.proofs.lemmas.List.Sums.{sum_by-cons}
 use Rattle.c_syntax.specs.declared.expr.Expr.{Expr}
@@ -11,10 +10,10 @@ use Rattle.c_syntax.specs.declared.statement.Start.{Start}
 use Rattle.c_syntax.specs.declared.statement.Statement.{Statement}
 use Rattle.c_syntax.specs.declared.statement.Statement.TheVariants as statement
 use Rattle.c_syntax.specs.StatementTree.{EntryList, no_entries}
-use Rattle.c_syntax.specs.Plain.{plain_entries, plain_entry, plain_expr, plain_exprs, plain_second, plain_start, plain_statement}
-use Rattle.c_syntax.proofs.PlainStatements.{plain_declared_before, plain_if, plain_if_else, plain_stated_before}
+use Rattle.c_syntax.specs.Plain.{plain_entries, plain_entry, plain_exprs, plain_start}
+use Rattle.c_syntax.proofs.PlainStatements.{plain_declared_before, plain_stated_before}
 use Rattle.c_meaning.specs.Facts.{Sites}
-use Rattle.lower_relation.specs.Room.{branches, entries_room, expr_room, exprs_room, second_room, start_room, statement_room}
+use Rattle.lower_relation.specs.Room.{entries_room, exprs_room, start_room}
 
 module _ (sites : Sites) where
   -- a declared variable before others
@@ -49,10 +48,3 @@ module _ (sites : Sites) where
   entries_rest xs zero = omega arith
   entries_rest [] (suc m) = omega arith
   entries_rest (x ∷ xs) (suc m) = omega (arith, one_before x (plain_entries xs), entries_rest xs m)
-
-  -- an `if`, with what stands behind `else` or nothing
-  pub if_room : (token : ℕ) (condition : Expr) (first : Box Statement Alloc) (second : Option (Box Statement Alloc)) →
-      statement_room sites (plain_statement (statement.If token condition first second)) ≡
-      1 + branches sites token + expr_room sites (plain_expr condition) + statement_room sites (plain_statement first.value) + second_room sites (plain_second second)
-  if_room token condition first None = rw (plain_if token condition first) (omega arith)
-  if_room token condition first (Some second) = rw (plain_if_else token condition first second) (omega arith)

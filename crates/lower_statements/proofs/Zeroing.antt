@@ -14,11 +14,11 @@ use Rattle.c_meaning.specs.declared.value_type.ValueType.{ValueType}
 use Rattle.c_meaning.specs.declared.value_type.ValueType.TheVariants as type
 use Rattle.c_meaning.specs.Facts.{Facts, Sites}
 use Rattle.c_meaning.specs.Initialisers.{want_of}
-use Rattle.c_meaning.specs.Meaning.{text_of}
+use Rattle.c_meaning.specs.Meaning.{text_of_string}
 use Rattle.lower_relation.specs.Expressions.{number_of_text}
 use Rattle.lower_relation.specs.Initialisers.{ArrayZeroed, ElementsSet, Initialised, OnLocal, ScalarSet, Spells, ValueSet, Zeroes}
 use Rattle.lower_relation.specs.Paths.{Graph, Path, ◌then◌, Stuck}
-use Rattle.lower_nodes.specs.Made.{Made, MadeAlone, Part}
+use Rattle.lower_nodes.specs.Made.{GraphPath, Made, MadeAlone}
 use Rattle.lower_nodes.proofs.Building.{one_made, surely_made, then_made}
 use Rattle.lower_statements.specs.Locals.{local_of}
 use Rattle.lower_statements.specs.Strings.{StringSet, is_array, known_text, text_with}
@@ -60,18 +60,18 @@ pub no_spell : (facts : Facts) (number : Option ℕ) (index : ℕ) (n0 n1 : List
 no_spell facts None index n0 n1 i k e made = surely_made (λ G. Stuck G) n0 n1 i k made
 no_spell facts (Some number) index n0 n1 i k e made = spell_without number (slice_get facts.statics.texts number) index n0 n1 i k e made
 
-same_text : (facts : Facts) (x : ExprTree) → text_with facts (number_of_text facts x) ≡ text_of facts x
+same_text : (facts : Facts) (x : ExprTree) → text_with facts (number_of_text facts x) ≡ text_of_string facts x
 same_text facts (e.Strings token parts) = refl
 same_text facts other = refl
 
 -- the text of an expression is the one with the number that was found
 pub text_found : (facts : Facts) (x : ExprTree) (index : ℕ) (n0 n1 : List Node) (i k : ℕ) →
     Made (λ G. Spells G (number_of_text facts x) (text_with facts (number_of_text facts x)) index) n0 n1 i k →
-    Made (λ G. Spells G (number_of_text facts x) (text_of facts x) index) n0 n1 i k
+    Made (λ G. Spells G (number_of_text facts x) (text_of_string facts x) index) n0 n1 i k
 text_found facts x index n0 n1 i k made = subst (λ q. Made (λ G. Spells G (number_of_text facts x) q index) n0 n1 i k) (same_text facts x) made
 
 -- an array is zero, and then comes this part
-pub zeroed_before : (P : Part ℕ) (facts : Facts) (sites : Sites) (token : ℕ) (slot : Option Slot) (element : Option ValueType) (n0 n1 n2 : List Node) (m i k : ℕ) →
+pub zeroed_before : (P : GraphPath ℕ) (facts : Facts) (sites : Sites) (token : ℕ) (slot : Option Slot) (element : Option ValueType) (n0 n1 n2 : List Node) (m i k : ℕ) →
     slot ≡ facts.slot_at token → element ≡ facts.element_at token → Made P n0 n1 m k → Made (λ G. OnLocal G slot (Zeroes G (want_of element))) n1 n2 i m →
     Made (λ G. ArrayZeroed G facts sites token then P G) n0 n2 i k
 zeroed_before P facts sites token slot element n0 n1 n2 m i k e f made zeroed =
@@ -81,11 +81,11 @@ zeroed_before P facts sites token slot element n0 n1 n2 m i k e f made zeroed =
 
 pub string_made : (facts : Facts) (sites : Sites) (token : ℕ) (x : ExprTree) (first slot : Option Slot) (element : Option ValueType) (n0 n1 n2 : List Node) (m i k : ℕ) →
     first ≡ facts.slot_at token → slot ≡ facts.slot_at token → element ≡ facts.element_at token →
-    Made (λ G. OnLocal G first (Spells G (number_of_text facts x) (text_of facts x))) n0 n1 m k → Made (λ G. OnLocal G slot (Zeroes G (want_of element))) n1 n2 i m →
+    Made (λ G. OnLocal G first (Spells G (number_of_text facts x) (text_of_string facts x))) n0 n1 m k → Made (λ G. OnLocal G slot (Zeroes G (want_of element))) n1 n2 i m →
     Made (λ G. StringSet G facts sites token x) n0 n2 i k
 string_made facts sites token x first slot element n0 n1 n2 m i k d e f spelled zeroed =
-    zeroed_before (λ G. OnLocal G (facts.slot_at token) (Spells G (number_of_text facts x) (text_of facts x))) facts sites token slot element n0 n1 n2 m i k e f
-    (subst (λ q. Made (λ G. OnLocal G q (Spells G (number_of_text facts x) (text_of facts x))) n0 n1 m k) d spelled) zeroed
+    zeroed_before (λ G. OnLocal G (facts.slot_at token) (Spells G (number_of_text facts x) (text_of_string facts x))) facts sites token slot element n0 n1 n2 m i k e f
+    (subst (λ q. Made (λ G. OnLocal G q (Spells G (number_of_text facts x) (text_of_string facts x))) n0 n1 m k) d spelled) zeroed
 
 pub braced_made : (facts : Facts) (sites : Sites) (token : ℕ) (initial : Option InitialTree) (at : ℕ) (comma : Bool) (items : ExprList) (slot : Option Slot) (element : Option ValueType) (n0 n1 n2 : List Node) (m i k : ℕ) →
     initial ≡ Some (tree.Braced at items comma) → slot ≡ facts.slot_at token → element ≡ facts.element_at token →

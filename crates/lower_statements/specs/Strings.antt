@@ -6,7 +6,7 @@ use Rattle.flow.specs.declared.program.Text.{Text}
 use Rattle.c_meaning.specs.declared.value_type.ValueType.{ValueType}
 use Rattle.c_meaning.specs.declared.value_type.ValueType.TheVariants as type
 use Rattle.c_meaning.specs.Facts.{Facts, Sites}
-use Rattle.c_meaning.specs.Meaning.{text_of}
+use Rattle.c_meaning.specs.Meaning.{text_of_string}
 use Rattle.lower_relation.specs.Expressions.{number_of_text}
 use Rattle.lower_relation.specs.Initialisers.{ArrayZeroed, OnLocal, Spells}
 use Rattle.lower_relation.specs.Paths.{Graph, Path, ◌then◌}
@@ -28,4 +28,4 @@ known_text facts (Some number) = option_map (λ t. number) (slice_get facts.stat
 -- all cells of the array are zero, and then it holds the bytes of the string
 abbrev pub StringSet : Graph → Facts → Sites → ℕ → ExprTree → Path ℕ
 StringSet G facts sites token value =
-    ArrayZeroed G facts sites token then OnLocal G (facts.slot_at token) (Spells G (number_of_text facts value) (text_of facts value))
+    ArrayZeroed G facts sites token then OnLocal G (facts.slot_at token) (Spells G (number_of_text facts value) (text_of_string facts value))

@@ -2,10 +2,11 @@ ghost use Rattle.flow.specs.Limits.{node_limit};
 ghost use Rattle.std.specs.Prelude.{◌≡◌, IfOk, Some, map, option_map, length, ◌≤◌, ◌+◌};
 ghost use Rattle.std.specs.List.{sum_by};
 ghost use Rattle.c_meaning.specs.Initialisers.{equals_token, want_of};
-ghost use Rattle.c_meaning.specs.Meaning.{text_of};
+ghost use Rattle.c_meaning.specs.Meaning.{text_of_string};
 ghost use Rattle.c_syntax.specs.Plain.{plain_declaration, plain_expr, plain_exprs, plain_initial, plain_start};
 ghost use Rattle.lower_relation.specs.Expressions.{number_of_text};
-ghost use Rattle.lower_relation.specs.Initialisers.{AllStart, ArrayZeroed, Clears, Declares, ElementSet, ElementsSet, Initialised, OnLocal, ScalarSet, Spells, Starts, ValueSet, Zeroes};
+ghost use Rattle.lower_relation.specs.Initialisers.{AllStart, ArrayZeroed, Clears, DeclarationPath, ElementSet, ElementsSet, Initialised, OnLocal};
+ghost use Rattle.lower_relation.specs.Initialisers.{ScalarSet, Spells, Starts, ValueSet, Zeroes};
 ghost use Rattle.lower_relation.specs.Room.{declaration_room, expr_room, exprs_room, initial_room, pairs, start_room};
 ghost use Rattle.lower_nodes.specs.Made.{Made};
 ghost use Rattle.lower_statements.specs.Locals.{local_of};
@@ -129,7 +130,9 @@ fn put_spelled(
     next: u32,
 ) -> Result<u32, Memory>
     requires room { length graph.old + 2 ≤ node_limit }
-    ensures made { IfOk result (λ i. Made (λ G. OnLocal G slot (Spells G (number_of_text (facts_in facts.now) (plain_expr x.now)) (text_of (facts_in facts.now) (plain_expr x.now)))) graph.old graph.new i next) }
+    ensures made { IfOk result (λ i. Made (λ G. OnLocal G slot
+        (Spells G (number_of_text (facts_in facts.now) (plain_expr x.now)) (text_of_string (facts_in facts.now) (plain_expr x.now))))
+        graph.old graph.new i next) }
     ensures few { IfOk result (λ i. length graph.new ≤ length graph.old + 2) }
 {
     let Some(index) = local_of(slot) else {
@@ -150,7 +153,8 @@ fn emit_scalar(
 ) -> Result<u32, Memory>
     requires room { length graph.old + (6 + pairs (sites_in facts.now) (equals_token token) + expr_room (sites_in facts.now) (plain_expr x.now)) ≤ node_limit }
     ensures made { IfOk result (λ i. Made (λ G. ScalarSet G (facts_in facts.now) (sites_in facts.now) token (plain_expr x.now)) graph.old graph.new i next) }
-    ensures few { IfOk result (λ i. length graph.new ≤ length graph.old + (6 + pairs (sites_in facts.now) (equals_token token) + expr_room (sites_in facts.now) (plain_expr x.now))) }
+    ensures few { IfOk result (λ i. length graph.new ≤ length graph.old
+        + (6 + pairs (sites_in facts.now) (equals_token token) + expr_room (sites_in facts.now) (plain_expr x.now))) }
 {
     let drop = graph.put(Node::Drop { next })?;
     let assigned = put_assigned_behind(graph, facts, token, drop)?;
@@ -169,7 +173,8 @@ fn emit_element(
     next: u32,
 ) -> Result<u32, Memory>
     requires room { length graph.old + (8 + expr_room (sites_in facts.now) (plain_expr x.now)) ≤ node_limit }
-    ensures made { IfOk result (λ i. Made (λ G. ElementSet G (facts_in facts.now) (sites_in facts.now) token index (plain_expr x.now)) graph.old graph.new i next) }
+    ensures made { IfOk result (λ i. Made (λ G. ElementSet G (facts_in facts.now) (sites_in facts.now) token index (plain_expr x.now))
+        graph.old graph.new i next) }
     ensures few { IfOk result (λ i. length graph.new ≤ length graph.old + (8 + expr_room (sites_in facts.now) (plain_expr x.now))) }
 {
     let drop = graph.put(Node::Drop { next })?;
@@ -189,7 +194,8 @@ fn emit_elements(
     next: u32,
 ) -> Result<u32, Memory>
     requires room { length graph.old + exprs_room (sites_in facts.now) 8 (plain_exprs items.now) ≤ node_limit }
-    ensures made { IfOk result (λ i. Made (λ G. ElementsSet G (facts_in facts.now) (sites_in facts.now) token 0 (plain_exprs items.now)) graph.old graph.new i next) }
+    ensures made { IfOk result (λ i. Made (λ G. ElementsSet G (facts_in facts.now) (sites_in facts.now) token 0 (plain_exprs items.now))
+        graph.old graph.new i next) }
     ensures few { IfOk result (λ i. length graph.new ≤ length graph.old + exprs_room (sites_in facts.now) 8 (plain_exprs items.now)) }
 {
     let mut first = next;
@@ -238,8 +244,10 @@ fn emit_single(
     next: u32,
 ) -> Result<u32, Memory>
     requires room { length graph.old + (6 + pairs (sites_in facts.now) (equals_token token) + expr_room (sites_in facts.now) (plain_expr x.now)) ≤ node_limit }
-    ensures made { IfOk result (λ i. Made (λ G. ValueSet G (facts_in facts.now) (sites_in facts.now) token ((facts_in facts.now).declared_at token) (plain_expr x.now)) graph.old graph.new i next) }
-    ensures few { IfOk result (λ i. length graph.new ≤ length graph.old + (6 + pairs (sites_in facts.now) (equals_token token) + expr_room (sites_in facts.now) (plain_expr x.now))) }
+    ensures made { IfOk result (λ i. Made (λ G. ValueSet G (facts_in facts.now) (sites_in facts.now) token ((facts_in facts.now).declared_at token)
+        (plain_expr x.now)) graph.old graph.new i next) }
+    ensures few { IfOk result (λ i. length graph.new ≤ length graph.old
+        + (6 + pairs (sites_in facts.now) (equals_token token) + expr_room (sites_in facts.now) (plain_expr x.now))) }
 {
     if is_array(facts.declared_at(token)) {
         let i = emit_string(graph, facts, token, x, next)?;
@@ -258,7 +266,8 @@ fn emit_initial(
     next: u32,
 ) -> Result<u32, Memory>
     requires room { length graph.old + initial_room (sites_in facts.now) token (Some (plain_initial initial.now)) ≤ node_limit }
-    ensures made { IfOk result (λ i. Made (λ G. Initialised G (facts_in facts.now) (sites_in facts.now) token (Some (plain_initial initial.now))) graph.old graph.new i next) }
+    ensures made { IfOk result (λ i. Made (λ G. Initialised G (facts_in facts.now) (sites_in facts.now) token (Some (plain_initial initial.now)))
+        graph.old graph.new i next) }
     ensures few { IfOk result (λ i. length graph.new ≤ length graph.old + initial_room (sites_in facts.now) token (Some (plain_initial initial.now))) }
 {
     match initial {
@@ -288,7 +297,8 @@ fn emit_optional_initial(
     next: u32,
 ) -> Result<u32, Memory>
     requires room { length graph.old + initial_room (sites_in facts.now) token (option_map plain_initial initial.now) ≤ node_limit }
-    ensures made { IfOk result (λ i. Made (λ G. Initialised G (facts_in facts.now) (sites_in facts.now) token (option_map plain_initial initial.now)) graph.old graph.new i next) }
+    ensures made { IfOk result (λ i. Made (λ G. Initialised G (facts_in facts.now) (sites_in facts.now) token (option_map plain_initial initial.now))
+        graph.old graph.new i next) }
     ensures few { IfOk result (λ i. length graph.new ≤ length graph.old + initial_room (sites_in facts.now) token (option_map plain_initial initial.now)) }
 {
     match initial {
@@ -338,7 +348,8 @@ pub fn emit_declaration(
     next: u32,
 ) -> Result<u32, Memory>
     requires room { length graph.old + declaration_room (sites_in facts.now) (plain_declaration declaration.now) ≤ node_limit }
-    ensures made { IfOk result (λ i. Made (λ G. Declares G (facts_in facts.now) (sites_in facts.now) (plain_declaration declaration.now)) graph.old graph.new i next) }
+    ensures made { IfOk result (λ i. Made (λ G. DeclarationPath G (facts_in facts.now) (sites_in facts.now) (plain_declaration declaration.now))
+        graph.old graph.new i next) }
     ensures few { IfOk result (λ i. length graph.new ≤ length graph.old + declaration_room (sites_in facts.now) (plain_declaration declaration.now)) }
 {
     let i = emit_starts(graph, facts, declaration.starts.as_slice(), next)?;

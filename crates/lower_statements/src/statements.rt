@@ -28,7 +28,8 @@ fn emit_optional_effect(
     next: u32,
 ) -> Result<u32, Memory>
     requires room { length graph.old + part_room (sites_in facts.now) (option_map plain_expr x.now) ≤ node_limit }
-    ensures made { IfOk result (λ i. Made (λ G. OptionalEffect G (facts_in facts.now) (sites_in facts.now) (option_map plain_expr x.now)) graph.old graph.new i next) }
+    ensures made { IfOk result (λ i. Made (λ G. OptionalEffect G (facts_in facts.now) (sites_in facts.now) (option_map plain_expr x.now))
+        graph.old graph.new i next) }
     ensures few { IfOk result (λ i. length graph.new ≤ length graph.old + part_room (sites_in facts.now) (option_map plain_expr x.now)) }
 {
     match x {
@@ -50,8 +51,10 @@ fn emit_optional_condition(
     no: u32,
 ) -> Result<u32, Memory>
     requires room { length graph.old + (1 + branches (sites_in facts.now) token + part_room (sites_in facts.now) (option_map plain_expr x.now)) ≤ node_limit }
-    ensures made { IfOk result (λ i. MadeWays (λ G. OptionalCondition G (facts_in facts.now) (sites_in facts.now) token (option_map plain_expr x.now)) graph.old graph.new i (ways yes no)) }
-    ensures few { IfOk result (λ i. length graph.new ≤ length graph.old + (1 + branches (sites_in facts.now) token + part_room (sites_in facts.now) (option_map plain_expr x.now))) }
+    ensures made { IfOk result (λ i. MadeWays (λ G. OptionalCondition G (facts_in facts.now) (sites_in facts.now) token (option_map plain_expr x.now))
+        graph.old graph.new i (ways yes no)) }
+    ensures few { IfOk result (λ i. length graph.new ≤ length graph.old
+        + (1 + branches (sites_in facts.now) token + part_room (sites_in facts.now) (option_map plain_expr x.now))) }
 {
     match x {
         None => Ok(yes),
@@ -94,7 +97,8 @@ fn emit_return(
     exits: Exits,
 ) -> Result<u32, Memory>
     requires room { length graph.old + (2 + part_room (sites_in facts.now) (option_map plain_expr value.now)) ≤ node_limit }
-    ensures made { IfOk result (λ i. MadeExits (λ G. ReturnDo G (facts_in facts.now) (sites_in facts.now) gives (option_map plain_expr value.now)) graph.old graph.new i (exits_of exits)) }
+    ensures made { IfOk result (λ i. MadeExits (λ G. ReturnDo G (facts_in facts.now) (sites_in facts.now) gives (option_map plain_expr value.now))
+        graph.old graph.new i (exits_of exits)) }
     ensures few { IfOk result (λ i. length graph.new ≤ length graph.old + (2 + part_room (sites_in facts.now) (option_map plain_expr value.now))) }
 {
     match value {
@@ -117,9 +121,14 @@ fn emit_while(
     condition: &Expr,
     exits: Exits,
 ) -> Result<u32, Memory>
-    requires room { length graph.old + (2 + branches (sites_in facts.now) token + expr_room (sites_in facts.now) (plain_expr condition.now) + statement_room (sites_in facts.now) (plain_statement body.now)) ≤ node_limit }
-    ensures made { IfOk result (λ i. MadeExits (λ G. WhileDo G (Condition G (facts_in facts.now) (sites_in facts.now) token (plain_expr condition.now)) (Runs G (facts_in facts.now) (sites_in facts.now) gives (plain_statement body.now))) graph.old graph.new i (exits_of exits)) }
-    ensures few { IfOk result (λ i. length graph.new ≤ length graph.old + (2 + branches (sites_in facts.now) token + expr_room (sites_in facts.now) (plain_expr condition.now) + statement_room (sites_in facts.now) (plain_statement body.now))) }
+    requires room { length graph.old + (2 + branches (sites_in facts.now) token + expr_room (sites_in facts.now) (plain_expr condition.now)
+        + statement_room (sites_in facts.now) (plain_statement body.now)) ≤ node_limit }
+    ensures made { IfOk result (λ i. MadeExits
+        (λ G. WhileDo G (Condition G (facts_in facts.now) (sites_in facts.now) token (plain_expr condition.now))
+        (Runs G (facts_in facts.now) (sites_in facts.now) gives (plain_statement body.now))) graph.old graph.new i (exits_of exits)) }
+    ensures few { IfOk result (λ i. length graph.new ≤ length graph.old
+        + (2 + branches (sites_in facts.now) token + expr_room (sites_in facts.now) (plain_expr condition.now)
+        + statement_room (sites_in facts.now) (plain_statement body.now))) }
 {
     let again = graph.put(Node::Again { next: 0 })?;
     let inside = emit_statement(
@@ -145,9 +154,14 @@ fn emit_do(
     condition: &Expr,
     exits: Exits,
 ) -> Result<u32, Memory>
-    requires room { length graph.old + (2 + branches (sites_in facts.now) token + expr_room (sites_in facts.now) (plain_expr condition.now) + statement_room (sites_in facts.now) (plain_statement body.now)) ≤ node_limit }
-    ensures made { IfOk result (λ i. MadeExits (λ G. DoDo G (Condition G (facts_in facts.now) (sites_in facts.now) token (plain_expr condition.now)) (Runs G (facts_in facts.now) (sites_in facts.now) gives (plain_statement body.now))) graph.old graph.new i (exits_of exits)) }
-    ensures few { IfOk result (λ i. length graph.new ≤ length graph.old + (2 + branches (sites_in facts.now) token + expr_room (sites_in facts.now) (plain_expr condition.now) + statement_room (sites_in facts.now) (plain_statement body.now))) }
+    requires room { length graph.old + (2 + branches (sites_in facts.now) token + expr_room (sites_in facts.now) (plain_expr condition.now)
+        + statement_room (sites_in facts.now) (plain_statement body.now)) ≤ node_limit }
+    ensures made { IfOk result (λ i. MadeExits
+        (λ G. DoDo G (Condition G (facts_in facts.now) (sites_in facts.now) token (plain_expr condition.now))
+        (Runs G (facts_in facts.now) (sites_in facts.now) gives (plain_statement body.now))) graph.old graph.new i (exits_of exits)) }
+    ensures few { IfOk result (λ i. length graph.new ≤ length graph.old
+        + (2 + branches (sites_in facts.now) token + expr_room (sites_in facts.now) (plain_expr condition.now)
+        + statement_room (sites_in facts.now) (plain_statement body.now))) }
 {
     let again = graph.put(Node::Again { next: 0 })?;
     let test = emit_condition(graph, facts, token, condition, again, exits.next)?;
@@ -174,9 +188,15 @@ fn emit_for(
     step: &Option<Expr>,
     exits: Exits,
 ) -> Result<u32, Memory>
-    requires room { length graph.old + (2 + branches (sites_in facts.now) token + part_room (sites_in facts.now) (option_map plain_expr condition.now) + part_room (sites_in facts.now) (option_map plain_expr step.now) + statement_room (sites_in facts.now) (plain_statement body.now)) ≤ node_limit }
-    ensures made { IfOk result (λ i. MadeExits (λ G. ForLoop G (OptionalCondition G (facts_in facts.now) (sites_in facts.now) token (option_map plain_expr condition.now)) (OptionalEffect G (facts_in facts.now) (sites_in facts.now) (option_map plain_expr step.now)) (Runs G (facts_in facts.now) (sites_in facts.now) gives (plain_statement body.now))) graph.old graph.new i (exits_of exits)) }
-    ensures few { IfOk result (λ i. length graph.new ≤ length graph.old + (2 + branches (sites_in facts.now) token + part_room (sites_in facts.now) (option_map plain_expr condition.now) + part_room (sites_in facts.now) (option_map plain_expr step.now) + statement_room (sites_in facts.now) (plain_statement body.now))) }
+    requires room { length graph.old + (2 + branches (sites_in facts.now) token + part_room (sites_in facts.now) (option_map plain_expr condition.now)
+        + part_room (sites_in facts.now) (option_map plain_expr step.now) + statement_room (sites_in facts.now) (plain_statement body.now)) ≤ node_limit }
+    ensures made { IfOk result (λ i. MadeExits
+        (λ G. ForLoop G (OptionalCondition G (facts_in facts.now) (sites_in facts.now) token (option_map plain_expr condition.now))
+        (OptionalEffect G (facts_in facts.now) (sites_in facts.now) (option_map plain_expr step.now))
+        (Runs G (facts_in facts.now) (sites_in facts.now) gives (plain_statement body.now))) graph.old graph.new i (exits_of exits)) }
+    ensures few { IfOk result (λ i. length graph.new ≤ length graph.old
+        + (2 + branches (sites_in facts.now) token + part_room (sites_in facts.now) (option_map plain_expr condition.now)
+        + part_room (sites_in facts.now) (option_map plain_expr step.now) + statement_room (sites_in facts.now) (plain_statement body.now))) }
 {
     let again = graph.put(Node::Again { next: 0 })?;
     let stepped = emit_optional_effect(graph, facts, step, again)?;
@@ -202,7 +222,8 @@ fn emit_second(
     exits: Exits,
 ) -> Result<u32, Memory>
     requires room { length graph.old + second_room (sites_in facts.now) (plain_second second.now) ≤ node_limit }
-    ensures made { IfOk result (λ i. MadeExits (λ G. SecondRuns G (facts_in facts.now) (sites_in facts.now) gives (plain_second second.now)) graph.old graph.new i (exits_of exits)) }
+    ensures made { IfOk result (λ i. MadeExits (λ G. SecondRuns G (facts_in facts.now) (sites_in facts.now) gives (plain_second second.now))
+        graph.old graph.new i (exits_of exits)) }
     ensures few { IfOk result (λ i. length graph.new ≤ length graph.old + second_room (sites_in facts.now) (plain_second second.now)) }
 {
     match second {
@@ -224,7 +245,8 @@ pub fn emit_statement(
     exits: Exits,
 ) -> Result<u32, Memory>
     requires room { length graph.old + statement_room (sites_in facts.now) (plain_statement x.now) ≤ node_limit }
-    ensures made { IfOk result (λ i. MadeExits (λ G. Runs G (facts_in facts.now) (sites_in facts.now) gives (plain_statement x.now)) graph.old graph.new i (exits_of exits)) }
+    ensures made { IfOk result (λ i. MadeExits (λ G. Runs G (facts_in facts.now) (sites_in facts.now) gives (plain_statement x.now))
+        graph.old graph.new i (exits_of exits)) }
     ensures few { IfOk result (λ i. length graph.new ≤ length graph.old + statement_room (sites_in facts.now) (plain_statement x.now)) }
 {
     match x {
@@ -285,7 +307,8 @@ fn emit_entry(
     exits: Exits,
 ) -> Result<u32, Memory>
     requires room { length graph.old + entries_room (sites_in facts.now) (plain_entry entry.now no_entries) ≤ node_limit }
-    ensures made { IfOk result (λ i. MadeExits (λ G. RunsAll G (facts_in facts.now) (sites_in facts.now) gives (plain_entry entry.now no_entries)) graph.old graph.new i (exits_of exits)) }
+    ensures made { IfOk result (λ i. MadeExits (λ G. RunsAll G (facts_in facts.now) (sites_in facts.now) gives (plain_entry entry.now no_entries))
+        graph.old graph.new i (exits_of exits)) }
     ensures few { IfOk result (λ i. length graph.new ≤ length graph.old + entries_room (sites_in facts.now) (plain_entry entry.now no_entries)) }
 {
     match entry {
@@ -310,7 +333,8 @@ pub fn emit_entries(
     exits: Exits,
 ) -> Result<u32, Memory>
     requires room { length graph.old + entries_room (sites_in facts.now) (plain_entries entries.now) ≤ node_limit }
-    ensures made { IfOk result (λ i. MadeExits (λ G. RunsAll G (facts_in facts.now) (sites_in facts.now) gives (plain_entries entries.now)) graph.old graph.new i (exits_of exits)) }
+    ensures made { IfOk result (λ i. MadeExits (λ G. RunsAll G (facts_in facts.now) (sites_in facts.now) gives (plain_entries entries.now))
+        graph.old graph.new i (exits_of exits)) }
     ensures few { IfOk result (λ i. length graph.new ≤ length graph.old + entries_room (sites_in facts.now) (plain_entries entries.now)) }
 {
     let mut first = exits.next;

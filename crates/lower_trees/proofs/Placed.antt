@@ -8,30 +8,30 @@ use Rattle.std.proofs.lemmas.List.{get_or-set_same, get_or-set_other}
 use Rattle.flow.specs.declared.site.Site.{Site}
 use Rattle.flow.specs.declared.site.SiteKind.{SiteKind}
 use Rattle.c_meaning.specs.Literals.{Literal, number_from}
-use Rattle.c_meaning.specs.Texts.{first_of, sites_from}
-use Rattle.lower_trees.specs.Places.{first_or, listed}
+use Rattle.c_meaning.specs.Texts.{head_site, sites_from}
+use Rattle.lower_trees.specs.Places.{all_at, first_or}
 
-pub listed_grown : (lists : List (List ℕ)) (token : ℕ) → listed (lists ++ [] ∷ []) token ≡ listed lists token
+pub listed_grown : (lists : List (List ℕ)) (token : ℕ) → all_at (lists ++ [] ∷ []) token ≡ all_at lists token
 listed_grown [] zero = refl
 listed_grown [] (suc n) = refl
 listed_grown (x ∷ xs) zero = refl
 listed_grown (x ∷ xs) (suc n) = listed_grown xs n
 
 -- one more number at a token, after more places came
-pub added : (old grown new : List (List ℕ)) (token number : ℕ) → ((t : ℕ) → listed grown t ≡ listed old t) → token < length grown →
-    new ≡ slice_set grown token (listed grown token ++ number ∷ []) →
-    (other : ℕ) → listed new other ≡ (if token == other then listed old other ++ number ∷ [] else listed old other)
+pub added : (old grown new : List (List ℕ)) (token number : ℕ) → ((t : ℕ) → all_at grown t ≡ all_at old t) → token < length grown →
+    new ≡ slice_set grown token (all_at grown token ++ number ∷ []) →
+    (other : ℕ) → all_at new other ≡ (if token == other then all_at old other ++ number ∷ [] else all_at old other)
 added old grown new token number same inside is other =
-    let list : List ℕ = listed grown token ++ number ∷ [] in
-    ap (λ lists. listed lists other) is
+    let list : List ℕ = all_at grown token ++ number ∷ [] in
+    ap (λ lists. all_at lists other) is
     ∙ ⊎_elim
     (λ (w : ((eqb token other ≡ true) × (token ≡ other))).
-    subst (λ t. listed (slice_set grown token list) t ≡ list) w.1 (get_or-set_same grown token list [] inside)
-    ∙ ap (λ l. l ++ number ∷ []) (same token) ∙ ap (λ t. listed old t ++ number ∷ []) w.1
-    ∙ sym (cond-true (token == other) (listed old other ++ number ∷ []) (listed old other) w.0))
+    subst (λ t. all_at (slice_set grown token list) t ≡ list) w.1 (get_or-set_same grown token list [] inside)
+    ∙ ap (λ l. l ++ number ∷ []) (same token) ∙ ap (λ t. all_at old t ++ number ∷ []) w.1
+    ∙ sym (cond-true (token == other) (all_at old other ++ number ∷ []) (all_at old other) w.0))
     (λ (w : ((eqb token other ≡ false) × (token ≢ other))).
     get_or-set_other grown token other list [] (λ e. w.1 (sym e)) ∙ same other
-    ∙ sym (cond-false (token == other) (listed old other ++ number ∷ []) (listed old other) w.0))
+    ∙ sym (cond-false (token == other) (all_at old other ++ number ∷ []) (all_at old other) w.0))
     (eqb_tells token other)
 
 pub step : (b : Bool) (n : ℕ) (before more now : List ℕ) → now ≡ (if b then before ++ n ∷ [] else before) → now ++ more ≡ before ++ (if b then n ∷ more else more)
@@ -70,6 +70,6 @@ strings_next strings i n later token s now before total one_more inside is at h 
     ∙ ap (λ l. first_or before (number_from n token l)) (sym (first_left strings i s inside is))
     ∙ h
 
-pub first_alone : (xs : List ℕ) → first_or xs None ≡ first_of xs
+pub first_alone : (xs : List ℕ) → first_or xs None ≡ head_site xs
 first_alone [] = refl
 first_alone (x ∷ xs) = refl

@@ -1,8 +1,8 @@
 -- The cells of a pointer to a named type.
 use Rattle.std.proofs.Common.{◌≡◌, ◌≢◌, ℕ, zero, suc, true, List, Option, Some, None, is_some, refl, sym}
 use Rattle.std.specs.Option.{option_and_then}
-use Rattle.c_rules.specs.declared.layout.StructType.{StructType}
-use Rattle.c_rules.specs.TypeTree.{TypeTree, Pointer}
+use Rattle.c_types_rules.specs.declared.layout.StructType.{StructType}
+use Rattle.c_types_rules.specs.TypeTree.{TypeTree, Pointer}
 use Rattle.c_types_expressions.specs.ExprWalk.{with_stars}
 use Rattle.c_meaning.specs.Known.{object_cells}
 

@@ -6,8 +6,8 @@ use Rattle.c_syntax.specs.StatementTree.{StartTree}
 use Rattle.c_meaning.specs.Literals.{Literal, strings_initial, strings_of_item}
 
 -- the bytes of adjacent strings (C99 5.1.1.2p1)
-abbrev pub joined : List (List ℕ) → List ℕ
-joined parts = flat_map (λ bytes. bytes) parts
+abbrev pub joined_strings : List (List ℕ) → List ℕ
+joined_strings parts = flat_map (λ bytes. bytes) parts
 
 -- the strings of several declared variables
 abbrev pub strings_of_starts : List StartTree → List Literal

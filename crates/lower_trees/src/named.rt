@@ -1,13 +1,13 @@
 ghost use Rattle.std.specs.Prelude.{◌≡◌, map, is_some};
 ghost use Rattle.std.specs.Str.{bytes_eq};
 ghost use Rattle.c_syntax.specs.Plain.{plain_item};
-ghost use Rattle.c_rules.specs.TypeTree.{Struct};
+ghost use Rattle.c_types_rules.specs.TypeTree.{Struct};
 ghost use Rattle.c_types.specs.Answers.{known_of, tree_of};
 ghost use Rattle.c_meaning.specs.Known.{base_named, named_cells, object_cells, struct_number};
 
-use c_rules::StructType;
 use c_syntax::{Base, Item};
 use c_types::Checked;
+use c_types_rules::StructType;
 use cbi_base::Name;
 
 /// The most cells of an object.

@@ -1,7 +1,7 @@
 ghost use Rattle.std.specs.Prelude.{◌≡◌, ℕ, ◌==◌, ◌&&◌, ◌∷◌, ◌++◌, [], if◌then◌else◌, length, ◌≤◌, IfOk, OnOk};
 ghost use Rattle.flow.specs.Limits.{site_limit};
 ghost use Rattle.c_meaning.specs.Texts.{is_branch, is_pair, is_return, sites_from};
-ghost use Rattle.lower_trees.specs.Places.{listed};
+ghost use Rattle.lower_trees.specs.Places.{all_at};
 ghost use Rattle.lower_trees.specs.Looks.{is_of};
 
 use crate::places::add;
@@ -37,7 +37,8 @@ fn add_if(
     token: u32,
     number: u32,
 ) -> Result<(), Memory>
-    ensures { OnOk result ((other : ℕ) → listed lists.new.items other ≡ (if token == other && holds then listed lists.old.items other ++ number ∷ [] else listed lists.old.items other)) }
+    ensures { OnOk result ((other : ℕ) → all_at lists.new.items other
+        ≡ (if token == other && holds then all_at lists.old.items other ++ number ∷ [] else all_at lists.old.items other)) }
 {
     if !holds {
         return Ok(());
@@ -49,7 +50,7 @@ fn add_if(
 /// The numbers of the sites that look at this, by token.
 fn sites_by_token(alloc: Global, looks: Looks, sites: &[Site]) -> Result<Vec<Seq<u32>>, Memory>
     requires { length sites.now ≤ site_limit }
-    ensures { IfOk result (λ lists. (token : ℕ) → listed lists.items token ≡ sites_from 0 (is_of looks) token sites.now) }
+    ensures { IfOk result (λ lists. (token : ℕ) → all_at lists.items token ≡ sites_from 0 (is_of looks) token sites.now) }
 {
     let mut lists = Vec::new(alloc);
     let mut number: u32 = 0;
@@ -72,9 +73,9 @@ pub struct SiteLists {
 /// The numbers of the sites, by token.
 pub fn site_lists(alloc: Global, sites: &[Site]) -> Result<SiteLists, Memory>
     requires { length sites.now ≤ site_limit }
-    ensures branches { IfOk result (λ lists. (token : ℕ) → listed lists.branches.items token ≡ sites_from 0 is_branch token sites.now) }
-    ensures returns { IfOk result (λ lists. (token : ℕ) → listed lists.returns.items token ≡ sites_from 0 is_return token sites.now) }
-    ensures pairs { IfOk result (λ lists. (token : ℕ) → listed lists.pairs.items token ≡ sites_from 0 is_pair token sites.now) }
+    ensures branches { IfOk result (λ lists. (token : ℕ) → all_at lists.branches.items token ≡ sites_from 0 is_branch token sites.now) }
+    ensures returns { IfOk result (λ lists. (token : ℕ) → all_at lists.returns.items token ≡ sites_from 0 is_return token sites.now) }
+    ensures pairs { IfOk result (λ lists. (token : ℕ) → all_at lists.pairs.items token ≡ sites_from 0 is_pair token sites.now) }
 {
     Ok(SiteLists {
         branches: sites_by_token(alloc, Looks::Branch, sites)?,

@@ -1,7 +1,7 @@
 ghost use Rattle.std.specs.Prelude.{◌≡◌, ◌++◌, ◌∷◌, [], IfOk, OnOk, option_map};
 ghost use Rattle.c_syntax.specs.Plain.{plain_expr, plain_exprs, plain_initial, plain_links, plain_operators};
 ghost use Rattle.c_meaning.specs.Literals.{strings_behind, strings_if, strings_in, strings_initial, strings_of_all, strings_of_links};
-ghost use Rattle.lower_trees.specs.Joined.{joined};
+ghost use Rattle.lower_trees.specs.Joined.{joined_strings};
 
 use c_syntax::{Expr, Initial, Link, PostfixOperator};
 use cbi_base::{Memory, Seq};
@@ -45,7 +45,7 @@ impl StringAt {
 
 /// The bytes of adjacent strings, one after another.
 fn joined(alloc: Global, parts: &[Seq<u8>]) -> Result<Seq<u8>, Memory>
-    ensures { IfOk result (λ bytes. bytes ≡ joined parts.now) }
+    ensures { IfOk result (λ bytes. bytes ≡ joined_strings parts.now) }
 {
     let mut bytes = Vec::new(alloc);
     for part in parts {
@@ -61,7 +61,7 @@ fn add_string(
     token: u32,
     parts: &[Seq<u8>],
 ) -> Result<(), Memory>
-    ensures { OnOk result (strings.new ≡ strings.old ++ record { token = token; bytes = joined parts.now } ∷ []) }
+    ensures { OnOk result (strings.new ≡ strings.old ++ record { token = token; bytes = joined_strings parts.now } ∷ []) }
 {
     let bytes = joined(alloc, parts)?;
     strings.push(StringAt::new(token, bytes))?;

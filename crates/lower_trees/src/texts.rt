@@ -2,8 +2,8 @@ ghost use Rattle.std.specs.Prelude.{◌≡◌, ◌≤◌, ℕ, length, map, IfOk
 ghost use Rattle.c_syntax.specs.Plain.{plain_tree};
 ghost use Rattle.flow.specs.Limits.{text_limit};
 ghost use Rattle.c_meaning.specs.Literals.{literals, number_from, texts_of};
-ghost use Rattle.c_meaning.specs.Texts.{first_of};
-ghost use Rattle.lower_trees.specs.Places.{listed};
+ghost use Rattle.c_meaning.specs.Texts.{head_site};
+ghost use Rattle.lower_trees.specs.Places.{all_at};
 
 use crate::places::add;
 use crate::string_walk::strings_of_items;
@@ -40,7 +40,7 @@ fn texts_of(alloc: Global, strings: &[StringAt]) -> Result<Seq<Text>, Memory>
 #[tactic(auto, using(crate::proofs::Placed::first_alone))]
 fn strings_by_token(alloc: Global, strings: &[StringAt]) -> Result<Vec<Seq<u32>>, Memory>
     requires { length strings.now ≤ text_limit }
-    ensures { IfOk result (λ lists. (token : ℕ) → first_of (listed lists.items token) ≡ number_from 0 token strings.now) }
+    ensures { IfOk result (λ lists. (token : ℕ) → head_site (all_at lists.items token) ≡ number_from 0 token strings.now) }
 {
     let mut lists = Vec::new(alloc);
     let mut number: u32 = 0;
@@ -61,7 +61,7 @@ pub struct TextLists {
 /// The strings of a tree, by token and as texts.
 pub fn text_lists(alloc: Global, tree: &Tree) -> Result<TextLists, Memory>
     requires { length (literals (plain_tree tree.now)) ≤ text_limit }
-    ensures numbers { IfOk result (λ lists. (token : ℕ) → first_of (listed lists.numbers.items token) ≡ number_from 0 token (literals (plain_tree tree.now))) }
+    ensures numbers { IfOk result (λ lists. (token : ℕ) → head_site (all_at lists.numbers.items token) ≡ number_from 0 token (literals (plain_tree tree.now))) }
     ensures texts { IfOk result (λ lists. lists.texts ≡ texts_of (literals (plain_tree tree.now))) }
 {
     let strings = strings_of_tree(alloc, tree)?;

@@ -11,7 +11,7 @@ ghost use Rattle.flow.specs.Program.{IsProgram};
 ghost use Rattle.machine.specs.Entering.{IsEntered, IsArrival};
 ghost use Rattle.machine_rows.specs.Operands.{several_on};
 ghost use Rattle.machine_code.specs.Prepared.{nodes_of};
-ghost use Rattle.machine.specs.Steps.{Follows, Nears, IsRunning, waited, resumed, Enters, IsEntry, Keeps};
+ghost use Rattle.machine.specs.Steps.{ViewFollows, Nears, IsRunning, waited, resumed_at, Enters, IsEntry, Keeps};
 
 use crate::state::{Frame, State};
 use c_store::{Made, Objects, Word};
@@ -84,7 +84,8 @@ fn take_arguments(
 ) -> Result<Locals, Stop>
     requires { length sizes.now ≤ local_limit }
     ensures arrival { IsArrival (several_on params now.old.operands.top) sizes.now active now.old.objects result now.new.objects }
-    ensures left { OnOk result (now.new ≡ record now.old { operands = record now.old.operands { top = drop params now.old.operands.top }; objects = now.new.objects }) }
+    ensures left { OnOk result (now.new ≡ record now.old
+        { operands = record now.old.operands { top = drop params now.old.operands.top }; objects = now.new.objects }) }
     ensures output { now.new.output ≡ now.old.output }
 {
     let arguments = now.operands.several(params)?;
@@ -117,7 +118,15 @@ pub fn stand<'a>(
     locals: Locals,
 )
     requires { state.old.active < active_limit }
-    ensures { state.new ≡ record state.old { function = number; nodes = nodes.entry; strides = strides.entry; now = record state.old.now { locals = locals }; copy = None; active = state.old.active + 1 } }
+    ensures { state.new ≡ record state.old {
+      function = number;
+      nodes = nodes.entry;
+      strides = strides.entry;
+      now = record state.old.now
+          { locals = locals };
+      copy = None;
+      active = state.old.active + 1;
+    } }
 {
     state.function = number;
     state.nodes = nodes;
@@ -170,7 +179,7 @@ pub fn call<'a>(
     next: u32,
 ) -> Result<u32, Stop>
     requires { IsLater place next }
-    ensures next { Follows program.entry.now (view.Calls number next) place state.old result state.new }
+    ensures next { ViewFollows program.entry.now (view.Calls number next) place state.old result state.new }
     ensures nearer { Nears place state.old result state.new }
     ensures running { IsRunning program.entry.now state.old → Keeps result (IsRunning program.entry.now state.new) }
 {
@@ -186,7 +195,7 @@ pub fn call<'a>(
 /// The objects of the running function die, and the one that waits goes on.
 #[inline(always)]
 fn resume<'a>(program: &'a Prepared<'a>, state: &mut State<'a>, frame: Frame)
-    ensures value { state.new ≡ resumed state.new.nodes state.new.strides frame state.old }
+    ensures value { state.new ≡ resumed_at state.new.nodes state.new.strides frame state.old }
     ensures running { IsRunning program.entry.now state.new }
 {
     let locals = state.now.locals;
@@ -226,7 +235,7 @@ fn end_with(value: Word) -> Outcome
 #[tactic(auto, unfolding(flow::specs::Machine::next_of))]
 pub fn give<'a>(program: &'a Prepared<'a>, state: &mut State<'a>, place: u32) -> Result<u32, Stop>
     requires { place < node_limit }
-    ensures next { Follows program.entry.now view.Gives place state.old result state.new }
+    ensures next { ViewFollows program.entry.now view.Gives place state.old result state.new }
     ensures nearer { Nears place state.old result state.new }
     ensures running { IsRunning program.entry.now state.old → Keeps result (IsRunning program.entry.now state.new) }
 {
@@ -253,7 +262,7 @@ pub fn give<'a>(program: &'a Prepared<'a>, state: &mut State<'a>, place: u32) ->
 #[tactic(auto, unfolding(flow::specs::Machine::next_of))]
 pub fn quit<'a>(program: &'a Prepared<'a>, state: &mut State<'a>, place: u32) -> Result<u32, Stop>
     requires { place < node_limit }
-    ensures next { Follows program.entry.now view.Quits place state.old result state.new }
+    ensures next { ViewFollows program.entry.now view.Quits place state.old result state.new }
     ensures nearer { Nears place state.old result state.new }
     ensures running { IsRunning program.entry.now state.old → Keeps result (IsRunning program.entry.now state.new) }
 {

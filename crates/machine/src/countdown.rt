@@ -1,8 +1,8 @@
 ghost use Rattle.std.specs.Prelude.{◌≡◌, ◌<◌, ◌≤◌, OnOk, slice_get};
 ghost use Rattle.flow.specs.declared.node.View.TheVariants as view;
 ghost use Rattle.flow.specs.Fits.{IsLater};
-ghost use Rattle.machine.specs.Force.{force_in, set_in};
-ghost use Rattle.machine.specs.Steps.{Follows, Nears, IsRunning, most_counted};
+ghost use Rattle.machine.specs.Force.{force_in, set_countdown};
+ghost use Rattle.machine.specs.Steps.{ViewFollows, Nears, IsRunning, most_counted};
 
 use crate::look::look;
 use crate::state::State;
@@ -24,7 +24,7 @@ pub fn in_force(state: &State<'_>) -> u32
 /// Sets the countdown in force.
 #[inline(always)]
 pub fn set_force(state: &mut State<'_>, count: u32)
-    ensures { state.new ≡ set_in state.old.copy count state.old }
+    ensures { state.new ≡ set_countdown state.old.copy count state.old }
 {
     match state.copy {
         Some(_) => state.copy = Some(count),
@@ -43,7 +43,7 @@ pub fn skip(
     next: u32,
 ) -> Result<u32, Stop>
     requires { IsLater place next }
-    ensures next { Follows program.now (view.Skips by next) place state.old result state.new }
+    ensures next { ViewFollows program.now (view.Skips by next) place state.old result state.new }
     ensures nearer { Nears place state.old result state.new }
     ensures running { IsRunning program.now state.old → IsRunning program.now state.new }
 {
@@ -70,7 +70,7 @@ pub fn pick(
     requires to_slow { IsLater place slow }
     requires fast_fits { state.old.work.fast < most_counted }
     requires slow_fits { state.old.work.slow < most_counted }
-    ensures next { Follows program.now (view.Picks weight fast slow) place state.old result state.new }
+    ensures next { ViewFollows program.now (view.Picks weight fast slow) place state.old result state.new }
     ensures nearer { Nears place state.old result state.new }
     ensures running { IsRunning program.now state.old → IsRunning program.now state.new }
 {
@@ -92,7 +92,7 @@ pub fn import(
     next: u32,
 ) -> Result<u32, Stop>
     requires { IsLater place next }
-    ensures next { Follows program.now (view.Imports next) place state.old result state.new }
+    ensures next { ViewFollows program.now (view.Imports next) place state.old result state.new }
     ensures nearer { Nears place state.old result state.new }
     ensures running { IsRunning program.now state.old → IsRunning program.now state.new }
 {
@@ -110,7 +110,7 @@ pub fn export(
     next: u32,
 ) -> Result<u32, Stop>
     requires { IsLater place next }
-    ensures next { Follows program.now (view.Exports next) place state.old result state.new }
+    ensures next { ViewFollows program.now (view.Exports next) place state.old result state.new }
     ensures nearer { Nears place state.old result state.new }
     ensures running { IsRunning program.now state.old → IsRunning program.now state.new }
 {
@@ -133,7 +133,7 @@ pub fn mark(
     next: u32,
 ) -> Result<u32, Stop>
     requires { IsLater place next }
-    ensures next { Follows program.now (view.Marks site next) place state.old result state.new }
+    ensures next { ViewFollows program.now (view.Marks site next) place state.old result state.new }
     ensures nearer { Nears place state.old result state.new }
     ensures running { IsRunning program.now state.old → IsRunning program.now state.new }
 {
@@ -157,7 +157,7 @@ pub fn test(
 ) -> Result<u32, Stop>
     requires ahead { IsLater place next }
     requires fits { state.old.work.tests < most_counted }
-    ensures next { Follows program.now (view.Tests site next) place state.old result state.new }
+    ensures next { ViewFollows program.now (view.Tests site next) place state.old result state.new }
     ensures nearer { Nears place state.old result state.new }
     ensures running { IsRunning program.now state.old → IsRunning program.now state.new }
 {

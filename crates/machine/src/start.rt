@@ -1,6 +1,6 @@
 ghost use Rattle.std.specs.Prelude.{◌≡◌, ◌<◌, [], IfOk, OnOk};
 ghost use Rattle.flow.specs.Limits.{active_limit};
-ghost use Rattle.machine.specs.Begun.{EntersMain, Begins, IsFresh, LooksAtNone};
+ghost use Rattle.machine.specs.Begun.{EntersMain, RunBegins, IsFresh, LooksAtNone};
 ghost use Rattle.machine.specs.Steps.{IsRunning};
 
 use crate::calls::{function_of, make_locals, stand};
@@ -45,7 +45,7 @@ fn enter_main<'a>(program: &'a Prepared<'a>, state: &mut State<'a>) -> Result<u3
 /// Begins a run: makes the objects that are there from the start, and enters the main function.
 pub fn begin<'a>(alloc: Heap, program: &'a Prepared<'a>, state: &mut State<'a>) -> Result<u32, Stop>
     requires { IsFresh state.old }
-    ensures next { Begins program.entry.now state.old result state.new }
+    ensures next { RunBegins program.entry.now state.old result state.new }
     ensures running { OnOk result (IsRunning program.entry.now state.new) }
     ensures work { state.new.work ≡ state.old.work }
     ensures same { OnOk result ((state.new.turns ≡ state.old.turns) × (state.new.below ≡ [])) }

@@ -1,6 +1,6 @@
 ghost use Rattle.std.specs.Prelude.{◌≡◌};
 ghost use Rattle.std.specs.List.{All};
-ghost use Rattle.machine.specs.Counted.{grown, counted, IsSmall};
+ghost use Rattle.machine.specs.Counted.{grown, counted_seen, IsSmall};
 
 use cbi_base::{Counts, Observation, Seen};
 
@@ -30,7 +30,7 @@ fn grown(counts: Counts, seen: Seen) -> Counts
 #[tactic(auto, using(crate::proofs::CountLemmas::counted_here, crate::proofs::CountLemmas::counted_nowhere))]
 pub fn count(counts: &mut [Counts], observation: Observation)
     requires { All IsSmall counts.old }
-    ensures { counts.new ≡ counted observation counts.old }
+    ensures { counts.new ≡ counted_seen observation counts.old }
 {
     let site = observation.site as usize;
     if site < counts.len() {

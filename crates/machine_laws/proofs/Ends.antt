@@ -4,7 +4,7 @@ use Rattle.cbi_base.specs.declared.observation.Observation.{Observation}
 use Rattle.cbi_base.specs.Objects.{Objects, no_objects}
 use Rattle.flow.specs.declared.program.ProgramParts.{ProgramParts}
 use Rattle.flow.specs.Code.{Code, code_of}
-use Rattle.flow.specs.Machine.{Ends, EndsFrom, MachineEnds, at_start, begin, begin_with, each_made, first_objects, step}
+use Rattle.flow.specs.Machine.{Ends, EndsFrom, MachineEnds, at_start, begin, begin_with, each_made, program_objects, step}
 use Rattle.flow.specs.Program.{IsProgram}
 use Rattle.flow.specs.State.{Ending, Next, State, On, Over}
 use Rattle.flow.proofs.Endings.{ends_over, leads_one}
@@ -60,5 +60,5 @@ begin_steps p input bank turns (Some objects) =
 pub run_ends : (p : ProgramParts) (input : List ℕ) (bank : ℕ → ℕ) (turns : ℕ) (holds : List Observation → Type 0) → IsProgram p → Keeps (code_of p bank) holds → holds [] →
     (ending : Ending) × MachineEnds p input bank turns ending × holds ending.seen
 run_ends p input bank turns holds is keeps nothing =
-    let begun = begin_steps p input bank turns (each_made (first_objects p) no_objects) in
+    let begun = begin_steps p input bank turns (each_made (program_objects p) no_objects) in
     ends_from p bank holds (begin p input bank turns) begun.0 is keeps nothing begun.1

@@ -18,11 +18,11 @@ use Rattle.flow.specs.declared.node.View.TheVariants.{Row, Halts, Forks, Turns, 
 use Rattle.flow.specs.declared.program.Function.{Function}
 use Rattle.flow.specs.declared.program.ProgramParts.{ProgramParts}
 use Rattle.flow.specs.Calls.{call, call_with, enter, entered, give, give_to, ended_with, has_result, locals_made, params_of, quit, waiting}
-use Rattle.flow.specs.Code.{Callee, Code, code_of, node_of, view_at}
+use Rattle.flow.specs.Code.{Callee, Code, code_of, view_at, view_in}
 use Rattle.flow.specs.Countdown.{at_node, export, in_force, lowered, observed, pick, redrawn, set_force, skip, with_fast, with_force, with_seen, with_slow, with_test}
 use Rattle.flow.specs.Fits.{IsLater, LeadsOn}
 use Rattle.flow.specs.Limits.{active_limit, node_limit}
-use Rattle.flow.specs.Machine.{branch, fork, go_on, halt, next_of, spend}
+use Rattle.flow.specs.Machine.{branch, fork, go_on, halt, next_of, spend_turn}
 use Rattle.flow.specs.Now.{Now, Effect, Goes, Stops, Taken, Takes, Lacks, any, several}
 use Rattle.flow.specs.Program.{IsProgram}
 use Rattle.flow.specs.Rows.{act}
@@ -78,7 +78,7 @@ fork_steps code when_true when_false (Lacks t) s first second = refl
 
 -- a turn outweighs all nodes
 spend_steps : (code : Code) (turns : ℕ) (s : State) (go : State → Next) (bound : ℕ) →
-    ((t : ℕ) → turns ≡ suc t → Steps code bound s.watch.seen (go (record s { turns = t }))) → Steps code bound s.watch.seen (spend turns s go)
+    ((t : ℕ) → turns ≡ suc t → Steps code bound s.watch.seen (go (record s { turns = t }))) → Steps code bound s.watch.seen (spend_turn turns s go)
 spend_steps code zero s go bound each = refl
 spend_steps code (suc turns) s go bound each = each turns refl
 
@@ -236,7 +236,7 @@ placed_at : (nodes : List Node) (place : ℕ) (found : Option Node) → length n
 placed_at nodes place None few e = tt
 placed_at nodes place (Some n) few e = let within = slice_get_within nodes place n e in place_known (view_at (Some n)) place (omega arith)
 
-placed_in : (p : ProgramParts) (function place : ℕ) (found : Option Function) → IsProgram p → slice_get p.functions function ≡ found → IsPlaced place (node_of found place)
+placed_in : (p : ProgramParts) (function place : ℕ) (found : Option Function) → IsProgram p → slice_get p.functions function ≡ found → IsPlaced place (view_in found place)
 placed_in p function place None is e = tt
 placed_in p function place (Some f) is e = placed_at f.nodes place (slice_get f.nodes place) (few_nodes p function f is e) refl
 

@@ -1,7 +1,7 @@
 ghost use Rattle.std.specs.Prelude.{◌≡◌, ◌≤◌, ◌<◌, ◌++◌, ◌∷◌, [], map, length, IfOk};
 ghost use Rattle.std.specs.List.{All};
 ghost use Rattle.flow.specs.Limits.{global_limit};
-ghost use Rattle.flow.specs.Machine.{cell_value, global_object, text_object, first_objects, each_made};
+ghost use Rattle.flow.specs.Machine.{cell_value, object_of_global, text_object, program_objects, each_made};
 ghost use Rattle.flow.specs.Rows.{char_of};
 ghost use Rattle.cbi_base.specs.Objects.{made_with};
 ghost use Rattle.machine_rows.specs.Starting.{IsAllMade, NumberFits};
@@ -68,7 +68,7 @@ fn make_globals(alloc: Heap, objects: &mut Objects, globals: &[Global]) -> Resul
     requires some { All (λ g. 0 < length g.cells) globals.now }
     requires fits { All (λ g. All NumberFits g.cells) globals.now }
     requires few { length globals.now ≤ global_limit }
-    ensures { IfOk result (λ made. IsAllMade (each_made (map (global_object (length globals.now)) globals.now) objects.old) made objects.new) }
+    ensures { IfOk result (λ made. IsAllMade (each_made (map (object_of_global (length globals.now)) globals.now) objects.old) made objects.new) }
 {
     let count = globals.len() as u64;
     for global in globals {
@@ -95,7 +95,7 @@ fn make_texts(alloc: Heap, objects: &mut Objects, texts: &[Text]) -> Result<bool
 
 /// The objects that are there from the start: the globals, and then the texts; false where there is no room for one of them.
 pub fn make_first(alloc: Heap, objects: &mut Objects, program: &Program) -> Result<bool, Memory>
-    ensures { IfOk result (λ made. IsAllMade (each_made (first_objects program.now) objects.old) made objects.new) }
+    ensures { IfOk result (λ made. IsAllMade (each_made (program_objects program.now) objects.old) made objects.new) }
 {
     if !make_globals(alloc, objects, program.globals())? {
         return Ok(false);

@@ -222,7 +222,8 @@ fn put_piece<'a>(
     values: &'a [Word],
 ) -> Result<&'a [Word], Stop>
     ensures ok { IfOk result (λ left. (pieces : List flow.Piece) → IsTrue (take_values (piece_of piece ∷ pieces) values.now)
-        → IsTrue (take_values pieces left.now) × Continues (printed pieces left.now objects.now) (printed (piece_of piece ∷ pieces) values.now objects.now) output.old output.new) }
+        → IsTrue (take_values pieces left.now) × Continues (printed pieces left.now objects.now)
+        (printed (piece_of piece ∷ pieces) values.now objects.now) output.old output.new) }
     ensures err { IfErr result (λ e. (pieces : List flow.Piece) → IsTrue (take_values (piece_of piece ∷ pieces) values.now)
         → IsPrinted (printed (piece_of piece ∷ pieces) values.now objects.now) output.old (Some e) output.new) }
 {

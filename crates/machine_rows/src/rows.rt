@@ -6,7 +6,7 @@ ghost use Rattle.cbi_base.specs.Objects.{allocated, loaded};
 ghost use Rattle.cbi_base.specs.Scalars.{applied};
 ghost use Rattle.flow.specs.declared.node.Node.TheVariants as node;
 ghost use Rattle.flow.specs.Now.{byte_of};
-ghost use Rattle.flow.specs.Rows.{act, moved_by, zero_of};
+ghost use Rattle.flow.specs.Rows.{act, moved_by, zero_value};
 ghost use Rattle.flow.specs.View.{view};
 ghost use Rattle.machine_rows.specs.Data.{data_of, no_statics};
 ghost use Rattle.machine_rows.specs.Effects.{IsActed, IsDone};
@@ -478,7 +478,7 @@ pub fn clear(now: &mut Now<'_>, index: u32, next: u32) -> Result<u32, Stop>
 
 /// Zero of a kind, or null.
 fn zero_of(want: Want) -> Word
-    ensures { result ≡ zero_of want }
+    ensures { result ≡ zero_value want }
 {
     match want {
         Want::Number { kind } => Word::number(kind, 0),

@@ -30,7 +30,7 @@ use Rattle.planned_runs.specs.Labels.{counts_as_failed, counts_as_neither, count
 use Rattle.planned_runs.specs.Left.{HasPlanStopped, HavePlannedRun, IsNextUnread, LeftByPlan, PlanRefusedBy, ToldBeforeRefused, ToldWithCrowding}
 use Rattle.planned_runs.specs.Runs.{ArePlannedRuns, IsPlannedRun, JudgedRun, all_seen, endings_of, marks_in, names_from, planned_report, planned_reports}
 use Rattle.planned_runs.specs.Steps.{HasEnded, IsGivenCrowding, IsGivenStopped, IsNextHeld, IsNotGiven, IsNotRead, IsOfProgram, NextFailed, RunStopped}
-use Rattle.planned_runs.specs.Sums.{is_cut, is_ended, is_trapped, one_if, sums_of, with_run}
+use Rattle.planned_runs.specs.Sums.{is_cut, is_ended, is_trapped, one_if, sums_of, sums_with_run}
 use Rattle.planned_runs.proofs.Lists.{labels_more, length_reports, marks_more, marks_same, none_at, planned_more, planned_seen_more, reports_more, sums_more, with_last}
 use Rattle.planned_runs.proofs.Names.{one-of-all}
 
@@ -149,13 +149,13 @@ module _ {B : Type 0} (p : ProgramParts) (id : ProgramId) (gives : ℕ → RunIn
           (with_last p id first (planned_report p id number r) rs (omega (arith, place)) ∙ ap (λ n. planned_reports p id first rs ++ planned_report p id n r ∷ []) place
           ∙ sym (reports_more p id first rs r))
 
-      goes : HaveCome (done + 1) held (with_run ran.outcome ran.work s) (with_counted ran.label l) later
+      goes : HaveCome (done + 1) held (sums_with_run ran.outcome ran.work s) (with_counted ran.label l) later
       goes = record {
         runs = rs ++ r ∷ [];
         as_many = omega (arith, length-append rs (r ∷ []), come.as_many);
         are = runs_are h.on h.given r h.is.ended;
         collection = collection_after;
-        sums = ap (λ o. with_run o ran.work s) h.is.outcome ∙ ap (λ w. with_run r.ending.outcome w s) h.is.work ∙ ap (with_run r.ending.outcome r.ending.work) come.sums ∙ sym (sums_more rs r);
+        sums = ap (λ o. sums_with_run o ran.work s) h.is.outcome ∙ ap (λ w. sums_with_run r.ending.outcome w s) h.is.work ∙ ap (sums_with_run r.ending.outcome r.ending.work) come.sums ∙ sym (sums_more rs r);
         labels = ap (λ x. with_counted x l) h.is.label ∙ ap (with_counted _) come.labels ∙ sym (labels_more rs r);
         few = subst (λ n. n ≤ mark_limit) (all_marks r) h.is.holds.few;
         grew = all_grew h.on h.given r h.is.ended;
@@ -168,7 +168,7 @@ module _ {B : Type 0} (p : ProgramParts) (id : ProgramId) (gives : ℕ → RunIn
         };
       }
 
-    pub goes_on : (ran : Ran) (held : Held) (t : Sums) (m : LabelCounts) → t ≡ with_run ran.outcome ran.work s → m ≡ with_counted ran.label l
+    pub goes_on : (ran : Ran) (held : Held) (t : Sums) (m : LabelCounts) → t ≡ sums_with_run ran.outcome ran.work s → m ≡ with_counted ran.label l
         → IsNextHeld p id number turns told now later gives ran c held → HaveCome (done + 1) held t m later
     goes_on ran held t m t_is m_is h =
         subst (λ x. HaveCome (done + 1) held t x later) (sym m_is) (subst (λ x. HaveCome (done + 1) held x (with_counted ran.label l) later) (sym t_is) (goes ran held h))

@@ -15,7 +15,7 @@ use Rattle.collector.specs.Collected.{marks_of, report_at, with_report}
 use Rattle.planned_runs.specs.declared.input.RunInput.{RunInput}
 use Rattle.planned_runs.specs.Labels.{counts_as_failed, counts_as_neither, counts_as_succeeded, judged_label, labels_of, with_counted}
 use Rattle.planned_runs.specs.Runs.{ArePlannedRuns, IsPlannedRun, JudgedRun, all_seen, endings_of, marks_in, planned_report, planned_reports}
-use Rattle.planned_runs.specs.Sums.{is_cut, is_ended, is_trapped, one_if, sums_of, with_run}
+use Rattle.planned_runs.specs.Sums.{is_cut, is_ended, is_trapped, one_if, sums_of, sums_with_run}
 
 pub planned_more : (p : ProgramParts) (gives : ℕ → RunInput → Type 0) (turns number : ℕ) (rs : List JudgedRun) (r : JudgedRun) → ArePlannedRuns p gives turns number rs
     → IsPlannedRun p gives turns (number + length rs) r → ArePlannedRuns p gives turns number (rs ++ r ∷ [])
@@ -71,7 +71,7 @@ pub marks_more : (p : ProgramParts) (rs : List JudgedRun) (r : JudgedRun)
     → marks_in p (endings_of (rs ++ r ∷ [])) ≡ marks_in p (endings_of rs) + length (entries_of (counts_of p.sites r.ending.seen))
 marks_more p rs r = ap (marks_in p) (endings_more rs r) ∙ sum_by_push (λ (x : Ending). length (entries_of (counts_of p.sites x.seen))) (endings_of rs) r.ending
 
-sums_push : (es : List Ending) (e : Ending) → sums_of (es ++ e ∷ []) ≡ with_run e.outcome e.work (sums_of es)
+sums_push : (es : List Ending) (e : Ending) → sums_of (es ++ e ∷ []) ≡ sums_with_run e.outcome e.work (sums_of es)
 sums_push es e =
     rw (
       sum_by_push (λ (x : Ending). one_if (is_trapped x.outcome)) es e,
@@ -82,7 +82,7 @@ sums_push es e =
       sum_by_push (λ (x : Ending). x.work.tests) es e,
     ) refl
 
-pub sums_more : (rs : List JudgedRun) (r : JudgedRun) → sums_of (endings_of (rs ++ r ∷ [])) ≡ with_run r.ending.outcome r.ending.work (sums_of (endings_of rs))
+pub sums_more : (rs : List JudgedRun) (r : JudgedRun) → sums_of (endings_of (rs ++ r ∷ [])) ≡ sums_with_run r.ending.outcome r.ending.work (sums_of (endings_of rs))
 sums_more rs r = ap sums_of (endings_more rs r) ∙ sums_push (endings_of rs) r.ending
 
 pub labels_more : (rs : List JudgedRun) (r : JudgedRun) → labels_of (rs ++ r ∷ []) ≡ with_counted (judged_label r) (labels_of rs)

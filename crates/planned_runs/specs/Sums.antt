@@ -40,8 +40,8 @@ abbrev pub one_if : Bool → ℕ
 one_if b = if b then 1 else 0
 
 -- the sums with one more run
-abbrev pub with_run : Outcome → Work → Sums → Sums
-with_run outcome work s = record {
+abbrev pub sums_with_run : Outcome → Work → Sums → Sums
+sums_with_run outcome work s = record {
   failed = s.failed + one_if (is_trapped outcome);
   ended = s.ended + one_if (is_ended outcome);
   cut = s.cut + one_if (is_cut outcome);

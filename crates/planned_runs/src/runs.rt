@@ -28,7 +28,7 @@ pub struct PlannedRuns {
 
 /// Runs the program, whose identity is told, as often as is asked: each run on what the plan gives to its number, from the first on, which is read when
 /// the run is made. Each watcher is told what the runs observe, one after another. Refused as the plan refuses a run; and with TooManyMarks at the first
-/// run with whose entries there are more than 16,777,216.
+/// run with whose entries there are more than 16,777,216. At most 100,000 runs, with numbers from 1 to 4,294,967,295, of at most 100,000,000 turns each.
 pub fn run_planned<P: RunPlan, S: Store>(
     alloc: Global,
     program: &Program,

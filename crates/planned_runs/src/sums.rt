@@ -1,5 +1,5 @@
 ghost use Rattle.std.specs.Prelude.{◌≡◌, ◌+◌, ◌<◌, ◌≤◌, ◌^◌, []};
-ghost use Rattle.planned_runs.specs.Sums.{sums_of, with_run};
+ghost use Rattle.planned_runs.specs.Sums.{sums_of, sums_with_run};
 
 use cbi_base::{Outcome, Work};
 
@@ -41,7 +41,7 @@ impl Sums {
         requires fast { self.old.fast < 2 ^ 127 }
         requires slow { self.old.slow < 2 ^ 127 }
         requires tests { self.old.tests < 2 ^ 127 }
-        ensures { self.new ≡ with_run outcome work self.old }
+        ensures { self.new ≡ sums_with_run outcome work self.old }
     {
         match outcome {
             Outcome::Trapped { .. } => self.failed += 1,

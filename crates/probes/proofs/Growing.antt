@@ -14,9 +14,6 @@ pub record GrewBelow {B : Type 0} (seen : B → List Observation) (more : List O
   pub told : (k : ℕ) (before after : B) → k < place → slice_get old k ≡ Some before → slice_get new k ≡ Some after → seen after ≡ seen before ++ more
   pub others : (k : ℕ) → place ≤ k → slice_get new k ≡ slice_get old k
 
-pub GrewBelow-none : {B : Type 0} (seen : B → List Observation) (more : List Observation) (bs : List B) → GrewBelow seen more 0 bs bs
-GrewBelow-none seen more bs = record { same_length = refl; told = λ k b c less. absurd (omega arith); others = λ k h. refl }
-
 -- a write at a place changes what is there alone
 pub slice_get-set_other : {B : Type 0} (bs : List B) (i k : ℕ) (c : B) → k ≢ i → slice_get (slice_set bs i c) k ≡ slice_get bs k
 slice_get-set_other [] i k c apart = refl

@@ -8,5 +8,5 @@ abbrev pub last_of : ℕ → List ℕ → List ℕ
 last_of most sites = drop (length sites - most) sites
 
 -- the sites of the last observations, oldest first
-abbrev pub last_line : List Observation → List ℕ
-last_line seen = sites_line (codes "last") (last_of most_sites (sites_seen seen))
+abbrev pub last_seen_line : List Observation → List ℕ
+last_seen_line seen = sites_line (codes "last") (last_of most_sites (sites_seen seen))

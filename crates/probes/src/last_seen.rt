@@ -1,7 +1,7 @@
 ghost use Rattle.std.specs.Prelude.{◌≡◌, [], ◌++◌, ◌∷◌, IfOk, OnOk, OnErr};
 ghost use Rattle.cbi_base.specs.declared.observation.Observation.{Observation};
 ghost use Rattle.probes.specs.Sites.{most_sites, sites_seen};
-ghost use Rattle.probes.specs.LastSeen.{last_of, last_line};
+ghost use Rattle.probes.specs.LastSeen.{last_of, last_seen_line};
 
 use crate::history::History;
 use crate::probe::Probe;
@@ -48,7 +48,7 @@ fn last_sites(alloc: Global, history: &History) -> Result<Vec<u32>, Memory>
 impl Probe for LastSeen {
     ghost seen = { λ p. p };
 
-    ghost line_text = { λ p. last_line p };
+    ghost line_text = { λ p. last_seen_line p };
 
     fn see(&mut self, observation: Observation) -> Result<(), Memory> {
         self.history.push(observation)

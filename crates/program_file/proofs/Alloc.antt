@@ -6,7 +6,7 @@ use Rattle.cbi_base.proofs.LineLemmas.{bad-once}
 use Rattle.program_file.specs.declared.draft.Due.{Due}
 use Rattle.program_file.specs.declared.draft.Due.TheVariants as due
 use Rattle.program_file.specs.declared.draft.Draft.{Draft}
-use Rattle.program_file.specs.Draft.{Comes, Follows, IsWhole, empty}
+use Rattle.program_file.specs.Draft.{IsWhole, ProgramLineComes, ProgramLineFollows, empty}
 use Rattle.program_file.specs.WrongLine.{IsWrongAt}
 use Rattle.program_file.proofs.Grammar.{follows-once}
 
@@ -18,7 +18,7 @@ chosen-moved : (x : Heap) (b : Bool) (d e : Draft) → moved x (cond b d e) ≡ 
 chosen-moved x true d e = refl
 chosen-moved x false d e = refl
 
-comes-moved : (x : Heap) (next : Due) (d : Draft) (line : List ℕ) (after : Draft) → Comes next d line after → Comes next (moved x d) line (moved x after)
+comes-moved : (x : Heap) (next : Due) (d : Draft) (line : List ℕ) (after : Draft) → ProgramLineComes next d line after → ProgramLineComes next (moved x d) line (moved x after)
 comes-moved x due.Title d line after f = (f.0, ap (moved x) f.1)
 comes-moved x due.Texts d line after f = (f.0, f.1, ap (moved x) f.2)
 comes-moved x due.Text d line after f = (f.0, record { reads = f.1.reads; room = f.1.room; are_bytes = f.1.are_bytes; total = f.1.total }, ap (moved x) f.2)
@@ -37,12 +37,12 @@ comes-moved x due.Node d line after f =
 comes-moved x due.End d line after f = (f.0, ap (moved x) f.1)
 comes-moved x due.Nothing d line after f = absurd f
 
-leads-moved : (x : Heap) (from to : Draft) (lines : List (List ℕ)) → LeadsTo Follows from lines to → LeadsTo Follows (moved x from) lines (moved x to)
+leads-moved : (x : Heap) (from to : Draft) (lines : List (List ℕ)) → LeadsTo ProgramLineFollows from lines to → LeadsTo ProgramLineFollows (moved x from) lines (moved x to)
 leads-moved x from to [] h = ap (moved x) h
 leads-moved x from to (line ∷ lines) h = (moved x h.0, comes-moved x from.due from line h.0 h.1, leads-moved x h.0 to lines h.2)
 
 -- a text is wrong at the same line whichever the allocator
-pub bad-moved : (x y : Heap) (text : List ℕ) (line : ℕ) → IsBadLine Follows IsWhole (empty y) text line → IsBadLine Follows IsWhole (empty x) text line
+pub bad-moved : (x y : Heap) (text : List ℕ) (line : ℕ) → IsBadLine ProgramLineFollows IsWhole (empty y) text line → IsBadLine ProgramLineFollows IsWhole (empty x) text line
 bad-moved x y text line bad = record {
   good = bad.good;
   rest = bad.rest;
@@ -61,4 +61,4 @@ bad-moved x y text line bad = record {
 
 -- a text is wrong at one line at most
 pub wrong-once : (text : List ℕ) (a b : ℕ) → IsWrongAt text a → IsWrongAt text b → a ≡ b
-wrong-once text a b p q = bad-once Follows IsWhole follows-once (empty p.alloc) text a b p.bad (bad-moved p.alloc q.alloc text b q.bad)
+wrong-once text a b p q = bad-once ProgramLineFollows IsWhole follows-once (empty p.alloc) text a b p.bad (bad-moved p.alloc q.alloc text b q.bad)

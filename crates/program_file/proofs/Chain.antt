@@ -42,7 +42,7 @@ use Rattle.program_lines.specs.Sums.{bytes_in, cells_in, locals_in, nodes_in}
 use Rattle.program_file.specs.declared.draft.Due.{Due}
 use Rattle.program_file.specs.declared.draft.Due.TheVariants as due
 use Rattle.program_file.specs.declared.draft.Draft.{Draft}
-use Rattle.program_file.specs.Draft.{Comes, Follows, IsDue, IsHead, due_after, names_in, bounds_in, function_with, with_function, with_sites, with_nodes}
+use Rattle.program_file.specs.Draft.{ProgramLineComes, ProgramLineFollows, IsDue, IsHead, due_after, names_in, bounds_in, function_with, with_function, with_sites, with_nodes}
 use Rattle.program_lines.proofs.RowReads.{text_of_row-fields, is_field-bytes, IsSmallHead, head_of_row-fields, are_fields-head, sizes_of-fields, are_fields-sizes}
 use Rattle.program_lines.proofs.CellReads.{IsSmallCell, global_of_row-fields, are_fields-global}
 use Rattle.program_lines.proofs.SiteReads.{IsSmallSlot, IsSmallPartner, IsSmallKind, IsSmallSite, site_of_row-fields, are_fields-site}
@@ -56,11 +56,11 @@ row-fields [] some all = absurd (some refl)
 row-fields (field ∷ fields) some all = fields_of-spaced field fields all.0 all.1
 
 -- lines after lines
-pub leads-append : (from via to : Draft) (a b : List (List ℕ)) → LeadsTo Follows from a via → LeadsTo Follows via b to → LeadsTo Follows from (a ++ b) to
-leads-append from via to [] b p q = subst (λ d. LeadsTo Follows d b to) (sym p) q
+pub leads-append : (from via to : Draft) (a b : List (List ℕ)) → LeadsTo ProgramLineFollows from a via → LeadsTo ProgramLineFollows via b to → LeadsTo ProgramLineFollows from (a ++ b) to
+leads-append from via to [] b p q = subst (λ d. LeadsTo ProgramLineFollows d b to) (sym p) q
 leads-append from via to (line ∷ lines) b p q = (p.0, p.1, leads-append p.0 via to lines b p.2 q)
 
-pub leads-one : (from to : Draft) (line : List ℕ) → Follows from line to → LeadsTo Follows from (line ∷ []) to
+pub leads-one : (from to : Draft) (line : List ℕ) → ProgramLineFollows from line to → LeadsTo ProgramLineFollows from (line ∷ []) to
 leads-one from to line f = (to, f, refl)
 
 -- each item of a list may come after those before it
@@ -74,12 +74,12 @@ each-of P ok one xs [] h = tt
 each-of P ok one xs (z ∷ zs) h = (one xs zs z h, each-of P ok one (xs ++ z ∷ []) zs (subst P (sym (append_assoc xs (z ∷ []) zs)) h))
 
 pub list-leads : {A : Type 0} (lines : A → List (List ℕ)) (state : List A → Draft) (ok : List A → A → Type 0)
-    → ((xs : List A) (x : A) → ok xs x → LeadsTo Follows (state xs) (lines x) (state (xs ++ x ∷ []))) → (xs zs : List A) → Each ok xs zs → LeadsTo Follows (state xs) (flat_map lines zs) (state (xs ++ zs))
+    → ((xs : List A) (x : A) → ok xs x → LeadsTo ProgramLineFollows (state xs) (lines x) (state (xs ++ x ∷ []))) → (xs zs : List A) → Each ok xs zs → LeadsTo ProgramLineFollows (state xs) (flat_map lines zs) (state (xs ++ zs))
 unfolding Each
 list-leads lines state ok step xs [] h = ap state (sym (append-nil xs))
 list-leads lines state ok step xs (z ∷ zs) h =
     leads-append (state xs) (state (xs ++ z ∷ [])) (state (xs ++ z ∷ zs)) (lines z) (flat_map lines zs) (step xs z h.0)
-    (subst (λ ys. LeadsTo Follows (state (xs ++ z ∷ [])) (flat_map lines zs) (state ys)) (append_assoc xs (z ∷ []) zs) (list-leads lines state ok step (xs ++ z ∷ []) zs h.1))
+    (subst (λ ys. LeadsTo ProgramLineFollows (state (xs ++ z ∷ [])) (flat_map lines zs) (state ys)) (append_assoc xs (z ∷ []) zs) (list-leads lines state ok step (xs ++ z ∷ []) zs h.1))
 
 -- lines that are rows, one an item
 single-lines : {A : Type 0} (fields : A → List (List ℕ)) (items : List A) → flat_map (λ x. spaced (fields x) ∷ []) items ≡ map spaced (map fields items)
@@ -87,9 +87,9 @@ single-lines fields [] = refl
 single-lines fields (x ∷ xs) = ap (λ ls. spaced (fields x) ∷ ls) (single-lines fields xs)
 
 rows-lead : {A : Type 0} (fields : A → List (List ℕ)) (state : List A → Draft) (ok : List A → A → Type 0)
-    → ((xs : List A) (x : A) → ok xs x → Follows (state xs) (spaced (fields x)) (state (xs ++ x ∷ []))) → (items : List A) → Each ok [] items → LeadsTo Follows (state []) (map spaced (map fields items)) (state items)
+    → ((xs : List A) (x : A) → ok xs x → ProgramLineFollows (state xs) (spaced (fields x)) (state (xs ++ x ∷ []))) → (items : List A) → Each ok [] items → LeadsTo ProgramLineFollows (state []) (map spaced (map fields items)) (state items)
 rows-lead fields state ok step items h =
-    subst (λ ls. LeadsTo Follows (state []) ls (state items)) (single-lines fields items)
+    subst (λ ls. LeadsTo ProgramLineFollows (state []) ls (state items)) (single-lines fields items)
     (list-leads (λ x. spaced (fields x) ∷ []) state ok (λ xs x is. leads-one (state xs) (state (xs ++ x ∷ [])) (spaced (fields x)) (step xs x is)) [] items h)
 
 -- a state in which an item is due
@@ -97,9 +97,9 @@ pub not-full : (n count : ℕ) → n < count → (n == count) ≡ false
 not-full n count h = grind (arith, nat_tests)
 
 -- an item more, whatever is due then
-comes-item : (state made next : Draft) (item past item_due : Due) (n count : ℕ) (line : List ℕ) → state.due ≡ cond (n == count) past item → n < count → made ≡ next → Comes item state line made → Follows state line next
+comes-item : (state made next : Draft) (item past item_due : Due) (n count : ℕ) (line : List ℕ) → state.due ≡ cond (n == count) past item → n < count → made ≡ next → ProgramLineComes item state line made → ProgramLineFollows state line next
 comes-item state made next item past item_due n count line is_due room same f =
-    subst (λ e. Follows state line e) same (subst (λ u. Comes u state line made) (sym (is_due ∙ ap (λ b. cond b past item) (not-full n count room))) f)
+    subst (λ e. ProgramLineFollows state line e) same (subst (λ u. ProgramLineComes u state line made) (sym (is_due ∙ ap (λ b. cond b past item) (not-full n count room))) f)
 
 -- the bytes of texts
 are-bytes : (bytes : List ℕ) → AllByRecursion (λ b. b < 256) bytes → IsBytes bytes
@@ -123,7 +123,7 @@ pub record TextComes (count : ℕ) (texts : List Text) (t : Text) : Type 0 where
   pub bytes : All (λ b. b < 256) t.bytes
   pub total : bytes_in texts + length t.bytes ≤ byte_limit
 
-text-step : (d : Draft) (count : ℕ) (texts : List Text) (t : Text) → TextComes count texts t → Follows (text-state d count texts) (spaced (text_fields t)) (text-state d count (texts ++ t ∷ []))
+text-step : (d : Draft) (count : ℕ) (texts : List Text) (t : Text) → TextComes count texts t → ProgramLineFollows (text-state d count texts) (spaced (text_fields t)) (text-state d count (texts ++ t ∷ []))
 text-step d count texts t h =
     let bytes = are-bytes t.bytes (recursion_from_All _ t.bytes h.bytes) in
     let reads = ap (λ fs. text_of_row fs) (row-fields (text_fields t) (λ e. cc) (refl, (is_field-bytes t.bytes bytes, tt))) ∙ text_of_row-fields t.bytes bytes in
@@ -138,7 +138,7 @@ text-one count xs zs z h = record {
   total = omega (arith, h.0.total, sum_by-append (λ (t : Text). length t.bytes) xs (z ∷ zs), sum_by-first (λ (t : Text). length t.bytes) z zs);
 }
 
-pub texts-lead : (d : Draft) (texts : List Text) → AreTexts texts → LeadsTo Follows (text-state d (length texts) []) (map spaced (map text_fields texts)) (text-state d (length texts) texts)
+pub texts-lead : (d : Draft) (texts : List Text) → AreTexts texts → LeadsTo ProgramLineFollows (text-state d (length texts) []) (map spaced (map text_fields texts)) (text-state d (length texts) texts)
 texts-lead d texts are =
     rows-lead text_fields (text-state d (length texts)) (TextComes (length texts)) (text-step d (length texts)) texts
     (each-of (λ all. AreTexts all × (length all ≡ length texts)) (TextComes (length texts)) (text-one (length texts)) [] texts (are, refl))
@@ -165,7 +165,7 @@ pub record GlobalComes (texts count : ℕ) (globals : List Global) (g : Global) 
   pub fits : GlobalFits texts g
   pub total : cells_in globals + length g.cells ≤ static_limit
 
-global-step : (d : Draft) (count : ℕ) (globals : List Global) (g : Global) → GlobalComes (length d.texts) count globals g → Follows (global-state d count globals) (spaced (global_fields g)) (global-state d count (globals ++ g ∷ []))
+global-step : (d : Draft) (count : ℕ) (globals : List Global) (g : Global) → GlobalComes (length d.texts) count globals g → ProgramLineFollows (global-state d count globals) (spaced (global_fields g)) (global-state d count (globals ++ g ∷ []))
 global-step d count globals g h =
     let small = small-cells (length d.texts) g.cells h.few (recursion_from_All _ g.cells h.fits.cells) in
     let reads = ap (λ fs. global_of_row (static_limit - cells_in globals) fs) (row-fields (global_fields g) (λ e. cc) (are_fields-global g.cells small (omega (arith, h.total)))) ∙ global_of_row-fields (static_limit - cells_in globals) g.cells small (omega (arith, h.total)) (omega arith) in
@@ -181,7 +181,7 @@ global-one texts count few xs zs z h = record {
   total = omega (arith, h.0.total, sum_by-append (λ (g : Global). length g.cells) xs (z ∷ zs), sum_by-first (λ (g : Global). length g.cells) z zs);
 }
 
-pub globals-lead : (d : Draft) (globals : List Global) → length d.texts ≤ text_limit → AreGlobals (length d.texts) globals → LeadsTo Follows (global-state d (length globals) []) (map spaced (map global_fields globals)) (global-state d (length globals) globals)
+pub globals-lead : (d : Draft) (globals : List Global) → length d.texts ≤ text_limit → AreGlobals (length d.texts) globals → LeadsTo ProgramLineFollows (global-state d (length globals) []) (map spaced (map global_fields globals)) (global-state d (length globals) globals)
 globals-lead d globals few are =
     rows-lead global_fields (global-state d (length globals)) (GlobalComes (length d.texts) (length globals)) (global-step d (length globals)) globals
     (each-of (λ all. AreGlobals (length d.texts) all × (length all ≡ length globals)) (GlobalComes (length d.texts) (length globals)) (global-one (length d.texts) (length globals) few) [] globals (are, refl))
@@ -205,7 +205,7 @@ small-head count heads h is = record {
   nodes = omega (arith, is.nodes);
 }
 
-head-step : (d : Draft) (count : ℕ) (heads : List Head) (h : Head) → HeadComes count heads h → Follows (head-state d count heads) (spaced (head_fields h)) (head-state d count (heads ++ h ∷ []))
+head-step : (d : Draft) (count : ℕ) (heads : List Head) (h : Head) → HeadComes count heads h → ProgramLineFollows (head-state d count heads) (spaced (head_fields h)) (head-state d count (heads ++ h ∷ []))
 head-step d count heads h is =
     let small = small-head count heads h is in
     let reads = ap (λ fs. head_of_row fs) (row-fields (head_fields h) (λ e. cc) (are_fields-head h small)) ∙ head_of_row-fields h small in
@@ -249,7 +249,7 @@ head-one count xs zs z h = record {
   nodes = omega (arith, h.nodes, sum_by-append (λ (x : Head). x.nodes) xs (z ∷ zs), sum_by-first (λ (x : Head). x.nodes) z zs);
 }
 
-pub heads-lead : (d : Draft) (heads : List Head) → ProgramHeads (length heads) heads → LeadsTo Follows (head-state d (length heads) []) (map spaced (map head_fields heads)) (head-state d (length heads) heads)
+pub heads-lead : (d : Draft) (heads : List Head) → ProgramHeads (length heads) heads → LeadsTo ProgramLineFollows (head-state d (length heads) []) (map spaced (map head_fields heads)) (head-state d (length heads) heads)
 heads-lead d heads are =
     rows-lead head_fields (head-state d (length heads)) (HeadComes (length heads)) (head-step d (length heads)) heads
     (each-of (ProgramHeads (length heads)) (HeadComes (length heads)) (head-one (length heads)) [] heads are)
@@ -263,13 +263,13 @@ pub record SiteComes (locals : List ℕ) (globals count : ℕ) (sites : List Sit
   pub small : IsSmallSite s
   pub fits : IsSite locals globals s
 
-site-step : (d : Draft) (count : ℕ) (sites : List Site) (s : Site) → SiteComes (map (λ h. h.locals) d.heads) (length d.globals) count sites s → Follows (site-state d count sites) (spaced (site_fields s)) (site-state d count (sites ++ s ∷ []))
+site-step : (d : Draft) (count : ℕ) (sites : List Site) (s : Site) → SiteComes (map (λ h. h.locals) d.heads) (length d.globals) count sites s → ProgramLineFollows (site-state d count sites) (spaced (site_fields s)) (site-state d count (sites ++ s ∷ []))
 site-step d count sites s h =
     let reads = ap (λ fs. site_of_row fs) (row-fields (site_fields s) (λ e. cc) (are_fields-site s h.small)) ∙ site_of_row-fields s h.small in
     let here : Draft = record d { due = due.Site; count = count; sites = sites } in
-    let f : Follows here (spaced (site_fields s)) (with_sites (record d { count = count }) (sites ++ s ∷ [])) = (s, record { reads = reads; room = h.room; fits = h.fits }, refl) in
+    let f : ProgramLineFollows here (spaced (site_fields s)) (with_sites (record d { count = count }) (sites ++ s ∷ [])) = (s, record { reads = reads; room = h.room; fits = h.fits }, refl) in
     let state : with_sites (record d { count = count }) sites ≡ here = ap (λ b. cond b (record d { due = due.Locals; count = count; sites = sites; names = names_in d sites; functions = [] }) here) (not-full (length sites) count h.room) in
-    subst (λ e. Follows e (spaced (site_fields s)) (with_sites (record d { count = count }) (sites ++ s ∷ []))) (sym state) f
+    subst (λ e. ProgramLineFollows e (spaced (site_fields s)) (with_sites (record d { count = count }) (sites ++ s ∷ []))) (sym state) f
 
 -- the numbers of a site are small
 pub record SmallLocals (locals : List ℕ) (globals : ℕ) : Type 0 where
@@ -312,7 +312,7 @@ site-one locals globals count small xs zs z h =
       fits = is;
     }
 
-pub sites-lead : (d : Draft) (sites : List Site) → SmallLocals (map (λ h. h.locals) d.heads) (length d.globals) → AreSites (map (λ h. h.locals) d.heads) (length d.globals) sites → LeadsTo Follows (site-state d (length sites) []) (map spaced (map site_fields sites)) (site-state d (length sites) sites)
+pub sites-lead : (d : Draft) (sites : List Site) → SmallLocals (map (λ h. h.locals) d.heads) (length d.globals) → AreSites (map (λ h. h.locals) d.heads) (length d.globals) sites → LeadsTo ProgramLineFollows (site-state d (length sites) []) (map spaced (map site_fields sites)) (site-state d (length sites) sites)
 sites-lead d sites small are =
     let locals = map (λ (h : Head). h.locals) d.heads in
     rows-lead site_fields (site-state d (length sites)) (SiteComes locals (length d.globals) (length sites)) (site-step d (length sites)) sites
@@ -327,13 +327,13 @@ pub record NodeComes (d : Draft) (h : Head) (nodes : List Node) (n : Node) : Typ
   pub small : IsSmall n
   pub fits : IsTrue (node_fits d.names (bounds_in d h) (length nodes) n)
 
-node-step : (d : Draft) (h : Head) → IsDue d h → (nodes : List Node) (n : Node) → NodeComes d h nodes n → Follows (node-state d h nodes) (spaced (node_fields n)) (node-state d h (nodes ++ n ∷ []))
+node-step : (d : Draft) (h : Head) → IsDue d h → (nodes : List Node) (n : Node) → NodeComes d h nodes n → ProgramLineFollows (node-state d h nodes) (spaced (node_fields n)) (node-state d h (nodes ++ n ∷ []))
 node-step d h is_due nodes n is =
     let reads = ap (λ fs. node_of fs) (row-fields (node_fields n) (node-some n) (are_fields-node n is.small)) ∙ node_of-fields n is.small in
     let here : Draft = record d { due = due.Node; nodes = nodes } in
-    let f : Follows here (spaced (node_fields n)) (with_nodes d h (nodes ++ n ∷ [])) = ((h, n), record { is_due = is_due; reads = reads; room = is.room; fits = is.fits }, refl) in
+    let f : ProgramLineFollows here (spaced (node_fields n)) (with_nodes d h (nodes ++ n ∷ [])) = ((h, n), record { is_due = is_due; reads = reads; room = is.room; fits = is.fits }, refl) in
     let state : with_nodes d h nodes ≡ here = ap (λ b. cond b (with_function d (function_with h d.locals nodes)) here) (not-full (length nodes) h.nodes is.room) in
-    subst (λ e. Follows e (spaced (node_fields n)) (with_nodes d h (nodes ++ n ∷ []))) (sym state) f
+    subst (λ e. ProgramLineFollows e (spaced (node_fields n)) (with_nodes d h (nodes ++ n ∷ []))) (sym state) f
 
 node-one : (d : Draft) (h : Head) → AreSmallNames d.names (bounds_in d h) → (xs zs : List Node) (z : Node) → (NodesFit d.names (bounds_in d h) (xs ++ z ∷ zs) × (length (xs ++ z ∷ zs) ≡ h.nodes)) → NodeComes d h xs z
 node-one d h small xs zs z is =
@@ -343,7 +343,7 @@ node-one d h small xs zs z is =
       fits = fits;
     }
 
-nodes-lead : (d : Draft) (h : Head) (nodes : List Node) → IsDue d h → AreSmallNames d.names (bounds_in d h) → NodesFit d.names (bounds_in d h) nodes → length nodes ≡ h.nodes → LeadsTo Follows (node-state d h []) (map spaced (map node_fields nodes)) (node-state d h nodes)
+nodes-lead : (d : Draft) (h : Head) (nodes : List Node) → IsDue d h → AreSmallNames d.names (bounds_in d h) → NodesFit d.names (bounds_in d h) nodes → length nodes ≡ h.nodes → LeadsTo ProgramLineFollows (node-state d h []) (map spaced (map node_fields nodes)) (node-state d h nodes)
 nodes-lead d h nodes is_due small fit count =
     rows-lead node_fields (node-state d h) (NodeComes d h) (node-step d h is_due) nodes
     (each-of (λ all. NodesFit d.names (bounds_in d h) all × (length all ≡ h.nodes)) (NodeComes d h) (node-one d h small) [] nodes (fit, count))
@@ -358,20 +358,20 @@ pub record FunctionComes (d : Draft) (functions : List Function) (f : Function) 
   pub sizes : AllByRecursion (λ size. size ≤ greatest_u32) f.locals
   pub is : IsFunction d.names (length functions) f
 
-pub function-step : (d : Draft) (functions : List Function) (f : Function) → FunctionComes d functions f → LeadsTo Follows (function-state d functions) (map spaced (body_rows f)) (function-state d (functions ++ f ∷ []))
+pub function-step : (d : Draft) (functions : List Function) (f : Function) → FunctionComes d functions f → LeadsTo ProgramLineFollows (function-state d functions) (map spaced (body_rows f)) (function-state d (functions ++ f ∷ []))
 function-step d functions f h =
     let start : Draft = record d { due = due.Locals; functions = functions; locals = []; nodes = [] } in
     let inside : Draft = record d { due = due.Node; functions = functions; locals = f.locals; nodes = [] } in
     let room : length functions < length d.heads = slice_get_within d.heads (length functions) (head_of f) h.is_due in
     let reads = ap (λ fs. locals_of_row (length f.locals) fs) (row-fields (locals_fields f.locals) (λ e. cc) (refl, are_fields-sizes f.locals h.sizes)) ∙ sizes_of-fields f.locals h.sizes in
-    let first : Follows start (spaced (locals_fields f.locals)) inside = (f.locals, record { head = head_of f; is_due = h.is_due; reads = reads; fits = h.is.locals }, refl) in
+    let first : ProgramLineFollows start (spaced (locals_fields f.locals)) inside = (f.locals, record { head = head_of f; is_due = h.is_due; reads = reads; fits = h.is.locals }, refl) in
     let at : function-state d functions ≡ start = ap (λ b. record d { due = cond b due.End due.Locals; functions = functions; locals = []; nodes = [] }) (not-full (length functions) (length d.heads) room) in
     let none : with_nodes inside (head_of f) [] ≡ inside = ap (λ b. cond b (with_function inside (function_with (head_of f) f.locals [])) inside) (not-full 0 (length f.nodes) h.is.entry) in
     let all : with_nodes inside (head_of f) f.nodes ≡ with_function inside f = ap (λ b. cond b (with_function inside f) (record inside { nodes = f.nodes })) (eq-eqb (length f.nodes) (length f.nodes) refl) in
     let end : with_function inside f ≡ function-state d (functions ++ f ∷ []) = ap (λ n. record d { due = due_after n (length d.heads) due.Locals due.End; functions = functions ++ f ∷ []; locals = []; nodes = [] }) (sym (length-append functions (f ∷ []))) in
     let nodes = nodes-lead inside (head_of f) f.nodes h.is_due h.small h.is.nodes refl in
-    let body = subst (λ e. LeadsTo Follows inside (map spaced (map node_fields f.nodes)) e) (all ∙ end) (subst (λ e. LeadsTo Follows e (map spaced (map node_fields f.nodes)) (with_nodes inside (head_of f) f.nodes)) none nodes) in
-    (inside, subst (λ e. Follows e (spaced (locals_fields f.locals)) inside) (sym at) first, body)
+    let body = subst (λ e. LeadsTo ProgramLineFollows inside (map spaced (map node_fields f.nodes)) e) (all ∙ end) (subst (λ e. LeadsTo ProgramLineFollows e (map spaced (map node_fields f.nodes)) (with_nodes inside (head_of f) f.nodes)) none nodes) in
+    (inside, subst (λ e. ProgramLineFollows e (spaced (locals_fields f.locals)) inside) (sym at) first, body)
 
 -- LINES
 pub each-lines : {A : Type 0} (fields : A → List (List ℕ)) (ok : List A → A → Type 0) → ((xs : List A) (x : A) → ok xs x → AllByRecursion IsField (fields x)) → (xs zs : List A) → Each ok xs zs → AreLines (map spaced (map fields zs))

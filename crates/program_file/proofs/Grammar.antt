@@ -7,10 +7,10 @@ use Rattle.program_lines.specs.Rows.{locals_of_row}
 use Rattle.program_file.specs.declared.draft.Due.{Due}
 use Rattle.program_file.specs.declared.draft.Due.TheVariants as due
 use Rattle.program_file.specs.declared.draft.Draft.{Draft}
-use Rattle.program_file.specs.Draft.{Takes, IsRow, IsCount, IsDue, Comes, Follows}
+use Rattle.program_file.specs.Draft.{TakesItem, IsRow, IsCount, IsDue, ProgramLineComes, ProgramLineFollows}
 
 -- a line that may come leads to one state
-takes-once : {A : Type 0} (IsItem : A → Type 0) (made : A → Draft) → ((x y : A) → IsItem x → IsItem y → x ≡ y) → (a b : Draft) → Takes IsItem made a → Takes IsItem made b → a ≡ b
+takes-once : {A : Type 0} (IsItem : A → Type 0) (made : A → Draft) → ((x y : A) → IsItem x → IsItem y → x ≡ y) → (a b : Draft) → TakesItem IsItem made a → TakesItem IsItem made b → a ≡ b
 takes-once IsItem made one a b p q = p.2 ∙ ap made (one p.0 q.0 p.1 q.1) ∙ sym q.2
 
 row-once : (row : List (List ℕ)) (next : Due) (d : Draft) (line : List ℕ) (a b : Draft) → IsRow row next d line a → IsRow row next d line b → a ≡ b
@@ -22,7 +22,7 @@ count-once word most line x y p q = some-is (sym p.reads ∙ q.reads)
 pub due-once : (d : Draft) (g h : Head) → IsDue d g → IsDue d h → g ≡ h
 due-once d g h p q = some-is (sym p ∙ q)
 
-comes-once : (next : Due) (d : Draft) (line : List ℕ) (a b : Draft) → Comes next d line a → Comes next d line b → a ≡ b
+comes-once : (next : Due) (d : Draft) (line : List ℕ) (a b : Draft) → ProgramLineComes next d line a → ProgramLineComes next d line b → a ≡ b
 comes-once due.Title d line a b p q = row-once (counted (codes "cbi-program") 1) due.Texts d line a b p q
 comes-once due.Texts d line a b p q = takes-once _ _ (count-once _ _ line) a b p q
 comes-once due.Text d line a b p q = takes-once _ _ (λ x y s t. ap (λ bs. record { bytes = bs }) (some-is (sym s.reads ∙ t.reads))) a b p q
@@ -40,5 +40,5 @@ comes-once due.Node d line a b p q =
 comes-once due.End d line a b p q = row-once end_row due.Nothing d line a b p q
 comes-once due.Nothing d line a b p q = absurd p
 
-pub follows-once : (d : Draft) (line : List ℕ) (a b : Draft) → Follows d line a → Follows d line b → a ≡ b
+pub follows-once : (d : Draft) (line : List ℕ) (a b : Draft) → ProgramLineFollows d line a → ProgramLineFollows d line b → a ≡ b
 follows-once d line a b p q = comes-once d.due d line a b p q

@@ -12,7 +12,7 @@ use Rattle.flow.specs.Spelling.{Head, head_fields, text_fields, global_fields, s
 use Rattle.program_file.specs.declared.draft.Due.{Due}
 use Rattle.program_file.specs.declared.draft.Due.TheVariants as due
 use Rattle.program_file.specs.declared.draft.Draft.{Draft}
-use Rattle.program_file.specs.Draft.{Comes, Follows, with_text_count, with_text, with_global_count, with_global, with_head, with_function, function_with}
+use Rattle.program_file.specs.Draft.{ProgramLineComes, ProgramLineFollows, with_text_count, with_text, with_global_count, with_global, with_head, with_function, function_with}
 use Rattle.program_lines.proofs.RowReads.{count_of-spelled, text_of_row-spelled, head_of_row-spelled, locals_of_row-spelled}
 use Rattle.program_lines.proofs.CellReads.{global_of_row-spelled}
 use Rattle.program_lines.proofs.SiteReads.{site_of_row-spelled}
@@ -83,10 +83,6 @@ pub record RowTaken (next : Due) (d : Draft) (line : List ℕ) (after : Draft) :
   pub line_is : line ≡ spaced row
   pub rows_are : rows_so_far after.due after ≡ rows_so_far next d ++ row ∷ []
 
-count-rows : (front : Rows) (count : ℕ) (b : Bool) (item past : Due) (rows : Due → Rows) (row : List (List ℕ)) → rows item ≡ front ++ row ∷ [] → (b ≡ true → rows past ≡ front ++ row ∷ []) → rows (cond b past item) ≡ front ++ row ∷ []
-count-rows front count true item past rows row more whole = whole refl
-count-rows front count false item past rows row more whole = more
-
 same-count : (count : ℕ) → (0 == count) ≡ true → count ≡ 0
 same-count count h = sym (eqb-true 0 count h)
 
@@ -118,7 +114,7 @@ row-taken next d line after made row is reads rows = record {
   rows_are = ap (λ (e : Draft). rows_so_far e.due e) is ∙ rows;
 }
 
-pub comes-row : (next : Due) (d : Draft) (line : List ℕ) (after : Draft) → Comes next d line after → RowTaken next d line after
+pub comes-row : (next : Due) (d : Draft) (line : List ℕ) (after : Draft) → ProgramLineComes next d line after → RowTaken next d line after
 comes-row due.Title d line after f = record { row = counted (codes "cbi-program") 1; line_is = f.0; rows_are = ap (λ (e : Draft). rows_so_far e.due e) f.1 }
 comes-row due.Texts d line after f =
     row-taken due.Texts d line after _ (counted (codes "texts") f.0) f.2 (count_of-spelled _ (fields_of line) f.0 f.1.reads)
@@ -178,7 +174,7 @@ pub record RowsTaken (from : Draft) (lines : List (List ℕ)) (to : Draft) : Typ
   pub lines_are : lines ≡ map spaced rows
   pub rows_are : rows_so_far to.due to ≡ rows_so_far from.due from ++ rows
 
-pub leads-rows : (from to : Draft) (lines : List (List ℕ)) → LeadsTo Follows from lines to → RowsTaken from lines to
+pub leads-rows : (from to : Draft) (lines : List (List ℕ)) → LeadsTo ProgramLineFollows from lines to → RowsTaken from lines to
 leads-rows from to [] leads = record {
   rows = [];
   lines_are = refl;

@@ -26,7 +26,7 @@ use Rattle.program_lines.specs.Sums.{bytes_in, cells_in, locals_in, nodes_in}
 use Rattle.program_file.specs.declared.draft.Due.{Due}
 use Rattle.program_file.specs.declared.draft.Due.TheVariants as due
 use Rattle.program_file.specs.declared.draft.Draft.{Draft}
-use Rattle.program_file.specs.Draft.{Comes, Follows, IsDue, IsHead, with_text_count, with_text, with_global_count, with_global, with_head, names_in, bounds_in, function_with, with_function, parts_in}
+use Rattle.program_file.specs.Draft.{ProgramLineComes, ProgramLineFollows, IsDue, IsHead, with_text_count, with_text, with_global_count, with_global, with_head, names_in, bounds_in, function_with, with_function, parts_in}
 use Rattle.program_lines.proofs.RowReads.{locals_of_row-spelled}
 
 -- the heads of functions
@@ -238,7 +238,7 @@ closed d h nodes s is_due locals count full fit =
       },
     )
 
-pub comes-sound : (next : Due) (d : Draft) (line : List ℕ) (after : Draft) → Comes next d line after → Sound next d → Sound after.due after
+pub comes-sound : (next : Due) (d : Draft) (line : List ℕ) (after : Draft) → ProgramLineComes next d line after → Sound next d → Sound after.due after
 comes-sound due.Title d line after f s = moved after _ f.1 tt
 comes-sound due.Texts d line after f s =
     moved after _ f.2 (by-due (0 == f.0) due.Text due.Globals (λ u. Sound u (with_text_count d f.0)) (λ _. no-texts) (λ _. (f.1.few, no-texts)))
@@ -284,7 +284,7 @@ comes-sound due.Node d line after f s =
 comes-sound due.End d line after f s = moved after _ f.1 s
 comes-sound due.Nothing d line after f s = absurd f
 
-pub leads-sound : (from to : Draft) (lines : List (List ℕ)) → LeadsTo Follows from lines to → Sound from.due from → Sound to.due to
+pub leads-sound : (from to : Draft) (lines : List (List ℕ)) → LeadsTo ProgramLineFollows from lines to → Sound from.due from → Sound to.due to
 leads-sound from to [] leads s = subst (λ (e : Draft). Sound e.due e) leads s
 leads-sound from to (line ∷ lines) leads s = leads-sound leads.0 to lines leads.2 (comes-sound from.due from line leads.0 leads.1 s)
 

@@ -20,12 +20,12 @@ use Rattle.flow.specs.declared.program.ProgramParts.{ProgramParts}
 use Rattle.flow.specs.declared.site.Site.{Site}
 use Rattle.flow.specs.Limits.{function_limit}
 use Rattle.flow.specs.Program.{AreSites, IsFunction, IsProgram, names_of, bounds_of, is_size}
-use Rattle.flow.specs.Spelling.{Head, head_of, head_fields, text_fields, global_fields, site_fields, body_rows, counted, whole_list, end_row, rows_of, SpellsProgram}
+use Rattle.flow.specs.Spelling.{Head, head_of, head_fields, text_fields, global_fields, site_fields, body_rows, counted, whole_list, end_row, program_rows, SpellsProgram}
 use Rattle.program_lines.specs.Rows.{count_of}
 use Rattle.program_file.specs.declared.draft.Due.{Due}
 use Rattle.program_file.specs.declared.draft.Due.TheVariants as due
 use Rattle.program_file.specs.declared.draft.Draft.{Draft}
-use Rattle.program_file.specs.Draft.{Follows, IsWhole, IsHead, due_after, names_in, parts_in, empty}
+use Rattle.program_file.specs.Draft.{ProgramLineFollows, IsWhole, IsHead, due_after, names_in, parts_in, empty}
 use Rattle.program_lines.proofs.RowReads.{count_of-fields, are_fields-count}
 use Rattle.program_file.proofs.Grammar.{follows-once}
 use Rattle.program_file.proofs.RowsSoFar.{leads-rows, rows_so_far}
@@ -34,7 +34,7 @@ use Rattle.program_file.proofs.Chain.{row-fields, leads-append, leads-one, text-
 use Rattle.program_lines.proofs.SmallNodes.{AreSmallNames}
 
 -- what is read whole is spelled so
-pub whole-spelled : (start end : Draft) (text : List ℕ) → start.due ≡ due.Title → ReadsLines Follows IsWhole start text end → SpellsProgram text (parts_in end)
+pub whole-spelled : (start end : Draft) (text : List ℕ) → start.due ≡ due.Title → ReadsLines ProgramLineFollows IsWhole start text end → SpellsProgram text (parts_in end)
 whole-spelled start end text starts reads =
     let taken = leads-rows start end reads.lines reads.leads in
     let none : rows_so_far start.due start ≡ [] = ap (λ u. rows_so_far u start) starts in
@@ -46,7 +46,7 @@ whole-spelled start end text starts reads =
       text_is = reads.text_is ∙ ap text_of taken.lines_are ∙ ap (λ rs. text_of (map spaced rs)) (sym rows ∙ as-rows end heads);
     }
   where
-    as-rows : (d : Draft) → d.heads ≡ map head_of d.functions → rows_so_far due.Nothing d ≡ rows_of (parts_in d)
+    as-rows : (d : Draft) → d.heads ≡ map head_of d.functions → rows_so_far due.Nothing d ≡ program_rows (parts_in d)
     as-rows d heads = ap (λ hs. ((counted (codes "cbi-program") 1 ∷ whole_list (codes "texts") text_fields d.texts) ++ whole_list (codes "globals") global_fields d.globals ++ whole_list (codes "functions") head_fields hs ++ (counted (codes "main") d.main ∷ []) ++ whole_list (codes "sites") site_fields d.sites) ++ flat_map body_rows d.functions ++ (end_row ∷ [])) heads
 
 -- the heads of a program's functions
@@ -97,8 +97,8 @@ full-due : (n : ℕ) (item past : Due) → due_after n n item past ≡ past
 full-due n item past = ap (λ b. cond b past item) (eq-eqb n n refl)
 
 -- a list: the line of its count, and those of its items
-part : (from first last to : Draft) (word : List ℕ) (fields : List (List (List ℕ))) (n : ℕ) → Follows from (spaced (counted word n)) first → LeadsTo Follows first (map spaced fields) last → last ≡ to → LeadsTo Follows from (map spaced (counted word n ∷ fields)) to
-part from first last to word fields n f leads same = (first, f, subst (λ e. LeadsTo Follows first (map spaced fields) e) same leads)
+part : (from first last to : Draft) (word : List ℕ) (fields : List (List (List ℕ))) (n : ℕ) → ProgramLineFollows from (spaced (counted word n)) first → LeadsTo ProgramLineFollows first (map spaced fields) last → last ≡ to → LeadsTo ProgramLineFollows from (map spaced (counted word n ∷ fields)) to
+part from first last to word fields n f leads same = (first, f, subst (λ e. LeadsTo ProgramLineFollows first (map spaced fields) e) same leads)
 
 sizes-small : (sizes : List ℕ) → AllByRecursion (λ size. IsTrue (is_size size)) sizes → AllByRecursion (λ size. size ≤ greatest_u32) sizes
 sizes-small [] h = tt
@@ -132,7 +132,7 @@ abbrev pub whole : Heap → ProgramParts → Draft
 whole alloc p = record (closed alloc p) { due = due.Nothing }
 
 module _ (alloc : Heap) (p : ProgramParts) (is : IsProgram p) where
-  texts-part : LeadsTo Follows (empty alloc) (map spaced (counted (codes "cbi-program") 1 ∷ whole_list (codes "texts") text_fields p.texts)) (texted alloc p)
+  texts-part : LeadsTo ProgramLineFollows (empty alloc) (map spaced (counted (codes "cbi-program") 1 ∷ whole_list (codes "texts") text_fields p.texts)) (texted alloc p)
   texts-part = (
     (started alloc),
     (refl, refl),
@@ -142,7 +142,7 @@ module _ (alloc : Heap) (p : ProgramParts) (is : IsProgram p) where
         (ap (λ u. record (started alloc) { due = u; count = length p.texts; texts = p.texts }) (full-due (length p.texts) due.Text due.Globals)),
   )
 
-  globals-part : LeadsTo Follows (texted alloc p) (map spaced (whole_list (codes "globals") global_fields p.globals)) (globaled alloc p)
+  globals-part : LeadsTo ProgramLineFollows (texted alloc p) (map spaced (whole_list (codes "globals") global_fields p.globals)) (globaled alloc p)
   globals-part =
       part (texted alloc p) (global-state (texted alloc p) (length p.globals) []) (global-state (texted alloc p) (length p.globals) p.globals) (globaled alloc p) (codes "globals") (map global_fields p.globals) (length p.globals)
       (length p.globals, record { reads = count-reads (codes "globals") (length p.globals) refl (omega (arith, is.parts.globals.few)); few = is.parts.globals.few }, refl)
@@ -158,14 +158,14 @@ module _ (alloc : Heap) (p : ProgramParts) (is : IsProgram p) where
   head-begins : head-state (globaled alloc p) (length (heads p)) [] ≡ record (globaled alloc p) { due = due.Head; count = length (heads p); heads = [] }
   head-begins = ap (λ b. record (globaled alloc p) { due = cond b due.Main due.Head; count = length (heads p); heads = [] }) (not-full 0 (length (heads p)) heads-some)
 
-  heads-part : LeadsTo Follows (globaled alloc p) (map spaced (whole_list (codes "functions") head_fields (heads p))) (headed alloc p)
+  heads-part : LeadsTo ProgramLineFollows (globaled alloc p) (map spaced (whole_list (codes "functions") head_fields (heads p))) (headed alloc p)
   heads-part =
       part (globaled alloc p) (record (globaled alloc p) { due = due.Head; count = length (heads p); heads = [] }) (head-state (globaled alloc p) (length (heads p)) (heads p)) (headed alloc p) (codes "functions") (map head_fields (heads p)) (length (heads p))
       (length (heads p), record { counts = record { reads = count-reads (codes "functions") (length (heads p)) refl (omega (arith, heads-few)); few = heads-few }; some = omega (arith, heads-some) }, refl)
-      (subst (λ e. LeadsTo Follows e (map spaced (map head_fields (heads p))) (head-state (globaled alloc p) (length (heads p)) (heads p))) head-begins (heads-lead (globaled alloc p) (heads p) (heads-of p is)))
+      (subst (λ e. LeadsTo ProgramLineFollows e (map spaced (map head_fields (heads p))) (head-state (globaled alloc p) (length (heads p)) (heads p))) head-begins (heads-lead (globaled alloc p) (heads p) (heads-of p is)))
       (ap (λ u. record (globaled alloc p) { due = u; count = length (heads p); heads = heads p }) (full-due (length (heads p)) due.Head due.Main))
 
-  main-part : LeadsTo Follows (headed alloc p) (map spaced (counted (codes "main") p.main ∷ [])) (mained alloc p)
+  main-part : LeadsTo ProgramLineFollows (headed alloc p) (map spaced (counted (codes "main") p.main ∷ [])) (mained alloc p)
   main-part =
       let m = is.parts.main in
       let stands = slice_get-map head_of p.functions p.main m.0 m.1 in
@@ -181,7 +181,7 @@ module _ (alloc : Heap) (p : ProgramParts) (is : IsProgram p) where
     few_globals = omega (arith, is.parts.globals.few);
   }
 
-  sites-part : LeadsTo Follows (mained alloc p) (map spaced (whole_list (codes "sites") site_fields p.sites)) (opened alloc p)
+  sites-part : LeadsTo ProgramLineFollows (mained alloc p) (map spaced (whole_list (codes "sites") site_fields p.sites)) (opened alloc p)
   sites-part =
       let locals = map-map head_of (λ (h : Head). h.locals) p.functions in
       let are = subst (λ ls. AreSites ls (length p.globals) p.sites) (sym locals) is.parts.sites in
@@ -216,15 +216,15 @@ module _ (alloc : Heap) (p : ProgramParts) (is : IsProgram p) where
         is = subst (λ n. IsFunction n (length xs) z) (sym names-same) fits;
       }
 
-  functions-part : LeadsTo Follows (opened alloc p) (map spaced (flat_map body_rows p.functions)) (closed alloc p)
+  functions-part : LeadsTo ProgramLineFollows (opened alloc p) (map spaced (flat_map body_rows p.functions)) (closed alloc p)
   functions-part =
       let begin : function-state (opened alloc p) [] ≡ (opened alloc p) = ap (λ b. record (opened alloc p) { due = cond b due.End due.Locals }) (not-full 0 (length (heads p)) heads-some) in
       let end : function-state (opened alloc p) p.functions ≡ (closed alloc p) = ap (λ n. record (opened alloc p) { due = due_after n (length (heads p)) due.Locals due.End; functions = p.functions }) (sym (length-map head_of p.functions)) ∙ ap (λ u. record (opened alloc p) { due = u; functions = p.functions }) (full-due (length (heads p)) due.Locals due.End) in
       let leads = list-leads (λ f. map spaced (body_rows f)) (function-state (opened alloc p)) (FunctionComes (opened alloc p)) (function-step (opened alloc p)) [] p.functions (each-of (λ all. all ≡ p.functions) (FunctionComes (opened alloc p)) function-one [] p.functions refl) in
-      subst (λ ls. LeadsTo Follows (opened alloc p) ls (closed alloc p)) (sym (map-flat_map spaced body_rows p.functions))
-      (subst (λ e. LeadsTo Follows (opened alloc p) (flat_map (λ f. map spaced (body_rows f)) p.functions) e) end (subst (λ e. LeadsTo Follows e (flat_map (λ f. map spaced (body_rows f)) p.functions) (function-state (opened alloc p) p.functions)) begin leads))
+      subst (λ ls. LeadsTo ProgramLineFollows (opened alloc p) ls (closed alloc p)) (sym (map-flat_map spaced body_rows p.functions))
+      (subst (λ e. LeadsTo ProgramLineFollows (opened alloc p) (flat_map (λ f. map spaced (body_rows f)) p.functions) e) end (subst (λ e. LeadsTo ProgramLineFollows e (flat_map (λ f. map spaced (body_rows f)) p.functions) (function-state (opened alloc p) p.functions)) begin leads))
 
-  end-part : LeadsTo Follows (closed alloc p) (map spaced (end_row ∷ [])) (whole alloc p)
+  end-part : LeadsTo ProgramLineFollows (closed alloc p) (map spaced (end_row ∷ [])) (whole alloc p)
   end-part = leads-one (closed alloc p) (whole alloc p) (spaced end_row) (refl, refl)
 
 count-line : (word : List ℕ) (n : ℕ) → IsField word → n ≤ greatest_u32 → Lacks is_newline (spaced (counted word n))
@@ -235,7 +235,7 @@ bodies-lines [] h = tt
 bodies-lines (f ∷ fs) h = rows-append (body_rows f) (flat_map body_rows fs) h.0 (bodies-lines fs h.1)
 
 -- the lines of a program have no newline
-pub whole-lines : (alloc : Heap) (p : ProgramParts) → IsProgram p → AreLines (map spaced (rows_of p))
+pub whole-lines : (alloc : Heap) (p : ProgramParts) → IsProgram p → AreLines (map spaced (program_rows p))
 whole-lines alloc p is =
     let hs = map head_of p.functions in
     let a = counted (codes "cbi-program") 1 ∷ whole_list (codes "texts") text_fields p.texts in
@@ -256,7 +256,7 @@ whole-lines alloc p is =
     rows-append (a ++ b ++ c ++ d ++ e ++ f) g (rows-append (a ++ b ++ c ++ d ++ e) f (rows-append (a ++ b ++ c ++ d) e (rows-append (a ++ b ++ c) d (rows-append (a ++ b) c (rows-append a b a_lines b_lines) c_lines) d_lines) e_lines) f_lines) g_lines
 
 -- the lines of a program, by its parts
-pub whole-leads : (alloc : Heap) (p : ProgramParts) → IsProgram p → LeadsTo Follows (empty alloc) (map spaced (rows_of p)) (whole alloc p)
+pub whole-leads : (alloc : Heap) (p : ProgramParts) → IsProgram p → LeadsTo ProgramLineFollows (empty alloc) (map spaced (program_rows p)) (whole alloc p)
 whole-leads alloc p is =
     let a = counted (codes "cbi-program") 1 ∷ whole_list (codes "texts") text_fields p.texts in
     let b = whole_list (codes "globals") global_fields p.globals in
@@ -272,13 +272,13 @@ whole-leads alloc p is =
     let six = joined (empty alloc) (opened alloc p) (closed alloc p) (a ++ b ++ c ++ d ++ e) f five (functions-part alloc p is) in
     joined (empty alloc) (closed alloc p) (whole alloc p) (a ++ b ++ c ++ d ++ e ++ f) g six (end-part alloc p is)
   where
-    joined : (from via to : Draft) (x y : List (List (List ℕ))) → LeadsTo Follows from (map spaced x) via → LeadsTo Follows via (map spaced y) to → LeadsTo Follows from (map spaced (x ++ y)) to
-    joined from via to x y p q = subst (λ ls. LeadsTo Follows from ls to) (sym (map-append spaced x y)) (leads-append from via to (map spaced x) (map spaced y) p q)
+    joined : (from via to : Draft) (x y : List (List (List ℕ))) → LeadsTo ProgramLineFollows from (map spaced x) via → LeadsTo ProgramLineFollows via (map spaced y) to → LeadsTo ProgramLineFollows from (map spaced (x ++ y)) to
+    joined from via to x y p q = subst (λ ls. LeadsTo ProgramLineFollows from ls to) (sym (map-append spaced x y)) (leads-append from via to (map spaced x) (map spaced y) p q)
 
 -- the text of a program is read as it
-pub spelled-reads : (alloc : Heap) (text : List ℕ) (p : ProgramParts) → SpellsProgram text p → ReadsLines Follows IsWhole (empty alloc) text (whole alloc p)
+pub spelled-reads : (alloc : Heap) (text : List ℕ) (p : ProgramParts) → SpellsProgram text p → ReadsLines ProgramLineFollows IsWhole (empty alloc) text (whole alloc p)
 spelled-reads alloc text p spells = record {
-  lines = map spaced (rows_of p);
+  lines = map spaced (program_rows p);
   text_is = spells.text_is;
   are_lines = whole-lines alloc p spells.is_program;
   leads = whole-leads alloc p spells.is_program;
@@ -288,4 +288,4 @@ spelled-reads alloc text p spells = record {
 -- a text is that of one program
 pub one-program : (alloc : Heap) (text : List ℕ) (p q : ProgramParts) → SpellsProgram text p → SpellsProgram text q → p ≡ q
 one-program alloc text p q sp sq =
-    ap parts_in (reads-once Follows IsWhole follows-once (empty alloc) (whole alloc p) (whole alloc q) text (spelled-reads alloc text p sp) (spelled-reads alloc text q sq))
+    ap parts_in (reads-once ProgramLineFollows IsWhole follows-once (empty alloc) (whole alloc p) (whole alloc q) text (spelled-reads alloc text p sp) (spelled-reads alloc text q sq))

@@ -184,8 +184,8 @@ abbrev pub with_nodes : Draft → Head → List Node → Draft
 with_nodes d h nodes = if length nodes == h.nodes then with_function d (function_with h d.locals nodes) else record d { due = due.Node; nodes = nodes }
 
 -- an item of this kind was read, and the state is the one with it
-abbrev pub Takes : {A : Type 0} → (A → Type 0) → (A → Draft) → Draft → Type 0
-Takes {A} IsItem made after = (item : A) × IsItem item × (after ≡ made item)
+abbrev pub TakesItem : {A : Type 0} → (A → Type 0) → (A → Draft) → Draft → Type 0
+TakesItem {A} IsItem made after = (item : A) × IsItem item × (after ≡ made item)
 
 -- a line that is always the same
 abbrev pub IsRow : List (List ℕ) → Due → Draft → List ℕ → Draft → Type 0
@@ -199,24 +199,24 @@ abbrev pub with_placed : Draft → Head × Node → Draft
 with_placed d placed = with_nodes d placed.0 (d.nodes ++ placed.1 ∷ [])
 
 -- the line that is due
-abbrev pub Comes : Due → Draft → List ℕ → Draft → Type 0
-Comes due.Title d line after = IsRow (counted (codes "cbi-program") 1) due.Texts d line after
-Comes due.Texts d line after = Takes (IsCount (codes "texts") text_limit line) (with_text_count d) after
-Comes due.Text d line after = Takes (IsNextText d line) (with_text d) after
-Comes due.Globals d line after = Takes (IsCount (codes "globals") global_limit line) (with_global_count d) after
-Comes due.Global d line after = Takes (IsNextGlobal d line) (with_global d) after
-Comes due.Functions d line after = Takes (IsFunctionCount line) (with_function_count d) after
-Comes due.Head d line after = Takes (IsNextHead d line) (with_head d) after
-Comes due.Main d line after = Takes (IsNextMain d line) (with_main d) after
-Comes due.Sites d line after = Takes (IsCount (codes "sites") site_limit line) (with_site_count d) after
-Comes due.Site d line after = Takes (IsNextSite d line) (with_site d) after
-Comes due.Locals d line after = Takes (AreNextLocals d line) (with_locals d) after
-Comes due.Node d line after = Takes (IsNextPlaced d line) (with_placed d) after
-Comes due.End d line after = IsRow end_row due.Nothing d line after
-Comes due.Nothing d line after = ⊥
+abbrev pub ProgramLineComes : Due → Draft → List ℕ → Draft → Type 0
+ProgramLineComes due.Title d line after = IsRow (counted (codes "cbi-program") 1) due.Texts d line after
+ProgramLineComes due.Texts d line after = TakesItem (IsCount (codes "texts") text_limit line) (with_text_count d) after
+ProgramLineComes due.Text d line after = TakesItem (IsNextText d line) (with_text d) after
+ProgramLineComes due.Globals d line after = TakesItem (IsCount (codes "globals") global_limit line) (with_global_count d) after
+ProgramLineComes due.Global d line after = TakesItem (IsNextGlobal d line) (with_global d) after
+ProgramLineComes due.Functions d line after = TakesItem (IsFunctionCount line) (with_function_count d) after
+ProgramLineComes due.Head d line after = TakesItem (IsNextHead d line) (with_head d) after
+ProgramLineComes due.Main d line after = TakesItem (IsNextMain d line) (with_main d) after
+ProgramLineComes due.Sites d line after = TakesItem (IsCount (codes "sites") site_limit line) (with_site_count d) after
+ProgramLineComes due.Site d line after = TakesItem (IsNextSite d line) (with_site d) after
+ProgramLineComes due.Locals d line after = TakesItem (AreNextLocals d line) (with_locals d) after
+ProgramLineComes due.Node d line after = TakesItem (IsNextPlaced d line) (with_placed d) after
+ProgramLineComes due.End d line after = IsRow end_row due.Nothing d line after
+ProgramLineComes due.Nothing d line after = ⊥
 
-abbrev pub Follows : Draft → List ℕ → Draft → Type 0
-Follows d line after = Comes d.due d line after
+abbrev pub ProgramLineFollows : Draft → List ℕ → Draft → Type 0
+ProgramLineFollows d line after = ProgramLineComes d.due d line after
 
 -- the text may end where nothing more is due
 abbrev pub IsWhole : Draft → Type 0

@@ -20,13 +20,13 @@ item_of (Ok (Some item)) = Ok item
 item_of (Err e) = Err line.Memory
 
 -- the answer is this program, unless memory ran out
-abbrev pub ReadAs : Result ProgramParts ProgramError → ProgramParts → Type 0
-ReadAs (Ok p) want = p ≡ want
-ReadAs (Err (BadProgram line)) want = ⊥
-ReadAs (Err Memory) want = Unit {0}
+abbrev pub ProgramReadAs : Result ProgramParts ProgramError → ProgramParts → Type 0
+ProgramReadAs (Ok p) want = p ≡ want
+ProgramReadAs (Err (BadProgram line)) want = ⊥
+ProgramReadAs (Err Memory) want = Unit {0}
 
 -- the bytes are refused at this line, unless memory ran out
-abbrev pub RefusedAt : Result ProgramParts ProgramError → ℕ → Type 0
-RefusedAt (Ok p) line = ⊥
-RefusedAt (Err (BadProgram bad)) line = bad ≡ line
-RefusedAt (Err Memory) line = Unit {0}
+abbrev pub ProgramRefusedAt : Result ProgramParts ProgramError → ℕ → Type 0
+ProgramRefusedAt (Ok p) line = ⊥
+ProgramRefusedAt (Err (BadProgram bad)) line = bad ≡ line
+ProgramRefusedAt (Err Memory) line = Unit {0}

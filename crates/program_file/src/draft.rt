@@ -2,7 +2,10 @@ ghost use Rattle.std.specs.Prelude.{◌≡◌, codes, length, OnOk};
 ghost use Rattle.cbi_base.specs.LineFaults.{TakenWith};
 ghost use Rattle.flow.specs.Limits.{text_limit, global_limit, site_limit};
 ghost use Rattle.flow.specs.Spelling.{Head};
-ghost use Rattle.program_file.specs.Draft.{Takes, IsCount, IsFunctionCount, IsNextText, IsNextGlobal, IsNextHead, IsNextMain, IsNextSite, AreNextLocals, IsNextPlaced, IsDue, with_nodes, parts_in, empty, due_after, with_text_count, with_text, with_global_count, with_global, with_function_count, with_head, with_main, with_site_count, with_sites, with_site, with_locals, with_placed};
+ghost use Rattle.program_file.specs.Draft.{TakesItem, IsCount, IsFunctionCount, IsNextText, IsNextGlobal, IsNextHead, IsNextMain, IsNextSite};
+ghost use Rattle.program_file.specs.Draft.{AreNextLocals, IsNextPlaced, IsDue, with_nodes, parts_in, empty, due_after, with_text_count, with_text};
+ghost use Rattle.program_file.specs.Draft.{with_global_count, with_global, with_function_count, with_head, with_main, with_site_count, with_sites};
+ghost use Rattle.program_file.specs.Draft.{with_site, with_locals, with_placed};
 ghost use Rattle.program_file.specs.declared.draft.Due.TheVariants as due;
 ghost use Rattle.program_file.specs.declared.draft.Draft.{Draft};
 
@@ -117,8 +120,9 @@ impl Draft {
 
     // How many texts there are.
     fn take_text_count(&mut self, line: &[u8]) -> Result<(), LineError>
-        ensures ok { OnOk result (Takes (IsCount (codes "texts") text_limit line.now) (with_text_count self.old) self.new) }
-        ensures only { (next : Draft) → Takes (IsCount (codes "texts") text_limit line.now) (with_text_count self.old) next → TakenWith result (self.new ≡ next) }
+        ensures ok { OnOk result (TakesItem (IsCount (codes "texts") text_limit line.now) (with_text_count self.old) self.new) }
+        ensures only { (next : Draft) → TakesItem (IsCount (codes "texts") text_limit line.now) (with_text_count self.old) next
+            → TakenWith result (self.new ≡ next) }
     {
         let count = match self.next_text_count(line) {
             Ok(count) => count,
@@ -132,8 +136,8 @@ impl Draft {
 
     // The next text.
     fn take_text(&mut self, line: &[u8]) -> Result<(), LineError>
-        ensures ok { OnOk result (Takes (IsNextText self.old line.now) (with_text self.old) self.new) }
-        ensures only { (next : Draft) → Takes (IsNextText self.old line.now) (with_text self.old) next → TakenWith result (self.new ≡ next) }
+        ensures ok { OnOk result (TakesItem (IsNextText self.old line.now) (with_text self.old) self.new) }
+        ensures only { (next : Draft) → TakesItem (IsNextText self.old line.now) (with_text self.old) next → TakenWith result (self.new ≡ next) }
     {
         let count = self.count;
         let text = match self.next_text(line) {
@@ -149,8 +153,9 @@ impl Draft {
 
     // How many globals there are.
     fn take_global_count(&mut self, line: &[u8]) -> Result<(), LineError>
-        ensures ok { OnOk result (Takes (IsCount (codes "globals") global_limit line.now) (with_global_count self.old) self.new) }
-        ensures only { (next : Draft) → Takes (IsCount (codes "globals") global_limit line.now) (with_global_count self.old) next → TakenWith result (self.new ≡ next) }
+        ensures ok { OnOk result (TakesItem (IsCount (codes "globals") global_limit line.now) (with_global_count self.old) self.new) }
+        ensures only { (next : Draft) → TakesItem (IsCount (codes "globals") global_limit line.now) (with_global_count self.old) next
+            → TakenWith result (self.new ≡ next) }
     {
         let count = match self.next_global_count(line) {
             Ok(count) => count,
@@ -164,8 +169,8 @@ impl Draft {
 
     // The next global.
     fn take_global(&mut self, line: &[u8]) -> Result<(), LineError>
-        ensures ok { OnOk result (Takes (IsNextGlobal self.old line.now) (with_global self.old) self.new) }
-        ensures only { (next : Draft) → Takes (IsNextGlobal self.old line.now) (with_global self.old) next → TakenWith result (self.new ≡ next) }
+        ensures ok { OnOk result (TakesItem (IsNextGlobal self.old line.now) (with_global self.old) self.new) }
+        ensures only { (next : Draft) → TakesItem (IsNextGlobal self.old line.now) (with_global self.old) next → TakenWith result (self.new ≡ next) }
     {
         let count = self.count;
         let global = match self.next_global(line) {
@@ -181,8 +186,8 @@ impl Draft {
 
     // How many functions there are.
     fn take_function_count(&mut self, line: &[u8]) -> Result<(), LineError>
-        ensures ok { OnOk result (Takes (IsFunctionCount line.now) (with_function_count self.old) self.new) }
-        ensures only { (next : Draft) → Takes (IsFunctionCount line.now) (with_function_count self.old) next → TakenWith result (self.new ≡ next) }
+        ensures ok { OnOk result (TakesItem (IsFunctionCount line.now) (with_function_count self.old) self.new) }
+        ensures only { (next : Draft) → TakesItem (IsFunctionCount line.now) (with_function_count self.old) next → TakenWith result (self.new ≡ next) }
     {
         let count = match self.next_function_count(line) {
             Ok(count) => count,
@@ -196,8 +201,8 @@ impl Draft {
 
     // The head of the next function.
     fn take_head(&mut self, line: &[u8]) -> Result<(), LineError>
-        ensures ok { OnOk result (Takes (IsNextHead self.old line.now) (with_head self.old) self.new) }
-        ensures only { (next : Draft) → Takes (IsNextHead self.old line.now) (with_head self.old) next → TakenWith result (self.new ≡ next) }
+        ensures ok { OnOk result (TakesItem (IsNextHead self.old line.now) (with_head self.old) self.new) }
+        ensures only { (next : Draft) → TakesItem (IsNextHead self.old line.now) (with_head self.old) next → TakenWith result (self.new ≡ next) }
     {
         let count = self.count;
         let head = match self.next_head(line) {
@@ -213,8 +218,8 @@ impl Draft {
 
     // The function that a run enters.
     fn take_main(&mut self, line: &[u8]) -> Result<(), LineError>
-        ensures ok { OnOk result (Takes (IsNextMain self.old line.now) (with_main self.old) self.new) }
-        ensures only { (next : Draft) → Takes (IsNextMain self.old line.now) (with_main self.old) next → TakenWith result (self.new ≡ next) }
+        ensures ok { OnOk result (TakesItem (IsNextMain self.old line.now) (with_main self.old) self.new) }
+        ensures only { (next : Draft) → TakesItem (IsNextMain self.old line.now) (with_main self.old) next → TakenWith result (self.new ≡ next) }
     {
         let main = match self.next_main(line) {
             Ok(main) => main,
@@ -227,8 +232,8 @@ impl Draft {
 
     // The sizes of the locals of the next function.
     fn take_locals(&mut self, line: &[u8]) -> Result<(), LineError>
-        ensures ok { OnOk result (Takes (AreNextLocals self.old line.now) (with_locals self.old) self.new) }
-        ensures only { (next : Draft) → Takes (AreNextLocals self.old line.now) (with_locals self.old) next → TakenWith result (self.new ≡ next) }
+        ensures ok { OnOk result (TakesItem (AreNextLocals self.old line.now) (with_locals self.old) self.new) }
+        ensures only { (next : Draft) → TakesItem (AreNextLocals self.old line.now) (with_locals self.old) next → TakenWith result (self.new ≡ next) }
     {
         let sizes = match self.next_locals(line) {
             Ok(sizes) => sizes,
@@ -262,8 +267,9 @@ impl Draft {
 
     // How many sites there are.
     fn take_site_count(&mut self, line: &[u8]) -> Result<(), LineError>
-        ensures ok { OnOk result (Takes (IsCount (codes "sites") site_limit line.now) (with_site_count self.old) self.new) }
-        ensures only { (next : Draft) → Takes (IsCount (codes "sites") site_limit line.now) (with_site_count self.old) next → TakenWith result (self.new ≡ next) }
+        ensures ok { OnOk result (TakesItem (IsCount (codes "sites") site_limit line.now) (with_site_count self.old) self.new) }
+        ensures only { (next : Draft) → TakesItem (IsCount (codes "sites") site_limit line.now) (with_site_count self.old) next
+            → TakenWith result (self.new ≡ next) }
     {
         let count = match self.next_site_count(line) {
             Ok(count) => count,
@@ -279,8 +285,8 @@ impl Draft {
 
     // The next site.
     fn take_site(&mut self, line: &[u8]) -> Result<(), LineError>
-        ensures ok { OnOk result (Takes (IsNextSite self.old line.now) (with_site self.old) self.new) }
-        ensures only { (next : Draft) → Takes (IsNextSite self.old line.now) (with_site self.old) next → TakenWith result (self.new ≡ next) }
+        ensures ok { OnOk result (TakesItem (IsNextSite self.old line.now) (with_site self.old) self.new) }
+        ensures only { (next : Draft) → TakesItem (IsNextSite self.old line.now) (with_site self.old) next → TakenWith result (self.new ≡ next) }
     {
         let site = match self.next_site(line) {
             Ok(site) => site,
@@ -297,8 +303,8 @@ impl Draft {
 
     // The next node of the function in progress.
     fn take_node(&mut self, line: &[u8]) -> Result<(), LineError>
-        ensures ok { OnOk result (Takes (IsNextPlaced self.old line.now) (with_placed self.old) self.new) }
-        ensures only { (next : Draft) → Takes (IsNextPlaced self.old line.now) (with_placed self.old) next → TakenWith result (self.new ≡ next) }
+        ensures ok { OnOk result (TakesItem (IsNextPlaced self.old line.now) (with_placed self.old) self.new) }
+        ensures only { (next : Draft) → TakesItem (IsNextPlaced self.old line.now) (with_placed self.old) next → TakenWith result (self.new ≡ next) }
     {
         let node = match self.next_node(line) {
             Ok(node) => node,
@@ -350,9 +356,9 @@ impl Draft {
 }
 
 impl LineReader for Draft {
-    ghost use Rattle.program_file.specs.Draft.{Follows, IsWhole};
+    ghost use Rattle.program_file.specs.Draft.{IsWhole, ProgramLineFollows};
 
-    ghost follows = { Follows };
+    ghost follows = { ProgramLineFollows };
 
     ghost ends = { IsWhole };
 

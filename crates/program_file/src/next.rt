@@ -7,7 +7,8 @@ ghost use Rattle.flow.specs.declared.node.Node.{Node};
 ghost use Rattle.flow.specs.declared.program.Global.{Global};
 ghost use Rattle.flow.specs.declared.program.Text.{Text};
 ghost use Rattle.flow.specs.declared.site.Site.{Site};
-ghost use Rattle.program_file.specs.Draft.{IsCount, IsFunctionCount, IsNextText, IsNextGlobal, IsNextHead, IsNextMain, IsNextSite, AreNextLocals, IsNextNode, IsHead};
+ghost use Rattle.program_file.specs.Draft.{IsCount, IsFunctionCount, IsNextText, IsNextGlobal, IsNextHead, IsNextMain, IsNextSite, AreNextLocals};
+ghost use Rattle.program_file.specs.Draft.{IsNextNode, IsHead};
 ghost use Rattle.program_file.specs.Errors.{TakenAs, item_of};
 
 use crate::draft::Draft;

@@ -1,7 +1,7 @@
 ghost use Rattle.std.specs.Prelude.{◌≡◌, ℕ, List, IfOk, Err};
 ghost use Rattle.flow.specs.Spelling.{SpellsProgram};
 ghost use Rattle.flow.specs.declared.program.ProgramParts.{ProgramParts};
-ghost use Rattle.program_file.specs.Errors.{ReadAs, RefusedAt};
+ghost use Rattle.program_file.specs.Errors.{ProgramReadAs, ProgramRefusedAt};
 ghost use Rattle.program_file.specs.WrongLine.{IsWrongAt};
 ghost use Rattle.program_file.specs.declared.error.ProgramError.TheVariants as error;
 
@@ -16,11 +16,11 @@ pub fn read_program(alloc: Global, bytes: &[u8]) -> Result<Program, ProgramError
     // What is read is spelled so.
     ensures found { IfOk result (λ p. SpellsProgram bytes.now p) }
     // What is spelled so is read, unless memory runs out: so a text is refused exactly where no program spells it.
-    ensures only { (p : ProgramParts) → SpellsProgram bytes.now p → ReadAs result p }
+    ensures only { (p : ProgramParts) → SpellsProgram bytes.now p → ProgramReadAs result p }
     // A refusal names the line at which the text goes wrong.
     ensures line { (line : ℕ) → result ≡ Err (error.BadProgram line) → IsWrongAt bytes.now line }
     // A text that goes wrong at a line is refused there, unless memory runs out.
-    ensures wrong { (line : ℕ) → IsWrongAt bytes.now line → RefusedAt result line }
+    ensures wrong { (line : ℕ) → IsWrongAt bytes.now line → ProgramRefusedAt result line }
 {
     let mut draft = Draft::new(alloc);
     match read_lines(&mut draft, bytes) {

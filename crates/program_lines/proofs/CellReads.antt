@@ -15,7 +15,7 @@ use Rattle.cbi_base.proofs.FieldLemmas.{IsField-decimal, IsField-signed, decimal
 use Rattle.cbi_base.proofs.NumberLemmas.{chosen, mapped, bound, both, some-is, same-word, number_of-spelled, signed_of-spelled, signed_of-signed, small-read}
 use Rattle.flow.specs.declared.program.Cell.{Cell}
 use Rattle.flow.specs.declared.program.Cell.TheVariants.{Number, Null, Text}
-use Rattle.flow.specs.Spelling.{Run, kind_word, cell_word, same_kind, same_cell, with_cell, runs_of, run_word}
+use Rattle.flow.specs.Spelling.{Run, kind_word, cell_word, same_kind, same_cell, with_cell, cell_runs, run_word}
 use Rattle.program_lines.specs.CellRuns.{is_colon, cut_at_colon, lettered, cell_of, run_of, differs, may_come, cells_of, global_of_row}
 
 -- the values of cells, compared
@@ -140,9 +140,9 @@ first-differs last [] = true
 first-differs last (run ∷ runs) = differs last run.cell
 
 -- equal cells in front of runs that begin otherwise are one run
-runs-replicate : (count : ℕ) (c : Cell) (cells : List Cell) → first-differs (Some c) (runs_of cells) ≡ true → runs_of (replicate (suc count) c ++ cells) ≡ record { count = suc count; cell = c } ∷ runs_of cells
+runs-replicate : (count : ℕ) (c : Cell) (cells : List Cell) → first-differs (Some c) (cell_runs cells) ≡ true → cell_runs (replicate (suc count) c ++ cells) ≡ record { count = suc count; cell = c } ∷ cell_runs cells
 unfolding first-differs
-runs-replicate zero c cells h = in-front (runs_of cells) h
+runs-replicate zero c cells h = in-front (cell_runs cells) h
   where
     other : (a : Bool) → not a ≡ true → a ≡ false
     other true h = cc
@@ -155,14 +155,14 @@ runs-replicate zero c cells h = in-front (runs_of cells) h
     in-front [] h = refl
     in-front (run ∷ runs) h = rw (turned run.cell h) refl
 runs-replicate (suc count) c cells h =
-    ap (with_cell c) (runs-replicate count c cells h) ∙ rw (same_cell-refl c) (ap (λ n. record { count = n; cell = c } ∷ runs_of cells) (add-one (suc count)))
+    ap (with_cell c) (runs-replicate count c cells h) ∙ rw (same_cell-refl c) (ap (λ n. record { count = n; cell = c } ∷ cell_runs cells) (add-one (suc count)))
 
 -- what is read of runs is spelled by runs
 pub cells_of-spelled : (room : ℕ) (last : Option Cell) (fields : List (List ℕ)) (cells : List Cell) → cells_of room last fields ≡ Some cells
-    → (fields ≡ map run_word (runs_of cells)) × (first-differs last (runs_of cells) ≡ true) × (length cells ≤ room)
+    → (fields ≡ map run_word (cell_runs cells)) × (first-differs last (cell_runs cells) ≡ true) × (length cells ≤ room)
 unfolding first-differs
 cells_of-spelled room last [] cells h =
-    subst (λ cs. ([] ≡ map run_word (runs_of cs)) × (first-differs last (runs_of cs) ≡ true) × (length cs ≤ room)) (some-is h) (refl, refl, omega arith)
+    subst (λ cs. ([] ≡ map run_word (cell_runs cs)) × (first-differs last (cell_runs cs) ≡ true) × (length cs ≤ room)) (some-is h) (refl, refl, omega arith)
 cells_of-spelled room last (field ∷ fields) cells h =
     bound _ (run_of field) cells h (λ run is_run h.
     chosen (may_come room last run) _ _ cells h (λ test h.
@@ -171,17 +171,17 @@ cells_of-spelled room last (field ∷ fields) cells h =
     let counts = both (nat_le 1 run.count) (nat_le run.count room) parts.0 in
     let more = cells_of-spelled (room - run.count) (Some run.cell) fields rest is_rest in
     let runs = whole run.count run.cell rest (leb-true 1 run.count counts.0) more.1 in
-    subst (λ cs. (field ∷ fields ≡ map run_word (runs_of cs)) × (first-differs last (runs_of cs) ≡ true) × (length cs ≤ room)) same (
+    subst (λ cs. (field ∷ fields ≡ map run_word (cell_runs cs)) × (first-differs last (cell_runs cs) ≡ true) × (length cs ≤ room)) same (
       ap (λ f. f ∷ fields) (run_of-spelled field run is_run) ∙ ap (λ fs. run_word run ∷ fs) more.0 ∙ ap (map run_word) (sym runs),
       ap (first-differs last) runs ∙ parts.1,
       omega (arith, length-append {A = Cell} (replicate run.count run.cell) rest, length-replicate run.count run.cell, more.2, leb-true run.count room counts.1),
     ))) (λ _ none. absurd cc))
   where
-    whole : (count : ℕ) (c : Cell) (rest : List Cell) → 1 ≤ count → first-differs (Some c) (runs_of rest) ≡ true → runs_of (replicate count c ++ rest) ≡ record { count = count; cell = c } ∷ runs_of rest
+    whole : (count : ℕ) (c : Cell) (rest : List Cell) → 1 ≤ count → first-differs (Some c) (cell_runs rest) ≡ true → cell_runs (replicate count c ++ rest) ≡ record { count = count; cell = c } ∷ cell_runs rest
     whole zero c rest some h = absurd (omega arith)
     whole (suc n) c rest some h = runs-replicate n c rest h
 
-pub global_of_row-spelled : (room : ℕ) (fields : List (List ℕ)) (cells : List Cell) → global_of_row room fields ≡ Some cells → (fields ≡ codes "global" ∷ map run_word (runs_of cells)) × (length cells ≤ room)
+pub global_of_row-spelled : (room : ℕ) (fields : List (List ℕ)) (cells : List Cell) → global_of_row room fields ≡ Some cells → (fields ≡ codes "global" ∷ map run_word (cell_runs cells)) × (length cells ≤ room)
 global_of_row-spelled room [] cells h = absurd cc
 global_of_row-spelled room (word ∷ fields) cells h =
     chosen (is_word word (codes "global")) _ _ cells h (λ test is.
@@ -212,10 +212,10 @@ runs-are c (run ∷ runs) = by (same_cell c run.cell) refl
     by true h = ap (λ n. replicate n run.cell ++ cells_in_runs runs) (add-one run.count) ∙ ap (λ d. d ∷ replicate run.count run.cell ++ cells_in_runs runs) (sym (same_cell-is c run.cell h))
     by false h = refl
 
-all-runs : (cells : List Cell) → cells_in_runs (runs_of cells) ≡ cells
+all-runs : (cells : List Cell) → cells_in_runs (cell_runs cells) ≡ cells
 unfolding cells_in_runs
 all-runs [] = refl
-all-runs (c ∷ cells) = runs-are c (runs_of cells) ∙ ap (λ cs. c ∷ cs) (all-runs cells)
+all-runs (c ∷ cells) = runs-are c (cell_runs cells) ∙ ap (λ cs. c ∷ cs) (all-runs cells)
 
 more-room : (room more : ℕ) (last : Option Cell) (runs : List Run) → room ≤ more → AreRuns room last runs → AreRuns more last runs
 unfolding AreRuns
@@ -250,14 +250,14 @@ with-are c room (run ∷ runs) small few are = by (same_cell c run.cell) refl
         let next : AreRuns room (Some c) (run ∷ runs) = any-last room (Some c) (run ∷ runs) (ap not h) are in
         (rw one refl, (small, omega arith), subst (λ r. AreRuns r (Some c) (run ∷ runs)) (omega arith) next)
 
-runs-good : (cells : List Cell) → AllByRecursion IsSmallCell cells → length cells ≤ greatest_u32 → AreRuns (length cells) None (runs_of cells)
+runs-good : (cells : List Cell) → AllByRecursion IsSmallCell cells → length cells ≤ greatest_u32 → AreRuns (length cells) None (cell_runs cells)
 unfolding AreRuns
 runs-good [] all few = tt
-runs-good (c ∷ cells) all few = with-are c (length cells) (runs_of cells) all.0 few (runs-good cells all.1 (omega arith))
+runs-good (c ∷ cells) all few = with-are c (length cells) (cell_runs cells) all.0 few (runs-good cells all.1 (omega arith))
 
-pub global_of_row-fields : (room : ℕ) (cells : List Cell) → AllByRecursion IsSmallCell cells → length cells ≤ room → room ≤ greatest_u32 → global_of_row room (codes "global" ∷ map run_word (runs_of cells)) ≡ Some cells
+pub global_of_row-fields : (room : ℕ) (cells : List Cell) → AllByRecursion IsSmallCell cells → length cells ≤ room → room ≤ greatest_u32 → global_of_row room (codes "global" ∷ map run_word (cell_runs cells)) ≡ Some cells
 global_of_row-fields room cells all fits few =
-    cells_of-runs room None (runs_of cells) (more-room (length cells) room None (runs_of cells) fits (runs-good cells all (omega arith))) ∙ ap Some (all-runs cells)
+    cells_of-runs room None (cell_runs cells) (more-room (length cells) room None (cell_runs cells) fits (runs-good cells all (omega arith))) ∙ ap Some (all-runs cells)
 
 -- the words of runs have neither space nor newline
 is_field-append : (a b : List ℕ) → IsField a → IsField b → IsField (a ++ b)
@@ -283,5 +283,5 @@ is_field-runs room last (run ∷ runs) h = (
   is_field-runs (room - run.count) (Some run.cell) runs h.2,
 )
 
-pub are_fields-global : (cells : List Cell) → AllByRecursion IsSmallCell cells → length cells ≤ greatest_u32 → AllByRecursion IsField (codes "global" ∷ map run_word (runs_of cells))
-are_fields-global cells all few = (refl, is_field-runs (length cells) None (runs_of cells) (runs-good cells all few))
+pub are_fields-global : (cells : List Cell) → AllByRecursion IsSmallCell cells → length cells ≤ greatest_u32 → AllByRecursion IsField (codes "global" ∷ map run_word (cell_runs cells))
+are_fields-global cells all few = (refl, is_field-runs (length cells) None (cell_runs cells) (runs-good cells all few))

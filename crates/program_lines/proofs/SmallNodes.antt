@@ -13,7 +13,7 @@ use Rattle.flow.specs.declared.node.Node.TheVariants.{Push, Null, Local, Global,
 use Rattle.flow.specs.declared.scope.Names.{Names}
 use Rattle.flow.specs.declared.scope.Bounds.{Bounds}
 use Rattle.flow.specs.View.{view}
-use Rattle.flow.specs.Nodes.{node_fits, names_fit, leads_rightly, is_step, is_format, is_own, is_text, is_local}
+use Rattle.flow.specs.Nodes.{node_fits, names_fit, leads_rightly, is_node_step, is_format, is_own, has_text, is_local}
 use Rattle.program_lines.proofs.NodeReads.{IsSmall}
 
 -- the names that a node may use are few
@@ -49,7 +49,7 @@ wide Char value h = search rules
 wide Int value h = search rules
 wide Unsigned value h = search rules
 
-step-int : (value : ℤ) → is_step value ≡ true → IsTrue (lies_in Int value)
+step-int : (value : ℤ) → is_node_step value ≡ true → IsTrue (lies_in Int value)
 step-int value h = search rules
 
 within-limit : (n least most : ℕ) → most ≤ greatest_u32 → (nat_le least n && nat_le n most) ≡ true → n ≤ greatest_u32
@@ -99,7 +99,7 @@ small-fits names bounds place (Mark site next) s h = let p = fit-parts names bou
 small-fits names bounds place (Test site next) s h = let p = fit-parts names bounds place (Test site next) h in (of-some names.owners site (slice_get names.owners site) refl s.sites (own-is bounds (slice_get names.owners site) p.0), one-next next bounds.nodes _ s.nodes p.1)
 small-fits names bounds place (Skip by next) s h = let p = fit-parts names bounds place (Skip by next) h in (within-limit by 1 16000000 (omega arith) p.0, one-next next bounds.nodes _ s.nodes p.1)
 small-fits names bounds place (Format text count next) s h = let p = fit-parts names bounds place (Format text count next) h in let q = format-count names text count (slice_get names.conversions text) refl s.texts s.counts p.0 in (q.0, q.1, one-next next bounds.nodes _ s.nodes p.1)
-small-fits names bounds place (Spell index text next) s h = let p = fit-parts names bounds place (Spell index text next) h in let q = both (is_local bounds index) (is_text names text) p.0 in (less index bounds.locals s.locals q.0, less text (length names.conversions) s.texts q.1, one-next next bounds.nodes _ s.nodes p.1)
+small-fits names bounds place (Spell index text next) s h = let p = fit-parts names bounds place (Spell index text next) h in let q = both (is_local bounds index) (has_text names text) p.0 in (less index bounds.locals s.locals q.0, less text (length names.conversions) s.texts q.1, one-next next bounds.nodes _ s.nodes p.1)
 small-fits names bounds place (Choose weight fast slow) s h = let p = fit-parts names bounds place (Choose weight fast slow) h in let q = two-next fast slow bounds.nodes _ _ s.nodes p.1 in (omega (arith, leb-true weight 16000000 p.0), q.0, q.1)
 small-fits names bounds place Return s h = tt
 small-fits names bounds place Leave s h = tt

@@ -5,7 +5,9 @@ use Rattle.cbi_base.specs.Numbers.{is_word, ◌>>=◌, number_of, signed_of, one
 use Rattle.cbi_base.specs.Kind.{lies_in}
 use Rattle.cbi_base.specs.declared.scalar.Kind.TheVariants.{Int}
 use Rattle.flow.specs.declared.node.Node.{Node}
-use Rattle.flow.specs.declared.node.Node.TheVariants.{Push, Null, Local, Global, Text, Load, Store, Move, Member, Span, Math, Order, Sole, Convert, Dup, Drop, Swap, Over, Pass, Fork, Again, Call, Return, Leave, Get, Put, Puts, Format, Alloc, Free, Exit, Abort, Check, Clear, Zero, Spell, Mark, Skip, Test, Choose, Import, Export}
+use Rattle.flow.specs.declared.node.Node.TheVariants.{Push, Null, Local, Global, Text, Load, Store, Move, Member, Span, Math, Order, Sole, Convert, Dup}
+use Rattle.flow.specs.declared.node.Node.TheVariants.{Drop, Swap, Over, Pass, Fork, Again, Call, Return, Leave, Get, Put, Puts, Format, Alloc, Free, Exit}
+use Rattle.flow.specs.declared.node.Node.TheVariants.{Abort, Check, Clear, Zero, Spell, Mark, Skip, Test, Choose, Import, Export}
 use Rattle.program_lines.specs.Words.{kind_of, want_of, binary_of, order_of, unary_of}
 
 -- the number of an `int` whose decimal the field is

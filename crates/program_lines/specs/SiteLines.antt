@@ -64,7 +64,8 @@ site_kind_of word fields =
 unfoldable pub site_parts : List (List ℕ) → Option ((List ℕ × (ℕ × (ℕ × ℕ))) × List (List ℕ))
 site_parts (word ∷ kind ∷ function ∷ line ∷ token ∷ rest) =
     if is_word word (codes "site")
-    then (number_of greatest_u32 function >>= λ f. number_of greatest_u32 line >>= λ l. option_map (λ t. ((kind, (f, (l, t))), rest)) (number_of greatest_u32 token))
+    then (number_of greatest_u32 function >>= λ f. number_of greatest_u32 line >>= λ l. option_map (λ t. ((kind, (f, (l, t))), rest))
+    (number_of greatest_u32 token))
     else None
 site_parts fields = None
 

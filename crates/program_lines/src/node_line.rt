@@ -1,7 +1,8 @@
 ghost use Rattle.std.specs.Prelude.{◌≡◌};
 ghost use Rattle.cbi_base.specs.Numbers.{one_number};
 ghost use Rattle.program_lines.specs.Words.{kind_of, want_of, binary_of, order_of, unary_of};
-ghost use Rattle.program_lines.specs.NodeLines.{node_of, valued_node, paired_node, worded_node, plain_node, bare_node, threefold_node, control_node, outer_node, push_of, zero_of, int_of, worded, threefold};
+ghost use Rattle.program_lines.specs.NodeLines.{node_of, valued_node, paired_node, worded_node, plain_node, bare_node, threefold_node, control_node};
+ghost use Rattle.program_lines.specs.NodeLines.{outer_node, push_of, zero_of, int_of, worded, threefold};
 ghost use Rattle.flow.specs.declared.node.Node.TheVariants.{Load, Math, Order, Sole, Convert, Move, Format, Spell, Choose};
 
 use crate::operations::{binary, order, unary};

@@ -1,6 +1,7 @@
 ghost use Rattle.std.specs.Prelude.{◌≡◌, IfOk};
 ghost use Rattle.std.specs.Option.{option_map};
-ghost use Rattle.program_lines.specs.SiteLines.{branch_of, slot_of, partner_of, branch_fields, return_fields, pair_fields, site_kind_of, site_of_row, site_parts};
+ghost use Rattle.program_lines.specs.SiteLines.{branch_of, slot_of, partner_of, branch_fields, return_fields, pair_fields, site_kind_of, site_of_row};
+ghost use Rattle.program_lines.specs.SiteLines.{site_parts};
 
 use crate::rows::name;
 use cbi_base::{Fields, Memory, read_number, read_signed};

@@ -7,12 +7,12 @@ use Rattle.std.proofs.lemmas.List.{append-nil, map-append}
 use Rattle.cbi_base.specs.Text.{ended, spaced}
 use Rattle.flow.specs.declared.program.Cell.{Cell}
 use Rattle.flow.specs.declared.program.ProgramParts.{ProgramParts}
-use Rattle.flow.specs.Spelling.{Run, body_rows, counted, end_row, program_text, rows_of, run_word, runs_of, same_cell, site_fields, whole_list, with_cell}
-use Rattle.program_writer.specs.Written.{back_rows, behind, front_rows, rows_text}
+use Rattle.flow.specs.Spelling.{Run, body_rows, cell_runs, counted, end_row, program_rows, program_text, run_word, same_cell, site_fields, whole_list, with_cell}
+use Rattle.program_writer.specs.Written.{back_rows, fields_behind, front_rows, rows_text}
 use Rattle.program_lines.proofs.CellReads.{same_cell-is, same_cell-refl}
 
 -- the fields behind the first one
-pub spaced-first : (field : List ℕ) (fields : List (List ℕ)) → spaced (field ∷ fields) ≡ field ++ behind fields
+pub spaced-first : (field : List ℕ) (fields : List (List ℕ)) → spaced (field ∷ fields) ≡ field ++ fields_behind fields
 spaced-first field [] = sym (append-nil field)
 spaced-first field (next ∷ fields) = ap (λ line. field ++ 32 ∷ line) (spaced-first next fields)
 
@@ -54,7 +54,7 @@ with_run-other n c d (run ∷ runs) h = by (same_cell d run.cell) refl
     by false e = rw h refl
 
 abbrev pub run_texts : List Run → List ℕ
-run_texts runs = behind (map run_word runs)
+run_texts runs = fields_behind (map run_word runs)
 
 -- the cells behind the first one
 abbrev pub after_first : List Cell → List Cell
@@ -75,22 +75,22 @@ room-ends n most rest d some room = omega (arith, room, ap length (cells-parted 
 
 pub run-grows :
     (out all : List ℕ) (n : ℕ) (c d : Cell) (rest : List Cell) → 0 < length rest → same_cell c (get_or rest 0 d) ≡ true →
-    out ++ run_texts (with_run n c (runs_of rest)) ≡ all → out ++ run_texts (with_run (n + 1) c (runs_of (after_first rest))) ≡ all
+    out ++ run_texts (with_run n c (cell_runs rest)) ≡ all → out ++ run_texts (with_run (n + 1) c (cell_runs (after_first rest))) ≡ all
 run-grows out all n c d rest some same kept =
-    let runs = runs_of (after_first rest) in
-    let front = subst (λ cells. out ++ run_texts (with_run n c (runs_of cells)) ≡ all) (cells-parted rest d some) kept in
+    let runs = cell_runs (after_first rest) in
+    let front = subst (λ cells. out ++ run_texts (with_run n c (cell_runs cells)) ≡ all) (cells-parted rest d some) kept in
     let joined = subst (λ x. out ++ run_texts (with_run n c (with_cell x runs)) ≡ all) (sym (same_cell-is c (get_or rest 0 d) same)) front in
     ap (λ x. out ++ run_texts x) (sym (with_run-same n c runs)) ∙ joined
 
 pub run-ends :
     (out all new : List ℕ) (n : ℕ) (c d : Cell) (rest : List Cell) → 0 < length rest → same_cell c (get_or rest 0 d) ≡ false →
-    new ≡ out ++ 32 ∷ run_word (record { count = n; cell = c }) → out ++ run_texts (with_run n c (runs_of rest)) ≡ all →
-    new ++ run_texts (with_run 1 (get_or rest 0 d) (runs_of (after_first rest))) ≡ all
+    new ≡ out ++ 32 ∷ run_word (record { count = n; cell = c }) → out ++ run_texts (with_run n c (cell_runs rest)) ≡ all →
+    new ++ run_texts (with_run 1 (get_or rest 0 d) (cell_runs (after_first rest))) ≡ all
 run-ends out all new n c d rest some other is_new kept =
     let x = get_or rest 0 d in
-    let runs = runs_of (after_first rest) in
+    let runs = cell_runs (after_first rest) in
     let word = run_word (record { count = n; cell = c }) in
-    let front = subst (λ cells. out ++ run_texts (with_run n c (runs_of cells)) ≡ all) (cells-parted rest d some) kept in
+    let front = subst (λ cells. out ++ run_texts (with_run n c (cell_runs cells)) ≡ all) (cells-parted rest d some) kept in
     ap (λ text. text ++ run_texts (with_run 1 x runs)) is_new
     ∙ ap (λ r. (out ++ 32 ∷ word) ++ run_texts r) (with_run-one x runs)
     ∙ append_assoc out (32 ∷ word) (run_texts (with_cell x runs))
@@ -99,10 +99,10 @@ run-ends out all new n c d rest some other is_new kept =
 
 -- a line of a word and the fields behind it
 pub line-joined :
-    (word : List ℕ) (fields : List (List ℕ)) (out a b c : List ℕ) → a ≡ out ++ word → b ≡ a ++ behind fields → c ≡ b ++ 10 ∷ [] →
+    (word : List ℕ) (fields : List (List ℕ)) (out a b c : List ℕ) → a ≡ out ++ word → b ≡ a ++ fields_behind fields → c ≡ b ++ 10 ∷ [] →
     c ≡ out ++ ended (spaced (word ∷ fields))
 line-joined word fields out a b c is_a is_b is_c =
-    let more = behind fields in
+    let more = fields_behind fields in
     let whole : c ≡ ((out ++ word) ++ more) ++ 10 ∷ [] = cc in
     whole ∙ ap (λ text. text ++ 10 ∷ []) (append_assoc out word more) ∙ append_assoc out (word ++ more) (10 ∷ []) ∙ ap (λ line. out ++ (line ++ 10 ∷ [])) (sym (spaced-first word fields))
 
@@ -113,10 +113,10 @@ site-parted out name f l t more = simp (append_assoc)
 
 pub site-joined :
     (name f l t : List ℕ) (fields : List (List ℕ)) (out a b c d e : List ℕ) → a ≡ out ++ codes "site " → b ≡ a ++ name →
-    c ≡ b ++ 32 ∷ (f ++ 32 ∷ (l ++ 32 ∷ t)) → d ≡ c ++ behind fields → e ≡ d ++ 10 ∷ [] →
+    c ≡ b ++ 32 ∷ (f ++ 32 ∷ (l ++ 32 ∷ t)) → d ≡ c ++ fields_behind fields → e ≡ d ++ 10 ∷ [] →
     e ≡ out ++ ended (spaced (codes "site" ∷ name ∷ f ∷ l ∷ t ∷ fields))
 site-joined name f l t fields out a b c d e is_a is_b is_c is_d is_e =
-    let more = behind fields in
+    let more = fields_behind fields in
     let whole : e ≡ ((((out ++ codes "site ") ++ name) ++ 32 ∷ (f ++ 32 ∷ (l ++ 32 ∷ t))) ++ more) ++ 10 ∷ [] = cc in
     whole ∙ site-parted out name f l t more ∙ ap (λ x. out ++ ended (codes "site" ++ 32 ∷ (name ++ 32 ∷ (f ++ 32 ∷ (l ++ 32 ∷ x))))) (sym (spaced-first t fields))
 
@@ -141,7 +141,7 @@ pub whole-joined :
     (p : ProgramParts) (none a b : List ℕ) → none ≡ [] → a ≡ none ++ rows_text (front_rows p) → b ≡ a ++ rows_text (back_rows p) →
     b ≡ program_text p
 whole-joined p none a b is_none is_a is_b =
-    let parted : rows_of p ≡ front_rows p ++ back_rows p =
+    let parted : program_rows p ≡ front_rows p ++ back_rows p =
     rows-parted (front_rows p) (counted (codes "main") p.main ∷ []) (whole_list (codes "sites") site_fields p.sites) (flat_map body_rows p.functions) (end_row ∷ []) in
     is_b ∙ ap (λ x. x ++ rows_text (back_rows p)) (is_a ∙ ap (λ x. x ++ rows_text (front_rows p)) is_none)
     ∙ sym (ap rows_text parted ∙ rows_text-append (front_rows p) (back_rows p))

@@ -10,8 +10,8 @@ abbrev pub rows_text : List (List (List ℕ)) → List ℕ
 rows_text rows = text_of (map spaced rows)
 
 -- fields behind another one, with a space before each
-abbrev pub behind : List (List ℕ) → List ℕ
-behind fields = flat_map (λ field. 32 ∷ field) fields
+abbrev pub fields_behind : List (List ℕ) → List ℕ
+fields_behind fields = flat_map (λ field. 32 ∷ field) fields
 
 -- the lines up to those of the functions' heads
 abbrev pub front_rows : ProgramParts → List (List (List ℕ))

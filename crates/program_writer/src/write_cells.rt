@@ -1,7 +1,7 @@
 ghost use Rattle.std.specs.Prelude.{◌≡◌, ◌++◌, ◌∷◌, codes, length, map, OnOk};
 ghost use Rattle.cbi_base.specs.Text.{ended, spaced};
-ghost use Rattle.flow.specs.Spelling.{cell_word, global_fields, run_word, runs_of, whole_list};
-ghost use Rattle.program_writer.specs.Written.{behind, rows_text};
+ghost use Rattle.flow.specs.Spelling.{cell_runs, cell_word, global_fields, run_word, whole_list};
+ghost use Rattle.program_writer.specs.Written.{fields_behind, rows_text};
 
 use crate::write_words::{kind_word, push_count, push_number, push_signed};
 use cbi_base::{Memory, push_decimal};
@@ -36,7 +36,7 @@ fn push_run(out: &mut Vec<u8>, count: usize, cell: Cell) -> Result<(), Memory>
 
 // Appends the cells by runs, with a space before each.
 fn push_runs(out: &mut Vec<u8>, cells: &[Cell]) -> Result<(), Memory>
-    ensures { OnOk result (out.new.items ≡ out.old.items ++ behind (map run_word (runs_of cells.now))) }
+    ensures { OnOk result (out.new.items ≡ out.old.items ++ fields_behind (map run_word (cell_runs cells.now))) }
 {
     let [first, others @ ..] = cells else {
         return Ok(());

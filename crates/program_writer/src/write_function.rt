@@ -2,7 +2,7 @@ ghost use Rattle.std.specs.Prelude.{◌≡◌, ◌++◌, ◌∷◌, codes, decim
 ghost use Rattle.std.specs.List.{flat_map};
 ghost use Rattle.cbi_base.specs.Text.{ended, spaced};
 ghost use Rattle.flow.specs.Spelling.{body_rows, head_fields, head_of, locals_fields, result_word, whole_list};
-ghost use Rattle.program_writer.specs.Written.{behind, rows_text};
+ghost use Rattle.program_writer.specs.Written.{fields_behind, rows_text};
 
 use crate::write_node::push_nodes;
 use crate::write_words::{push_count, push_field, push_number};
@@ -57,7 +57,7 @@ pub fn push_heads(out: &mut Vec<u8>, functions: &[Function]) -> Result<(), Memor
 }
 
 fn push_sizes(out: &mut Vec<u8>, sizes: &[u32]) -> Result<(), Memory>
-    ensures { OnOk result (out.new.items ≡ out.old.items ++ behind (map decimal sizes.now)) }
+    ensures { OnOk result (out.new.items ≡ out.old.items ++ fields_behind (map decimal sizes.now)) }
 {
     let mut rest = sizes;
     while let [size, after @ ..] = rest {

@@ -2,7 +2,7 @@ ghost use Rattle.std.specs.Prelude.{◌≡◌, ◌++◌, ◌∷◌, codes, decim
 ghost use Rattle.cbi_base.specs.Text.{ended, spaced};
 ghost use Rattle.flow.specs.Spelling.{branch_word, kind_fields, kind_name, partner_fields, site_fields, slot_word, whole_list};
 ghost use Rattle.flow.specs.declared.site.Partner.TheVariants.{Constant};
-ghost use Rattle.program_writer.specs.Written.{behind, rows_text};
+ghost use Rattle.program_writer.specs.Written.{fields_behind, rows_text};
 
 use crate::write_words::{push_count, push_field, push_number, push_signed};
 use cbi_base::{Memory, push_decimal};
@@ -35,7 +35,7 @@ fn push_variable(out: &mut Vec<u8>, name: &[u8], slot: Slot) -> Result<(), Memor
 
 // Appends a constant, and its letter.
 fn push_constant(out: &mut Vec<u8>, value: i64) -> Result<(), Memory>
-    ensures { OnOk result (out.new.items ≡ out.old.items ++ behind (partner_fields (Constant value))) }
+    ensures { OnOk result (out.new.items ≡ out.old.items ++ fields_behind (partner_fields (Constant value))) }
 {
     out.push(b' ')?;
     push_signed(out, value)?;
@@ -45,7 +45,7 @@ fn push_constant(out: &mut Vec<u8>, value: i64) -> Result<(), Memory>
 
 // Appends what a variable's value is compared with.
 fn push_partner(out: &mut Vec<u8>, partner: &Partner) -> Result<(), Memory>
-    ensures { OnOk result (out.new.items ≡ out.old.items ++ behind (partner_fields partner.now)) }
+    ensures { OnOk result (out.new.items ≡ out.old.items ++ fields_behind (partner_fields partner.now)) }
 {
     match partner {
         Partner::Variable { name, slot } => push_variable(out, name.bytes(), *slot),
@@ -79,7 +79,7 @@ fn kind_name(kind: &SiteKind) -> &'static [u8]
 
 // Appends what a site looks at.
 fn push_kind(out: &mut Vec<u8>, kind: &SiteKind) -> Result<(), Memory>
-    ensures { OnOk result (out.new.items ≡ out.old.items ++ behind (kind_fields kind.now)) }
+    ensures { OnOk result (out.new.items ≡ out.old.items ++ fields_behind (kind_fields kind.now)) }
 {
     match kind {
         SiteKind::Branch { word } => push_field(out, branch_word(*word)),

@@ -10,12 +10,12 @@ use Rattle.collector.specs.Sites.{branches_of}
 use Rattle.flow.specs.declared.site.TableParts.{TableParts}
 use Rattle.fractions.specs.declared.tally.Tally.{Tally}
 use Rattle.fractions.specs.Tally.{IsTally, Passes}
-use Rattle.tallies.specs.declared.labelled.LabelledRun.{LabelledRun}
-use Rattle.tallies.specs.declared.listed.Listed.{Listed}
+use Rattle.elimination_tallies.specs.declared.labelled.LabelledRun.{LabelledRun}
+use Rattle.elimination_tallies.specs.declared.listed.Listed.{Listed}
 use Rattle.elimination.specs.Elimination.{IsElimination, after, is_taken, passed}
-use Rattle.tallies.specs.Leading.{IsLeader}
-use Rattle.tallies.specs.Recount.{failing_runs}
-use Rattle.tallies.proofs.RecountLemmas.{fails-most, recount-failing, recount-tally}
+use Rattle.elimination_tallies.specs.Leading.{IsLeader}
+use Rattle.elimination_tallies.specs.Recount.{failing_runs}
+use Rattle.elimination_tallies.proofs.RecountLemmas.{fails-most, recount-failing, recount-tally}
 use Rattle.elimination.proofs.EliminationLemmas.{leader-falls}
 use Rattle.elimination.proofs.TableLemmas.{count-is}
 use Rattle.ranking.specs.Laws.{AreRanked}

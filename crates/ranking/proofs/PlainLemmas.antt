@@ -1,6 +1,6 @@
 -- Which fields need no quotes, and the line of fields that need none.
-use Rattle.std.proofs.Common.{◌≡◌, ◌≢◌, ℕ, zero, suc, ℤ, pos, negsuc, ◌+◌, ◌-◌, ◌<◌, ◌^◌, Bool, true, false, not, ◌&&◌, ◌||◌, ◌==◌, cond, List, [], ◌∷◌, ◌++◌, Option, None, Some, decimal, FitsSigned, refl, ap, subst, ◌∙◌, arith}
-use Rattle.std.specs.Prelude.{codes, nat_lt}
+use Rattle.std.proofs.Common.{◌≡◌, ◌≢◌, ℕ, suc, ℤ, pos, negsuc, ◌+◌, ◌-◌, ◌<◌, ◌^◌, Bool, true, false, not, ◌&&◌, ◌||◌, ◌==◌, cond, List, [], ◌∷◌, ◌++◌, Option, None, Some, decimal, FitsSigned, refl, ap, subst, ◌∙◌, arith}
+use Rattle.std.specs.Prelude.{nat_lt}
 use Rattle.std.specs.Fmt.{signed_decimal}
 use Rattle.std.specs.Int.{w64}
 use Rattle.std.specs.List.{join_with_byte, list_all}
@@ -14,22 +14,20 @@ use Rattle.csv.specs.Writing.{default_writer, field_text, fields_text, is_blank,
 use Rattle.cbi_base.specs.Name.{IsName, is_name_byte}
 use Rattle.cbi_base.specs.Text.{ended, spaced}
 use Rattle.cbi_base.proofs.FieldLemmas.{decimal-all}
-use Rattle.flow.specs.declared.site.BranchWord.{BranchWord}
-use Rattle.flow.specs.declared.site.BranchWord.TheVariants.{If, While, Do, For, Question, AndAnd, OrOr}
 use Rattle.flow.specs.declared.site.Site.{Site}
 use Rattle.flow.specs.declared.site.SiteKind.{SiteKind}
 use Rattle.flow.specs.declared.site.SiteKind.TheVariants.{Branch, Return, Pair}
-use Rattle.flow.specs.Predicates.{branch_word, partner_text, predicate_text, predicates_of, relation_sign, site_at, text_of_kind, truth_word}
-use Rattle.ranking.specs.Plain.{ArePlain, IsPlain, is_plain}
+use Rattle.flow.specs.Predicates.{predicate_text, predicates_of, site_at, text_of_kind}
+use Rattle.ranking.specs.Plain.{ArePlainFields, IsPlainField, is_plain}
 use Rattle.ranking.specs.Ranking.{scheme_word}
 
 plain-byte : (b : ℕ) → b ≢ 44 → b ≢ 34 → b ≢ 13 → b ≢ 10 → is_plain b ≡ true
 plain-byte b comma quote return_byte newline = grind (arith, nat_tests)
 
-pub decimal-plain : (n : ℕ) → n < 2 ^ 64 → IsPlain (decimal n)
+pub decimal-plain : (n : ℕ) → n < 2 ^ 64 → IsPlainField (decimal n)
 decimal-plain n h = decimal-all is_plain (λ d small. plain-byte (48 + d) (omega arith) (omega arith) (omega arith) (omega arith)) n h
 
-pub signed-plain : (z : ℤ) → FitsSigned w64 z → IsPlain (signed_decimal z)
+pub signed-plain : (z : ℤ) → FitsSigned w64 z → IsPlainField (signed_decimal z)
 signed-plain (pos n) h = decimal-plain n (omega (arith, h.sfits))
 signed-plain (negsuc n) h = decimal-plain (suc n) (omega (arith, h.sfits))
 
@@ -37,56 +35,24 @@ name-byte : (b : ℕ) → is_name_byte b ≡ true → is_plain b ≡ true
 name-byte b h =
     plain-byte b (λ is. false≢true (subst (λ k. is_name_byte k ≡ true) is h)) (λ is. false≢true (subst (λ k. is_name_byte k ≡ true) is h)) (λ is. false≢true (subst (λ k. is_name_byte k ≡ true) is h)) (λ is. false≢true (subst (λ k. is_name_byte k ≡ true) is h))
 
-bytes-plain : (name : List ℕ) → list_all is_name_byte name ≡ true → IsPlain name
+bytes-plain : (name : List ℕ) → list_all is_name_byte name ≡ true → IsPlainField name
 bytes-plain [] h = refl
 bytes-plain (b ∷ more) h =
     let parts = and_parts (is_name_byte b) (list_all is_name_byte more) h in
     and_from (is_plain b) (list_all is_plain more) (name-byte b parts.0) (bytes-plain more parts.1)
 
-pub name-plain : (name : List ℕ) → IsName name → IsPlain name
+pub name-plain : (name : List ℕ) → IsName name → IsPlainField name
 name-plain name is = bytes-plain name is.runs
 
-plain-append : (a b : List ℕ) → IsPlain a → IsPlain b → IsPlain (a ++ b)
+plain-append : (a b : List ℕ) → IsPlainField a → IsPlainField b → IsPlainField (a ++ b)
 plain-append a b pa pb = list_all-append is_plain a b ∙ and_from (list_all is_plain a) (list_all is_plain b) pa pb
 
-pub spaced-plain : (fields : List (List ℕ)) → ArePlain fields → IsPlain (spaced fields)
+pub spaced-plain : (fields : List (List ℕ)) → ArePlainFields fields → IsPlainField (spaced fields)
 spaced-plain [] are = refl
 spaced-plain (f ∷ []) are = are.0
 spaced-plain (f ∷ g ∷ more) are = plain-append f (32 ∷ spaced (g ∷ more)) are.0 (spaced-plain (g ∷ more) are.1)
 
-word-plain : (word : BranchWord) → IsPlain (branch_word word)
-word-plain If = refl
-word-plain While = refl
-word-plain Do = refl
-word-plain For = refl
-word-plain Question = refl
-word-plain AndAnd = refl
-word-plain OrOr = refl
-
-truth-plain : (n : ℕ) → IsPlain (truth_word n)
-truth-plain zero = refl
-truth-plain (suc n) = refl
-
-sign-plain : (n : ℕ) → IsPlain (relation_sign n)
-sign-plain zero = refl
-sign-plain (suc zero) = refl
-sign-plain (suc (suc zero)) = refl
-sign-plain (suc (suc (suc zero))) = refl
-sign-plain (suc (suc (suc (suc zero)))) = refl
-sign-plain (suc (suc (suc (suc (suc n))))) = refl
-
--- the names in a site are plain
-abbrev pub NamesPlain : SiteKind → Type 0
-NamesPlain (Branch word) = Unit {0}
-NamesPlain (Return callee) = IsPlain callee
-NamesPlain (Pair target slot partner) = IsPlain target × IsPlain (partner_text partner)
-
-pub kind-plain : (kind : SiteKind) → NamesPlain kind → (n : ℕ) → IsPlain (text_of_kind kind n)
-kind-plain (Branch word) names n = spaced-plain (branch_word word ∷ codes "is" ∷ truth_word n ∷ []) (word-plain word, (refl, (truth-plain n, tt)))
-kind-plain (Return callee) names n = spaced-plain (callee ∷ relation_sign n ∷ codes "0" ∷ []) (names, (sign-plain n, (refl, tt)))
-kind-plain (Pair target slot partner) names n = spaced-plain (target ∷ relation_sign n ∷ partner_text partner ∷ []) (names.0, (sign-plain n, (names.1, tt)))
-
-pub scheme-plain : (kind : SiteKind) → IsPlain (scheme_word kind)
+pub scheme-plain : (kind : SiteKind) → IsPlainField (scheme_word kind)
 scheme-plain (Branch word) = refl
 scheme-plain (Return callee) = refl
 scheme-plain (Pair target slot partner) = refl
@@ -105,7 +71,7 @@ pub text-of-site : (sites : List Site) (predicate : ℕ) (site : Site) → site_
 text-of-site [] predicate site is = absurd (no-site site is)
 text-of-site (s ∷ sites) predicate site is = text-by s sites predicate site (nat_lt predicate (predicates_of s.kind)) is (text-of-site sites (predicate - predicates_of s.kind) site)
 
-pub are-plain-append : (xs ys : List (List ℕ)) → ArePlain xs → ArePlain ys → ArePlain (xs ++ ys)
+pub are-plain-append : (xs ys : List (List ℕ)) → ArePlainFields xs → ArePlainFields ys → ArePlainFields (xs ++ ys)
 are-plain-append [] ys a b = b
 are-plain-append (x ∷ xs) ys a b = (a.0, are-plain-append xs ys a.1 b)
 
@@ -120,21 +86,21 @@ byte-free-by false false false true h = absurd (false≢true h)
 byte-free : (b : ℕ) → is_plain b ≡ true → needs_byte default_writer b ≡ false
 byte-free b h = byte-free-by (b == 44) (b == 34) (b == 13) (b == 10) h
 
-needs-none : (field : List ℕ) → IsPlain field → needs_quotes default_writer field ≡ false
+needs-none : (field : List ℕ) → IsPlainField field → needs_quotes default_writer field ≡ false
 needs-none [] h = refl
 needs-none (b ∷ more) h =
     let parts = and_parts (is_plain b) (list_all is_plain more) h in
     ap (λ t. t || needs_quotes default_writer more) (byte-free b parts.0) ∙ needs-none more parts.1
 
-field-plain : (field : List ℕ) → IsPlain field → field_text default_writer field ≡ field
+field-plain : (field : List ℕ) → IsPlainField field → field_text default_writer field ≡ field
 field-plain field h = cond-false (needs_quotes default_writer field) (quoted default_writer field) field (needs-none field h)
 
-joined : (f : List ℕ) (rest : List (List ℕ)) → ArePlain rest → f ++ fields_text default_writer rest ≡ join_with_byte 44 (f ∷ rest)
+joined : (f : List ℕ) (rest : List (List ℕ)) → ArePlainFields rest → f ++ fields_text default_writer rest ≡ join_with_byte 44 (f ∷ rest)
 unfolding fields_text
 joined f [] are = append-nil f
 joined f (g ∷ more) are = ap (λ t. f ++ (44 ∷ (t ++ fields_text default_writer more))) (field-plain g are.0) ∙ ap (λ t. f ++ (44 ∷ t)) (joined g more are.1)
 
-pub row-line : (a b : List ℕ) (more : List (List ℕ)) → ArePlain (a ∷ b ∷ more) → row_text default_writer (a ∷ b ∷ more) ≡ ended (join_with_byte 44 (a ∷ b ∷ more))
+pub row-line : (a b : List ℕ) (more : List (List ℕ)) → ArePlainFields (a ∷ b ∷ more) → row_text default_writer (a ∷ b ∷ more) ≡ ended (join_with_byte 44 (a ∷ b ∷ more))
 unfolding is_blank
 row-line a b more are =
     ap (λ t. (t ++ fields_text default_writer (b ∷ more)) ++ 10 ∷ []) (field-plain a are.0) ∙ ap (λ t. t ++ 10 ∷ []) (joined a (b ∷ more) are.1)

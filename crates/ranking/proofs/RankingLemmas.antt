@@ -5,7 +5,7 @@ use Rattle.std.specs.List.{enumerate_from, join_with_byte}
 use Rattle.std.proofs.lemmas.List.{append-nil}
 use Rattle.cbi_base.specs.Text.{ended, text_of}
 use Rattle.flow.specs.declared.site.TableParts.{TableParts}
-use Rattle.tallies.specs.declared.listed.Listed.{Listed}
+use Rattle.elimination_tallies.specs.declared.listed.Listed.{Listed}
 use Rattle.ranking.specs.Ranking.{header_fields, ranking_text, row_fields}
 
 -- the text is that of these rows

@@ -2,8 +2,8 @@
 use Rattle.std.specs.Prelude.{◌≤◌, List, length}
 use Rattle.cbi_base.specs.declared.policy.Policy.{Policy}
 use Rattle.collector.specs.Sites.{branches_of}
-use Rattle.tallies.specs.declared.labelled.LabelledRun.{LabelledRun}
-use Rattle.tallies.specs.declared.listed.Listed.{Listed}
+use Rattle.elimination_tallies.specs.declared.labelled.LabelledRun.{LabelledRun}
+use Rattle.elimination_tallies.specs.declared.listed.Listed.{Listed}
 use Rattle.elimination.specs.Elimination.{IsElimination}
 use Rattle.flow.specs.declared.site.TableParts.{TableParts}
 use Rattle.ranking.specs.Ranking.{AreRowsOf}
@@ -14,4 +14,5 @@ pub record AreRanked (table : TableParts) (runs : List LabelledRun) (rows : List
   pub few : length rows ≤ length runs
 
 abbrev pub EliminationsAreRows : Type 0
-EliminationsAreRows = (table : TableParts) (policy : Policy) (runs : List LabelledRun) (rows : List Listed) → length runs ≤ 100000 → IsElimination (branches_of table.sites) policy runs rows → AreRanked table runs rows
+EliminationsAreRows = (table : TableParts) (policy : Policy) (runs : List LabelledRun) (rows : List Listed) → length runs ≤ 100000
+    → IsElimination (branches_of table.sites) policy runs rows → AreRanked table runs rows

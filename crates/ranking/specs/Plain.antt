@@ -6,8 +6,8 @@ use Rattle.std.specs.List.{list_all, AllByRecursion}
 abbrev pub is_plain : ℕ → Bool
 is_plain b = not (b == 44) && not (b == 34) && not (b == 13) && not (b == 10)
 
-abbrev pub IsPlain : List ℕ → Type 0
-IsPlain field = list_all is_plain field ≡ true
+abbrev pub IsPlainField : List ℕ → Type 0
+IsPlainField field = list_all is_plain field ≡ true
 
-abbrev pub ArePlain : List (List ℕ) → Type 0
-ArePlain fields = AllByRecursion IsPlain fields
+abbrev pub ArePlainFields : List (List ℕ) → Type 0
+ArePlainFields fields = AllByRecursion IsPlainField fields

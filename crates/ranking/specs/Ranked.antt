@@ -2,8 +2,8 @@
 use Rattle.std.specs.Prelude.{◌≡◌, ℕ, List}
 use Rattle.cbi_base.specs.declared.policy.Policy.{Policy}
 use Rattle.collector.specs.Sites.{branches_of}
-use Rattle.tallies.specs.declared.labelled.LabelledRun.{LabelledRun}
-use Rattle.tallies.specs.declared.listed.Listed.{Listed}
+use Rattle.elimination_tallies.specs.declared.labelled.LabelledRun.{LabelledRun}
+use Rattle.elimination_tallies.specs.declared.listed.Listed.{Listed}
 use Rattle.elimination.specs.Elimination.{IsElimination}
 use Rattle.flow.specs.declared.site.TableParts.{TableParts}
 use Rattle.ranking.specs.Ranking.{ranking_text}

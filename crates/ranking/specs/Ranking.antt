@@ -10,12 +10,13 @@ use Rattle.flow.specs.Predicates.{predicate_count, predicate_text, site_at}
 use Rattle.fractions.specs.declared.tally.Tally.{Tally}
 use Rattle.fractions.specs.Fraction.{millionths_of}
 use Rattle.fractions.specs.Tally.{IsTally, Passes, importance_of}
-use Rattle.tallies.specs.declared.listed.Listed.{Listed}
+use Rattle.elimination_tallies.specs.declared.listed.Listed.{Listed}
 use Rattle.ranking.specs.Shares.{context_of, failure_of, increase_of}
 
 abbrev pub header_fields : List (List ℕ)
 header_fields =
-    codes "rank" ∷ codes "predicate" ∷ codes "scheme" ∷ codes "function" ∷ codes "line" ∷ codes "text" ∷ codes "f" ∷ codes "s" ∷ codes "fobs" ∷ codes "sobs" ∷ codes "failure" ∷ codes "context" ∷ codes "increase" ∷ codes "importance" ∷ []
+    codes "rank" ∷ codes "predicate" ∷ codes "scheme" ∷ codes "function" ∷ codes "line" ∷ codes "text" ∷ codes "f" ∷ codes "s" ∷ codes "fobs"
+    ∷ codes "sobs" ∷ codes "failure" ∷ codes "context" ∷ codes "increase" ∷ codes "importance" ∷ []
 
 -- the scheme of a site
 abbrev pub scheme_word : SiteKind → List ℕ
@@ -34,11 +35,14 @@ tally_fields t = decimal t.a ∷ decimal t.b ∷ decimal t.c ∷ decimal t.d ∷
 -- its fractions in millionths, rounded down
 abbrev pub share_fields : Tally → ℕ → List (List ℕ)
 share_fields t failing =
-    decimal (millionths_of (failure_of t)) ∷ decimal (millionths_of (context_of t)) ∷ decimal (millionths_of (increase_of t)) ∷ decimal (millionths_of (importance_of t failing)) ∷ []
+    decimal (millionths_of (failure_of t)) ∷ decimal (millionths_of (context_of t)) ∷ decimal (millionths_of (increase_of t))
+    ∷ decimal (millionths_of (importance_of t failing)) ∷ []
 
 abbrev pub row_fields : TableParts → ℕ → Listed → List (List ℕ)
 row_fields table rank row =
-    decimal rank ∷ decimal row.predicate ∷ [] ++ place_fields table.functions (site_at table.sites row.predicate) (predicate_text table.sites row.predicate) ++ tally_fields row.tally ++ share_fields row.tally row.failing
+    decimal rank ∷ decimal row.predicate ∷ []
+    ++ place_fields table.functions (site_at table.sites row.predicate) (predicate_text table.sites row.predicate) ++ tally_fields row.tally
+    ++ share_fields row.tally row.failing
 
 -- the rows in their order, the first of them with rank 1
 abbrev pub ranking_rows : TableParts → List Listed → List (List (List ℕ))

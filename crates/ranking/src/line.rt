@@ -1,7 +1,7 @@
 ghost use Rattle.std.specs.Prelude.{◌≡◌, [], ◌∷◌, ◌++◌, decimal, IfOk, OnOk};
 ghost use Rattle.csv.specs.Records.{fields_of, partial_of};
 ghost use Rattle.csv.specs.Writing.{default_writer, row_text};
-ghost use Rattle.ranking.specs.Plain.{IsPlain};
+ghost use Rattle.ranking.specs.Plain.{IsPlainField};
 
 use crate::plain::number_is_plain;
 use cbi_base::Memory;
@@ -24,7 +24,7 @@ pub fn push_number(record: &mut ByteRecord, number: u64) -> Result<(), Memory>
     requires { partial_of record.old ≡ [] }
     ensures fields { OnOk result (fields_of record.new ≡ fields_of record.old ++ decimal number ∷ []) }
     ensures partial { OnOk result (partial_of record.new ≡ []) }
-    ensures plain { IsPlain (decimal number) }
+    ensures plain { IsPlainField (decimal number) }
 {
     number_is_plain(number);
     let mut buffer = Buffer::new();

@@ -1,7 +1,7 @@
 ghost use Rattle.std.specs.Prelude.{◌≡◌, ◌<◌, [], ◌++◌, OnOk};
 ghost use Rattle.csv.specs.Records.{fields_of, partial_of};
 ghost use Rattle.flow.specs.Predicates.{predicate_count, predicate_text, site_at};
-ghost use Rattle.ranking.specs.Plain.{ArePlain};
+ghost use Rattle.ranking.specs.Plain.{ArePlainFields};
 ghost use Rattle.ranking.specs.Ranking.{place_fields, scheme_word};
 
 use crate::line::{push, push_number};
@@ -24,7 +24,7 @@ fn scheme_word(kind: &SiteKind) -> &'static [u8]
 /// Where a predicate stands and what it says need no quotes.
 pub fn place_is_plain(table: &SiteTable, predicate: u32)
     requires { predicate < predicate_count table.now.sites }
-    ensures { ArePlain (place_fields table.now.functions (site_at table.now.sites predicate) (predicate_text table.now.sites predicate)) }
+    ensures { ArePlainFields (place_fields table.now.functions (site_at table.now.sites predicate) (predicate_text table.now.sites predicate)) }
 {
     let functions = table.functions();
     let site = predicate_site(table, predicate).0;
@@ -42,7 +42,8 @@ pub fn push_place(
 ) -> Result<(), Memory>
     requires partial { partial_of record.old ≡ [] }
     requires predicate { predicate < predicate_count table.now.sites }
-    ensures fields { OnOk result (fields_of record.new ≡ fields_of record.old ++ place_fields table.now.functions (site_at table.now.sites predicate) (predicate_text table.now.sites predicate)) }
+    ensures fields { OnOk result (fields_of record.new ≡ fields_of record.old
+        ++ place_fields table.now.functions (site_at table.now.sites predicate) (predicate_text table.now.sites predicate)) }
     ensures partial { OnOk result (partial_of record.new ≡ []) }
 {
     let functions = table.functions();

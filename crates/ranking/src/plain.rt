@@ -1,30 +1,30 @@
 ghost use Rattle.std.specs.Prelude.{ℕ, decimal};
 ghost use Rattle.std.specs.Fmt.{signed_decimal};
 ghost use Rattle.flow.specs.Predicates.{partner_text, text_of_kind};
-ghost use Rattle.ranking.specs.Plain.{IsPlain};
+ghost use Rattle.ranking.specs.Plain.{IsPlainField};
 
 use cbi_base::Name;
 use flow::{Partner, SiteKind};
 
 /// A name needs no quotes.
 pub fn name_is_plain(name: &Name)
-    ensures { IsPlain name.now }
+    ensures { IsPlainField name.now }
 {
     let _bytes = name.bytes();
 }
 
 /// The decimal of a number needs none.
 pub fn number_is_plain(number: u64)
-    ensures { IsPlain (decimal number) }
+    ensures { IsPlainField (decimal number) }
 {}
 
 fn constant_is_plain(value: i64)
-    ensures { IsPlain (signed_decimal value) }
+    ensures { IsPlainField (signed_decimal value) }
 {}
 
 // What a value is compared with needs none.
 fn partner_is_plain(partner: &Partner)
-    ensures { IsPlain (partner_text partner.now) }
+    ensures { IsPlainField (partner_text partner.now) }
 {
     match partner {
         Partner::Variable { name, .. } => name_is_plain(name),
@@ -34,7 +34,7 @@ fn partner_is_plain(partner: &Partner)
 
 /// The texts of a site's predicates need none.
 pub fn texts_are_plain(kind: &SiteKind)
-    ensures { (number : ℕ) → IsPlain (text_of_kind kind.now number) }
+    ensures { (number : ℕ) → IsPlainField (text_of_kind kind.now number) }
 {
     match kind {
         SiteKind::Branch { .. } => {}

@@ -8,9 +8,9 @@ use crate::place::{place_is_plain, push_place};
 use crate::shares::{push_shares, push_tally};
 use cbi_base::Memory;
 use csv::ByteRecord;
+use elimination_tallies::Listed;
 use flow::SiteTable;
 use std::alloc::Global;
-use tallies::Listed;
 
 /// The names of the columns.
 const HEADER: &[u8] =

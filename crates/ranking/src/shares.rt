@@ -2,7 +2,7 @@ ghost use Rattle.std.specs.Prelude.{◌≡◌, ◌≤◌, [], ◌++◌, OnOk};
 ghost use Rattle.csv.specs.Records.{fields_of, partial_of};
 ghost use Rattle.fractions.specs.Fraction.{IsFraction};
 ghost use Rattle.fractions.specs.Tally.{IsTally, Passes};
-ghost use Rattle.ranking.specs.Plain.{ArePlain};
+ghost use Rattle.ranking.specs.Plain.{ArePlainFields};
 ghost use Rattle.ranking.specs.Ranking.{share_fields, tally_fields};
 ghost use Rattle.ranking.specs.Shares.{context_of, failure_of, increase_of};
 
@@ -60,7 +60,7 @@ pub fn push_tally(record: &mut ByteRecord, tally: Tally) -> Result<(), Memory>
     requires { partial_of record.old ≡ [] }
     ensures fields { OnOk result (fields_of record.new ≡ fields_of record.old ++ tally_fields tally) }
     ensures partial { OnOk result (partial_of record.new ≡ []) }
-    ensures plain { OnOk result (ArePlain (tally_fields tally)) }
+    ensures plain { OnOk result (ArePlainFields (tally_fields tally)) }
 {
     push_number(record, u64::from(tally.a))?;
     push_number(record, u64::from(tally.b))?;
@@ -77,7 +77,7 @@ pub fn push_shares(record: &mut ByteRecord, tally: Tally, failing: u32) -> Resul
     requires failing { failing ≤ 100000 }
     ensures fields { OnOk result (fields_of record.new ≡ fields_of record.old ++ share_fields tally failing) }
     ensures partial { OnOk result (partial_of record.new ≡ []) }
-    ensures plain { OnOk result (ArePlain (share_fields tally failing)) }
+    ensures plain { OnOk result (ArePlainFields (share_fields tally failing)) }
 {
     push_number(record, millionths(failure(tally)))?;
     push_number(record, millionths(context(tally)))?;

@@ -7,15 +7,15 @@ use Rattle.fractions.specs.declared.fraction.Fraction.{Fraction}
 use Rattle.fractions.specs.declared.tally.Tally.{Tally}
 use Rattle.fractions.specs.Fraction.{IsAtMost}
 use Rattle.fractions.specs.Tally.{importance_of}
-use Rattle.tallies.specs.Predicates.{predicates_in}
-use Rattle.tallies.specs.Recount.{failing_runs, recount}
-use Rattle.pair_counts.specs.Truth.{pair_recount}
+use Rattle.elimination_tallies.specs.Predicates.{predicates_in}
+use Rattle.elimination_tallies.specs.Recount.{failing_runs, recount}
+use Rattle.compound_counts.specs.Truth.{pair_recount}
 use Rattle.affinity.proofs.FallLemmas.{passes-or}
 use Rattle.compound.specs.declared.chosen.Chosen.{Chosen}
 use Rattle.compound.specs.declared.chosen.PairResult.{PairResult}
-use Rattle.compound.specs.Best.{LeadsPairs, NonePasses, PairPasses}
+use Rattle.compound.specs.Best.{LeadsPairs, NoPairPasses, PairPasses}
 use Rattle.compound.specs.Bound.{IsLess}
-use Rattle.compound.specs.Found.{AreScanned, IsChosen, IsFoundBy}
+use Rattle.compound.specs.Found.{ArePairsScanned, IsChosen, IsFoundBy}
 use Rattle.compound.specs.Pairs.{pairs_of}
 use Rattle.compound.proofs.OrderLemmas.{at-most-trans, importance-positive, less-at-most, not-both}
 use Rattle.compound.proofs.PairLists.{at-split}
@@ -36,7 +36,7 @@ AtMost pair failing best p = PairPasses pair p → IsAtMost (value pair failing 
 -- ---- there is a leader, or none passes
 
 abbrev LeaderOrNone : (ℕ → ℕ → Tally) → ℕ → List (ℕ × ℕ) → Type 0
-LeaderOrNone pair failing pairs = ((best : ℕ × ℕ) × LeadsPairs pair failing pairs best) ⊎ NonePasses pair pairs
+LeaderOrNone pair failing pairs = ((best : ℕ × ℕ) × LeadsPairs pair failing pairs best) ⊎ NoPairPasses pair pairs
 
 -- none of the pairs is more important than their leader
 all-at-most : (pair : ℕ → ℕ → Tally) (failing : ℕ) (pairs : List (ℕ × ℕ)) (best : ℕ × ℕ) → LeadsPairs pair failing pairs best → All (AtMost pair failing best) pairs
@@ -118,9 +118,9 @@ one-chosen pair failing pairs a b x y =
     chosen-is a b left right (x.tally ∙ ap (λ l. pair l a.right) left ∙ ap (pair b.left) right ∙ sym y.tally) (x.failing_is ∙ sym y.failing_is)
 
 abbrev IsBestOf : (ℕ → ℕ → Tally) → ℕ → List (ℕ × ℕ) → Option Chosen → Type 0
-IsBestOf pair failing pairs best = MatchOption best (NonePasses pair pairs) (IsChosen pair failing pairs)
+IsBestOf pair failing pairs best = MatchOption best (NoPairPasses pair pairs) (IsChosen pair failing pairs)
 
-not-none : (pair : ℕ → ℕ → Tally) (failing : ℕ) (pairs : List (ℕ × ℕ)) (c : Chosen) → NonePasses pair pairs → IsChosen pair failing pairs c → ⊥
+not-none : (pair : ℕ → ℕ → Tally) (failing : ℕ) (pairs : List (ℕ × ℕ)) (c : Chosen) → NoPairPasses pair pairs → IsChosen pair failing pairs c → ⊥
 not-none pair failing pairs c none is =
     at-split (λ (p : ℕ × ℕ). PairPasses pair p → ⊥) pairs is.leads.before is.leads.after (c.left, c.right) is.leads.stands none is.leads.passes
 
@@ -147,7 +147,7 @@ result-is a b pairs counted skipped best =
     let make : ℕ → ℕ → ℕ → Option Chosen → PairResult = λ p c s o. record { pairs = p; counted = c; skipped = s; best = o } in
     ap (λ p. make p a.counted a.skipped a.best) pairs ∙ ap (λ c. make b.pairs c a.skipped a.best) counted ∙ ap (λ s. make b.pairs b.counted s a.best) skipped ∙ ap (λ (o : Option Chosen). make b.pairs b.counted b.skipped o) best
 
-one-scan : (one : ℕ → Tally) (pair : ℕ → ℕ → Tally) (failing : ℕ) (pairs : List (ℕ × ℕ)) → ThereIsOne (AreScanned one pair failing pairs)
+one-scan : (one : ℕ → Tally) (pair : ℕ → ℕ → Tally) (failing : ℕ) (pairs : List (ℕ × ℕ)) → ThereIsOne (ArePairsScanned one pair failing pairs)
 one-scan one pair failing pairs =
     let skips = one-skip-list one pair failing pairs in
     let best = one-best pair failing pairs in
@@ -165,7 +165,7 @@ one-found one count pair failing =
     let scan = one-scan one pair failing (pairs_of candidates.one) in record {
       one = scan.one;
       is = record { candidates = candidates.one; are_candidates = candidates.is; are_scanned = scan.is };
-      only = λ other is. scan.only other (subst (λ (xs : List ℕ). AreScanned one pair failing (pairs_of xs) other) (candidates.only is.candidates is.are_candidates) is.are_scanned);
+      only = λ other is. scan.only other (subst (λ (xs : List ℕ). ArePairsScanned one pair failing (pairs_of xs) other) (candidates.only is.candidates is.are_candidates) is.are_scanned);
     }
 
 pub runs_have_one_found : RunsHaveOneFound

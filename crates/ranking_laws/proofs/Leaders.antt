@@ -6,12 +6,12 @@ use Rattle.collector.specs.Sites.{branches_of}
 use Rattle.fractions.specs.declared.tally.Tally.{Tally}
 use Rattle.fractions.specs.Fraction.{IsAtMost}
 use Rattle.fractions.specs.Tally.{Passes, importance_of}
-use Rattle.tallies.specs.declared.labelled.LabelledRun.{LabelledRun}
-use Rattle.tallies.specs.declared.listed.Listed.{Listed}
-use Rattle.tallies.specs.Leading.{IsLeader, Leads, NonePass, NonePasses}
-use Rattle.tallies.specs.Predicates.{predicates_in}
-use Rattle.tallies.specs.Recount.{failing_runs, recount}
-use Rattle.tallies.proofs.ScanLemmas.{at-most-refl, first-leads, leads-on, none-more}
+use Rattle.elimination_tallies.specs.declared.labelled.LabelledRun.{LabelledRun}
+use Rattle.elimination_tallies.specs.declared.listed.Listed.{Listed}
+use Rattle.elimination_tallies.specs.Leading.{IsLeader, Leads, NonePass, NonePasses}
+use Rattle.elimination_tallies.specs.Predicates.{predicates_in}
+use Rattle.elimination_tallies.specs.Recount.{failing_runs, recount}
+use Rattle.elimination_tallies.proofs.ScanLemmas.{at-most-refl, first-leads, leads-on, none-more}
 use Rattle.elimination.specs.Elimination.{IsElimination, after}
 use Rattle.elimination.proofs.EliminationLemmas.{leader-falls}
 use Rattle.elimination.proofs.UniqueLemmas.{one-elimination}

@@ -3,8 +3,8 @@ use Rattle.std.specs.Prelude.{◌≡◌, ℕ, ◌<◌, Bool, List}
 use Rattle.cbi_base.specs.declared.policy.Policy.{Policy}
 use Rattle.flow.specs.declared.site.TableParts.{TableParts}
 use Rattle.report_file.specs.declared.report.Report.{Report}
-use Rattle.tallies.specs.declared.labelled.LabelledRun.{LabelledRun}
-use Rattle.tallies.specs.Recount.{recount, runs_of}
+use Rattle.elimination_tallies.specs.declared.labelled.LabelledRun.{LabelledRun}
+use Rattle.elimination_tallies.specs.Recount.{recount, runs_of}
 use Rattle.elimination.specs.Elimination.{IsElimination}
 use Rattle.ranking.specs.Ranked.{IsRankingOf}
 use Rattle.affinity.specs.Cards.{IsCard}
@@ -29,7 +29,8 @@ PredicatesHaveOneNearList = (branches : List Bool) (runs : List LabelledRun) (p 
 
 -- a card names a failing run in which its predicate was true
 abbrev pub PredicatesHaveOneCard : Type 0
-PredicatesHaveOneCard = (branches : List Bool) (reports : List Report) (p : ℕ) → 0 < (recount branches (runs_of reports) p).a → ThereIsOne (IsCard branches reports p)
+PredicatesHaveOneCard = (branches : List Bool) (reports : List Report) (p : ℕ) → 0 < (recount branches (runs_of reports) p).a
+    → ThereIsOne (IsCard branches reports p)
 
 abbrev pub CollectionsHaveOneTextOfCards : Type 0
 CollectionsHaveOneTextOfCards = (table : TableParts) (reports : List Report) → ThereIsOne (AreCardsOf table reports)

@@ -6,7 +6,7 @@ use Rattle.std.proofs.lemmas.List.{length-replicate}
 use Rattle.flow.specs.declared.node.View.{View}
 use Rattle.flow.specs.declared.node.View.TheVariants.{Row, Halts, Forks, Turns, Calls, Gives, Quits, Marks, Skips, Tests, Picks, Imports, Exports, Nowhere}
 use Rattle.flow.specs.Nodes.{led_to}
-use Rattle.regions.specs.Blocks.{IsStart, Entry, After, Joins, LeadsTo, ends_block}
+use Rattle.regions.specs.Blocks.{IsStart, Entry, After, Joins, NodeLeadsTo, ends_block}
 use Rattle.regions.specs.Flags.{AreFlags, is_in}
 use Rattle.regions.specs.Noted.{Sets, at_entry, noted, noted_all}
 use Rattle.regions.proofs.FlagLemmas.{none_set, set_kept, set_only, set_same}
@@ -37,13 +37,13 @@ OneMore E here x place next = E place next ⊎ ((place ≡ here) × (next ≡ x)
 
 -- the steps that were noted are the graph's, from no later place; where one is from this place, its block ends there
 pub record Earlier (at : ℕ → View) (E : ℕ → ℕ → Type 0) (here : ℕ) : Type 0 where
-  pub leads : (place next : ℕ) → E place next → LeadsTo at place next
+  pub leads : (place next : ℕ) → E place next → NodeLeadsTo at place next
   pub before : (place next : ℕ) → E place next → place ≤ here
   pub ends : (place next : ℕ) → E place next → place ≡ here → ends_block (at here) ≡ true
 
 -- a step to a node where a block begins
 known_start : (at : ℕ → View) (E : ℕ → ℕ → Type 0) (here x : ℕ) (led starts : List Bool) → Known at E (record { led_to = led; starts = starts }) → Earlier at E here →
-    LeadsTo at here x → x < length led → x < length starts → (ends_block (at here) ≡ true) ⊎ (is_in led x ≡ true) →
+    NodeLeadsTo at here x → x < length led → x < length starts → (ends_block (at here) ≡ true) ⊎ (is_in led x ≡ true) →
     Known at (OneMore E here x) (record { led_to = set led x true; starts = set starts x true })
 known_start at E here x led starts k earlier lead in_led in_starts cause =
     let begins : IsStart at x =
@@ -106,14 +106,14 @@ pub record Sized (n : ℕ) (s : Sets) : Type 0 where
   pub starts : length s.starts ≡ n
 
 by_flag : (at : ℕ → View) (E : ℕ → ℕ → Type 0) (here x : ℕ) (led starts : List Bool) (ends seen : Bool) → Known at E (record { led_to = led; starts = starts }) →
-    Earlier at E here → LeadsTo at here x → x < length led → x < length starts → ends_block (at here) ≡ ends → is_in led x ≡ seen →
+    Earlier at E here → NodeLeadsTo at here x → x < length led → x < length starts → ends_block (at here) ≡ ends → is_in led x ≡ seen →
     Known at (OneMore E here x) (record { led_to = set led x true; starts = cond (ends || seen) (set starts x true) starts })
 by_flag at E here x led starts true seen k earlier lead in_led in_starts e f = known_start at E here x led starts k earlier lead in_led in_starts (inl e)
 by_flag at E here x led starts false true k earlier lead in_led in_starts e f = known_start at E here x led starts k earlier lead in_led in_starts (inr f)
 by_flag at E here x led starts false false k earlier lead in_led in_starts e f = known_inside at E here x led starts k earlier in_led e f
 
 -- one step more
-pub known_more : (at : ℕ → View) (E : ℕ → ℕ → Type 0) (here x n : ℕ) (s : Sets) → Known at E s → Sized n s → Earlier at E here → LeadsTo at here x → x < n →
+pub known_more : (at : ℕ → View) (E : ℕ → ℕ → Type 0) (here x n : ℕ) (s : Sets) → Known at E s → Sized n s → Earlier at E here → NodeLeadsTo at here x → x < n →
     Known at (OneMore E here x) (noted (ends_block (at here)) x s)
 known_more at E here x n s k sized earlier lead l =
     by_flag at E here x s.led_to s.starts (ends_block (at here)) (is_in s.led_to x) k earlier lead (omega (arith, sized.led_to)) (omega (arith, sized.starts)) refl refl
@@ -135,7 +135,7 @@ noted_length ends x s = starts_length (ends || is_in s.led_to x) x s.starts
 
 -- the steps from the first nodes, so many of them
 abbrev pub Before : (ℕ → View) → ℕ → ℕ → ℕ → Type 0
-Before at count place next = (place < count) × LeadsTo at place next
+Before at count place next = (place < count) × NodeLeadsTo at place next
 
 -- a node leads nowhere, to one node, or to two where it ends its block
 pub shape : (v : View) → (led_to v ≡ []) ⊎ (((a : ℕ) × (led_to v ≡ a ∷ [])) ⊎ ((a b : ℕ) × (led_to v ≡ a ∷ b ∷ []) × (ends_block v ≡ true)))
@@ -173,7 +173,7 @@ second_in : (a b : ℕ) (xs : List ℕ) → Contains (a ∷ b ∷ xs) b
 second_in a b xs = (1, omega arith, refl)
 
 -- one node more
-pub known_node : (at : ℕ → View) (i n : ℕ) (s : Sets) → Known at (Before at i) s → Sized n s → ((next : ℕ) → LeadsTo at i next → next < n) →
+pub known_node : (at : ℕ → View) (i n : ℕ) (s : Sets) → Known at (Before at i) s → Sized n s → ((next : ℕ) → NodeLeadsTo at i next → next < n) →
     Known at (Before at (i + 1)) (noted_all (ends_block (at i)) (led_to (at i)) s) × Sized n (noted_all (ends_block (at i)) (led_to (at i)) s)
 known_node at i n s k sized within =
     let earlier : Earlier at (Before at i) i = record {
@@ -186,7 +186,7 @@ known_node at i n s k sized within =
     let split : (place next : ℕ) → Before at (i + 1) place next → Before at i place next ⊎ ((place ≡ i) × Contains (led_to (at i)) next) =
     λ place next e. elim (cases_lt place i) [
       | inl l ↦ inl (l, e.1)
-      | inr l ↦ let w = e.0 in let same : place ≡ i = omega arith in inr (same, subst (λ (x : ℕ). LeadsTo at x next) same e.1)
+      | inr l ↦ let w = e.0 in let same : place ≡ i = omega arith in inr (same, subst (λ (x : ℕ). NodeLeadsTo at x next) same e.1)
     ]
     in
     elim (shape (at i)) [
@@ -198,7 +198,7 @@ known_node at i n s k sized within =
           in
           rw e (known_same at (Before at i) (Before at (i + 1)) s k steps is_old, sized)
       | inr (inl (a, e)) ↦
-          let lead : LeadsTo at i a = rw e (first_in a []) in
+          let lead : NodeLeadsTo at i a = rw e (first_in a []) in
           let one = known_more at (Before at i) i a n s k sized earlier lead (within a lead) in
           let to : (place next : ℕ) → Before at (i + 1) place next → OneMore (Before at i) i a place next = λ place next b. elim (split place next b) [
             | inl x ↦ inl x
@@ -212,8 +212,8 @@ known_node at i n s k sized within =
           in
           rw e (known_same at (OneMore (Before at i) i a) (Before at (i + 1)) (noted (ends_block (at i)) a s) one to from, sized_more n a (ends_block (at i)) s sized)
       | inr (inr (a, b, e, ends)) ↦
-          let lead : LeadsTo at i a = rw e (first_in a (b ∷ [])) in
-          let lead' : LeadsTo at i b = rw e (second_in a b []) in
+          let lead : NodeLeadsTo at i a = rw e (first_in a (b ∷ [])) in
+          let lead' : NodeLeadsTo at i b = rw e (second_in a b []) in
           let one = known_more at (Before at i) i a n s k sized earlier lead (within a lead) in
           let sized' = sized_more n a (ends_block (at i)) s sized in
           let earlier' : Earlier at (OneMore (Before at i) i a) i = record {
@@ -257,12 +257,12 @@ known_entry at n l =
       record { led_to = length-replicate n false; starts = length-set (replicate n false) 0 true ∙ length-replicate n false },
     )
 
-complete : (at : ℕ → View) (n : ℕ) (s : Sets) → Known at (Before at n) s → ((place next : ℕ) → LeadsTo at place next → place < n) → {x : ℕ} → IsStart at x → is_in s.starts x ≡ true
+complete : (at : ℕ → View) (n : ℕ) (s : Sets) → Known at (Before at n) s → ((place next : ℕ) → NodeLeadsTo at place next → place < n) → {x : ℕ} → IsStart at x → is_in s.starts x ≡ true
 complete at n s k within Entry = k.entry
 complete at n s k within (After {next} place ends lead) = k.after place next (within place next lead, lead) ends
 complete at n s k within (Joins {next} one other l lead lead') = k.joins one other next l (within one next lead, lead) (within other next lead', lead')
 
 -- after all nodes
-pub known_all : (at : ℕ → View) (n : ℕ) (s : Sets) → Known at (Before at n) s → Sized n s → ((place next : ℕ) → LeadsTo at place next → place < n) →
+pub known_all : (at : ℕ → View) (n : ℕ) (s : Sets) → Known at (Before at n) s → Sized n s → ((place next : ℕ) → NodeLeadsTo at place next → place < n) →
     AreFlags n (IsStart at) s.starts
 known_all at n s k sized within = record { few = sized.starts; each = λ x. (k.right x, λ h. complete at n s k within h) }

@@ -8,17 +8,9 @@ use Rattle.std.proofs.lemmas.Option.{get_or_from_slice_get, slice_get_read, slic
 use Rattle.flow.specs.declared.node.Node.{Node}
 use Rattle.flow.specs.declared.node.View.TheVariants.{Calls}
 use Rattle.flow.specs.declared.program.Function.{Function}
-use Rattle.flow.specs.Code.{view_at, node_of}
+use Rattle.flow.specs.Code.{view_at, view_in}
 use Rattle.regions.specs.Callers.{CallsAmong, Grew, row}
 use Rattle.regions.specs.Weighty.{CallsTo, views_of}
-
-pub grew_none : (t : List (List ℕ)) (E : ℕ → ℕ → Type 0) → ((g f : ℕ) → g < length t → E g f → ⊥) → Grew t t E
-grew_none t E none = record {
-  few = refl;
-  had = λ g f h. h;
-  has = λ g f l e. absurd (none g f l e);
-  only = λ g f h. inl h;
-}
 
 -- one growth after another
 pub grew_then : (a b c : List (List ℕ)) (E F G : ℕ → ℕ → Type 0) → Grew a b E → Grew b c F → ((g f : ℕ) → G g f → E g f ⊎ F g f) →
@@ -88,9 +80,6 @@ earlier_or_here nodes i g c =
 pub among_later : (nodes : List Node) (i g : ℕ) → CallsAmong nodes i g → CallsAmong nodes (i + 1) g
 among_later nodes i g c = let w = c.within in record { place = c.place; within = omega arith; next = c.next; is = c.is }
 
-pub among_none : (nodes : List Node) (g : ℕ) → CallsAmong nodes 0 g → ⊥
-among_none nodes g c = let w = c.within in omega arith
-
 -- a node that calls one function: its caller has that call more
 pub grew_call : (a b c : List (List ℕ)) (nodes : List Node) (i caller callee next : ℕ) → views_of nodes i ≡ Calls callee next →
     Grew a b (λ g f. (f ≡ caller) × CallsAmong nodes i g) → Grew b c (λ g f. (g ≡ callee) × (f ≡ caller)) →
@@ -119,13 +108,13 @@ call_within nodes place g next (Some n) e is = slice_get_within nodes place n e
 -- a call of a function stands among its nodes
 pub among_from : (functions : List Function) (f g : ℕ) (fn : Function) → slice_get functions f ≡ Some fn → CallsTo functions f g → CallsAmong fn.nodes (length fn.nodes) g
 among_from functions f g fn e c =
-    let is : views_of fn.nodes c.place ≡ Calls g c.next = ap (λ (o : Option Function). node_of o c.place) (sym e) ∙ c.is in
+    let is : views_of fn.nodes c.place ≡ Calls g c.next = ap (λ (o : Option Function). view_in o c.place) (sym e) ∙ c.is in
     record { place = c.place; within = call_within fn.nodes c.place g c.next (slice_get fn.nodes c.place) refl is; next = c.next; is = is }
 
 pub calls_from : (functions : List Function) (f g : ℕ) (fn : Function) → slice_get functions f ≡ Some fn → CallsAmong fn.nodes (length fn.nodes) g → CallsTo functions f g
-calls_from functions f g fn e c = record { place = c.place; next = c.next; is = ap (λ (o : Option Function). node_of o c.place) e ∙ c.is }
+calls_from functions f g fn e c = record { place = c.place; next = c.next; is = ap (λ (o : Option Function). view_in o c.place) e ∙ c.is }
 
-caller_there : (functions : List Function) (f g place next : ℕ) (found : Option Function) → slice_get functions f ≡ found → node_of found place ≡ Calls g next → f < length functions
+caller_there : (functions : List Function) (f g place next : ℕ) (found : Option Function) → slice_get functions f ≡ found → view_in found place ≡ Calls g next → f < length functions
 caller_there functions f g place next None e is = cc
 caller_there functions f g place next (Some fn) e is = slice_get_within functions f fn e
 

@@ -6,7 +6,6 @@ use Rattle.std.proofs.Math.Seq.{get_or-append_seam}
 use Rattle.std.proofs.lemmas.Bool.{cases_lt}
 use Rattle.std.proofs.lemmas.List.Elements.{All-contains, All-map, Contains-append_left, Contains-push, Contains-push_cases}
 use Rattle.std.proofs.lemmas.List.{get_or-replicate, length-replicate, length-map}
-use Rattle.std.proofs.lemmas.List.Sums.{count_by-le-length}
 use Rattle.std.proofs.lemmas.Option.{get_or_from_slice_get, slice_get_past, slice_get_read, unwrap_or-slice_get}
 use Rattle.flow.specs.declared.program.Function.{Function}
 use Rattle.flow.specs.declared.site.Site.{Site}
@@ -19,19 +18,6 @@ use Rattle.regions.specs.Reach.{IsReach, Reached}
 use Rattle.regions.specs.Weighty.{CallsTo, HasSite, IsWeighty, Own, Through}
 use Rattle.regions.proofs.CallerLemmas.{caller_within}
 use Rattle.regions.proofs.FlagLemmas.{count_set, in_within, set_kept, set_only, set_same}
-
--- nothing new
-pub reached_none : (flags : List Bool) (order : List ℕ) (E : ℕ → Type 0) → IsReach flags order → ((g : ℕ) → g < length flags → E g → is_in flags g ≡ true) →
-    Reached flags order flags order E
-reached_none flags order E is known = record {
-  is_reach = is;
-  few = refl;
-  longer = omega arith;
-  kept = λ k l. refl;
-  had = λ g h. h;
-  has = λ g l e. known g l e;
-  only = λ g h. inl h;
-}
 
 -- one function is new
 pub reached_one : (flags : List Bool) (order : List ℕ) (function : ℕ) → IsReach flags order → function < length flags → is_in flags function ≡ false →
@@ -141,10 +127,6 @@ spread_start p flags order is few has only = record {
 pub spread_within : (p : ProgramParts) (flags : List Bool) (order : List ℕ) (done : ℕ) → Spread p flags order done → done < length order →
     get_or order done 0 < length p.functions
 spread_within p flags order done s l = omega (arith, in_within flags (get_or order done 0) (s.is_reach.flagged done l), s.few)
-
--- as many functions as the program has are found at most
-pub spread_few : (p : ProgramParts) (flags : List Bool) (order : List ℕ) (done : ℕ) → Spread p flags order done → length order ≤ length p.functions
-spread_few p flags order done s = omega (arith, count_by-le-length (λ (flag : Bool). flag) flags, s.is_reach.counted, s.few)
 
 -- the callers of one function more were found
 pub spread_more : (p : ProgramParts) (flags : List Bool) (order : List ℕ) (flags' : List Bool) (order' : List ℕ) (done : ℕ) (table : List (List ℕ)) →

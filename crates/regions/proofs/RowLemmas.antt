@@ -18,9 +18,6 @@ take_more xs i x e =
     let same = get_or_from_slice_get xs i x x e in
     rw add-one (take-suc xs i x l ∙ ap (λ y. take i xs ++ y ∷ []) same)
 
-pub rows_none : {A B : Type 0} (Fits : ℕ → A → B → Type 0) (items : List A) → EachFits Fits (take 0 items) []
-rows_none Fits items = record { few = refl; each = λ number item row e f. cc }
-
 rows_push : {A B : Type 0} (Fits : ℕ → A → B → Type 0) (items : List A) (rows : List B) (item : A) (row : B) → EachFits Fits items rows →
     Fits (length items) item row → EachFits Fits (items ++ item ∷ []) (rows ++ row ∷ [])
 rows_push Fits items rows item row fit new = record {

@@ -16,7 +16,7 @@ use Rattle.flow.specs.Code.{view_at}
 use Rattle.flow.specs.Nodes.{led_to, leads_rightly, names_fit, node_fits, is_again}
 use Rattle.flow.specs.Program.{bounds_of, names_of, IsFunction, IsProgram}
 use Rattle.flow.specs.View.{view}
-use Rattle.regions.specs.Blocks.{LeadsTo}
+use Rattle.regions.specs.Blocks.{NodeLeadsTo}
 use Rattle.regions.specs.Weighty.{views_of}
 
 first_of : (a b : Bool) → IsTrue (a && b) → IsTrue a
@@ -51,7 +51,7 @@ at_place names number place next f (Some n) is e c =
     within_view (bounds_of number f) place next (view n) (fits_leads names (bounds_of number f) place n (is.nodes.each place n e)) c
 
 pub leads_within : (p : ProgramParts) (number : ℕ) (f : Function) → IsProgram p → slice_get p.functions number ≡ Some f → (place next : ℕ) →
-    LeadsTo (views_of f.nodes) place next → next < length f.nodes
+    NodeLeadsTo (views_of f.nodes) place next → next < length f.nodes
 leads_within p number f is e place next c =
     at_place (names_of p) number place next f (slice_get f.nodes place) (is.functions.each number f e) refl c
 
@@ -71,5 +71,5 @@ from_place nodes place next None e c = absurd (omega (arith, c.1))
 from_place nodes place next (Some n) e c = slice_get_within nodes place n e
 
 -- only a node leads to another
-pub leads_from : (nodes : List Node) (place next : ℕ) → LeadsTo (views_of nodes) place next → place < length nodes
+pub leads_from : (nodes : List Node) (place next : ℕ) → NodeLeadsTo (views_of nodes) place next → place < length nodes
 leads_from nodes place next c = from_place nodes place next (slice_get nodes place) refl c

@@ -17,14 +17,14 @@ ends_block (Picks weight fast slow) = true
 ends_block other = false
 
 -- the node at the place leads to the other one
-abbrev pub LeadsTo : (ℕ → View) → ℕ → ℕ → Type 0
-LeadsTo at place next = Contains (led_to (at place)) next
+abbrev pub NodeLeadsTo : (ℕ → View) → ℕ → ℕ → Type 0
+NodeLeadsTo at place next = Contains (led_to (at place)) next
 
 -- a block begins where the function is entered, after a node that ends a block, and where more than one node leads
 pub data IsStart (at : ℕ → View) : ℕ → Type 0 where
   Entry : IsStart at 0
-  After : {next : ℕ} (place : ℕ) → ends_block (at place) ≡ true → LeadsTo at place next → IsStart at next
-  Joins : {next : ℕ} (one other : ℕ) → one < other → LeadsTo at one next → LeadsTo at other next → IsStart at next
+  After : {next : ℕ} (place : ℕ) → ends_block (at place) ≡ true → NodeLeadsTo at place next → IsStart at next
+  Joins : {next : ℕ} (one other : ℕ) → one < other → NodeLeadsTo at one next → NodeLeadsTo at other next → IsStart at next
 
 -- the flags of a function's nodes at which a block begins
 abbrev pub BlocksFit : ℕ → Function → Vec Bool Global → Type 0

@@ -7,7 +7,7 @@ use Rattle.flow.specs.declared.node.View.TheVariants.{Calls}
 use Rattle.flow.specs.declared.program.Function.{Function}
 use Rattle.flow.specs.declared.program.ProgramParts.{ProgramParts}
 use Rattle.flow.specs.declared.site.Site.{Site}
-use Rattle.flow.specs.Code.{view_at, node_of}
+use Rattle.flow.specs.Code.{view_at, view_in}
 
 -- how control goes on at each of these nodes
 abbrev pub views_of : List Node → ℕ → View
@@ -17,7 +17,7 @@ views_of nodes place = view_at (slice_get nodes place)
 pub record CallsTo (functions : List Function) (caller callee : ℕ) : Type 0 where
   pub place : ℕ
   pub next : ℕ
-  pub is : node_of (slice_get functions caller) place ≡ Calls callee next
+  pub is : view_in (slice_get functions caller) place ≡ Calls callee next
 
 -- some site stands in the function
 abbrev pub HasSite : List Site → ℕ → Type 0

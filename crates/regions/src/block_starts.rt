@@ -1,7 +1,7 @@
 ghost use Rattle.std.specs.Prelude.{◌≡◌, ◌<◌, ℕ, IfOk, length, Contains};
 ghost use Rattle.flow.specs.View.{view};
 ghost use Rattle.flow.specs.Nodes.{led_to};
-ghost use Rattle.regions.specs.Blocks.{BlocksFit, IsStart, LeadsTo, ends_block};
+ghost use Rattle.regions.specs.Blocks.{BlocksFit, IsStart, NodeLeadsTo, ends_block};
 ghost use Rattle.regions.specs.Flags.{AreFlags};
 ghost use Rattle.regions.specs.Rows.{EachFits};
 ghost use Rattle.regions.specs.Weighty.{views_of};
@@ -75,7 +75,7 @@ impl Starts {
 /// Where the blocks of a function with these nodes begin.
 fn blocks_of(alloc: Global, nodes: &[Node]) -> Result<Vec<bool>, Memory>
     requires entry { 0 < length nodes.now }
-    requires within { (place next : ℕ) → LeadsTo (views_of nodes.now) place next → next < length nodes.now }
+    requires within { (place next : ℕ) → NodeLeadsTo (views_of nodes.now) place next → next < length nodes.now }
     ensures { IfOk result (λ flags. AreFlags (length nodes.now) (IsStart (views_of nodes.now)) flags.items) }
 {
     let mut found = Starts::none(alloc, nodes.len())?;

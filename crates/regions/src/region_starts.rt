@@ -1,6 +1,6 @@
 ghost use Rattle.std.specs.Prelude.{◌≡◌, ◌<◌, ℕ, IfOk, length};
 ghost use Rattle.flow.specs.View.{view};
-ghost use Rattle.regions.specs.Blocks.{LeadsTo};
+ghost use Rattle.regions.specs.Blocks.{NodeLeadsTo};
 ghost use Rattle.regions.specs.Flags.{AreFlags, is_in};
 ghost use Rattle.regions.specs.Headers.{HeadersFit, IsHeader, begun_after};
 ghost use Rattle.regions.specs.Rows.{EachFits};
@@ -25,7 +25,7 @@ fn begun_after(weighty: &[bool], node: Node) -> Option<u32>
 /// Where the regions of a weighty function with these nodes begin.
 fn headers_of(alloc: Global, weighty: &[bool], nodes: &[Node]) -> Result<Vec<bool>, Memory>
     requires entry { 0 < length nodes.now }
-    requires within { (place next : ℕ) → LeadsTo (views_of nodes.now) place next → next < length nodes.now }
+    requires within { (place next : ℕ) → NodeLeadsTo (views_of nodes.now) place next → next < length nodes.now }
     ensures { IfOk result (λ flags. AreFlags (length nodes.now) (IsHeader (is_in weighty.now) (views_of nodes.now)) flags.items) }
 {
     let mut flags = vec![in alloc; false; nodes.len()]?;
@@ -46,7 +46,7 @@ fn flags_of(
     function: &Function,
 ) -> Result<Vec<bool>, Memory>
     requires entry { 0 < length function.now.nodes }
-    requires within { (place next : ℕ) → LeadsTo (views_of function.now.nodes) place next → next < length function.now.nodes }
+    requires within { (place next : ℕ) → NodeLeadsTo (views_of function.now.nodes) place next → next < length function.now.nodes }
     ensures { IfOk result (λ flags. HeadersFit weighty.now number function.now flags) }
 {
     let nodes = function.nodes.as_slice();

@@ -56,7 +56,7 @@ find-passes : {A : Type 0} (p : A → Bool) (xs : List A) (x : A) → find p xs 
 find-passes p [] x h = absurd (none-some h)
 find-passes p (y ∷ ys) x h = chosen (p y) (Some y) (find p ys) x h (λ test is. ap p (sym (some-is is)) ∙ test) (λ _ is. find-passes p ys x is)
 
-pub trap-small : (t : Trap) → trap.number_of t ≤ 99
+pub trap-small : (t : Trap) → trap.trap_number t ≤ 99
 trap-small Overflow = lit≤ tt
 trap-small Divide = lit≤ tt
 trap-small Shift = lit≤ tt
@@ -73,7 +73,7 @@ trap-small Assertion = lit≤ tt
 trap-small Abort = lit≤ tt
 trap-small Internal = lit≤ tt
 
-trap_numbered-number : (t : Trap) → trap_numbered (trap.number_of t) ≡ Some t
+trap_numbered-number : (t : Trap) → trap_numbered (trap.trap_number t) ≡ Some t
 trap_numbered-number Overflow = refl
 trap_numbered-number Divide = refl
 trap_numbered-number Shift = refl
@@ -90,13 +90,13 @@ trap_numbered-number Assertion = refl
 trap_numbered-number Abort = refl
 trap_numbered-number Internal = refl
 
-trap_of-decimal : (t : Trap) → trap_of (decimal (trap.number_of t)) ≡ Some t
-trap_of-decimal t = ap (λ n. n >>= trap_numbered) (number_of-decimal 99 (trap.number_of t) (trap-small t) (omega arith)) ∙ trap_numbered-number t
+trap_of-decimal : (t : Trap) → trap_of (decimal (trap.trap_number t)) ≡ Some t
+trap_of-decimal t = ap (λ n. n >>= trap_numbered) (number_of-decimal 99 (trap.trap_number t) (trap-small t) (omega arith)) ∙ trap_numbered-number t
 
-trap_of-spelled : (field : List ℕ) (t : Trap) → trap_of field ≡ Some t → field ≡ decimal (trap.number_of t)
+trap_of-spelled : (field : List ℕ) (t : Trap) → trap_of field ≡ Some t → field ≡ decimal (trap.trap_number t)
 trap_of-spelled field t h =
     bound trap_numbered (number_of 99 field) t h (λ n read is.
-    (number_of-spelled 99 field n read).0 ∙ ap decimal (sym (eqb-true (trap.number_of t) n (find-passes (λ x. trap.number_of x == n) traps t is))))
+    (number_of-spelled 99 field n read).0 ∙ ap decimal (sym (eqb-true (trap.trap_number t) n (find-passes (λ x. trap.trap_number x == n) traps t is))))
 
 -- an `int` has 64 bits too
 pub wide : (status : ℤ) → LiesIn Int status → FitsSigned w64 status

@@ -7,7 +7,7 @@ use Rattle.std.proofs.lemmas.List.Splits.{join_with_byte-slice_split}
 use Rattle.cbi_base.specs.Numbers.{◌>>=◌}
 use Rattle.cbi_base.specs.ProgramId.{IsId, IsIdText, is_lower_digit, text_of_id}
 use Rattle.cbi_base.specs.Text.{IsField, is_field_byte, fields_of, spaced}
-use Rattle.cbi_base.specs.Trap.{number_of}
+use Rattle.cbi_base.specs.Trap.{trap_number}
 use Rattle.cbi_base.specs.declared.identity.ProgramId.{ProgramId}
 use Rattle.cbi_base.specs.declared.outcome.Outcome.{Outcome}
 use Rattle.cbi_base.specs.declared.outcome.Outcome.TheVariants.{Ended, Trapped, CutTurns, CutOutput}
@@ -62,7 +62,7 @@ run-reads line answer is =
 
 pub row-outcome : (outcome : Outcome) → IsOutcome outcome → IsRow (outcome_line outcome)
 row-outcome (Ended status) is = (refl, (refl, (IsField-signed status (wide status is), tt)))
-row-outcome (Trapped t) is = (refl, (refl, (IsField-decimal (number_of t) (omega (arith, trap-small t)), tt)))
+row-outcome (Trapped t) is = (refl, (refl, (IsField-decimal (trap_number t) (omega (arith, trap-small t)), tt)))
 row-outcome CutTurns is = (refl, (refl, (refl, tt)))
 row-outcome CutOutput is = (refl, (refl, (refl, tt)))
 

@@ -16,7 +16,7 @@ use Rattle.report_file.specs.declared.draft.Draft.{Draft}
 use Rattle.report_file.specs.declared.report.Entry.{Entry}
 use Rattle.report_file.specs.declared.report.Report.{Report}
 use Rattle.report_file.specs.Fields.{alone, entry_of_fields, label_at, outcome_in, run_at, work_at}
-use Rattle.report_file.specs.Grammar.{Comes, Ends, EndFollows, Follows, Sets, SiteFollows}
+use Rattle.report_file.specs.Grammar.{ReportLineComes, ReportEnds, ReportEndFollows, ReportLineFollows, Sets, SiteFollows}
 use Rattle.report_file.specs.Reading.{Reads}
 use Rattle.report_file.specs.Report.{IsEntry, IsOutcome, IsRun, IsWork}
 use Rattle.report_file.specs.Spelling.{SpellsReport, label_fields, outcome_line, program_fields, run_fields, site_fields, title_fields, work_fields}
@@ -51,7 +51,7 @@ site-once d line a b s t =
     s.after_is ∙ ap (λ e. record d { site = e.site + 1; report = record d.report { entries = d.report.entries ++ e ∷ [] } }) (once site_fields IsEntry line (entry_of_fields (fields_of line)) (entry-reads line (entry_of_fields (fields_of line)) refl) s.value t.value s.is_good.is_entry t.is_good.is_entry s.line_is t.line_is)
     ∙ sym t.after_is
 
-comes-once : (due : Due) (d : Draft) (line : List ℕ) (a b : Draft) → Comes due d line a → Comes due d line b → a ≡ b
+comes-once : (due : Due) (d : Draft) (line : List ℕ) (a b : Draft) → ReportLineComes due d line a → ReportLineComes due d line b → a ≡ b
 comes-once due.Title d line a b s t = sets-once title_fields (λ _. Unit {0}) _ line a b (λ x y _ _ is_x is_y. title-once line x y is_x is_y) s t
 comes-once due.Program d line a b s t = sets-once program_fields IsId _ line a b (id-once line) s t
 comes-once due.Run d line a b s t = sets-once run_fields IsRun _ line a b (once run_fields IsRun line (run_at (fields_of line) >>= alone) (run-reads line (run_at (fields_of line) >>= alone) refl)) s t
@@ -59,15 +59,15 @@ comes-once due.Outcome d line a b s t = sets-once outcome_line IsOutcome _ line 
 comes-once due.Label d line a b s t = sets-once label_fields (λ _. Unit {0}) _ line a b (once label_fields (λ _. Unit {0}) line (label_at (fields_of line) >>= alone) (label-reads line (label_at (fields_of line) >>= alone) refl)) s t
 comes-once due.Work d line a b s t = sets-once work_fields IsWork _ line a b (once work_fields IsWork line (work_at (fields_of line) >>= alone) (work-reads line (work_at (fields_of line) >>= alone) refl)) s t
 comes-once due.Sites d line a b s t =
-    ⊎_elim (λ (x : SiteFollows d line a). ⊎_elim (λ (y : SiteFollows d line b). site-once d line a b x y) (λ (y : EndFollows d line b). absurd (site-no-end line x.value x.line_is y.0)) t)
-    (λ (x : EndFollows d line a). ⊎_elim (λ (y : SiteFollows d line b). absurd (site-no-end line y.value y.line_is x.0)) (λ (y : EndFollows d line b). x.1 ∙ sym y.1) t) s
+    ⊎_elim (λ (x : SiteFollows d line a). ⊎_elim (λ (y : SiteFollows d line b). site-once d line a b x y) (λ (y : ReportEndFollows d line b). absurd (site-no-end line x.value x.line_is y.0)) t)
+    (λ (x : ReportEndFollows d line a). ⊎_elim (λ (y : SiteFollows d line b). absurd (site-no-end line y.value y.line_is x.0)) (λ (y : ReportEndFollows d line b). x.1 ∙ sym y.1) t) s
 comes-once due.Nothing d line a b s t = absurd s
 
-pub leads-once : LeadsOnce Follows
+pub leads-once : LeadsOnce ReportLineFollows
 leads-once = λ from line a b x y. comes-once from.due from line a b x y
 
 pub spells-once : (bytes : List ℕ) (a b : Report) → SpellsReport bytes a → SpellsReport bytes b → a ≡ b
 spells-once bytes a b spells_a spells_b =
     let x = spelled-reads bytes a spells_a in
     let y = spelled-reads bytes b spells_b in
-    ap (λ (d : Draft). d.report) (reads-once Follows Ends leads-once _ (read_whole x.version a) (read_whole y.version b) bytes x.reads y.reads)
+    ap (λ (d : Draft). d.report) (reads-once ReportLineFollows ReportEnds leads-once _ (read_whole x.version a) (read_whole y.version b) bytes x.reads y.reads)

@@ -15,7 +15,7 @@ use Rattle.report_file.specs.Fields.{label_at, outcome_at, run_at, work_at}
 use Rattle.report_file.specs.Label.{label_of}
 use Rattle.report_file.specs.Reading.{Reads}
 use Rattle.report_file.specs.Report.{IsOutcome, IsWork}
-use Rattle.report_file.specs.RunLine.{IsRunLine, first_of, run_line_fields, second_of}
+use Rattle.report_file.specs.RunLine.{IsRunLine, first_run_line, run_line_fields, second_of}
 use Rattle.report_file.specs.Spelling.{label_fields, outcome_fields, run_fields, work_fields}
 use Rattle.report_file.proofs.FieldLemmas.{alone-is, label-spelled, label-taken, outcome-spelled, outcome_of-fields, run-spelled, run-taken, work-spelled, work-taken}
 use Rattle.report_file.proofs.LineLemmas.{IsRow, line-reads, row-label, row-outcome, row-run, row-work}
@@ -44,7 +44,7 @@ run-row Second x is =
     let run = row-run x.run is.run in
     (run.0, (run.1.0, fields-append (outcome_fields x.outcome) (label_fields x.label ++ work_fields x.work) (fields-outcome x.outcome is.outcome) (fields-append (label_fields x.label) (work_fields x.work) (fields-label x.label) (fields-work x.work is.work))))
 
-first-read : (x : RunLine) → IsRunLine First x → first_of (run_line_fields First x) ≡ Some x
+first-read : (x : RunLine) → IsRunLine First x → first_run_line (run_line_fields First x) ≡ Some x
 first-read x is =
     let run = run-taken x.run (outcome_fields x.outcome ++ work_fields x.work) is.run in
     let outcome = outcome_of-fields x.outcome (work_fields x.work) is.outcome in
@@ -62,7 +62,7 @@ second-read x is =
 second-not-first : Second ≡ First → ⊥
 second-not-first e = cc
 
-first-spelled : (fields : List (List ℕ)) (x : RunLine) → first_of fields ≡ Some x → IsRunLine First x × (fields ≡ run_line_fields First x)
+first-spelled : (fields : List (List ℕ)) (x : RunLine) → first_run_line fields ≡ Some x → IsRunLine First x × (fields ≡ run_line_fields First x)
 first-spelled fields x h =
     bound _ (run_at fields) x h (λ (run : ℕ × List (List ℕ)) taken_run h. bound _ (outcome_at run.1) x h (λ (outcome : Outcome × List (List ℕ)) taken_outcome h. bound _ (work_at outcome.1) x h (λ (work : Work × List (List ℕ)) taken_work one.
     let r = run-spelled fields run.1 run.0 taken_run in
@@ -87,8 +87,8 @@ second-spelled fields x h =
     r.1 ∙ ap (λ rest. run_fields run.0 ++ rest) (o.1 ∙ ap (λ rest. outcome_fields outcome.0 ++ rest) (l ∙ ap (λ rest. label_fields label.0 ++ rest) (w.1 ∙ ap (λ rest. work_fields work.0 ++ rest) a.1 ∙ append-nil (work_fields work.0)))) in
     subst (λ z. IsRunLine Second z × (fields ≡ run_line_fields Second z)) a.0 (record { run = r.0; outcome = o.0; work = w.0; label = λ e. absurd (second-not-first e) }, f)))))
 
-pub first-reads : (line : List ℕ) (answer : Option RunLine) → answer ≡ first_of (fields_of line) → Reads (run_line_fields First) (IsRunLine First) line answer
-first-reads line answer is = line-reads (run_line_fields First) (IsRunLine First) first_of (run-row First) first-read first-spelled line answer is
+pub first-reads : (line : List ℕ) (answer : Option RunLine) → answer ≡ first_run_line (fields_of line) → Reads (run_line_fields First) (IsRunLine First) line answer
+first-reads line answer is = line-reads (run_line_fields First) (IsRunLine First) first_run_line (run-row First) first-read first-spelled line answer is
 
 pub second-reads : (line : List ℕ) (answer : Option RunLine) → answer ≡ second_of (fields_of line) → Reads (run_line_fields Second) (IsRunLine Second) line answer
 second-reads line answer is = line-reads (run_line_fields Second) (IsRunLine Second) second_of (run-row Second) second-read second-spelled line answer is

@@ -17,8 +17,8 @@ use Rattle.report_file.specs.declared.report.Entry.{Entry}
 use Rattle.report_file.specs.declared.report.Report.{Report}
 use Rattle.report_file.specs.Label.{label_of}
 use Rattle.report_file.specs.Report.{AreEntries, IsEntry, IsOutcome, IsReport, IsRun, RiseFrom}
-use Rattle.report_file.specs.Spelling.{SpellsReport, WithLabel, Without, label_fields, label_rows, outcome_line, program_fields, rows_of, run_fields, site_fields, title_fields, work_fields}
-use Rattle.report_file.specs.Grammar.{Comes, Ends, Follows, EndFollows, IsNextEntry, SiteFollows, after_outcome, start, with_entry, with_label, with_outcome, with_program, with_run, with_version, with_work}
+use Rattle.report_file.specs.Spelling.{SpellsReport, WithLabel, Without, label_fields, label_rows, outcome_line, program_fields, rows_of_report, run_fields, site_fields, title_fields, work_fields}
+use Rattle.report_file.specs.Grammar.{ReportLineComes, ReportEnds, ReportLineFollows, ReportEndFollows, IsNextEntry, SiteFollows, after_outcome, report_start, with_entry, with_label, with_outcome, with_program, with_run, with_version, with_work}
 use Rattle.report_file.proofs.LineLemmas.{IsRow, row-label, row-outcome, row-program, row-run, row-site, row-work}
 
 -- the rows that were read, by what is due
@@ -36,7 +36,7 @@ rows_at due.Outcome d = start_rows d []
 rows_at due.Label d = start_rows d (outcome_line d.report.outcome ∷ [])
 rows_at due.Work d = start_rows d (outcome_line d.report.outcome ∷ label_rows d.version d.report.label)
 rows_at due.Sites d = start_rows d (outcome_line d.report.outcome ∷ (label_rows d.version d.report.label ++ site_rows d))
-rows_at due.Nothing d = rows_of d.version d.report
+rows_at due.Nothing d = rows_of_report d.version d.report
 
 -- the site number behind the entries
 abbrev pub end_of : ℕ → List Entry → ℕ
@@ -127,7 +127,7 @@ end-step d lines line h line_is =
     }
 
 -- what was read holds of one more line
-step : (due : Due) (d : Draft) (is : d.due ≡ due) (lines : List (List ℕ)) (line : List ℕ) (after : Draft) → Holds due d lines → Comes due d line after → Holds after.due after (lines ++ line ∷ [])
+step : (due : Due) (d : Draft) (is : d.due ≡ due) (lines : List (List ℕ)) (line : List ℕ) (after : Draft) → Holds due d lines → ReportLineComes due d line after → Holds after.due after (lines ++ line ∷ [])
 step due.Title d is lines line after h s =
     subst (λ a. Holds a.due a (lines ++ line ∷ [])) (sym s.after_is) (record {
       lines_are = row-more lines line [] (title_fields s.value) h.lines_are s.line_is;
@@ -173,18 +173,18 @@ step due.Sites d is lines line after h s =
     ⊎_elim (λ (site : SiteFollows d line after).
     let whole = site-step d lines line site.value h site.is_good site.line_is in
     subst (λ a. Holds a.due a (lines ++ line ∷ [])) (sym site.after_is) (subst (λ x. Holds x (with_entry d site.value) (lines ++ line ∷ [])) (sym is) whole))
-    (λ (over : EndFollows d line after). subst (λ a. Holds a.due a (lines ++ line ∷ [])) (sym over.1) (end-step d lines line h over.0)) s
+    (λ (over : ReportEndFollows d line after). subst (λ a. Holds a.due a (lines ++ line ∷ [])) (sym over.1) (end-step d lines line h over.0)) s
 step due.Nothing d is lines line after h s = absurd s
 
-leads-holds : (lines done : List (List ℕ)) (from to : Draft) → LeadsTo Follows from lines to → Holds from.due from done → Holds to.due to (done ++ lines)
+leads-holds : (lines done : List (List ℕ)) (from to : Draft) → LeadsTo ReportLineFollows from lines to → Holds from.due from done → Holds to.due to (done ++ lines)
 leads-holds [] done from to leads h = subst (λ d. Holds d.due d (done ++ [])) leads (subst (Holds from.due from) (sym (append-nil done)) h)
 leads-holds (line ∷ more) done from to leads h =
     subst (Holds to.due to) (append_assoc done (line ∷ []) more) (leads-holds more (done ++ line ∷ []) leads.0 to leads.2 (step from.due from refl done line leads.0 h leads.1))
 
-holds-start : Holds due.Title start []
+holds-start : Holds due.Title report_start []
 holds-start = record { lines_are = refl; so_far = record { entries = refl; site = refl } }
 
-spelled-as : (text : List ℕ) (v : Version) (r : Report) → IsReport r → IsPlain v r → text ≡ text_of (map spaced (rows_of v r)) → SpellsReport text r
+spelled-as : (text : List ℕ) (v : Version) (r : Report) → IsReport r → IsPlain v r → text ≡ text_of (map spaced (rows_of_report v r)) → SpellsReport text r
 spelled-as text version.First r is plain text_is = Without is (plain refl) text_is
 spelled-as text version.Second r is plain text_is = WithLabel is text_is
 
@@ -194,9 +194,9 @@ spelled-is bytes r (WithLabel is text_is) = is
 spelled-is bytes r (Without is plain text_is) = is
 
 -- what is read is spelled so
-pub reads-spelled : (text : List ℕ) (from to : Draft) → from ≡ start → ReadsLines Follows Ends from text to → SpellsReport text to.report
+pub reads-spelled : (text : List ℕ) (from to : Draft) → from ≡ report_start → ReadsLines ReportLineFollows ReportEnds from text to → SpellsReport text to.report
 reads-spelled text from to is reads =
-    let h = leads-holds reads.lines [] start to (subst (λ d. LeadsTo Follows d reads.lines to) is reads.leads) holds-start in
+    let h = leads-holds reads.lines [] report_start to (subst (λ d. LeadsTo ReportLineFollows d reads.lines to) is reads.leads) holds-start in
     let whole : Holds due.Nothing to reads.lines = subst (λ d. Holds d to reads.lines) reads.over h in
     spelled-as text to.version to.report whole.so_far.0 whole.so_far.1 (reads.text_is ∙ ap text_of whole.lines_are)
 
@@ -207,18 +207,18 @@ at_sites v r entries site = record { due = due.Sites; version = v; site = site; 
 abbrev pub read_whole : Version → Report → Draft
 read_whole v r = record { due = due.Nothing; version = v; site = end_of 0 r.entries; report = r }
 
-sites-lead : (v : Version) (r : Report) (entries more : List Entry) (site : ℕ) → AreEntries more → RiseFrom site more → LeadsTo Follows (at_sites v r entries site) (map spaced (map site_fields more ++ (codes "end" ∷ []) ∷ [])) (record (at_sites v r (entries ++ more) (end_of site more)) { due = due.Nothing })
+sites-lead : (v : Version) (r : Report) (entries more : List Entry) (site : ℕ) → AreEntries more → RiseFrom site more → LeadsTo ReportLineFollows (at_sites v r entries site) (map spaced (map site_fields more ++ (codes "end" ∷ []) ∷ [])) (record (at_sites v r (entries ++ more) (end_of site more)) { due = due.Nothing })
 sites-lead v r entries [] site are rise =
     (record (at_sites v r entries site) { due = due.Nothing }, inr (refl, refl), ap (λ es. record (at_sites v r es site) { due = due.Nothing }) (sym (append-nil entries)))
 sites-lead v r entries (e ∷ more) site are rise = (
   at_sites v r (entries ++ e ∷ []) (e.site + 1),
   inl (record { value = e; is_good = record { is_entry = are.0; rises = rise.0 }; line_is = refl; after_is = refl }),
-  subst (λ es. LeadsTo Follows (at_sites v r (entries ++ e ∷ []) (e.site + 1)) (map spaced (map site_fields more ++ (codes "end" ∷ []) ∷ [])) (record (at_sites v r es (end_of (e.site + 1) more)) { due = due.Nothing })) (append_assoc entries (e ∷ []) more) (sites-lead v r (entries ++ e ∷ []) more (e.site + 1) are.1 rise.1),
+  subst (λ es. LeadsTo ReportLineFollows (at_sites v r (entries ++ e ∷ []) (e.site + 1)) (map spaced (map site_fields more ++ (codes "end" ∷ []) ∷ [])) (record (at_sites v r es (end_of (e.site + 1) more)) { due = due.Nothing })) (append_assoc entries (e ∷ []) more) (sites-lead v r (entries ++ e ∷ []) more (e.site + 1) are.1 rise.1),
 )
 
-second-leads : (r : Report) → IsReport r → LeadsTo Follows start (map spaced (rows_of version.Second r)) (read_whole version.Second r)
+second-leads : (r : Report) → IsReport r → LeadsTo ReportLineFollows report_start (map spaced (rows_of_report version.Second r)) (read_whole version.Second r)
 second-leads r is =
-    let s1 = with_version start version.Second in
+    let s1 = with_version report_start version.Second in
     let s2 = with_program s1 r.program in
     let s3 = with_run s2 r.run in
     let s4 = with_outcome s3 r.outcome in
@@ -248,9 +248,9 @@ second-leads r is =
       ),
     )
 
-first-leads : (r : Report) → IsReport r → LeadsTo Follows start (map spaced (rows_of version.First r)) (read_whole version.First (record r { label = label_of r.outcome true }))
+first-leads : (r : Report) → IsReport r → LeadsTo ReportLineFollows report_start (map spaced (rows_of_report version.First r)) (read_whole version.First (record r { label = label_of r.outcome true }))
 first-leads r is =
-    let s1 = with_version start version.First in
+    let s1 = with_version report_start version.First in
     let s2 = with_program s1 r.program in
     let s3 = with_run s2 r.run in
     let s4 = with_outcome s3 r.outcome in (
@@ -287,22 +287,22 @@ site-rows : (entries : List Entry) → AreEntries entries → AllByRecursion IsR
 site-rows [] are = ((refl, tt), tt)
 site-rows (e ∷ more) are = (row-site e are.0, site-rows more are.1)
 
-are-rows : (v : Version) (r : Report) → IsReport r → AllByRecursion IsRow (rows_of v r)
+are-rows : (v : Version) (r : Report) → IsReport r → AllByRecursion IsRow (rows_of_report v r)
 are-rows version.First r is = ((refl, (refl, tt)), (row-program r.program is.program, (row-run r.run is.run, (row-outcome r.outcome is.outcome, (row-work r.work is.work, site-rows r.entries is.entries)))))
 are-rows version.Second r is = ((refl, (refl, tt)), (row-program r.program is.program, (row-run r.run is.run, (row-outcome r.outcome is.outcome, (row-label r.label, (row-work r.work is.work, site-rows r.entries is.entries))))))
 
 -- what is spelled so is read
 pub record IsRead (text : List ℕ) (r : Report) : Type 0 where
   pub version : Version
-  pub reads : ReadsLines Follows Ends start text (read_whole version r)
+  pub reads : ReadsLines ReportLineFollows ReportEnds report_start text (read_whole version r)
 
 pub spelled-reads : (text : List ℕ) (r : Report) → SpellsReport text r → IsRead text r
 spelled-reads text r (WithLabel is text_is) = record {
   version = version.Second;
   reads = record {
-    lines = map spaced (rows_of version.Second r);
+    lines = map spaced (rows_of_report version.Second r);
     text_is = text_is;
-    are_lines = rows-lines (rows_of version.Second r) (are-rows version.Second r is);
+    are_lines = rows-lines (rows_of_report version.Second r) (are-rows version.Second r is);
     leads = second-leads r is;
     over = refl;
   };
@@ -310,10 +310,10 @@ spelled-reads text r (WithLabel is text_is) = record {
 spelled-reads text r (Without is plain text_is) = record {
   version = version.First;
   reads = record {
-    lines = map spaced (rows_of version.First r);
+    lines = map spaced (rows_of_report version.First r);
     text_is = text_is;
-    are_lines = rows-lines (rows_of version.First r) (are-rows version.First r is);
-    leads = subst (λ label. LeadsTo Follows start (map spaced (rows_of version.First r)) (read_whole version.First (record r { label = label }))) (sym plain) (first-leads r is);
+    are_lines = rows-lines (rows_of_report version.First r) (are-rows version.First r is);
+    leads = subst (λ label. LeadsTo ReportLineFollows report_start (map spaced (rows_of_report version.First r)) (read_whole version.First (record r { label = label }))) (sym plain) (first-leads r is);
     over = refl;
   };
 }

@@ -5,13 +5,13 @@ use Rattle.report_file.specs.declared.error.ReportError.TheVariants.{BadReport, 
 use Rattle.report_file.specs.declared.report.Report.{Report}
 
 -- the answer is this report, unless memory ran out
-abbrev pub ReadAs : Result Report ReportError → Report → Type 0
-ReadAs (Ok r) want = r ≡ want
-ReadAs (Err (BadReport line)) want = ⊥
-ReadAs (Err Memory) want = Unit {0}
+abbrev pub ReportReadAs : Result Report ReportError → Report → Type 0
+ReportReadAs (Ok r) want = r ≡ want
+ReportReadAs (Err (BadReport line)) want = ⊥
+ReportReadAs (Err Memory) want = Unit {0}
 
 -- the bytes are refused at this line, unless memory ran out
-abbrev pub RefusedAt : Result Report ReportError → ℕ → Type 0
-RefusedAt (Ok r) line = ⊥
-RefusedAt (Err (BadReport bad)) line = bad ≡ line
-RefusedAt (Err Memory) line = Unit {0}
+abbrev pub ReportRefusedAt : Result Report ReportError → ℕ → Type 0
+ReportRefusedAt (Ok r) line = ⊥
+ReportRefusedAt (Err (BadReport bad)) line = bad ≡ line
+ReportRefusedAt (Err Memory) line = Unit {0}

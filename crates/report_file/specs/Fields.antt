@@ -7,7 +7,8 @@ use Rattle.cbi_base.specs.Numbers.{is_word, number_of, signed_of, ◌>>=◌}
 use Rattle.cbi_base.specs.Trap as trap
 use Rattle.cbi_base.specs.declared.scalar.Kind.TheVariants.{Int}
 use Rattle.cbi_base.specs.declared.trap.Trap.{Trap}
-use Rattle.cbi_base.specs.declared.trap.Trap.TheVariants.{Overflow, Divide, Shift, Undefined, WrongKind, Bounds, Dead, NullUse, ReadOnly, BadFree, Unrelated, StackOverflow, Assertion, Abort, Internal}
+use Rattle.cbi_base.specs.declared.trap.Trap.TheVariants.{Overflow, Divide, Shift, Undefined, WrongKind, Bounds, Dead, NullUse, ReadOnly, BadFree}
+use Rattle.cbi_base.specs.declared.trap.Trap.TheVariants.{Unrelated, StackOverflow, Assertion, Abort, Internal}
 use Rattle.cbi_base.specs.declared.outcome.Outcome.{Outcome}
 use Rattle.cbi_base.specs.declared.outcome.Outcome.TheVariants.{Ended, Trapped, CutTurns, CutOutput}
 use Rattle.cbi_base.specs.declared.outcome.Work.{Work}
@@ -35,10 +36,11 @@ run_at (word ∷ number ∷ rest) =
 
 -- the traps, and the one with this number
 abbrev pub traps : List Trap
-traps = Overflow ∷ Divide ∷ Shift ∷ Undefined ∷ WrongKind ∷ Bounds ∷ Dead ∷ NullUse ∷ ReadOnly ∷ BadFree ∷ Unrelated ∷ StackOverflow ∷ Assertion ∷ Abort ∷ Internal ∷ []
+traps = Overflow ∷ Divide ∷ Shift ∷ Undefined ∷ WrongKind ∷ Bounds ∷ Dead ∷ NullUse ∷ ReadOnly ∷ BadFree ∷ Unrelated ∷ StackOverflow ∷ Assertion
+    ∷ Abort ∷ Internal ∷ []
 
 abbrev pub trap_numbered : ℕ → Option Trap
-trap_numbered number = find (λ t. trap.number_of t == number) traps
+trap_numbered number = find (λ t. trap.trap_number t == number) traps
 
 abbrev pub trap_of : List ℕ → Option Trap
 trap_of field = number_of 99 field >>= trap_numbered

@@ -37,8 +37,8 @@ empty = record {
   entries = [];
 }
 
-abbrev pub start : Draft
-start = record { due = due.Title; version = version.Second; site = 0; report = empty }
+abbrev pub report_start : Draft
+report_start = record { due = due.Title; version = version.Second; site = 0; report = empty }
 
 abbrev pub with_version : Draft → Version → Draft
 with_version d version = record d { due = due.Program; version = version }
@@ -74,23 +74,23 @@ pub record IsNextEntry (site : ℕ) (e : Entry) : Type 0 where
 abbrev pub SiteFollows : Draft → List ℕ → Draft → Type 0
 SiteFollows d line after = Sets site_fields (IsNextEntry d.site) (with_entry d) line after
 
-abbrev pub EndFollows : Draft → List ℕ → Draft → Type 0
-EndFollows d line after = (line ≡ codes "end") × (after ≡ record d { due = due.Nothing })
+abbrev pub ReportEndFollows : Draft → List ℕ → Draft → Type 0
+ReportEndFollows d line after = (line ≡ codes "end") × (after ≡ record d { due = due.Nothing })
 
 -- the line that is due
-abbrev pub Comes : Due → Draft → List ℕ → Draft → Type 0
-Comes due.Title d line after = Sets title_fields (λ _. Unit {0}) (with_version d) line after
-Comes due.Program d line after = Sets program_fields IsId (with_program d) line after
-Comes due.Run d line after = Sets run_fields IsRun (with_run d) line after
-Comes due.Outcome d line after = Sets outcome_line IsOutcome (with_outcome d) line after
-Comes due.Label d line after = Sets label_fields (λ _. Unit {0}) (with_label d) line after
-Comes due.Work d line after = Sets work_fields IsWork (with_work d) line after
-Comes due.Sites d line after = SiteFollows d line after ⊎ EndFollows d line after
-Comes due.Nothing d line after = ⊥
+abbrev pub ReportLineComes : Due → Draft → List ℕ → Draft → Type 0
+ReportLineComes due.Title d line after = Sets title_fields (λ _. Unit {0}) (with_version d) line after
+ReportLineComes due.Program d line after = Sets program_fields IsId (with_program d) line after
+ReportLineComes due.Run d line after = Sets run_fields IsRun (with_run d) line after
+ReportLineComes due.Outcome d line after = Sets outcome_line IsOutcome (with_outcome d) line after
+ReportLineComes due.Label d line after = Sets label_fields (λ _. Unit {0}) (with_label d) line after
+ReportLineComes due.Work d line after = Sets work_fields IsWork (with_work d) line after
+ReportLineComes due.Sites d line after = SiteFollows d line after ⊎ ReportEndFollows d line after
+ReportLineComes due.Nothing d line after = ⊥
 
-abbrev pub Follows : Draft → List ℕ → Draft → Type 0
-Follows d line after = Comes d.due d line after
+abbrev pub ReportLineFollows : Draft → List ℕ → Draft → Type 0
+ReportLineFollows d line after = ReportLineComes d.due d line after
 
 -- the text may end where nothing is due
-abbrev pub Ends : Draft → Type 0
-Ends d = d.due ≡ due.Nothing
+abbrev pub ReportEnds : Draft → Type 0
+ReportEnds d = d.due ≡ due.Nothing

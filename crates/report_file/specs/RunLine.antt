@@ -22,8 +22,8 @@ pub record IsRunLine (version : Version) (x : RunLine) : Type 0 where
   pub label : version ≡ First → x.label ≡ label_of x.outcome true
 
 -- what the fields of such a line are read as, by a plain body
-abbrev pub first_of : List (List ℕ) → Option RunLine
-first_of fields = do
+abbrev pub first_run_line : List (List ℕ) → Option RunLine
+first_run_line fields = do
   (run, behind_run) ← run_at fields
   (outcome, behind_outcome) ← outcome_at behind_run
   (work, behind_work) ← work_at behind_outcome

@@ -3,7 +3,7 @@ use Rattle.std.specs.Prelude.{◌≡◌, ℕ, true, List, [], ◌∷◌, ◌++�
 use Rattle.std.specs.Fmt.{signed_decimal}
 use Rattle.cbi_base.specs.ProgramId.{text_of_id}
 use Rattle.cbi_base.specs.Text.{spaced, text_of}
-use Rattle.cbi_base.specs.Trap.{number_of}
+use Rattle.cbi_base.specs.Trap.{trap_number}
 use Rattle.cbi_base.specs.declared.identity.ProgramId.{ProgramId}
 use Rattle.cbi_base.specs.declared.outcome.Outcome.{Outcome}
 use Rattle.cbi_base.specs.declared.outcome.Outcome.TheVariants.{Ended, Trapped, CutTurns, CutOutput}
@@ -26,7 +26,7 @@ run_fields run = codes "run" ∷ decimal run ∷ []
 -- how a run went, in two words
 abbrev pub outcome_fields : Outcome → List (List ℕ)
 outcome_fields (Ended status) = codes "ended" ∷ signed_decimal status ∷ []
-outcome_fields (Trapped trap) = codes "trapped" ∷ decimal (number_of trap) ∷ []
+outcome_fields (Trapped trap) = codes "trapped" ∷ decimal (trap_number trap) ∷ []
 outcome_fields CutTurns = codes "cut" ∷ codes "turns" ∷ []
 outcome_fields CutOutput = codes "cut" ∷ codes "output" ∷ []
 
@@ -58,13 +58,13 @@ label_rows First label = []
 label_rows Second label = label_fields label ∷ []
 
 -- the lines of a report, each as its fields
-abbrev pub rows_of : Version → Report → List (List (List ℕ))
-rows_of version r =
+abbrev pub rows_of_report : Version → Report → List (List (List ℕ))
+rows_of_report version r =
     title_fields version ∷ program_fields r.program ∷ run_fields r.run ∷ outcome_line r.outcome ∷ (label_rows version r.label
     ++ work_fields r.work ∷ (map site_fields r.entries ++ (codes "end" ∷ []) ∷ []))
 
 abbrev pub versioned_text : Version → Report → List ℕ
-versioned_text version r = text_of (map spaced (rows_of version r))
+versioned_text version r = text_of (map spaced (rows_of_report version r))
 
 -- the lines before those of the sites, in the second version
 abbrev pub head_rows : Report → List (List (List ℕ))

@@ -1,7 +1,8 @@
 ghost use Rattle.std.specs.Prelude.{◌≡◌, ◌⊎◌, List, ℕ, OnOk};
 ghost use Rattle.cbi_base.specs.LineFaults.{TakenWith};
 ghost use Rattle.cbi_base.specs.ProgramId.{IsId};
-ghost use Rattle.report_file.specs.Grammar.{Sets, SiteFollows, EndFollows, start, with_version, with_program, with_run, with_outcome, with_label, with_work, after_outcome};
+ghost use Rattle.report_file.specs.Grammar.{Sets, SiteFollows, ReportEndFollows, report_start, with_version, with_program, with_run, with_outcome};
+ghost use Rattle.report_file.specs.Grammar.{with_label, with_work, after_outcome};
 ghost use Rattle.report_file.specs.Report.{IsOutcome, IsRun, IsWork};
 ghost use Rattle.report_file.specs.Spelling.{label_fields, outcome_line, program_fields, run_fields, title_fields, work_fields};
 ghost use Rattle.report_file.specs.declared.draft.Draft.{Draft};
@@ -53,7 +54,7 @@ fn after_outcome(version: Version) -> Due
 impl Draft {
     /// Nothing is read yet.
     pub fn new(alloc: Global) -> Draft
-        ensures { result ≡ start }
+        ensures { result ≡ report_start }
     {
         Draft {
             due: Due::Title,
@@ -178,8 +179,8 @@ impl Draft {
     }
 
     fn take_site_or_end(&mut self, line: &[u8]) -> Result<(), LineError>
-        ensures ok { OnOk result (SiteFollows self.old line.now self.new ⊎ EndFollows self.old line.now self.new) }
-        ensures only { (next : Draft) → SiteFollows self.old line.now next ⊎ EndFollows self.old line.now next → TakenWith result (self.new ≡ next) }
+        ensures ok { OnOk result (SiteFollows self.old line.now self.new ⊎ ReportEndFollows self.old line.now self.new) }
+        ensures only { (next : Draft) → SiteFollows self.old line.now next ⊎ ReportEndFollows self.old line.now next → TakenWith result (self.new ≡ next) }
     {
         if line == b"end".as_slice() {
             self.due = Due::Nothing;
@@ -190,11 +191,11 @@ impl Draft {
 }
 
 impl LineReader for Draft {
-    ghost use Rattle.report_file.specs.Grammar.{Follows, Ends};
+    ghost use Rattle.report_file.specs.Grammar.{ReportLineFollows, ReportEnds};
 
-    ghost follows = { Follows };
+    ghost follows = { ReportLineFollows };
 
-    ghost ends = { Ends };
+    ghost ends = { ReportEnds };
 
     fn take(&mut self, line: &[u8]) -> Result<(), LineError> {
         match self.due {

@@ -1,7 +1,7 @@
 ghost use Rattle.std.specs.Prelude.{◌≡◌, ℕ, List, IsTrue, Some, slice_get};
 ghost use Rattle.cbi_base.specs.Lines.{LeadsOnce};
 ghost use Rattle.cbi_base.specs.declared.outcome.Counts.{Counts};
-ghost use Rattle.report_file.specs.Grammar.{Follows};
+ghost use Rattle.report_file.specs.Grammar.{ReportLineFollows};
 ghost use Rattle.report_file.specs.Report.{Among, IsReport, RiseFrom, entries_of, is_positive};
 ghost use Rattle.report_file.specs.Spelling.{SpellsReport, report_text};
 ghost use Rattle.report_file.specs.declared.report.Entry.{Entry};
@@ -19,7 +19,7 @@ pub fn written_report()
 
 /// In the grammar of reports a line leads to one state: so a text has at most one bad line, and none where it is read.
 pub fn one_state()
-    ensures { LeadsOnce Follows }
+    ensures { LeadsOnce ReportLineFollows }
 {}
 
 /// The entries of a run rise, each is a site with its counters, one of them positive, and each such site has one.

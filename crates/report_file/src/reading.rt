@@ -1,7 +1,7 @@
 ghost use Rattle.std.specs.Prelude.{◌≡◌, ℕ, IfOk, Err};
 ghost use Rattle.cbi_base.specs.Lines.{IsBadLine};
-ghost use Rattle.report_file.specs.Answers.{ReadAs, RefusedAt};
-ghost use Rattle.report_file.specs.Grammar.{Follows, Ends, start};
+ghost use Rattle.report_file.specs.Answers.{ReportReadAs, ReportRefusedAt};
+ghost use Rattle.report_file.specs.Grammar.{ReportLineFollows, ReportEnds, report_start};
 ghost use Rattle.report_file.specs.Report.{IsReport};
 ghost use Rattle.report_file.specs.Spelling.{SpellsReport};
 ghost use Rattle.report_file.specs.declared.error.ReportError.TheVariants as error;
@@ -20,11 +20,11 @@ pub fn read_report(alloc: Global, bytes: &[u8]) -> Result<Report, ReportError>
     // It is a report that has a text.
     ensures is_report { IfOk result IsReport }
     // What is spelled so is read, unless memory runs out: so bytes are refused exactly where they spell no report.
-    ensures only { (r : Report) → SpellsReport bytes.now r → ReadAs result r }
+    ensures only { (r : Report) → SpellsReport bytes.now r → ReportReadAs result r }
     // A refusal names the bad line.
-    ensures line { (line : ℕ) → result ≡ Err (error.BadReport line) → IsBadLine Follows Ends start bytes.now line }
+    ensures line { (line : ℕ) → result ≡ Err (error.BadReport line) → IsBadLine ReportLineFollows ReportEnds report_start bytes.now line }
     // Bytes that go wrong at a line are refused there, unless memory runs out.
-    ensures line_only { (line : ℕ) → IsBadLine Follows Ends start bytes.now line → RefusedAt result line }
+    ensures line_only { (line : ℕ) → IsBadLine ReportLineFollows ReportEnds report_start bytes.now line → ReportRefusedAt result line }
 {
     let mut draft = Draft::new(alloc);
     match read_lines(&mut draft, bytes) {

@@ -1,7 +1,7 @@
 ghost use Rattle.std.specs.Prelude.{◌≡◌, ◌++◌, map, IfOk, OnOk};
 ghost use Rattle.cbi_base.specs.Text.{ended, spaced, text_of};
 ghost use Rattle.report_file.specs.Reading.{Reads};
-ghost use Rattle.report_file.specs.RunLine.{IsRunLine, first_of, line_of, line_rows, run_line_fields, second_of};
+ghost use Rattle.report_file.specs.RunLine.{IsRunLine, first_run_line, line_of, line_rows, run_line_fields, second_of};
 ghost use Rattle.report_file.specs.declared.draft.Version.TheVariants as version;
 
 use crate::draft::Version;
@@ -38,7 +38,7 @@ fn second_of(fields: &mut Fields<'_>) -> Option<RunLine>
 }
 
 fn first_of(fields: &mut Fields<'_>) -> Option<RunLine>
-    ensures { result ≡ first_of fields.old }
+    ensures { result ≡ first_run_line fields.old }
 {
     let run = take_run(fields)?;
     let outcome = take_outcome(fields)?;

@@ -1,6 +1,7 @@
 ghost use Rattle.std.specs.Prelude.{◌≡◌, ◌++◌, ◌∷◌, decimal, map, IfOk, OnOk};
 ghost use Rattle.cbi_base.specs.Text.{ended, spaced, text_of};
-ghost use Rattle.report_file.specs.Spelling.{head_rows, label_fields, outcome_fields, outcome_line, program_fields, report_text, run_fields, site_fields, title_fields, work_fields};
+ghost use Rattle.report_file.specs.Spelling.{head_rows, label_fields, outcome_fields, outcome_line, program_fields, report_text, run_fields, site_fields};
+ghost use Rattle.report_file.specs.Spelling.{title_fields, work_fields};
 ghost use Rattle.report_file.specs.declared.draft.Version.TheVariants as version;
 
 use crate::label::Label;

@@ -12,7 +12,7 @@ use Rattle.flow.specs.declared.program.Function.{Function}
 use Rattle.flow.specs.declared.program.ProgramParts.{ProgramParts}
 use Rattle.flow.specs.declared.scope.Bounds.{Bounds}
 use Rattle.flow.specs.declared.scope.Names.{Names}
-use Rattle.flow.specs.Code.{Callee, callee_of, code_of, node_of, view_at}
+use Rattle.flow.specs.Code.{Callee, callee_of, code_of, view_at, view_in}
 use Rattle.flow.specs.Nodes.{is_own, led_to, names_fit, node_fits, leads_rightly}
 use Rattle.flow.specs.Program.{IsFunction, IsProgram, bounds_of, names_of}
 use Rattle.flow.specs.View.{view}
@@ -52,7 +52,7 @@ pub record IsSheet (weighty : ℕ → Bool) (v w : ℕ → View) (sheet : Sheet)
       IsRight (record { weighty = weighty; at = v; starts = sheet.starts; label = sheet.label }) l (w place)
 
 is_sheet : (weighty : ℕ → Bool) (number : ℕ) (f g : Option Function) (form : FormOf weighty number f g) (b : Bool) (e : weighty number ≡ b) → b ≡ true →
-    (f ≡ None → ⊥) → (g ≡ None → ⊥) → IsSheet weighty (node_of f) (node_of g) (sheet_of weighty number f g form b e)
+    (f ≡ None → ⊥) → (g ≡ None → ⊥) → IsSheet weighty (view_in f) (view_in g) (sheet_of weighty number f g form b e)
 is_sheet weighty number None g form b e h there also = absurd (there refl)
 is_sheet weighty number (Some x) None form b e h there also = absurd (also refl)
 is_sheet weighty number (Some x) (Some y) form false e h there also = cc
@@ -80,7 +80,7 @@ copies_of p gs bank c = record {
   weighty = is_in c.weighty;
   starts = λ function. (sheet_at p gs c function).starts;
   label = λ function. (sheet_at p gs c function).label;
-  at = λ function place. node_of (slice_get gs function) place;
+  at = λ function place. view_in (slice_get gs function) place;
 }
 
 pub none_there : {A : Type 0} (xs : List A) (k : ℕ) → k < length xs → slice_get xs k ≡ None → ⊥
@@ -123,7 +123,7 @@ mark_at p function place site next f (Some n) is e m =
     (mark_named (names_of p) (bounds_of function f) n site next (named_by (names_of p) (bounds_of function f) place n (is.nodes.each place n e)) m)
 
 mark_in : (p : ProgramParts) (function place site next : ℕ) (found : Option Function) → IsProgram p → slice_get p.functions function ≡ found →
-    node_of found place ≡ Marks site next → HasSite p.sites function
+    view_in found place ≡ Marks site next → HasSite p.sites function
 mark_in p function place site next None is e m = cc
 mark_in p function place site next (Some f) is e m = mark_at p function place site next f (slice_get f.nodes place) (is.functions.each function f e) refl m
 
@@ -133,7 +133,7 @@ plain_at nodes i (Some n) all e =
     let l = slice_get_within nodes i n e in
     subst (λ (m : Node). IsPlain (view m)) (get_or_from_slice_get nodes i n n e) (All-get_or (λ (m : Node). IsPlain (view m)) nodes i n l all)
 
-plain_in : (p : ProgramParts) (function place : ℕ) (found : Option Function) → MayClone p → slice_get p.functions function ≡ found → IsPlain (node_of found place)
+plain_in : (p : ProgramParts) (function place : ℕ) (found : Option Function) → MayClone p → slice_get p.functions function ≡ found → IsPlain (view_in found place)
 plain_in p function place None may e = tt
 plain_in p function place (Some f) may e =
     let l = slice_get_within p.functions function f e in
@@ -144,7 +144,7 @@ plain_in p function place (Some f) may e =
 
 -- a weightless function has the same nodes
 same_nodes : (p : ProgramParts) (gs : List Function) (c : Pair p gs) (function place : ℕ) (f g : Option Function) → slice_get p.functions function ≡ f →
-    slice_get gs function ≡ g → is_in c.weighty function ≡ false → node_of g place ≡ node_of f place
+    slice_get gs function ≡ g → is_in c.weighty function ≡ false → view_in g place ≡ view_in f place
 same_nodes p gs c function place None None e h light = refl
 same_nodes p gs c function place None (Some y) e h light =
     absurd (none_there p.functions function (omega (arith, slice_get_within gs function y h, c.few)) e)
@@ -167,7 +167,7 @@ same_callee p gs c function (Some x) (Some y) e h =
     ap (λ (v : Bool). make v y.params y.locals) is.value ∙ ap (λ (n : ℕ). make x.value n y.locals) is.params ∙ ap (λ (ls : List ℕ). make x.value x.params ls) is.locals
 
 sheet_is : (p : ProgramParts) (gs : List Function) (c : Pair p gs) (function : ℕ) → is_in c.weighty function ≡ true →
-    IsSheet (is_in c.weighty) (node_of (slice_get p.functions function)) (node_of (slice_get gs function)) (sheet_at p gs c function)
+    IsSheet (is_in c.weighty) (view_in (slice_get p.functions function)) (view_in (slice_get gs function)) (sheet_at p gs c function)
 sheet_is p gs c function heavy =
     let l = in_within c.weighty function heavy in
     is_sheet (is_in c.weighty) function (slice_get p.functions function) (slice_get gs function) (c.each function) (is_in c.weighty function) refl heavy

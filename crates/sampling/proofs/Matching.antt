@@ -12,7 +12,7 @@ use Rattle.cbi_base.specs.Scalars.{truth_of}
 use Rattle.flow.specs.Calls.{call_with, enter, entered, ended_with, locals_made, waiting}
 use Rattle.flow.specs.Code.{Callee, Code}
 use Rattle.flow.specs.Limits.{active_limit}
-use Rattle.flow.specs.Machine.{EndsFrom, Ends, branch, fork, go_on, halt, spend, step}
+use Rattle.flow.specs.Machine.{EndsFrom, Ends, branch, fork, go_on, halt, spend_turn, step}
 use Rattle.flow.specs.Now.{Effect, Goes, Lacks, Now, Stops, Taken, Takes}
 use Rattle.flow.specs.State.{Ending, Next, On, Over, State, over}
 use Rattle.flow.proofs.Endings.{ends_over, leads_one}
@@ -97,7 +97,7 @@ fork_by t s own a b m n (Lacks trap) f g = over_both t s own f.countdown (Trappe
 pub spend_by : (t : Copies) (s : State) (own : Own) (countdown turns : ℕ) (go also : State → Next) →
     Tally t.full.bank s.watch.seen own.watch.seen countdown own.watch.drawn →
     ((left : ℕ) → Matches t (go (record s { turns = left })) (also (record (beside s own) { turns = left }))) →
-    Matches t (spend turns s go) (spend turns (beside s own) also)
+    Matches t (spend_turn turns s go) (spend_turn turns (beside s own) also)
 spend_by t s own countdown zero go also tally h = over_both t s own countdown CutTurns tally
 spend_by t s own countdown (suc left) go also tally h = h left
 

@@ -12,7 +12,7 @@ use Rattle.flow.specs.declared.program.Text.{Text}
 use Rattle.flow.specs.declared.site.Site.{Site}
 use Rattle.flow.specs.Code.{Callee, Code, callee_of, code_of}
 use Rattle.flow.specs.Counting.{counts_of}
-use Rattle.flow.specs.Machine.{EndsFrom, MachineEnds, at_start, begin_with, each_made, first_objects, no_work, run, step}
+use Rattle.flow.specs.Machine.{EndsFrom, MachineEnds, at_start, begin_with, each_made, no_work, program_objects, run, step}
 use Rattle.flow.specs.Program.{IsProgram, parts_of}
 use Rattle.flow.specs.Sampling.{IsPositive, total_of}
 use Rattle.flow.specs.State.{Ending, Next, On, Over, State}
@@ -99,7 +99,7 @@ with_functions : (p : ProgramParts) (gs : List Function) (input : List ℕ) (ban
 with_functions p gs input bank turns full is may ready c positive ends faultless =
     let t = copies_of p gs bank c in
     let are = are_copies p gs bank c is may ready in
-    let made = each_made (first_objects p) no_objects in
+    let made = each_made (program_objects p) no_objects in
     let f = ends_by t are positive full faultless (begin_with t.full p.main input turns made)
     (begin_with (sampled t) p.main input turns made) (begins t p.main turns input made are positive) ends
     in

@@ -3,7 +3,7 @@ use Rattle.std.specs.Prelude.{◌≡◌, ℕ, List, Bool, true, false}
 use Rattle.flow.specs.declared.node.Node.{Node}
 use Rattle.flow.specs.declared.node.View.{View}
 use Rattle.flow.specs.declared.node.View.TheVariants.{Turns, Calls, Picks, Imports}
-use Rattle.regions.specs.Blocks.{LeadsTo}
+use Rattle.regions.specs.Blocks.{NodeLeadsTo}
 use Rattle.regions.specs.Weighty.{views_of}
 use Rattle.clone_paths.specs.Cloned.{NodesCloned}
 
@@ -31,8 +31,8 @@ calls_weighty weighty other = false
 -- calls of weighty functions. So where control falls into a loop from above, it passes no choice.
 pub record ChoosesAtRegions (weighty : ℕ → Bool) (at : ℕ → View) : Type 0 where
   pub entry : is_import (at 0) ≡ true
-  pub choices : (place next : ℕ) → LeadsTo at place next → is_choice (at next) ≡ opens_region (at place)
-  pub imports : (place next : ℕ) → LeadsTo at place next → is_import (at next) ≡ calls_weighty weighty (at place)
+  pub choices : (place next : ℕ) → NodeLeadsTo at place next → is_choice (at next) ≡ opens_region (at place)
+  pub imports : (place next : ℕ) → NodeLeadsTo at place next → is_import (at next) ≡ calls_weighty weighty (at place)
 
 -- the copies of a weighty function choose so
 abbrev pub ChoosesRarely : Type 0

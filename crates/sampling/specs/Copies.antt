@@ -38,5 +38,6 @@ pub record AreCopies (t : Copies) : Type 0 where
   pub ends : (function place next : ℕ) → t.weighty function ≡ true → ends_block (t.full.at function place) ≡ true →
       Contains (led_to (t.full.at function place)) next → t.starts function next ≡ true
   pub entry : (function : ℕ) → t.weighty function ≡ true → t.label function 0 ≡ Some Enter
-  pub each : (function place : ℕ) (l : CopyLabel) → t.weighty function ≡ true → t.label function place ≡ Some l → IsRight (cloning t function) l (t.at function place)
+  pub each : (function place : ℕ) (l : CopyLabel) → t.weighty function ≡ true → t.label function place ≡ Some l
+      → IsRight (cloning t function) l (t.at function place)
   pub branches : BranchesFork t.full.at t.full.site

@@ -66,4 +66,5 @@ Waits t countdown shared below spots = ⊥
 pub record Follows (t : Copies) (s : State) (own : Own) : Type 0 where
   pub countdown : ℕ
   pub tally : Tally t.full.bank s.watch.seen own.watch.seen countdown own.watch.drawn
-  pub stands : RunsBeside t countdown s.function s.node own.node own.copy (Returns t s.below own.spots) (Waits t countdown own.watch.countdown s.below own.spots)
+  pub stands : RunsBeside t countdown s.function s.node own.node own.copy (Returns t s.below own.spots)
+      (Waits t countdown own.watch.countdown s.below own.spots)

@@ -3,8 +3,8 @@ use Rattle.std.specs.Prelude.{◌≡◌, ℕ, List, slice_get}
 use Rattle.cbi_base.specs.declared.outcome.Outcome.TheVariants.{Trapped}
 use Rattle.cbi_base.specs.declared.trap.Trap.TheVariants.{Internal}
 use Rattle.flow.specs.declared.program.ProgramParts.{ProgramParts}
-use Rattle.flow.specs.Code.{node_of}
-use Rattle.flow.specs.Counting.{counts_of, result_of}
+use Rattle.flow.specs.Code.{view_in}
+use Rattle.flow.specs.Counting.{counts_of, run_result}
 use Rattle.flow.specs.Machine.{MachineEnds}
 use Rattle.flow.specs.Program.{IsProgram}
 use Rattle.flow.specs.Sampling.{IsPositive, samples}
@@ -23,7 +23,7 @@ pub record RunsLike (p q : ProgramParts) (input : List ℕ) (bank : ℕ → ℕ)
   pub ending : Ending
   pub ends : MachineEnds q input bank turns ending
   pub is_sample : IsSampleOf bank full ending
-  pub counts : (result_of q.sites ending).counts ≡ counts_of p.sites (samples bank full.seen)
+  pub counts : (run_result q.sites ending).counts ≡ counts_of p.sites (samples bank full.seen)
 
 -- whatever a run of the program comes to, but a fault of the program itself, the sampled program comes to with the same input, bank and turns
 abbrev pub Samples : ProgramParts → ProgramParts → Type 0

@@ -10,7 +10,8 @@ use std::alloc::Global;
 
 /// The sampled program of a program, which runs like it: a run ends alike, with the same output, and observes the samples of the visits.
 /// This asks that each visit of a condition's site stands before the fork on the condition. A run that meets a fault of the program itself
-/// (a row without its operands) is not spoken of: there the sampled program may go on past a site that it doesn't look at.
+/// (a row without its operands) is not spoken of: there the sampled program may go on past a site that it doesn't look at. The program has no sampling
+/// nodes and at most 2,000,000 nodes, and the bank of a run has numbers of at least 1.
 pub fn sample(alloc: Global, program: &Program) -> Result<Program, Memory>
     requires { MayClone program.now }
     ensures cloned { IfOk result (λ q. Cloned program.now q) }

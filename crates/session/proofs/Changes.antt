@@ -6,25 +6,25 @@ use Rattle.report_file.specs.declared.report.Report.{Report}
 use Rattle.collector.specs.Collected.{IsOurs, report_at, without_report}
 use Rattle.collector.specs.Collecting.{IsCollection}
 use Rattle.collector.specs.Merging.{AreReports}
-use Rattle.collector.specs.Order.{IsOneOf}
+use Rattle.collector.specs.Order.{IsOneOfReports}
 use Rattle.collector.specs.declared.collection.Held.{Held}
-use Rattle.tallies.specs.declared.labelled.LabelledRun.{LabelledRun}
-use Rattle.tallies.specs.declared.numbers.Change.TheVariants.{PutIn, TakeOut}
-use Rattle.tallies.specs.Recount.{failing_runs, fails, labelled, runs_of}
-use Rattle.tallies.specs.Runs.{AreEntriesOf, AreRunsOf}
-use Rattle.tallies.specs.Tallies.{AllowsEntries, AreRecounts, ChangedByAll, Tallies, counted_as, one_if}
-use Rattle.tallies.proofs.RunChanges.{fails-middle, put-in-allowed, put-in-recounts, take-out-allowed, take-out-recounts}
-use Rattle.tallies.proofs.RunLemmas.{are-entries}
-use Rattle.tallies.specs.declared.listed.Listed.{Listed}
-use Rattle.tallies.specs.Leading.{IsLeader, Leads, NonePass, NonePasses}
-use Rattle.tallies.specs.Predicates.{predicates_in}
-use Rattle.tallies.specs.Scanning.{tally_at}
-use Rattle.tallies.proofs.RecountLemmas.{fails-most, recounts-leader, recounts-none}
+use Rattle.elimination_tallies.specs.declared.labelled.LabelledRun.{LabelledRun}
+use Rattle.elimination_tallies.specs.declared.numbers.Change.TheVariants.{PutIn, TakeOut}
+use Rattle.elimination_tallies.specs.Recount.{failing_runs, fails, labelled, runs_of}
+use Rattle.elimination_tallies.specs.Runs.{AreEntriesOf, AreRunsOf}
+use Rattle.elimination_tallies.specs.Tallies.{AllowsEntries, AreRecounts, ChangedByAll, Tallies, counted_as, one_if}
+use Rattle.elimination_tallies.proofs.RunChanges.{fails-middle, put-in-allowed, put-in-recounts, take-out-allowed, take-out-recounts}
+use Rattle.elimination_tallies.proofs.RunLemmas.{are-entries}
+use Rattle.elimination_tallies.specs.declared.listed.Listed.{Listed}
+use Rattle.elimination_tallies.specs.Leading.{IsLeader, Leads, NonePass, NonePasses}
+use Rattle.elimination_tallies.specs.Predicates.{predicates_in}
+use Rattle.elimination_tallies.specs.Scanning.{tally_at}
+use Rattle.elimination_tallies.proofs.RecountLemmas.{fails-most, recounts-leader, recounts-none}
 use Rattle.session.specs.Session.{AreKept}
 use Rattle.session.specs.declared.kept.Kept.{Kept}
 use Rattle.session.proofs.Runs.{split}
 
-well-runs : (c : Held) (reports : List Report) → AreReports reports → ((r : Report) → IsOneOf r reports → IsOurs c r) → AreRunsOf c.branches (runs_of reports)
+well-runs : (c : Held) (reports : List Report) → AreReports reports → ((r : Report) → IsOneOfReports r reports → IsOurs c r) → AreRunsOf c.branches (runs_of reports)
 well-runs c [] are ours = All-nil (λ (x : LabelledRun). AreEntriesOf c.branches x.entries)
 well-runs c (r ∷ more) are ours =
     All-cons (λ (x : LabelledRun). AreEntriesOf c.branches x.entries) (labelled r) (runs_of more) (are-entries c r are.0 (ours r (inl refl))) (well-runs c more are.1 (λ x is. ours x (inr is)))

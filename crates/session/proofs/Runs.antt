@@ -9,7 +9,7 @@ use Rattle.report_file.specs.Report.{IsReport}
 use Rattle.collector.specs.Collected.{next_after, relabelled, report_at, with_report, without_report}
 use Rattle.collector.specs.Collecting.{IsCollection}
 use Rattle.collector.specs.Merging.{AreReports}
-use Rattle.collector.specs.Order.{IsOneOf}
+use Rattle.collector.specs.Order.{IsOneOfReports}
 use Rattle.collector.specs.declared.collection.Held.{Held}
 use Rattle.collector.proofs.Maps.{labelled as with_label, next-least, next-no}
 use Rattle.collector.proofs.Ordering.{AreRising, above-member, from-rising, with_by}
@@ -22,18 +22,18 @@ same-number : (n : ℕ) → (n == n) ≡ true
 same-number n = grind (arith, nat_tests)
 
 -- who is one of the reports is that of its run
-member-at : (reports : List Report) (r : Report) → AreRising reports → IsOneOf r reports → report_at r.run reports ≡ Some r
+member-at : (reports : List Report) (r : Report) → AreRising reports → IsOneOfReports r reports → report_at r.run reports ≡ Some r
 member-at [] r rising is = absurd is
 member-at (x ∷ more) r rising is =
     ⊎_elim (λ (same : r ≡ x). let here : (r.run == x.run) ≡ true = ap (λ (y : Report). r.run == y.run) (sym same) ∙ same-number r.run in ap (λ b. cond b (Some x) (report_at r.run more)) here ∙ ap Some (sym same))
-    (λ (behind : IsOneOf r more).
+    (λ (behind : IsOneOfReports r more).
     let less = above-member x.run more r rising.0 behind in
     let other : (r.run == x.run) ≡ false = other-number r.run x.run (λ e. omega arith) in
     ap (λ b. cond b (Some x) (report_at r.run more)) other ∙ member-at more r rising.1 behind) is
 
-report-of : (reports : List Report) (r : Report) → AreReports reports → IsOneOf r reports → IsReport r
+report-of : (reports : List Report) (r : Report) → AreReports reports → IsOneOfReports r reports → IsReport r
 report-of [] r are is = absurd is
-report-of (x ∷ more) r are is = ⊎_elim (λ (same : r ≡ x). subst IsReport (sym same) are.0) (λ (behind : IsOneOf r more). report-of more r are.1 behind) is
+report-of (x ∷ more) r are is = ⊎_elim (λ (same : r ≡ x). subst IsReport (sym same) are.0) (λ (behind : IsOneOfReports r more). report-of more r are.1 behind) is
 
 -- no run has number 0
 pub none-at-zero : (c : Held) (run : ℕ) → IsCollection c → run ≡ 0 → None ≡ report_at run c.reports

@@ -3,8 +3,8 @@ use Rattle.std.specs.Prelude.{◌≡◌, Bool, List}
 use Rattle.cbi_base.specs.declared.policy.Policy.{Policy}
 use Rattle.collector.specs.declared.collection.Held.{Held}
 use Rattle.report_file.specs.declared.report.Report.{Report}
-use Rattle.tallies.specs.Recount.{failing_runs, runs_of}
-use Rattle.tallies.specs.Tallies.{AreRecounts}
+use Rattle.elimination_tallies.specs.Recount.{failing_runs, runs_of}
+use Rattle.elimination_tallies.specs.Tallies.{AreRecounts}
 use Rattle.session.specs.declared.kept.Kept.{Kept}
 
 pub record SessionState : Type 0 where

@@ -2,13 +2,13 @@ ghost use Rattle.std.specs.Prelude.{◌≡◌, IfSome};
 ghost use Rattle.std.specs.Option.{option_copied};
 ghost use Rattle.collector.specs.Collected.{report_at, without_report};
 ghost use Rattle.session.specs.Session.{AreKept};
-ghost use Rattle.tallies.specs.Recount.{fails};
-ghost use Rattle.tallies.specs.Runs.{AreEntriesOf};
-ghost use Rattle.tallies.specs.Tallies.{one_if};
+ghost use Rattle.elimination_tallies.specs.Recount.{fails};
+ghost use Rattle.elimination_tallies.specs.Runs.{AreEntriesOf};
+ghost use Rattle.elimination_tallies.specs.Tallies.{one_if};
 
 use collector::Collection;
+use elimination_tallies::{Change, Numbers, counted_as};
 use report_file::{Label, Report};
-use tallies::{Change, Numbers, counted_as};
 
 /// What is kept of the runs that are held: the numbers of all predicates, and how many of the runs fail.
 #[derive(Drop)]

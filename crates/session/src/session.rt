@@ -5,20 +5,20 @@ ghost use Rattle.collector.specs.Sites.{branches_of};
 ghost use Rattle.elimination.specs.Elimination.{IsElimination};
 ghost use Rattle.report_file.specs.Report.{IsReport};
 ghost use Rattle.session.specs.Session.{SessionState, holding};
-ghost use Rattle.tallies.specs.Leading.{IsLeader, NonePasses};
-ghost use Rattle.tallies.specs.Predicates.{predicates_in};
-ghost use Rattle.tallies.specs.Recount.{recount, runs_of};
+ghost use Rattle.elimination_tallies.specs.Leading.{IsLeader, NonePasses};
+ghost use Rattle.elimination_tallies.specs.Predicates.{predicates_in};
+ghost use Rattle.elimination_tallies.specs.Recount.{recount, runs_of};
 
 use crate::kept::{Kept, put_in, take_out};
 use cbi_base::{Memory, Policy, ProgramId, Seq};
 use collector::{AddFault, Added, Collection, branches_of};
 use elimination::elimination_from;
+use elimination_tallies::{Listed, Numbers, leader_in};
 use flow::SiteTable;
 use fractions::Tally;
 use report_file::{Label, Report};
 use std::alloc::Global;
 use std::marker::Model;
-use tallies::{Listed, Numbers, leader_in};
 
 /// A collection whose reports come and go, and change their labels, with the numbers of all predicates over the runs that it holds. Contracts see it as
 /// what the collection holds, with the policy of its rankings.

@@ -22,7 +22,7 @@ use Rattle.session_edits.specs.declared.draft.Due.TheVariants as due
 use Rattle.session_edits.specs.declared.draft.Reading.{Reading}
 use Rattle.session_edits.specs.declared.edit.Edit.{Edit}
 use Rattle.session_edits.specs.declared.edit.Edit.TheVariants.{Add, Remove, Relabel, Rank}
-use Rattle.session_edits.specs.Grammar.{AddFollows, Ends, Follows, Goes, added, begin, begun, closed, start}
+use Rattle.session_edits.specs.Grammar.{AddFollows, EditLineFollows, EditsEnd, Goes, added, begin, begun, closed, edits_start}
 use Rattle.session_edits.specs.Spelling.{AreEdits, IsEdit, SpellsEdits, byte_limit, edit_rows, edits_rows, rank_limit, ranks_in}
 use Rattle.session_edits.proofs.Room.{lead-on}
 
@@ -152,7 +152,7 @@ edits-lines program (e ∷ more) are = rows-append (edit_rows e) (flat_map edit_
 -- what is spelled so is read
 pub record IsRead (alloc : Global) (program : ProgramId) (text : List ℕ) (edits : List Edit) : Type 0 where
   pub to : Reading
-  pub reads : ReadsLines Follows Ends (start alloc program) text to
+  pub reads : ReadsLines EditLineFollows EditsEnd (edits_start alloc program) text to
   pub edits_are : to.draft.edits ≡ edits
 
 pub spelled-reads : (alloc : Global) (program : ProgramId) (text : List ℕ) (edits : List Edit) → SpellsEdits program text edits → IsRead alloc program text edits

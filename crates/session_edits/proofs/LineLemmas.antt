@@ -21,9 +21,6 @@ use Rattle.session_edits.specs.declared.edit.Edit.TheVariants.{Add, Remove, Rela
 use Rattle.session_edits.specs.Fields.{change_in, relabel_in, run_in}
 use Rattle.session_edits.specs.Spelling.{IsChange, add_fields, edit_fields}
 
-pub add-spaced : (x : RunLine) → spaced (add_fields x) ≡ codes "add " ++ spaced (run_line_fields Second x)
-add-spaced x = refl
-
 behind-same : (a b : List ℕ) → codes "add " ++ a ≡ codes "add " ++ b → a ≡ b
 behind-same a b is = cc
 

@@ -23,7 +23,7 @@ use Rattle.session_edits.specs.declared.draft.Due.TheVariants as due
 use Rattle.session_edits.specs.declared.draft.Reading.{Reading}
 use Rattle.session_edits.specs.declared.edit.Edit.{Edit}
 use Rattle.session_edits.specs.Fields.{change_in}
-use Rattle.session_edits.specs.Grammar.{AddFollows, ChangeFollows, Comes, Ends, Follows, SiteFollows, begun, closed, start, whole}
+use Rattle.session_edits.specs.Grammar.{AddFollows, AddedSiteFollows, ChangeFollows, EditLineComes, EditLineFollows, EditsEnd, begun, closed, edits_start, whole}
 use Rattle.session_edits.specs.Spelling.{IsChange, SpellsEdits, add_fields, edit_fields}
 use Rattle.session_edits.proofs.Choices.{by-kind, only-add, only-change, only-end, only-rank, only-site, second-add, second-change, second-end, second-rank, second-site}
 use Rattle.session_edits.proofs.Leads.{spelled-reads}
@@ -39,7 +39,7 @@ add-same : (d : Draft) (line : List ℕ) (a b : Draft) → AddFollows d line a �
 add-same d line a b s t =
     s.after_is ∙ ap (λ (x : RunLine). record d { edits = whole d; current = Some (begun d.program x); site = 0 }) (run-once line s.value t.value s.is_line t.is_line s.line_is t.line_is) ∙ sym t.after_is
 
-site-same : (d : Draft) (line : List ℕ) (a b : Draft) → SiteFollows d line a → SiteFollows d line b → a ≡ b
+site-same : (d : Draft) (line : List ℕ) (a b : Draft) → AddedSiteFollows d line a → AddedSiteFollows d line b → a ≡ b
 site-same d line a b s t =
     let entry : s.value ≡ t.value = once site_fields IsEntry line (entry_of_fields (fields_of line)) (entry-reads line (entry_of_fields (fields_of line)) refl) s.value t.value s.is_next.is_entry t.is_next.is_entry s.line_is t.line_is in
     let current : s.report ≡ t.report = some-is (sym s.is_current ∙ t.is_current) in
@@ -53,7 +53,7 @@ change-same d line a b s t =
     let change : s.value ≡ t.value = once edit_fields IsChange line (change_in (fields_of line)) (change-reads line (change_in (fields_of line)) refl) s.value t.value s.is_change t.is_change s.line_is t.line_is in
     s.after_is ∙ ap (λ (e : Edit). record (closed d) { edits = whole d ++ e ∷ [] }) change ∙ sym t.after_is
 
-comes-once : (now : Due) (d : Draft) (line : List ℕ) (a b : Draft) → Comes now d line a → Comes now d line b → a ≡ b
+comes-once : (now : Due) (d : Draft) (line : List ℕ) (a b : Draft) → EditLineComes now d line a → EditLineComes now d line b → a ≡ b
 comes-once due.Title d line a b s t = s.after_is ∙ sym t.after_is
 comes-once due.Edits d line a b s t =
     by-kind d line a
@@ -67,12 +67,12 @@ comes-once due.Nothing d line a b s t = absurd s
 same-reading : (a b : Reading) → a.room ≡ b.room → a.draft ≡ b.draft → a ≡ b
 same-reading a b room draft = ap (λ (n : ℕ). record a { room = n }) room ∙ ap (λ (d : Draft). record b { draft = d }) draft
 
-pub leads-once : LeadsOnce Follows
+pub leads-once : LeadsOnce EditLineFollows
 leads-once = λ from line a b x y. same-reading a b (x.room_is ∙ sym y.room_is) (comes-once from.draft.due from.draft line a.draft b.draft x.goes y.goes)
 
 pub spells-once : (alloc : Global) (program : ProgramId) (bytes : List ℕ) (a b : List Edit) → SpellsEdits program bytes a → SpellsEdits program bytes b → a ≡ b
 spells-once alloc program bytes a b spells_a spells_b =
     let x = spelled-reads alloc program bytes a spells_a in
     let y = spelled-reads alloc program bytes b spells_b in
-    let same = reads-once Follows Ends leads-once (start alloc program) x.to y.to bytes x.reads y.reads in
+    let same = reads-once EditLineFollows EditsEnd leads-once (edits_start alloc program) x.to y.to bytes x.reads y.reads in
     sym x.edits_are ∙ ap (λ (r : Reading). r.draft.edits) same ∙ y.edits_are

@@ -4,7 +4,7 @@ use Rattle.cbi_base.specs.Lines.{LeadsTo}
 use Rattle.cbi_base.specs.Text.{ended, text_of}
 use Rattle.session_edits.specs.declared.draft.Draft.{Draft}
 use Rattle.session_edits.specs.declared.draft.Reading.{Reading}
-use Rattle.session_edits.specs.Grammar.{Follows, Goes}
+use Rattle.session_edits.specs.Grammar.{EditLineFollows, Goes}
 
 text-length : (line : List ℕ) (more : List (List ℕ)) → length (text_of (line ∷ more)) ≡ length line + 1 + length (text_of more)
 text-length line more = omega (arith, length-append {A = ℕ} (ended line) (text_of more), length-append {A = ℕ} line (10 ∷ []))
@@ -13,7 +13,7 @@ pub record LeadWithin (from : Draft) (lines : List (List ℕ)) (to : Draft) (roo
   pub leads : LeadsTo Goes from lines to
   pub fits : length (text_of lines) ≤ room
 
-pub lead-within : (lines : List (List ℕ)) (from to : Reading) → LeadsTo Follows from lines to → LeadWithin from.draft lines to.draft from.room
+pub lead-within : (lines : List (List ℕ)) (from to : Reading) → LeadsTo EditLineFollows from lines to → LeadWithin from.draft lines to.draft from.room
 lead-within [] from to leads = record { leads = ap (λ (r : Reading). r.draft) leads; fits = omega arith }
 lead-within (line ∷ more) from to leads =
     let rest = lead-within more leads.0 to leads.2 in record {
@@ -23,7 +23,7 @@ lead-within (line ∷ more) from to leads =
 
 pub record LeadOn (room : ℕ) (from : Draft) (lines : List (List ℕ)) (to : Draft) : Type 0 where
   pub left : ℕ
-  pub leads : LeadsTo Follows (let r : Reading = record { room = room; draft = from } in r) lines (let r : Reading = record { room = left; draft = to } in r)
+  pub leads : LeadsTo EditLineFollows (let r : Reading = record { room = room; draft = from } in r) lines (let r : Reading = record { room = left; draft = to } in r)
 
 pub lead-on : (lines : List (List ℕ)) (room : ℕ) (from to : Draft) → LeadsTo Goes from lines to → length (text_of lines) ≤ room → LeadOn room from lines to
 lead-on [] room from to leads fits = record { left = room; leads = ap (λ (d : Draft). let r : Reading = record { room = room; draft = d } in r) leads }

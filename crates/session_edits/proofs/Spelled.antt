@@ -23,7 +23,7 @@ use Rattle.session_edits.specs.declared.draft.Due.TheVariants as due
 use Rattle.session_edits.specs.declared.draft.Reading.{Reading}
 use Rattle.session_edits.specs.declared.edit.Edit.{Edit}
 use Rattle.session_edits.specs.declared.edit.Edit.TheVariants.{Add, Remove, Relabel, Rank}
-use Rattle.session_edits.specs.Grammar.{Comes, Ends, Follows, Goes, added, begin, begun, closed, start, whole}
+use Rattle.session_edits.specs.Grammar.{EditLineComes, EditLineFollows, EditsEnd, Goes, added, begin, begun, closed, edits_start, whole}
 use Rattle.session_edits.specs.Spelling.{AreEdits, IsChange, IsEdit, SpellsEdits, add_fields, edit_fields, edit_rows, edits_rows, rank_limit, ranks_in, site_rows}
 use Rattle.session_edits.proofs.Choices.{by-kind}
 use Rattle.session_edits.proofs.Room.{lead-within}
@@ -238,7 +238,7 @@ so-after program lines line want made after is same h =
     subst (λ a. HoldsMore program lines line a.due a) (sym same) (subst (λ x. HoldsMore program lines line x made) (sym is) h)
 
 -- what was read holds of one more line
-step : (program : ProgramId) (now : Due) (d : Draft) → d.due ≡ now → (lines : List (List ℕ)) (line : List ℕ) (after : Draft) → Holds program now d lines → Comes now d line after → HoldsMore program lines line after.due after
+step : (program : ProgramId) (now : Due) (d : Draft) → d.due ≡ now → (lines : List (List ℕ)) (line : List ℕ) (after : Draft) → Holds program now d lines → EditLineComes now d line after → HoldsMore program lines line after.due after
 step program due.Title d is lines line after h s =
     so-after program lines line due.Edits (record d { due = due.Edits }) after refl s.after_is (title-step program d lines line h s.line_is)
 step program due.Edits d is lines line after h s =
@@ -256,11 +256,11 @@ leads-holds program (line ∷ more) done from to leads h =
     subst (Holds program to.due to) (append_assoc done (line ∷ []) more) (leads-holds program more (done ++ line ∷ []) leads.0 to leads.2 (step program from.due from refl done line leads.0 h leads.1))
 
 -- what is read is spelled so
-pub reads-spelled : (program : ProgramId) (text : List ℕ) (alloc : Global) (from to : Reading) → IsId program → from ≡ start alloc program → ReadsLines Follows Ends from text to → SpellsEdits program text to.draft.edits
+pub reads-spelled : (program : ProgramId) (text : List ℕ) (alloc : Global) (from to : Reading) → IsId program → from ≡ edits_start alloc program → ReadsLines EditLineFollows EditsEnd from text to → SpellsEdits program text to.draft.edits
 reads-spelled program text alloc from to is_id is reads =
     let d = to.draft in
     let first : Holds program due.Title (begin alloc program) [] = record { program_is = refl; lines_are = refl; so_far = record { is_id = is_id; edits = refl; current = refl; ranks = refl } } in
-    let within = lead-within reads.lines (start alloc program) to (subst (λ r. LeadsTo Follows r reads.lines to) is reads.leads) in
+    let within = lead-within reads.lines (edits_start alloc program) to (subst (λ r. LeadsTo EditLineFollows r reads.lines to) is reads.leads) in
     let h = leads-holds program reads.lines [] (begin alloc program) d within.leads first in
     let over : Holds program due.Nothing d reads.lines = subst (λ x. Holds program x d reads.lines) reads.over h in record {
       are_edits = subst (λ p. AreEdits p d.edits) over.program_is over.so_far.are;

@@ -22,8 +22,8 @@ use Rattle.session_edits.specs.declared.edit.Edit.TheVariants.{Add, Rank}
 abbrev pub begin : Global → ProgramId → Draft
 begin alloc program = record { alloc = alloc; due = due.Title; program = program; edits = []; current = None; site = 0; ranks = 0 }
 
-abbrev pub start : Global → ProgramId → Reading
-start alloc program = record { room = byte_limit; draft = begin alloc program }
+abbrev pub edits_start : Global → ProgramId → Reading
+edits_start alloc program = record { room = byte_limit; draft = begin alloc program }
 
 -- the edits so far, with the report that goes on
 abbrev pub added : Option Report → List Edit
@@ -52,7 +52,7 @@ pub record AddFollows (d : Draft) (line : List ℕ) (after : Draft) : Type 0 whe
   pub after_is : after ≡ record d { edits = whole d; current = Some (begun d.program value); site = 0 }
 
 -- the line of a site of the run before it
-pub record SiteFollows (d : Draft) (line : List ℕ) (after : Draft) : Type 0 where
+pub record AddedSiteFollows (d : Draft) (line : List ℕ) (after : Draft) : Type 0 where
   pub report : Report
   pub value : Entry
   pub is_current : d.current ≡ Some report
@@ -73,25 +73,26 @@ pub record RankFollows (d : Draft) (line : List ℕ) (after : Draft) : Type 0 wh
   pub line_is : line ≡ codes "rank"
   pub after_is : after ≡ record (closed d) { edits = whole d ++ Rank ∷ []; ranks = d.ranks + 1 }
 
-pub record EndFollows (d : Draft) (line : List ℕ) (after : Draft) : Type 0 where
+pub record EditsEndFollows (d : Draft) (line : List ℕ) (after : Draft) : Type 0 where
   pub line_is : line ≡ codes "end"
   pub after_is : after ≡ record (closed d) { due = due.Nothing }
 
 -- the line that is due
-abbrev pub Comes : Due → Draft → List ℕ → Draft → Type 0
-Comes due.Title d line after = TitleFollows d line after
-Comes due.Edits d line after = AddFollows d line after ⊎ (SiteFollows d line after ⊎ (ChangeFollows d line after ⊎ (RankFollows d line after ⊎ EndFollows d line after)))
-Comes due.Nothing d line after = ⊥
+abbrev pub EditLineComes : Due → Draft → List ℕ → Draft → Type 0
+EditLineComes due.Title d line after = TitleFollows d line after
+EditLineComes due.Edits d line after = AddFollows d line after
+    ⊎ (AddedSiteFollows d line after ⊎ (ChangeFollows d line after ⊎ (RankFollows d line after ⊎ EditsEndFollows d line after)))
+EditLineComes due.Nothing d line after = ⊥
 
 abbrev pub Goes : Draft → List ℕ → Draft → Type 0
-Goes d line after = Comes d.due d line after
+Goes d line after = EditLineComes d.due d line after
 
 -- and there is room for it, with its newline
-pub record Follows (r : Reading) (line : List ℕ) (after : Reading) : Type 0 where
+pub record EditLineFollows (r : Reading) (line : List ℕ) (after : Reading) : Type 0 where
   pub fits : length line < r.room
   pub room_is : after.room ≡ r.room - (length line + 1)
   pub goes : Goes r.draft line after.draft
 
 -- the text may end where nothing is due
-abbrev pub Ends : Reading → Type 0
-Ends r = r.draft.due ≡ due.Nothing
+abbrev pub EditsEnd : Reading → Type 0
+EditsEnd r = r.draft.due ≡ due.Nothing

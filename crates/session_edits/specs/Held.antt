@@ -35,5 +35,5 @@ first_added run (Relabel other label ∷ more) = first_added run more
 first_added run (Rank ∷ more) = first_added run more
 
 -- the report that is held of a run
-abbrev pub held_of : ℕ → List Edit → Option Report
-held_of run edits = first_added run (behind_removal run edits)
+abbrev pub report_held : ℕ → List Edit → Option Report
+report_held run edits = first_added run (behind_removal run edits)

@@ -1,6 +1,16 @@
 ghost use Rattle.std.specs.Prelude.{◌≡◌, ◌⊎◌, OnOk};
 ghost use Rattle.cbi_base.specs.LineFaults.{TakenWith};
-ghost use Rattle.session_edits.specs.Grammar.{AddFollows, ChangeFollows, Comes, EndFollows, RankFollows, SiteFollows, TitleFollows, closed, start};
+ghost use Rattle.session_edits.specs.Grammar.{
+  AddFollows,
+  AddedSiteFollows,
+  ChangeFollows,
+  EditLineComes,
+  EditsEndFollows,
+  RankFollows,
+  TitleFollows,
+  closed,
+  edits_start,
+};
 ghost use Rattle.session_edits.specs.declared.draft.Draft.{Draft};
 ghost use Rattle.session_edits.specs.declared.draft.Due.TheVariants as due;
 
@@ -89,8 +99,8 @@ impl Draft {
     }
 
     fn take_site(&mut self, line: &[u8]) -> Result<(), LineError>
-        ensures ok { OnOk result (SiteFollows self.old line.now self.new) }
-        ensures only { (next : Draft) → SiteFollows self.old line.now next → TakenWith result (self.new ≡ next) }
+        ensures ok { OnOk result (AddedSiteFollows self.old line.now self.new) }
+        ensures only { (next : Draft) → AddedSiteFollows self.old line.now next → TakenWith result (self.new ≡ next) }
     {
         let Some(entry) = entry_in(line) else {
             return Err(LineError::Bad);
@@ -143,8 +153,8 @@ impl Draft {
     }
 
     fn take_end(&mut self, line: &[u8]) -> Result<(), LineError>
-        ensures ok { OnOk result (EndFollows self.old line.now self.new) }
-        ensures only { (next : Draft) → EndFollows self.old line.now next → TakenWith result (self.new ≡ next) }
+        ensures ok { OnOk result (EditsEndFollows self.old line.now self.new) }
+        ensures only { (next : Draft) → EditsEndFollows self.old line.now next → TakenWith result (self.new ≡ next) }
     {
         if line != b"end".as_slice() {
             return Err(LineError::Bad);
@@ -158,8 +168,8 @@ impl Draft {
 
     // No two kinds of lines have the same second byte.
     fn take_line(&mut self, line: &[u8]) -> Result<(), LineError>
-        ensures ok { OnOk result (Comes due.Edits self.old line.now self.new) }
-        ensures only { (next : Draft) → Comes due.Edits self.old line.now next → TakenWith result (self.new ≡ next) }
+        ensures ok { OnOk result (EditLineComes due.Edits self.old line.now self.new) }
+        ensures only { (next : Draft) → EditLineComes due.Edits self.old line.now next → TakenWith result (self.new ≡ next) }
     {
         match second_byte(line) {
             b'd' => self.take_added(line),
@@ -171,8 +181,8 @@ impl Draft {
     }
 
     fn take_due(&mut self, line: &[u8]) -> Result<(), LineError>
-        ensures ok { OnOk result (Comes self.old.due self.old line.now self.new) }
-        ensures only { (next : Draft) → Comes self.old.due self.old line.now next → TakenWith result (self.new ≡ next) }
+        ensures ok { OnOk result (EditLineComes self.old.due self.old line.now self.new) }
+        ensures only { (next : Draft) → EditLineComes self.old.due self.old line.now next → TakenWith result (self.new ≡ next) }
     {
         match self.due {
             Due::Title => self.take_title(line),
@@ -185,7 +195,7 @@ impl Draft {
 impl Reading {
     /// Nothing is read yet.
     pub fn new(alloc: Global, program: ProgramId) -> Reading
-        ensures { result ≡ start alloc program }
+        ensures { result ≡ edits_start alloc program }
     {
         Reading {
             room: MOST_BYTES,
@@ -220,11 +230,11 @@ impl Reading {
 }
 
 impl LineReader for Reading {
-    ghost use Rattle.session_edits.specs.Grammar.{Follows, Ends};
+    ghost use Rattle.session_edits.specs.Grammar.{EditLineFollows, EditsEnd};
 
-    ghost follows = { Follows };
+    ghost follows = { EditLineFollows };
 
-    ghost ends = { Ends };
+    ghost ends = { EditsEnd };
 
     fn take(&mut self, line: &[u8]) -> Result<(), LineError> {
         if line.len() >= self.room {

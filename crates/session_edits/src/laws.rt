@@ -1,7 +1,7 @@
 ghost use Rattle.std.specs.Prelude.{◌≡◌, ℕ, List};
 ghost use Rattle.cbi_base.specs.Lines.{LeadsOnce};
 ghost use Rattle.cbi_base.specs.declared.identity.ProgramId.{ProgramId};
-ghost use Rattle.session_edits.specs.Grammar.{Follows};
+ghost use Rattle.session_edits.specs.Grammar.{EditLineFollows};
 ghost use Rattle.session_edits.specs.Spelling.{SpellsEdits};
 ghost use Rattle.session_edits.specs.declared.edit.Edit.{Edit};
 
@@ -16,5 +16,5 @@ pub fn one_list(alloc: Global)
 
 /// In the grammar of edits a line leads to one state: so a text has at most one bad line, and none where it is read.
 pub fn one_state()
-    ensures { LeadsOnce Follows }
+    ensures { LeadsOnce EditLineFollows }
 {}

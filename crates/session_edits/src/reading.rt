@@ -1,8 +1,8 @@
 ghost use Rattle.std.specs.Prelude.{◌≡◌, ℕ, List, IfOk, Err};
 ghost use Rattle.cbi_base.specs.Lines.{IsBadLine};
 ghost use Rattle.cbi_base.specs.ProgramId.{IsId};
-ghost use Rattle.session_edits.specs.Answers.{ReadAs, RefusedAt};
-ghost use Rattle.session_edits.specs.Grammar.{Follows, Ends, start};
+ghost use Rattle.session_edits.specs.Answers.{EditsReadAs, EditsRefusedAt};
+ghost use Rattle.session_edits.specs.Grammar.{EditLineFollows, EditsEnd, edits_start};
 ghost use Rattle.session_edits.specs.Spelling.{SpellsEdits};
 ghost use Rattle.session_edits.specs.declared.edit.Edit.{Edit};
 ghost use Rattle.session_edits.specs.declared.reading.EditsError.TheVariants as error;
@@ -33,11 +33,11 @@ pub fn read_edits(alloc: Global, program: &ProgramId, bytes: &[u8]) -> Result<Se
     // What is read is spelled so.
     ensures found { IfOk result (SpellsEdits program.now bytes.now) }
     // What is spelled so is read, unless memory runs out: so bytes are refused exactly where they spell no edits.
-    ensures only { (edits : List Edit) → SpellsEdits program.now bytes.now edits → ReadAs result edits }
+    ensures only { (edits : List Edit) → SpellsEdits program.now bytes.now edits → EditsReadAs result edits }
     // A refusal names the bad line.
-    ensures line { (line : ℕ) → result ≡ Err (error.BadEdits line) → IsBadLine Follows Ends (start alloc program.now) bytes.now line }
+    ensures line { (line : ℕ) → result ≡ Err (error.BadEdits line) → IsBadLine EditLineFollows EditsEnd (edits_start alloc program.now) bytes.now line }
     // Bytes that go wrong at a line are refused there, unless memory runs out.
-    ensures line_only { (line : ℕ) → IsBadLine Follows Ends (start alloc program.now) bytes.now line → RefusedAt result line }
+    ensures line_only { (line : ℕ) → IsBadLine EditLineFollows EditsEnd (edits_start alloc program.now) bytes.now line → EditsRefusedAt result line }
 {
     is_identity(*program);
     let mut reading = Reading::new(alloc, *program);

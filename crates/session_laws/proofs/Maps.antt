@@ -6,7 +6,7 @@ use Rattle.std.proofs.lemmas.List.{append-nil}
 use Rattle.report_file.specs.declared.label.Label.{Label}
 use Rattle.report_file.specs.declared.report.Report.{Report}
 use Rattle.collector.specs.Collected.{Adds, relabelled, report_at, with_report, without_report}
-use Rattle.collector.specs.Order.{IsOneOf}
+use Rattle.collector.specs.Order.{IsOneOfReports}
 use Rattle.collector.specs.declared.answers.Added.{Added}
 use Rattle.collector.specs.declared.answers.Added.TheVariants.{New, Repeated}
 use Rattle.collector.specs.declared.collection.Held.{Held}
@@ -15,7 +15,7 @@ use Rattle.collector.proofs.Ordering.{AreAbove, AreRising, above-member, from-ri
 use Rattle.collector.proofs.Taking.{found-member}
 use Rattle.session_edits.specs.declared.edit.Edit.{Edit}
 use Rattle.session_edits.specs.declared.edit.Edit.TheVariants.{Add, Remove, Relabel, Rank}
-use Rattle.session_laws.specs.Accepted.{Accepts, AreHeldOf, Takes}
+use Rattle.session_laws.specs.Accepted.{Accepts, AreHeldOf, TakesEdit}
 use Rattle.session_laws.proofs.Steps.{held-step, is-of, other-run, step, step-other, with_label}
 
 -- the runs rise on
@@ -60,7 +60,7 @@ added-rising : (c next : Held) (r : Report) (what : Added) → Adds c r (Ok what
 added-rising c next r New t rising = subst AreRising (sym (ap reports_of t.4)) (rising-with r c.reports rising)
 added-rising c next r Repeated t rising = subst AreRising (sym (ap reports_of t.2)) rising
 
-taken-rising : (c next : Held) (e : Edit) → Takes c e next → AreRising c.reports → AreRising next.reports
+taken-rising : (c next : Held) (e : Edit) → TakesEdit c e next → AreRising c.reports → AreRising next.reports
 taken-rising c next (Add r) t rising = added-rising c next r t.0 t.1 rising
 taken-rising c next (Remove run) t rising = subst AreRising (sym (ap reports_of t.1)) (rising-without run c.reports rising)
 taken-rising c next (Relabel run label) t rising = subst AreRising (sym (ap reports_of t.1)) (rising-relabelled run label c.reports rising)
@@ -100,14 +100,14 @@ relabelled-step run other label reports which =
     ap (λ n. report_at run (relabelled n label reports)) (sym same) ∙ at-relabelled run label reports ∙ sym (ap (λ b. cond b (option_map (with_label label) (report_at run reports)) (report_at run reports)) here))
     (λ (apart : run ≢ other). at-relabelled-other run other label reports apart ∙ sym (step-other run (Relabel other label) (report_at run reports) apart)) which
 
-taken-step : (c next : Held) (e : Edit) (run : ℕ) → Takes c e next → AreRising c.reports → report_at run next.reports ≡ step run e (report_at run c.reports)
+taken-step : (c next : Held) (e : Edit) (run : ℕ) → TakesEdit c e next → AreRising c.reports → report_at run next.reports ≡ step run e (report_at run c.reports)
 taken-step c next (Add r) run t rising = added-step c next r run t.0 t.1
 taken-step c next (Remove gone) run t rising = ap (λ (h : Held). report_at run h.reports) t.1 ∙ removed-step run gone c.reports rising (is-of run (Remove gone))
 taken-step c next (Relabel other label) run t rising = ap (λ (h : Held). report_at run h.reports) t.1 ∙ relabelled-step run other label c.reports (is-of run (Relabel other label))
 taken-step c next Rank run t rising = ap (λ (h : Held). report_at run h.reports) t
 
 -- one edit more
-pub held-more : (c next : Held) (before : List Edit) (e : Edit) → AreHeldOf before c.reports → Takes c e next → AreHeldOf (before ++ e ∷ []) next.reports
+pub held-more : (c next : Held) (before : List Edit) (e : Edit) → AreHeldOf before c.reports → TakesEdit c e next → AreHeldOf (before ++ e ∷ []) next.reports
 held-more c next before e held t =
     let rising = from-rising 0 c.reports held.rising in record {
       rising = rising-from next.reports (taken-rising c next e t rising);
@@ -131,11 +131,11 @@ same-number : (n : ℕ) → (n == n) ≡ true
 same-number n = grind (arith, nat_tests)
 
 -- who is one of the reports is that of its run
-member-at : (reports : List Report) (r : Report) → AreRising reports → IsOneOf r reports → report_at r.run reports ≡ Some r
+member-at : (reports : List Report) (r : Report) → AreRising reports → IsOneOfReports r reports → report_at r.run reports ≡ Some r
 member-at [] r rising is = absurd is
 member-at (x ∷ more) r rising is =
     ⊎_elim (λ (same : r ≡ x). let here : (r.run == x.run) ≡ true = ap (λ (y : Report). r.run == y.run) (sym same) ∙ same-number r.run in ap (λ b. cond b (Some x) (report_at r.run more)) here ∙ ap Some (sym same))
-    (λ (behind : IsOneOf r more).
+    (λ (behind : IsOneOfReports r more).
     let less = above-member x.run more r rising.0 behind in
     let other : (r.run == x.run) ≡ false = other-run r.run x.run (λ e. omega arith) in
     ap (λ b. cond b (Some x) (report_at r.run more)) other ∙ member-at more r rising.1 behind) is

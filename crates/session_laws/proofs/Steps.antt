@@ -8,7 +8,7 @@ use Rattle.std.proofs.lemmas.List.{append-nil, reverse-append}
 use Rattle.std.proofs.lemmas.List.Sums.{take_while-cons}
 use Rattle.report_file.specs.declared.label.Label.{Label}
 use Rattle.report_file.specs.declared.report.Report.{Report}
-use Rattle.session_edits.specs.Held.{behind_removal, first_added, held_of, last_label, removes}
+use Rattle.session_edits.specs.Held.{behind_removal, first_added, last_label, removes, report_held}
 use Rattle.session_edits.specs.declared.edit.Edit.{Edit}
 use Rattle.session_edits.specs.declared.edit.Edit.TheVariants.{Add, Remove, Relabel, Rank}
 use Rattle.session_laws.specs.Accepted.{AreApart, IsOf}
@@ -84,20 +84,20 @@ rank-one : (run : ℕ) (o : Option Report) → then_more run (Rank ∷ []) o ≡
 rank-one run None = refl
 rank-one run (Some x) = refl
 
-remove-tests : (b : Bool) (run other : ℕ) (xs : List Edit) → first_added run (cond (not b) (behind_removal run xs ++ Remove other ∷ []) []) ≡ cond b None (held_of run xs)
+remove-tests : (b : Bool) (run other : ℕ) (xs : List Edit) → first_added run (cond (not b) (behind_removal run xs ++ Remove other ∷ []) []) ≡ cond b None (report_held run xs)
 remove-tests true run other xs = refl
-remove-tests false run other xs = first-more run (behind_removal run xs) (Remove other ∷ []) ∙ same-one run other (held_of run xs)
+remove-tests false run other xs = first-more run (behind_removal run xs) (Remove other ∷ []) ∙ same-one run other (report_held run xs)
 
 -- what is held after one edit more
-pub held-step : (run : ℕ) (xs : List Edit) (e : Edit) → held_of run (xs ++ e ∷ []) ≡ step run e (held_of run xs)
-held-step run xs (Add r) = ap (first_added run) (behind-more run xs (Add r)) ∙ first-more run (behind_removal run xs) (Add r ∷ []) ∙ add-one run r (held_of run xs)
+pub held-step : (run : ℕ) (xs : List Edit) (e : Edit) → report_held run (xs ++ e ∷ []) ≡ step run e (report_held run xs)
+held-step run xs (Add r) = ap (first_added run) (behind-more run xs (Add r)) ∙ first-more run (behind_removal run xs) (Add r ∷ []) ∙ add-one run r (report_held run xs)
 held-step run xs (Remove other) = ap (first_added run) (behind-more run xs (Remove other)) ∙ remove-tests (run == other) run other xs
-held-step run xs (Relabel other label) = ap (first_added run) (behind-more run xs (Relabel other label)) ∙ first-more run (behind_removal run xs) (Relabel other label ∷ []) ∙ relabel-one run other label (held_of run xs)
-held-step run xs Rank = ap (first_added run) (behind-more run xs Rank) ∙ first-more run (behind_removal run xs) (Rank ∷ []) ∙ rank-one run (held_of run xs)
+held-step run xs (Relabel other label) = ap (first_added run) (behind-more run xs (Relabel other label)) ∙ first-more run (behind_removal run xs) (Relabel other label ∷ []) ∙ relabel-one run other label (report_held run xs)
+held-step run xs Rank = ap (first_added run) (behind-more run xs Rank) ∙ first-more run (behind_removal run xs) (Rank ∷ []) ∙ rank-one run (report_held run xs)
 
-held-steps : (run : ℕ) (ys xs : List Edit) → held_of run (xs ++ ys) ≡ steps run ys (held_of run xs)
-held-steps run [] xs = ap (held_of run) (append-nil xs)
-held-steps run (e ∷ ys) xs = ap (held_of run) (sym (append_assoc xs (e ∷ []) ys)) ∙ held-steps run ys (xs ++ e ∷ []) ∙ ap (steps run ys) (held-step run xs e)
+held-steps : (run : ℕ) (ys xs : List Edit) → report_held run (xs ++ ys) ≡ steps run ys (report_held run xs)
+held-steps run [] xs = ap (report_held run) (append-nil xs)
+held-steps run (e ∷ ys) xs = ap (report_held run) (sym (append_assoc xs (e ∷ []) ys)) ∙ held-steps run ys (xs ++ e ∷ []) ∙ ap (steps run ys) (held-step run xs e)
 
 -- an edit of another run
 pub other-run : (m n : ℕ) → m ≢ n → (m == n) ≡ false
@@ -126,6 +126,6 @@ apart-steps run one other o apart =
     ⊎_elim (λ (is : IsOf run one). step-other run other (step run one o) (apart run is) ∙ ap (step run one) (sym (step-other run other o (apart run is))))
     (λ (not : IsOf run one → ⊥). ap (step run other) (step-other run one o not) ∙ sym (step-other run one (step run other o) not)) (is-of run one)
 
-pub places-change : (run : ℕ) (before after : List Edit) (one other : Edit) → AreApart one other → held_of run (before ++ one ∷ other ∷ after) ≡ held_of run (before ++ other ∷ one ∷ after)
+pub places-change : (run : ℕ) (before after : List Edit) (one other : Edit) → AreApart one other → report_held run (before ++ one ∷ other ∷ after) ≡ report_held run (before ++ other ∷ one ∷ after)
 places-change run before after one other apart =
-    held-steps run (one ∷ other ∷ after) before ∙ ap (steps run after) (apart-steps run one other (held_of run before) apart) ∙ sym (held-steps run (other ∷ one ∷ after) before)
+    held-steps run (one ∷ other ∷ after) before ∙ ap (steps run after) (apart-steps run one other (report_held run before) apart) ∙ sym (held-steps run (other ∷ one ∷ after) before)

@@ -14,7 +14,7 @@ use Rattle.collector.specs.declared.answers.Merged.{Merged}
 use Rattle.collector.specs.declared.collection.Held.{Held}
 use Rattle.session_edits.specs.declared.edit.Edit.{Edit}
 use Rattle.session_edits.specs.declared.edit.Edit.TheVariants.{Add, Remove, Relabel, Rank}
-use Rattle.session_laws.specs.Accepted.{Accepts, IsFaulty, Takes}
+use Rattle.session_laws.specs.Accepted.{Accepts, IsFaulty, TakesEdit}
 
 adds-once : (c a b : Held) (r : Report) (one other : Added) → Adds c r (Ok one) a → Adds c r (Ok other) b → a ≡ b
 adds-once c a b r New New s t = s.4 ∙ sym t.4
@@ -22,7 +22,7 @@ adds-once c a b r New Repeated s t = absurd (none-some (sym s.1 ∙ t.1))
 adds-once c a b r Repeated New s t = absurd (none-some (sym t.1 ∙ s.1))
 adds-once c a b r Repeated Repeated s t = s.2 ∙ sym t.2
 
-takes-once : (c a b : Held) (e : Edit) → Takes c e a → Takes c e b → a ≡ b
+takes-once : (c a b : Held) (e : Edit) → TakesEdit c e a → TakesEdit c e b → a ≡ b
 takes-once c a b (Add r) s t = adds-once c a b r s.0 t.0 s.1 t.1
 takes-once c a b (Remove run) s t = s.1 ∙ sym t.1
 takes-once c a b (Relabel run label) s t = s.1 ∙ sym t.1
@@ -61,7 +61,7 @@ is-not-none : (o : Option Report) → o ≡ None → IsSome o → ⊥
 is-not-none None h is = cc
 is-not-none (Some r) h is = none-some (sym h)
 
-faulty-taken : (c next : Held) (e : Edit) → IsFaulty c e → Takes c e next → ⊥
+faulty-taken : (c next : Held) (e : Edit) → IsFaulty c e → TakesEdit c e next → ⊥
 faulty-taken c next (Add r) f t = refused-added c next r f.0 t.0 f.1.not_memory f.1.adds t.1
 faulty-taken c next (Remove run) f t = is-not-none (report_at run c.reports) f t.0
 faulty-taken c next (Relabel run label) f t = is-not-none (report_at run c.reports) f t.0

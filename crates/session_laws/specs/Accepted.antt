@@ -7,26 +7,26 @@ use Rattle.collector.specs.declared.answers.Added.{Added}
 use Rattle.collector.specs.declared.answers.AddFault.{AddFault}
 use Rattle.collector.specs.declared.answers.AddFault.TheVariants.{Memory}
 use Rattle.collector.specs.declared.collection.Held.{Held}
-use Rattle.session_edits.specs.Held.{held_of}
+use Rattle.session_edits.specs.Held.{report_held}
 use Rattle.session_edits.specs.declared.edit.Edit.{Edit}
 use Rattle.session_edits.specs.declared.edit.Edit.TheVariants.{Add, Remove, Relabel, Rank}
 
 -- the reports by rising run, of each run the one that the edits say is held
 pub record AreHeldOf (edits : List Edit) (reports : List Report) : Type 0 where
   pub rising : RunsFrom 0 reports
-  pub each : (run : ℕ) → report_at run reports ≡ held_of run edits
+  pub each : (run : ℕ) → report_at run reports ≡ report_held run edits
 
 -- a collection accepts the edit, and this is what it leaves
-abbrev pub Takes : Held → Edit → Held → Type 0
-Takes c (Add report) after = (what : Added) × Adds c report (Ok what) after
-Takes c (Remove run) after = IsSome (report_at run c.reports) × (after ≡ record c { reports = without_report run c.reports })
-Takes c (Relabel run label) after = IsSome (report_at run c.reports) × (after ≡ record c { reports = relabelled run label c.reports })
-Takes c Rank after = after ≡ c
+abbrev pub TakesEdit : Held → Edit → Held → Type 0
+TakesEdit c (Add report) after = (what : Added) × Adds c report (Ok what) after
+TakesEdit c (Remove run) after = IsSome (report_at run c.reports) × (after ≡ record c { reports = without_report run c.reports })
+TakesEdit c (Relabel run label) after = IsSome (report_at run c.reports) × (after ≡ record c { reports = relabelled run label c.reports })
+TakesEdit c Rank after = after ≡ c
 
 -- it accepts each edit, one after another
 abbrev pub Accepts : Held → List Edit → Held → Type 0
 Accepts c [] after = after ≡ c
-Accepts c (edit ∷ more) after = (next : Held) × Takes c edit next × Accepts next more after
+Accepts c (edit ∷ more) after = (next : Held) × TakesEdit c edit next × Accepts next more after
 
 -- why a report isn't added, but for want of memory
 pub record IsRefusedFor (c : Held) (report : Report) (fault : AddFault) : Type 0 where

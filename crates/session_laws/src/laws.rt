@@ -3,7 +3,7 @@ ghost use Rattle.collector.specs.Merging.{AddsAll};
 ghost use Rattle.collector.specs.declared.answers.Merged.{Merged};
 ghost use Rattle.collector.specs.declared.collection.Held.{Held};
 ghost use Rattle.report_file.specs.declared.report.Report.{Report};
-ghost use Rattle.session_edits.specs.Held.{held_of};
+ghost use Rattle.session_edits.specs.Held.{report_held};
 ghost use Rattle.session_edits.specs.declared.edit.Edit.{Edit};
 ghost use Rattle.session_edits.specs.declared.edit.Edit.TheVariants.{Add};
 ghost use Rattle.session_laws.specs.Accepted.{Accepts, AreApart, AreHeldOf, IsFaulty};
@@ -18,7 +18,7 @@ pub fn accepted_edits_hold()
 /// Edits of different runs may change places: then the same is held of each run.
 pub fn edits_change_places()
     ensures { (run : ℕ) (before after : List Edit) (one other : Edit) → AreApart one other
-        → held_of run (before ++ one ∷ other ∷ after) ≡ held_of run (before ++ other ∷ one ∷ after) }
+        → report_held run (before ++ one ∷ other ∷ after) ≡ report_held run (before ++ other ∷ one ∷ after) }
 {}
 
 /// Additions alone are accepted exactly where a collection takes all their reports, and they leave the same: so a ranking behind them is that of the

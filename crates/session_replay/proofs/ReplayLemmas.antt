@@ -7,18 +7,18 @@ use Rattle.collector.specs.declared.answers.Added.{Added}
 use Rattle.collector.specs.declared.answers.Added.TheVariants.{New, Repeated}
 use Rattle.collector.specs.declared.collection.Held.{Held}
 use Rattle.report_file.specs.declared.report.Report.{Report}
-use Rattle.tallies.specs.Recount.{runs_of}
+use Rattle.elimination_tallies.specs.Recount.{runs_of}
 use Rattle.ranking.specs.Ranked.{IsRankingOf}
 use Rattle.session.specs.Session.{SessionState}
-use Rattle.session_edits.specs.Spelling.{AreEdits, IsEdit}
+use Rattle.session_edits.specs.Spelling.{AreEdits}
 use Rattle.session_edits.specs.declared.edit.Edit.{Edit}
 use Rattle.session_edits.specs.declared.edit.Edit.TheVariants.{Add, Remove, Relabel, Rank}
-use Rattle.session_laws.specs.Accepted.{Accepts, Takes}
+use Rattle.session_laws.specs.Accepted.{Accepts, TakesEdit}
 use Rattle.session_laws.proofs.Maps.{accepted-hold}
 use Rattle.session_laws.proofs.Taken.{accepts-more}
 use Rattle.session_replay.specs.declared.fault.EditFault.{EditFault}
 use Rattle.session_replay.specs.declared.fault.EditFault.TheVariants.{NotAdded, Absent, Memory}
-use Rattle.session_replay.specs.Replay.{AreAccepted, AreRankings, BeginsWith, FaultsAt, IsRankingAfter, IsStoppedBy, StopsAt, Writes}
+use Rattle.session_replay.specs.Replay.{AreRankings, BeginsWith, IsRankingAfter, IsStoppedBy, StopsAt, Writes}
 
 -- an edit changes neither whose runs they are nor the sites
 pub record IsSame (c next : Held) : Type 0 where
@@ -29,7 +29,7 @@ added-same : (c next : Held) (r : Report) (what : Added) → Adds c r (Ok what) 
 added-same c next r New t = record { program = ap (λ (h : Held). h.program) t.4; branches = ap (λ (h : Held). h.branches) t.4 }
 added-same c next r Repeated t = record { program = ap (λ (h : Held). h.program) t.2; branches = ap (λ (h : Held). h.branches) t.2 }
 
-takes-same : (c next : Held) (e : Edit) → Takes c e next → IsSame c next
+takes-same : (c next : Held) (e : Edit) → TakesEdit c e next → IsSame c next
 takes-same c next (Add r) t = added-same c next r t.0 t.1
 takes-same c next (Remove run) t = record { program = ap (λ (h : Held). h.program) t.1; branches = ap (λ (h : Held). h.branches) t.1 }
 takes-same c next (Relabel run label) t = record { program = ap (λ (h : Held). h.program) t.1; branches = ap (λ (h : Held). h.branches) t.1 }
@@ -52,18 +52,6 @@ pub record Replaying (start : SessionState) (table : TableParts) (all : List Edi
   pub are : AreEdits start.held.program rest
   pub written : (later : List ℕ) → AreRankings table start.policy before rest later → AreRankings table start.policy [] all (text ++ later)
 
-pub replay-start : (start : SessionState) (table : TableParts) (all : List Edit) → AreEdits start.held.program all → Replaying start table all start all []
-replay-start start table all are = record {
-  before = [];
-  all_is = refl;
-  accepts = refl;
-  policy_is = refl;
-  program_is = refl;
-  branches_are = refl;
-  are = are;
-  written = λ later h. h;
-}
-
 -- what one edit more writes comes first of what is left
 written-more : (start now : SessionState) (table : TableParts) (before : List Edit) (e : Edit) (rest : List Edit) (text new later : List ℕ) → start.held.reports ≡ [] → Accepts start.held before now.held → now.policy ≡ start.policy → Writes table now e text new → AreRankings table start.policy (before ++ e ∷ []) rest later → (P : List ℕ → Type 0) → ((more : List ℕ) → AreRankings table start.policy before (e ∷ rest) more → P (text ++ more)) → P (new ++ later)
 written-more start now table before (Add r) rest text new later none accepts policy writes h P on = subst (λ t. P (t ++ later)) (sym writes) (on later h)
@@ -79,7 +67,7 @@ written-more start now table before Rank rest text new later none accepts policy
     let begins : BeginsWith (IsRankingAfter table start.policy before) (AreRankings table start.policy (before ++ Rank ∷ []) rest) (piece ++ later) = record { piece = piece; rest = later; text_is = refl; is_piece = after; is_rest = h } in
     subst P (sym (ap (λ t. t ++ later) writes.new_is ∙ append_assoc text piece later)) (on (piece ++ later) begins)
 
-pub replay-more : (start now next : SessionState) (table : TableParts) (all : List Edit) (e : Edit) (rest : List Edit) (text new : List ℕ) → start.held.reports ≡ [] → Replaying start table all now (e ∷ rest) text → Takes now.held e next.held → next.policy ≡ now.policy → Writes table now e text new → Replaying start table all next rest new
+pub replay-more : (start now next : SessionState) (table : TableParts) (all : List Edit) (e : Edit) (rest : List Edit) (text new : List ℕ) → start.held.reports ≡ [] → Replaying start table all now (e ∷ rest) text → TakesEdit now.held e next.held → next.policy ≡ now.policy → Writes table now e text new → Replaying start table all next rest new
 replay-more start now next table all e rest text new none r takes policy writes =
     let same = takes-same now.held next.held e takes in record {
       before = r.before ++ e ∷ [];
@@ -92,14 +80,6 @@ replay-more start now next table all e rest text new none r takes policy writes 
       written = λ later h. written-more start now table r.before e rest text new later none r.accepts r.policy_is writes h (AreRankings table start.policy [] all) r.written;
     }
 
--- what is known of the next edit
-pub next-edit : (start now : SessionState) (table : TableParts) (all : List Edit) (e : Edit) (rest : List Edit) (text : List ℕ) → Replaying start table all now (e ∷ rest) text → IsEdit now.held.program e
-next-edit start now table all e rest text r = subst (λ p. IsEdit p e) (sym r.program_is) r.are.0
-
-pub replay-accepts : (start now : SessionState) (table : TableParts) (all : List Edit) (text : List ℕ) → Replaying start table all now [] text → AreAccepted start.held all
-replay-accepts start now table all text r =
-    record { after = now.held; accepts = subst (λ xs. Accepts start.held xs now.held) (sym (r.all_is ∙ append-nil r.before)) r.accepts }
-
 pub replay-writes : (start now : SessionState) (table : TableParts) (all : List Edit) (text : List ℕ) → Replaying start table all now [] text → AreRankings table start.policy [] all text
 replay-writes start now table all text r = subst (AreRankings table start.policy [] all) (append-nil text) (r.written [] refl)
 
@@ -107,7 +87,3 @@ stops : (c : Held) (edits : List Edit) (fault : EditFault) → IsStoppedBy c edi
 stops c edits Memory s = tt
 stops c edits (NotAdded fault) s = s
 stops c edits (Absent run) s = s
-
-pub replay-stops : (start now : SessionState) (table : TableParts) (all : List Edit) (e : Edit) (rest : List Edit) (text : List ℕ) (fault : EditFault) → Replaying start table all now (e ∷ rest) text → FaultsAt now.held e fault → StopsAt start.held all fault
-replay-stops start now table all e rest text fault r faults =
-    stops start.held all fault (record { before = r.before; edit = e; more = rest; at = now.held; edits_are = r.all_is; accepts = r.accepts; faults = faults })

@@ -7,7 +7,7 @@ use Rattle.report_file.specs.declared.report.Report.{Report}
 use Rattle.collector.specs.Collected.{report_at}
 use Rattle.collector.specs.Sites.{branches_of}
 use Rattle.collector.specs.declared.collection.Held.{Held}
-use Rattle.tallies.specs.Recount.{runs_of}
+use Rattle.elimination_tallies.specs.Recount.{runs_of}
 use Rattle.ranking.specs.Ranked.{IsRankingOf}
 use Rattle.session.specs.Session.{SessionState}
 use Rattle.session_edits.specs.declared.edit.Edit.{Edit}

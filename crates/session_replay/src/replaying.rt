@@ -3,7 +3,7 @@ ghost use Rattle.cbi_base.specs.declared.policy.Policy.{Policy};
 ghost use Rattle.collector.specs.Sites.{branches_of};
 ghost use Rattle.report_file.specs.Report.{IsReport};
 ghost use Rattle.session_edits.specs.Spelling.{AreEdits, IsEdit};
-ghost use Rattle.session_laws.specs.Accepted.{Accepts, Takes};
+ghost use Rattle.session_laws.specs.Accepted.{Accepts, TakesEdit};
 ghost use Rattle.session_replay.specs.Replay.{AreAccepted, AreRankings, FaultsAt, Ranks, StopsAt, Writes, no_runs};
 
 use crate::fault::EditFault;
@@ -18,7 +18,7 @@ use std::alloc::Global;
 
 fn add(session: &mut Session, report: Report) -> Result<(), EditFault>
     requires { IsReport report }
-    ensures takes { OnOk result (Takes session.old.held (Edit.Add report) session.new.held) }
+    ensures takes { OnOk result (TakesEdit session.old.held (Edit.Add report) session.new.held) }
     ensures policy { session.new.policy ≡ session.old.policy }
     ensures fault { IfErr result (FaultsAt session.old.held (Edit.Add report)) }
 {
@@ -30,7 +30,7 @@ fn add(session: &mut Session, report: Report) -> Result<(), EditFault>
 }
 
 fn remove(session: &mut Session, run: u32) -> Result<(), EditFault>
-    ensures takes { OnOk result (Takes session.old.held (Edit.Remove run) session.new.held) }
+    ensures takes { OnOk result (TakesEdit session.old.held (Edit.Remove run) session.new.held) }
     ensures policy { session.new.policy ≡ session.old.policy }
     ensures fault { IfErr result (FaultsAt session.old.held (Edit.Remove run)) }
 {
@@ -42,7 +42,7 @@ fn remove(session: &mut Session, run: u32) -> Result<(), EditFault>
 }
 
 fn relabel(session: &mut Session, run: u32, label: Label) -> Result<(), EditFault>
-    ensures takes { OnOk result (Takes session.old.held (Edit.Relabel run label) session.new.held) }
+    ensures takes { OnOk result (TakesEdit session.old.held (Edit.Relabel run label) session.new.held) }
     ensures policy { session.new.policy ≡ session.old.policy }
     ensures fault { IfErr result (FaultsAt session.old.held (Edit.Relabel run label)) }
 {
@@ -81,7 +81,7 @@ fn step(
 ) -> Result<(), EditFault>
     requires fits { IsEdit session.old.held.program edit }
     requires table { session.old.held.branches ≡ branches_of table.now.sites }
-    ensures takes { OnOk result (Takes session.old.held edit session.new.held) }
+    ensures takes { OnOk result (TakesEdit session.old.held edit session.new.held) }
     ensures policy { session.new.policy ≡ session.old.policy }
     ensures text { OnOk result (Writes table.now session.old edit text.old.items text.new.items) }
     ensures fault { IfErr result (FaultsAt session.old.held edit) }

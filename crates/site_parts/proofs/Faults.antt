@@ -9,7 +9,7 @@ use Rattle.flow.specs.declared.site.Site.{Site}
 use Rattle.flow.specs.declared.site.SiteKind.{SiteKind}
 use Rattle.flow.specs.declared.site.SiteKind.TheVariants.{Branch, Return, Pair}
 use Rattle.flow.specs.Machine.{branch, fork}
-use Rattle.flow.specs.Now.{Now, any_on, left}
+use Rattle.flow.specs.Now.{Now, any_on, left_operands}
 use Rattle.flow.specs.State.{State, over}
 use Rattle.flow.specs.Truths.{looked, number_at, partner_number, seen_by, seen_pair, seen_truth}
 use Rattle.flow.specs.Ready.{IsBranch, IsBranchKind}
@@ -34,7 +34,7 @@ pair_lacks (Some value) (Some partner) t e = cc
 
 kind_lacks : (k : SiteKind) (operands : List Scalar) (d : Now) (t : Trap) → seen_by k operands d ≡ Err t → (t ≡ Internal) ⊎ (IsBranchKind k × ForkTraps operands d t)
 kind_lacks (Branch word) [] d t e = inl cc
-kind_lacks (Branch word) (top ∷ below) d t e = inr (tt, truth_lacks (truth_of top) (left d below) t e)
+kind_lacks (Branch word) (top ∷ below) d t e = inr (tt, truth_lacks (truth_of top) (left_operands d below) t e)
 kind_lacks (Return callee) [] d t e = inl cc
 kind_lacks (Return callee) (top ∷ below) d t e = cc
 kind_lacks (Pair target slot partner) operands d t e = inl (pair_lacks (number_at slot d) (partner_number partner d) t e)

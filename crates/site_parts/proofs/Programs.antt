@@ -18,7 +18,7 @@ use Rattle.flow.specs.declared.program.Text.{Text}
 use Rattle.flow.specs.declared.scope.Bounds.{Bounds}
 use Rattle.flow.specs.declared.scope.Names.{Names}
 use Rattle.flow.specs.declared.site.Site.{Site}
-use Rattle.flow.specs.Code.{Callee, Code, callee_of, code_of, node_of, view_at}
+use Rattle.flow.specs.Code.{Callee, Code, callee_of, code_of, view_at, view_in}
 use Rattle.flow.specs.Nodes.{NodesFit, is_own, leads_rightly, names_fit, node_fits}
 use Rattle.flow.specs.Program.{AreSites, IsFunction, IsProgram, bounds_of, names_of, parts_of}
 use Rattle.flow.specs.Ready.{ArePlain, BranchesFork, IsBranch, IsPlain, IsReady}
@@ -53,7 +53,7 @@ at_viewed : (part : Part) (found : Option Node) → view_at (option_map (part_no
 at_viewed part None = refl
 at_viewed part (Some n) = node_viewed part n
 
-function_viewed : (part : Part) (found : Option Function) (place : ℕ) → node_of (option_map (part_function part) found) place ≡ part_view part (node_of found place)
+function_viewed : (part : Part) (found : Option Function) (place : ℕ) → view_in (option_map (part_function part) found) place ≡ part_view part (view_in found place)
 function_viewed part None place = refl
 function_viewed part (Some f) place = ap view_at (slice_get-map (part_node part) f.nodes place) ∙ at_viewed part (slice_get f.nodes place)
 
@@ -65,9 +65,9 @@ pub same_code : (part : Part) (p : ProgramParts) (bank : ℕ → ℕ) → PartFi
 same_code part p bank is =
     let fs = p.functions in
     let there = λ (function : ℕ). slice_get-map (part_function part) fs function in
-    let nodes : (λ (function place : ℕ). node_of (slice_get (map (part_function part) fs) function) place) ≡ (λ (function place : ℕ). part_view part (node_of (slice_get fs function) place)) =
+    let nodes : (λ (function place : ℕ). view_in (slice_get (map (part_function part) fs) function) place) ≡ (λ (function place : ℕ). part_view part (view_in (slice_get fs function) place)) =
     fun_ext (λ (function : ℕ). fun_ext (λ (place : ℕ).
-    ap (λ (found : Option Function). node_of found place) (there function) ∙ function_viewed part (slice_get fs function) place))
+    ap (λ (found : Option Function). view_in found place) (there function) ∙ function_viewed part (slice_get fs function) place))
     in
     let callees : (λ (function : ℕ). callee_of (slice_get (map (part_function part) fs) function)) ≡ (λ (function : ℕ). callee_of (slice_get fs function)) =
     fun_ext (λ (function : ℕ). ap callee_of (there function) ∙ same_callee part (slice_get fs function))
@@ -102,7 +102,7 @@ plain_at : (nodes : List Node) (place : ℕ) (found : Option Node) → ArePlain 
 plain_at nodes place None all e = tt
 plain_at nodes place (Some n) all e = all_at (λ (m : Node). IsPlain (view m)) nodes place n all e
 
-plain_in : (fs : List Function) (function place : ℕ) (found : Option Function) → All (λ f. ArePlain f.nodes) fs → slice_get fs function ≡ found → IsPlain (node_of found place)
+plain_in : (fs : List Function) (function place : ℕ) (found : Option Function) → All (λ f. ArePlain f.nodes) fs → slice_get fs function ≡ found → IsPlain (view_in found place)
 plain_in fs function place None all e = tt
 plain_in fs function place (Some f) all e =
     plain_at f.nodes place (slice_get f.nodes place) (all_at (λ (g : Function). ArePlain g.nodes) fs function f all e) refl

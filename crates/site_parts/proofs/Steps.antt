@@ -17,7 +17,7 @@ use Rattle.flow.specs.Calls.{call, call_with, ended_with, enter, entered, give, 
 use Rattle.flow.specs.Code.{Callee, Code}
 use Rattle.flow.specs.Countdown.{at_node, observed}
 use Rattle.flow.specs.Limits.{active_limit}
-use Rattle.flow.specs.Machine.{EndsFrom, Ends, branch, fork, go_on, halt, next_of, spend, step}
+use Rattle.flow.specs.Machine.{EndsFrom, Ends, branch, fork, go_on, halt, next_of, spend_turn, step}
 use Rattle.flow.specs.Now.{Effect, Goes, Lacks, Now, Stops, Taken, Takes, any, several}
 use Rattle.flow.specs.Ready.{BranchesFork, IsPlain}
 use Rattle.flow.specs.Rows.{act}
@@ -69,7 +69,7 @@ fork_kept part a b s (Takes value rest) = branch_kept part a b rest s (truth_of 
 fork_kept part a b s (Lacks t) = refl
 
 spend_kept : (part : Part) (turns : ℕ) (s : State) (go : State → Next) → ((t : State) → go (kept part t) ≡ kept_next part (go t)) →
-    spend turns (kept part s) go ≡ kept_next part (spend turns s go)
+    spend_turn turns (kept part s) go ≡ kept_next part (spend_turn turns s go)
 spend_kept part zero s go h = refl
 spend_kept part (suc turns) s go h = h (record s { turns = turns })
 
@@ -185,10 +185,10 @@ unfolding next_of
 view_matches part code s (Row node next) is ready plain e = alike part code (go_on next s (act code.statics node s.now)) _ (row_kept part next s (act code.statics node s.now))
 view_matches part code s (Halts node) is ready plain e = alike part code (halt s (act code.statics node s.now)) _ (halt_kept part s (act code.statics node s.now))
 view_matches part code s (Forks a b) is ready plain e = alike part code (fork a b (any s.now) s) _ (fork_kept part a b s (any s.now))
-view_matches part code s (Turns next) is ready plain e = alike part code (spend s.turns s (go_to next)) _ (spend_kept part s.turns s (go_to next) (λ t. refl))
+view_matches part code s (Turns next) is ready plain e = alike part code (spend_turn s.turns s (go_to next)) _ (spend_kept part s.turns s (go_to next) (λ t. refl))
 view_matches part code s (Calls function next) is ready plain e =
     let callee = code.callee function in
-    alike part code (spend s.turns s (call callee function next)) _
+    alike part code (spend_turn s.turns s (call callee function next)) _
     (spend_kept part s.turns s (call callee function next) (λ t. call_kept part callee function next t (several (params_of callee) t.now)))
 view_matches part code s Gives is ready plain e =
     alike part code (give (has_result (code.callee s.function)) (any s.now) s) _ (give_kept part (has_result (code.callee s.function)) s (any s.now))

@@ -4,7 +4,7 @@ use Rattle.std.specs.List.{All}
 use Rattle.cbi_base.specs.Objects.{no_objects}
 use Rattle.flow.specs.declared.program.ProgramParts.{ProgramParts}
 use Rattle.flow.specs.Code.{Code, code_of}
-use Rattle.flow.specs.Machine.{EndsFrom, MachineEnds, begin, begin_with, each_made, first_objects}
+use Rattle.flow.specs.Machine.{EndsFrom, MachineEnds, begin, begin_with, each_made, program_objects}
 use Rattle.flow.specs.Ready.{ArePlain, IsReady}
 use Rattle.flow.specs.State.{Ending, Next}
 use Rattle.site_parts.specs.declared.part.Part.{Part}
@@ -19,7 +19,7 @@ use Rattle.site_parts.proofs.Steps.{kept_next, part_code}
 same_ends : (part : Part) (p : ProgramParts) (input : List ℕ) (bank : ℕ → ℕ) (turns : ℕ) (ending : Ending) → PartFits part →
     MachineEnds (part_program part p) input bank turns ending ≡ EndsFrom (part_code part (code_of p bank)) (kept_next part (begin p input bank turns)) ending
 same_ends part p input bank turns ending is =
-    let made = each_made (first_objects p) no_objects in
+    let made = each_made (program_objects p) no_objects in
     ap (λ (code : Code). EndsFrom code (begin_with code p.main input turns made) ending) (same_code part p bank is)
     ∙ ap (λ (n : Next). EndsFrom (part_code part (code_of p bank)) n ending) (begins part (code_of p bank) p.main turns input made)
 

@@ -88,7 +88,9 @@ EntriesOfParts =
 -- meets a fault of the program itself
 abbrev pub FarmsCountTheWhole : Type 0
 FarmsCountTheWhole =
-    (p : ProgramParts) (count : ℕ) (input : List ℕ) (bank : ℕ → ℕ) (turns : ℕ) (whole : Ending) (of_part : ℕ → Ending) → All (λ f. ArePlain f.nodes) p.functions →
+    (p : ProgramParts) (count : ℕ) (input : List ℕ) (bank : ℕ → ℕ) (turns : ℕ) (whole : Ending) (of_part : ℕ → Ending)
+    → All (λ f. ArePlain f.nodes) p.functions →
     IsReady p → 1 ≤ count → count ≤ part_limit → MachineEnds p input bank turns whole → (IsFaulty whole → ⊥) →
     ((index : ℕ) → index < count → MachineEnds (part_program (part_at count index) p) input bank turns (of_part index)) →
-    AreSideBySide count (λ index. entries_of (counts_of (part_of (part_at count index) p.sites) (of_part index).seen)) (entries_of (counts_of p.sites whole.seen))
+    AreSideBySide count (λ index. entries_of (counts_of (part_of (part_at count index) p.sites) (of_part index).seen))
+    (entries_of (counts_of p.sites whole.seen))

@@ -7,7 +7,7 @@ use Rattle.std.specs.HashMap.{HashMap, UpdatesBy}
 use Rattle.std.specs.Str.{bytes_eq}
 use Rattle.std.specs.Map.{lookup, IsKeyTest, AreApart, KeepsOthers}
 use Rattle.c_types_expressions.specs.Indexed.{is_key}
-use Rattle.sites.specs.Noted.{IsKept, first_in}
+use Rattle.sites.specs.Noted.{IsNoted, first_in}
 use Rattle.sites.specs.Visible.{least}
 
 other_entries : {K X : Type 0} (eq : K → K → Bool) (test : K → Bool) (old new : List (K × X)) → KeepsOthers eq test old new →
@@ -38,9 +38,9 @@ at_name name other f x y is =
 
 -- the token is kept by a key of its own
 pub kept : {S : Type 0} (key : Vec ℕ Global) (name : List ℕ) (m n : HashMap (Vec ℕ Global) ℕ S) (from x : ℕ) → key.items ≡ name →
-    x ≡ least from (first_in m.entries name) → UpdatesBy (λ a b. bytes_eq a.items b.items) (is_key key.items) m n (Some x) → IsKept name from m.entries n.entries
+    x ≡ least from (first_in m.entries name) → UpdatesBy (λ a b. bytes_eq a.items b.items) (is_key key.items) m n (Some x) → IsNoted name from m.entries n.entries
 kept key name m n from x same is h =
-    subst (λ b. IsKept b from m.entries n.entries) same
+    subst (λ b. IsNoted b from m.entries n.entries) same
     (λ other. written key.items m n x h other
     ∙ at_name key.items other (λ o. Some (least from (first_in m.entries o))) (Some x) (first_in m.entries other)
     (ap (λ (k : ℕ). Some k) (is ∙ ap (λ b. least from (first_in m.entries b)) (sym same))))

@@ -2,8 +2,8 @@
 use Rattle.std.proofs.Common.{◌≡◌, ℕ, ◌+◌, Bool, true, false, cond, if◌then◌else◌, List, [], ◌∷◌, ◌++◌, length, map, Option, Some, None, refl, sym, ap, ◌∙◌}
 use Rattle.std.specs.Prelude.{slice_get, ◌&&◌, option_map, filter}
 use Rattle.std.proofs.lemmas.List.Elements.{filter-append}
-use Rattle.c_rules.specs.TypeTree.{TypeTree}
-use Rattle.c_rules.specs.Conversions.{is_arithmetic}
+use Rattle.c_types_rules.specs.TypeTree.{TypeTree}
+use Rattle.c_types_rules.specs.Conversions.{is_arithmetic}
 use Rattle.c_types_expressions.specs.declared.walk.VariableEntry.{VariableEntry}
 use Rattle.c_types_expressions.specs.declared.walk.Walk.{Walk}
 use Rattle.c_types.specs.Answers.{declared_at, place_at}
@@ -18,10 +18,10 @@ use Rattle.sites.specs.declared.spots.Spot.{Spot}
 use Rattle.sites.specs.declared.spots.Spot.TheVariants as spot
 use Rattle.sites.specs.Bodies.{entries_spots}
 use Rattle.sites.specs.SitesAt.{Body, stand_on, site_on, is_observed, pair_on, partners_of, pairs_of}
-use Rattle.sites.specs.SitesAt.{pairs_on, spot_sites, sites_standing, sites_at_token, sites_at, sites_in, token_of}
+use Rattle.sites.specs.SitesAt.{pairs_on, spot_sites, sites_standing, sites_at_token, sites_at, sites_in, spot_token}
 use Rattle.sites.specs.Visible.{slot_of}
 use Rattle.sites.specs.Table.{body_with, defined_by, item_sites, items_sites, sites_of}
-use Rattle.sites.specs.Wanted.{all_schemes, no_schemes, is_wanted, wanted}
+use Rattle.sites.specs.Wanted.{all_schemes, no_schemes, is_site_wanted, wanted}
 
 -- a filter keeps all of a list, or nothing
 kept-all : {X Y : Type 0} (q : X → Bool) (f : Y → X) → ((y : Y) → q (f y) ≡ true) → (ys : List Y) → filter q (map f ys) ≡ map f ys
@@ -51,7 +51,7 @@ kept-pairs_of : (b : Body) (s : Stand) (place : ℕ) (t : TypeTree) (o : Option 
     (if b.schemes.pairs then pairs_of b s place t o else []) ≡ wanted b.schemes (pairs_of (widened b) s place t o)
 kept-pairs_of b s place t None = nothing b.schemes.pairs
 kept-pairs_of b s place t (Some v) =
-    kept-map (λ (x : Site). is_wanted b.schemes x.kind) (pair_on s v.name (slot_of v.variable)) b.schemes.pairs (λ p. refl)
+    kept-map (λ (x : Site). is_site_wanted b.schemes x.kind) (pair_on s v.name (slot_of v.variable)) b.schemes.pairs (λ p. refl)
     (partners_of b.known b.constants s.token place t)
 
 kept-numbers : (b : Body) (s : Stand) (place : ℕ) (t : TypeTree) (n : Bool) (o : Option VariableEntry) →
@@ -66,11 +66,11 @@ kept-pairs_on b s None (Some t) = nothing b.schemes.pairs
 kept-pairs_on b s (Some place) None = nothing b.schemes.pairs
 kept-pairs_on b s (Some place) (Some t) = kept-numbers b s place t (is_arithmetic t) (slice_get b.known.variables place)
 
-kept-return : (schemes : Schemes) (observed : Bool) (y : Site) → is_wanted schemes y.kind ≡ schemes.returns →
+kept-return : (schemes : Schemes) (observed : Bool) (y : Site) → is_site_wanted schemes y.kind ≡ schemes.returns →
     (if schemes.returns && observed then y ∷ [] else []) ≡ wanted schemes (if observed then y ∷ [] else [])
 kept-return schemes true y same = by schemes.returns same
   where
-    by : (c : Bool) → is_wanted schemes y.kind ≡ c → (if c && true then y ∷ [] else []) ≡ wanted schemes (y ∷ [])
+    by : (c : Bool) → is_site_wanted schemes y.kind ≡ c → (if c && true then y ∷ [] else []) ≡ wanted schemes (y ∷ [])
     by true is = sym (ap (λ b. cond b (y ∷ []) []) is)
     by false is = sym (ap (λ b. cond b (y ∷ []) []) is)
 kept-return schemes false y same = by schemes.returns
@@ -97,9 +97,9 @@ kept-at_token b x (Some token) = kept-on_line b x token (slice_get b.lines token
 kept-in : (b : Body) (xs : List Spot) → sites_in b xs ≡ wanted b.schemes (sites_in (widened b) xs)
 kept-in b [] = refl
 kept-in b (x ∷ xs) =
-    ap (λ l. l ++ sites_in b xs) (kept-at_token b x (token_of x))
+    ap (λ l. l ++ sites_in b xs) (kept-at_token b x (spot_token x))
     ∙ ap (λ l. wanted b.schemes (sites_at (widened b) x) ++ l) (kept-in b xs)
-    ∙ sym (filter-append (λ (y : Site). is_wanted b.schemes y.kind) (sites_at (widened b) x) (sites_in (widened b) xs))
+    ∙ sym (filter-append (λ (y : Site). is_site_wanted b.schemes y.kind) (sites_at (widened b) x) (sites_in (widened b) xs))
 
 kept-item : (w : Walk) (lines : List ℕ) (schemes : Schemes) (number : ℕ) (x : ItemTree) → item_sites w lines schemes number x ≡
     wanted schemes (item_sites w lines all_schemes number x)
@@ -116,15 +116,15 @@ kept-items w lines schemes number (x ∷ xs) =
     let next = number + length (defined_by x) in
     ap (λ l. l ++ items_sites w lines schemes next xs) (kept-item w lines schemes number x)
     ∙ ap (λ l. wanted schemes (item_sites w lines all_schemes number x) ++ l) (kept-items w lines schemes next xs)
-    ∙ sym (filter-append (λ (y : Site). is_wanted schemes y.kind) (item_sites w lines all_schemes number x) (items_sites w lines all_schemes next xs))
+    ∙ sym (filter-append (λ (y : Site). is_site_wanted schemes y.kind) (item_sites w lines all_schemes number x) (items_sites w lines all_schemes next xs))
 
 pub kept : (t : SourceTree) (w : Walk) (schemes : Schemes) → sites_of t w schemes ≡ wanted schemes (sites_of t w all_schemes)
 kept t w schemes = kept-items w t.lines schemes 0 t.items
 
-unwanted : (k : SiteKind) → is_wanted no_schemes k ≡ false
+unwanted : (k : SiteKind) → is_site_wanted no_schemes k ≡ false
 unwanted (kind.Branch word) = refl
 unwanted (kind.Return callee) = refl
 unwanted (kind.Pair target slot partner) = refl
 
 pub none : (t : SourceTree) (w : Walk) → sites_of t w no_schemes ≡ []
-none t w = kept t w no_schemes ∙ kept-none (λ (y : Site). is_wanted no_schemes y.kind) (λ y. unwanted y.kind) (sites_of t w all_schemes)
+none t w = kept t w no_schemes ∙ kept-none (λ (y : Site). is_site_wanted no_schemes y.kind) (λ y. unwanted y.kind) (sites_of t w all_schemes)

@@ -6,13 +6,13 @@ use Rattle.std.specs.Str.{bytes_eq}
 use Rattle.std.proofs.lemmas.Bool.{cond-false, false≢true}
 use Rattle.std.proofs.lemmas.Bool.Decides.{nat_tests}
 use Rattle.std.proofs.lemmas.List.Elements.{filter-append}
-use Rattle.c_rules.specs.TypeTree.{TypeTree}
+use Rattle.c_types_rules.specs.TypeTree.{TypeTree}
 use Rattle.c_types_expressions.specs.declared.walk.VariableEntry.{VariableEntry}
 use Rattle.c_types_expressions.specs.declared.walk.Walk.{Walk}
 use Rattle.c_types.specs.Answers.{declared_at, scope_holds, span_holds}
 use Rattle.c_types.proofs.Options.{some_is}
 use Rattle.flow.specs.declared.site.Partner.TheVariants as partner
-use Rattle.sites.specs.Near.{AreEnough, TellEach, all_firsts, begins_from, clear_by, first_from, hidden_among, is_named, lasting, lasts, partner_at, partners_among}
+use Rattle.sites.specs.Near.{AreEnough, TellEach, all_firsts, begins_from, clear_by, first_from, hidden_among, is_variable_named, lasting, lasts, partner_at, partners_among}
 use Rattle.sites.specs.Visible.{all_again, declared_again, is_clear, is_hidden, is_partner, is_type, slot_of, variable_partners}
 use Rattle.sites.proofs.Named.{behind, left_at, not_hidden, unheld}
 
@@ -140,14 +140,14 @@ at_or_end (x ∷ xs) zero = inr (x, refl, refl)
 at_or_end (x ∷ xs) (suc n) = at_or_end xs n
 
 hidden_step : (w : Walk) (token : ℕ) (name : List ℕ) (place : ℕ) → is_hidden w token name place (drop place w.variables) ≡
-    ((is_named name (slice_get w.variables place) && scope_holds w place token) || is_hidden w token name (suc place) (drop (suc place) w.variables))
+    ((is_variable_named name (slice_get w.variables place) && scope_holds w place token) || is_hidden w token name (suc place) (drop (suc place) w.variables))
 hidden_step w token name place =
     let holds = scope_holds w place token in
     let rest = is_hidden w token name (suc place) (drop (suc place) w.variables) in
     elim (at_or_end w.variables place) [
       | inl e ↦ ap (is_hidden w token name place) e.1
-          ∙ sym (ap (λ o. (is_named name o && holds) || rest) e.0 ∙ ap (is_hidden w token name (suc place)) e.2)
-      | inr h ↦ ap (is_hidden w token name place) h.2 ∙ sym (ap (λ o. (is_named name o && holds) || rest) h.1)
+          ∙ sym (ap (λ o. (is_variable_named name o && holds) || rest) e.0 ∙ ap (is_hidden w token name (suc place)) e.2)
+      | inr h ↦ ap (is_hidden w token name place) h.2 ∙ sym (ap (λ o. (is_variable_named name o && holds) || rest) h.1)
     ]
 
 joined : {X : Type 0} (c : Bool) (x : X) (rest : List X) → (if c then x ∷ rest else rest) ≡ (if c then x ∷ [] else []) ++ rest
@@ -179,10 +179,10 @@ hidden_next : (w : Walk) (low token : ℕ) (name : List ℕ) (place : ℕ) (near
     hidden_among w token name near ≡ is_hidden w token name (suc place) (drop (suc place) w.variables) → (c : Bool) → lasts w low place ≡ c →
     hidden_among w token name (cond c (place ∷ near) near) ≡ is_hidden w token name place (drop place w.variables)
 hidden_next w low token name place near le rest true is =
-    ap (λ b. (is_named name (slice_get w.variables place) && scope_holds w place token) || b) rest ∙ sym (hidden_step w token name place)
+    ap (λ b. (is_variable_named name (slice_get w.variables place) && scope_holds w place token) || b) rest ∙ sym (hidden_step w token name place)
 hidden_next w low token name place near le rest false is =
     rest ∙ sym (hidden_step w token name place
-    ∙ unhidden w token name place (is_hidden w token name (suc place) (drop (suc place) w.variables)) (is_named name (slice_get w.variables place))
+    ∙ unhidden w token name place (is_hidden w token name (suc place) (drop (suc place) w.variables)) (is_variable_named name (slice_get w.variables place))
     (over w low token place le is))
 
 partners_next : (w : Walk) (low token target : ℕ) (t : TypeTree) (place : ℕ) (near : List ℕ) → low ≤ token →

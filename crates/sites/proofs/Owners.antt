@@ -4,8 +4,8 @@ use Rattle.std.proofs.Common.{[], ◌∷◌, ◌++◌, length, Option, Some, Non
 use Rattle.std.specs.Prelude.{slice_get, ◌&&◌, option_map}
 use Rattle.std.specs.List.{All}
 use Rattle.std.proofs.lemmas.List.Elements.{All-append, All-map, All-nil, All-cons, All-weaker}
-use Rattle.c_rules.specs.TypeTree.{TypeTree}
-use Rattle.c_rules.specs.Conversions.{is_arithmetic}
+use Rattle.c_types_rules.specs.TypeTree.{TypeTree}
+use Rattle.c_types_rules.specs.Conversions.{is_arithmetic}
 use Rattle.c_types_expressions.specs.declared.walk.VariableEntry.{VariableEntry}
 use Rattle.c_types_expressions.specs.declared.walk.Walk.{Walk}
 use Rattle.c_types.specs.Answers.{declared_at, place_at}
@@ -20,7 +20,7 @@ use Rattle.sites.specs.declared.spots.Spot.{Spot}
 use Rattle.sites.specs.declared.spots.Spot.TheVariants as spot
 use Rattle.sites.specs.Bodies.{entries_spots}
 use Rattle.sites.specs.SitesAt.{Body, stand_on, site_on, is_observed, pair_on, partners_of, pairs_of}
-use Rattle.sites.specs.SitesAt.{pairs_on, named_pairs, spot_sites, sites_standing, sites_at_token, sites_at, sites_in, token_of}
+use Rattle.sites.specs.SitesAt.{pairs_on, named_pairs, spot_sites, sites_standing, sites_at_token, sites_at, sites_in, spot_token}
 use Rattle.sites.specs.Visible.{slot_of}
 use Rattle.sites.specs.Table.{body_with, defined_by, defined_in, item_sites, items_sites}
 
@@ -78,7 +78,7 @@ at-token b x (Some token) = on-line b x token (slice_get b.lines token)
 
 in-body : (b : Body) (xs : List Spot) → All (BelongsTo b.function) (sites_in b xs)
 in-body b [] = All-nil (BelongsTo b.function)
-in-body b (x ∷ xs) = All-append (BelongsTo b.function) (sites_at b x) (sites_in b xs) (at-token b x (token_of x)) (in-body b xs)
+in-body b (x ∷ xs) = All-append (BelongsTo b.function) (sites_at b x) (sites_in b xs) (at-token b x (spot_token x)) (in-body b xs)
 
 below : (n m : ℕ) → n < m → (xs : List Site) → All (BelongsTo n) xs → All (λ s. s.function < m) xs
 below n m less xs all = All-weaker (BelongsTo n) (λ s. s.function < m) (λ s is. omega (arith, is, less)) xs all

@@ -11,8 +11,8 @@ use Rattle.flow.specs.declared.site.BranchWord.{BranchWord}
 use Rattle.flow.specs.declared.site.BranchWord.TheVariants.{Question}
 use Rattle.sites.specs.declared.spots.Spot.{Spot}
 use Rattle.sites.specs.declared.spots.Spot.TheVariants as spot
-use Rattle.sites.specs.Spots.{named, changed, is_step, is_sizeof, stepped, joining}
-use Rattle.sites.specs.Spots.{branched, joined, expr_spots, exprs_spots, links_spots, postfix_spots, part_spots}
+use Rattle.sites.specs.Spots.{named_token, changed, is_step, is_sizeof, stepped_spots, joining}
+use Rattle.sites.specs.Spots.{branched, joined_spots, expr_spots, exprs_spots, links_spots, postfix_spots, part_spots}
 
 -- the tokens of these spots never fall, and are from `low` on and below `high`
 abbrev pub Rises : ℕ → ℕ → List Spot → Type 0
@@ -93,9 +93,9 @@ mutual
       let whole : length (expr_kinds (e.Assign token s target value)) ≡ lt + length (a_sign s) + lv =
       len3 (expr_kinds target) (a_sign s) (expr_kinds value) in
       wider at (token + 1 + lv) at _ (expr_spots (e.Assign token s target value)) (omega arith) (omega (arith, p.0, whole))
-      (join3 at (at + lt) token (token + 1) (token + 1) (token + 1 + lv) (expr_spots target) (changed token (named target)) (expr_spots value) (omega
+      (join3 at (at + lt) token (token + 1) (token + 1) (token + 1 + lv) (expr_spots target) (changed token (named_token target)) (expr_spots value) (omega
       (arith, p.0)) (omega arith)
-      (rises-expr at target p.1) (rises-changed token (named target)) (rises-expr (token + 1) value p.2))
+      (rises-expr at target p.1) (rises-changed token (named_token target)) (rises-expr (token + 1) value p.2))
   rises-expr at (e.Conditional token condition first second) p =
       let lc = length (expr_kinds condition) in
       let lf = length (expr_kinds first) in
@@ -129,18 +129,18 @@ mutual
       let whole : length (expr_kinds (e.Prefix token operator operand)) ≡ length (prefix_kinds operator) + lo =
       length-append (prefix_kinds operator) (expr_kinds operand) in
       wider at (at + 1 + lo) at _ (expr_spots (e.Prefix token operator operand)) (omega arith) (omega (arith, whole))
-      (rises-unless at (at + 1 + lo) (is_sizeof operator) (stepped operator token (named operand) ++ expr_spots operand)
-      (wider token (at + 1 + lo) at (at + 1 + lo) (stepped operator token (named operand) ++ expr_spots operand) (omega (arith, p.0)) (omega arith)
-      (join token (token + 1) (at + 1) (at + 1 + lo) (stepped operator token (named operand)) (expr_spots operand) (omega (arith, p.0))
-      (rises-stepped token (named operand) (is_step operator)) (rises-expr (at + 1) operand p.1))))
+      (rises-unless at (at + 1 + lo) (is_sizeof operator) (stepped_spots operator token (named_token operand) ++ expr_spots operand)
+      (wider token (at + 1 + lo) at (at + 1 + lo) (stepped_spots operator token (named_token operand) ++ expr_spots operand) (omega (arith, p.0)) (omega arith)
+      (join token (token + 1) (at + 1) (at + 1 + lo) (stepped_spots operator token (named_token operand)) (expr_spots operand) (omega (arith, p.0))
+      (rises-stepped token (named_token operand) (is_step operator)) (rises-expr (at + 1) operand p.1))))
   rises-expr at (e.SizeOfType token b stars) p = omega arith
   rises-expr at (e.Postfix primary operators) p =
       let lp = length (expr_kinds primary) in
       let lo = length (postfix_kinds operators) in
       let whole : length (expr_kinds (e.Postfix primary operators)) ≡ lp + lo = length-append (expr_kinds primary) (postfix_kinds operators) in
       wider at (at + lp + lo) at _ (expr_spots (e.Postfix primary operators)) (omega arith) (omega (arith, whole))
-      (join at (at + lp) (at + lp) (at + lp + lo) (expr_spots primary) (postfix_spots (named primary) operators) (omega arith)
-      (rises-expr at primary p.0) (rises-postfix (at + lp) (named primary) operators p.1))
+      (join at (at + lp) (at + lp) (at + lp + lo) (expr_spots primary) (postfix_spots (named_token primary) operators) (omega arith)
+      (rises-expr at primary p.0) (rises-postfix (at + lp) (named_token primary) operators p.1))
   rises-expr at (e.Name token name) p = omega arith
   rises-expr at (e.Call token name arguments) p =
       let la = length (exprs_kinds arguments) in
@@ -190,8 +190,8 @@ mutual
       let lr = length (link_kinds rest) in
       let whole : length (link_kinds (e.more_links token s operand rest)) ≡ length (a_sign s) + lo + lr =
       len3 (a_sign s) (expr_kinds operand) (link_kinds rest) in
-      wider token (at + 1 + lo + lr) at _ (joined token s ++ expr_spots operand ++ links_spots rest) (omega (arith, p.0)) (omega (arith, whole))
-      (join3 token (token + 1) (at + 1) (at + 1 + lo) (at + 1 + lo) (at + 1 + lo + lr) (joined token s) (expr_spots operand) (links_spots rest) (omega
+      wider token (at + 1 + lo + lr) at _ (joined_spots token s ++ expr_spots operand ++ links_spots rest) (omega (arith, p.0)) (omega (arith, whole))
+      (join3 token (token + 1) (at + 1) (at + 1 + lo) (at + 1 + lo) (at + 1 + lo + lr) (joined_spots token s) (expr_spots operand) (links_spots rest) (omega
       (arith, p.0)) (omega arith)
       (rises-branched token (joining s)) (rises-expr (at + 1) operand p.1) (rises-links (at + 1 + lo) rest p.2))
 

@@ -15,7 +15,7 @@ use Rattle.sites.specs.declared.schemes.Schemes.{Schemes}
 use Rattle.sites.specs.declared.spots.Spot.{Spot}
 use Rattle.sites.specs.declared.spots.Spot.TheVariants as spot
 use Rattle.sites.specs.Noted.{IsNotedFor, IsNotedTo}
-use Rattle.sites.specs.SitesAt.{token_of}
+use Rattle.sites.specs.SitesAt.{spot_token}
 use Rattle.sites.specs.Standing.{EachToken, IsFrom, IsToken, IsUpTo, StandAtTokens, StandFrom, begins_at, item_spots}
 use Rattle.sites.specs.Table.{defined_by}
 use Rattle.sites.proofs.Rises.{Rises, len4}
@@ -33,9 +33,9 @@ risen P low high (spot.Change token target ∷ rest) f r =
 risen P low high (spot.Constant value ∷ rest) f r = (tt, risen P low high rest f r)
 
 -- a construct at a place
-pub each_at : (P : ℕ → Type 0) (xs : List Spot) (i : ℕ) (x : Spot) → i < length xs → x ≡ get_or xs i x → EachToken P xs → IfSome (token_of x) P
+pub each_at : (P : ℕ → Type 0) (xs : List Spot) (i : ℕ) (x : Spot) → i < length xs → x ≡ get_or xs i x → EachToken P xs → IfSome (spot_token x) P
 each_at P [] i x low at h = absurd (omega (arith, low))
-each_at P (y ∷ ys) zero x low at h = subst (λ z. IfSome (token_of z) P) (sym at) h.0
+each_at P (y ∷ ys) zero x low at h = subst (λ z. IfSome (spot_token z) P) (sym at) h.0
 each_at P (y ∷ ys) (suc i) x low at h = each_at P ys i x (omega (arith, low)) at h.1
 
 -- what holds of every token
@@ -59,7 +59,7 @@ up_to_one : (low high : ℕ) (o : Option ℕ) → low ≤ high → IfSome o (IsU
 up_to_one low high None le h = tt
 up_to_one low high (Some t) le h = omega (arith, le, h)
 
-pub up_to : (x : Spot) (o : Option ℕ) (low high : ℕ) (rest : List Spot) → o ≡ token_of x → IfSome o (IsUpTo low) → low ≤ high → EachToken (IsUpTo high) rest →
+pub up_to : (x : Spot) (o : Option ℕ) (low high : ℕ) (rest : List Spot) → o ≡ spot_token x → IfSome o (IsUpTo low) → low ≤ high → EachToken (IsUpTo high) rest →
     EachToken (IsUpTo high) (x ∷ rest)
 up_to x o low high rest is h le all = (subst (λ p. IfSome p (IsUpTo high)) is (up_to_one low high o le h), all)
 

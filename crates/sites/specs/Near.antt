@@ -2,7 +2,7 @@
 use Rattle.std.specs.Prelude.{◌≡◌, ℕ, suc, nat_le, Bool, false, ◌&&◌, ◌||◌, if◌then◌else◌, List, [], ◌∷◌, ◌++◌, drop, filter, Option, Some, None, slice_get}
 use Rattle.std.specs.List.{range_with_len}
 use Rattle.std.specs.Str.{bytes_eq}
-use Rattle.c_rules.specs.TypeTree.{TypeTree}
+use Rattle.c_types_rules.specs.TypeTree.{TypeTree}
 use Rattle.c_types_expressions.specs.declared.walk.VariableEntry.{VariableEntry}
 use Rattle.c_types_expressions.specs.declared.walk.Walk.{Walk}
 use Rattle.c_types.specs.Answers.{scope_holds}
@@ -38,15 +38,15 @@ abbrev pub clear_by : ℕ → Option (Option ℕ) → Bool
 clear_by token None = false
 clear_by token (Some again) = is_clear token again
 
-abbrev pub is_named : List ℕ → Option VariableEntry → Bool
-is_named name None = false
-is_named name (Some v) = bytes_eq v.name name
+abbrev pub is_variable_named : List ℕ → Option VariableEntry → Bool
+is_variable_named name None = false
+is_variable_named name (Some v) = bytes_eq v.name name
 
 -- whether the variable at one of these places has the name, and its scope holds the token
 abbrev pub hidden_among : Walk → ℕ → List ℕ → List ℕ → Bool
 hidden_among w token name [] = false
 hidden_among w token name (place ∷ later) =
-    (is_named name (slice_get w.variables place) && scope_holds w place token) || hidden_among w token name later
+    (is_variable_named name (slice_get w.variables place) && scope_holds w place token) || hidden_among w token name later
 
 -- the variable at the place, if a new value of the one at the place `target` is compared with it
 abbrev pub partner_at : Walk → ℕ → ℕ → TypeTree → ℕ → Option VariableEntry → List Partner

@@ -36,5 +36,5 @@ abbrev pub first_in : List (Vec ℕ Global × ℕ) → List ℕ → Option ℕ
 first_in firsts name = lookup (is_key name) firsts
 
 -- of the name the token is kept as well, and of others what was
-abbrev pub IsKept : List ℕ → ℕ → List (Vec ℕ Global × ℕ) → List (Vec ℕ Global × ℕ) → Type 0
-IsKept name from old new = (other : List ℕ) → first_in new other ≡ (if bytes_eq name other then Some (least from (first_in old other)) else first_in old other)
+abbrev pub IsNoted : List ℕ → ℕ → List (Vec ℕ Global × ℕ) → List (Vec ℕ Global × ℕ) → Type 0
+IsNoted name from old new = (other : List ℕ) → first_in new other ≡ (if bytes_eq name other then Some (least from (first_in old other)) else first_in old other)

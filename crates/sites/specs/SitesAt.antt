@@ -2,8 +2,8 @@
 use Rattle.std.specs.Prelude.{ℕ, ℤ, Bool, false, ◌&&◌, ◌||◌, if◌then◌else◌, List, []}
 use Rattle.std.specs.Prelude.{◌∷◌, ◌++◌, map, Option, Some, None, option_map, is_some, slice_get, codes}
 use Rattle.std.specs.Str.{bytes_eq}
-use Rattle.c_rules.specs.TypeTree.{TypeTree}
-use Rattle.c_rules.specs.Conversions.{is_arithmetic, is_scalar}
+use Rattle.c_types_rules.specs.TypeTree.{TypeTree}
+use Rattle.c_types_rules.specs.Conversions.{is_arithmetic, is_scalar}
 use Rattle.c_types_expressions.specs.declared.walk.VariableEntry.{VariableEntry}
 use Rattle.c_types_expressions.specs.declared.walk.Walk.{Walk}
 use Rattle.c_types.specs.Answers.{declared_at, function_at, place_at, type_at}
@@ -85,11 +85,11 @@ spot_sites b s (spot.Change token target) = change_sites b s target
 spot_sites b s (spot.Constant value) = []
 
 -- the token at which the sites of a construct stand
-abbrev pub token_of : Spot → Option ℕ
-token_of (spot.Branch token word) = Some token
-token_of (spot.Call token name) = Some token
-token_of (spot.Change token target) = Some token
-token_of (spot.Constant value) = None
+abbrev pub spot_token : Spot → Option ℕ
+spot_token (spot.Branch token word) = Some token
+spot_token (spot.Call token name) = Some token
+spot_token (spot.Change token target) = Some token
+spot_token (spot.Constant value) = None
 
 abbrev pub sites_standing : Body → Spot → Option Stand → List Site
 sites_standing b x None = []
@@ -101,7 +101,7 @@ sites_at_token b x (Some token) = sites_standing b x (stand_at b token)
 
 -- the sites that stand at a construct
 abbrev pub sites_at : Body → Spot → List Site
-sites_at b x = sites_at_token b x (token_of x)
+sites_at b x = sites_at_token b x (spot_token x)
 
 -- the sites of a body's constructs, one construct after another
 abbrev pub sites_in : Body → List Spot → List Site

@@ -13,9 +13,9 @@ use Rattle.sites.specs.declared.spots.Spot.{Spot}
 use Rattle.sites.specs.declared.spots.Spot.TheVariants as spot
 
 -- the token of a variable that is named directly, not within parentheses
-abbrev pub named : ExprTree → Option ℕ
-named (e.Name token name) = Some token
-named x = None
+abbrev pub named_token : ExprTree → Option ℕ
+named_token (e.Name token name) = Some token
+named_token x = None
 
 -- a new value of the variable, if one is named
 abbrev pub changed : ℕ → Option ℕ → List Spot
@@ -32,8 +32,8 @@ is_sizeof prefix.SizeOf = true
 is_sizeof operator = false
 
 -- `++` and `--` before a variable give it a new value
-abbrev pub stepped : PrefixOperator → ℕ → Option ℕ → List Spot
-stepped operator token target = if is_step operator then changed token target else []
+abbrev pub stepped_spots : PrefixOperator → ℕ → Option ℕ → List Spot
+stepped_spots operator token target = if is_step operator then changed token target else []
 
 -- `&&` and `||` are branches
 abbrev pub joining : Sign → Option BranchWord
@@ -45,19 +45,19 @@ abbrev pub branched : ℕ → Option BranchWord → List Spot
 branched token None = []
 branched token (Some word) = spot.Branch token word ∷ []
 
-abbrev pub joined : ℕ → Sign → List Spot
-joined token s = branched token (joining s)
+abbrev pub joined_spots : ℕ → Sign → List Spot
+joined_spots token s = branched token (joining s)
 
 abbrev mutual
   pub expr_spots : ExprTree → List Spot
   expr_spots (e.Comma token operands) = exprs_spots operands
-  expr_spots (e.Assign token s target value) = expr_spots target ++ changed token (named target) ++ expr_spots value
+  expr_spots (e.Assign token s target value) = expr_spots target ++ changed token (named_token target) ++ expr_spots value
   expr_spots (e.Conditional token condition first second) = expr_spots condition ++ spot.Branch token Question ∷ expr_spots first ++ expr_spots second
   expr_spots (e.Chain level first links) = expr_spots first ++ links_spots links
   expr_spots (e.Cast token b stars operand) = expr_spots operand
-  expr_spots (e.Prefix token operator operand) = if is_sizeof operator then [] else stepped operator token (named operand) ++ expr_spots operand
+  expr_spots (e.Prefix token operator operand) = if is_sizeof operator then [] else stepped_spots operator token (named_token operand) ++ expr_spots operand
   expr_spots (e.SizeOfType token b stars) = []
-  expr_spots (e.Postfix primary operators) = expr_spots primary ++ postfix_spots (named primary) operators
+  expr_spots (e.Postfix primary operators) = expr_spots primary ++ postfix_spots (named_token primary) operators
   expr_spots (e.Name token name) = []
   expr_spots (e.Call token name arguments) = spot.Call token name ∷ exprs_spots arguments
   expr_spots (e.Constant token kind value) = spot.Constant value ∷ []
@@ -72,7 +72,7 @@ abbrev mutual
 
   pub links_spots : LinkList → List Spot
   links_spots e.no_links = []
-  links_spots (e.more_links token s operand rest) = joined token s ++ expr_spots operand ++ links_spots rest
+  links_spots (e.more_links token s operand rest) = joined_spots token s ++ expr_spots operand ++ links_spots rest
 
   -- the operators behind an operand, which is a variable named directly at the token, if at any
   pub postfix_spots : Option ℕ → PostfixList → List Spot

@@ -5,12 +5,12 @@ use Rattle.c_syntax.specs.ItemTree.{ItemTree}
 use Rattle.c_syntax.specs.Limits.{most_tokens}
 use Rattle.sites.specs.declared.spots.Spot.{Spot}
 use Rattle.sites.specs.Bodies.{entries_spots}
-use Rattle.sites.specs.SitesAt.{token_of}
+use Rattle.sites.specs.SitesAt.{spot_token}
 
 -- each token at which the sites of one of these constructs stand is such
 abbrev pub EachToken : (ℕ → Type 0) → List Spot → Type 0
 EachToken P [] = Unit {0}
-EachToken P (x ∷ xs) = IfSome (token_of x) P × EachToken P xs
+EachToken P (x ∷ xs) = IfSome (spot_token x) P × EachToken P xs
 
 -- it is the index of a token of a text
 abbrev pub IsToken : ℕ → Type 0

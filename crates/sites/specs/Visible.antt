@@ -1,7 +1,7 @@
 -- The variables that are visible at a token, and those of them that a new value is compared with.
 use Rattle.std.specs.Prelude.{ℕ, suc, nat_lt, nat_le, Bool, true, false, not, ◌&&◌, ◌||◌, ◌==◌, if◌then◌else◌, List, [], ◌∷◌, Option, Some, None}
 use Rattle.std.specs.Str.{bytes_eq}
-use Rattle.c_rules.specs.TypeTree.{TypeTree, same_type}
+use Rattle.c_types_rules.specs.TypeTree.{TypeTree, same_type}
 use Rattle.c_types_expressions.specs.declared.walk.Variable.{Variable}
 use Rattle.c_types_expressions.specs.declared.walk.Variable.TheVariants as variable
 use Rattle.c_types_expressions.specs.declared.walk.VariableEntry.{VariableEntry}

@@ -11,11 +11,11 @@ all_schemes = record { branches = true; returns = true; pairs = true }
 abbrev pub no_schemes : Schemes
 no_schemes = record { branches = false; returns = false; pairs = false }
 
-abbrev pub is_wanted : Schemes → SiteKind → Bool
-is_wanted schemes (Branch word) = schemes.branches
-is_wanted schemes (Return callee) = schemes.returns
-is_wanted schemes (Pair target slot partner) = schemes.pairs
+abbrev pub is_site_wanted : Schemes → SiteKind → Bool
+is_site_wanted schemes (Branch word) = schemes.branches
+is_site_wanted schemes (Return callee) = schemes.returns
+is_site_wanted schemes (Pair target slot partner) = schemes.pairs
 
 -- those of the sites that are wanted
 abbrev pub wanted : Schemes → List Site → List Site
-wanted schemes sites = filter (λ s. is_wanted schemes s.kind) sites
+wanted schemes sites = filter (λ s. is_site_wanted schemes s.kind) sites

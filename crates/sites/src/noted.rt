@@ -1,7 +1,7 @@
 ghost use Rattle.std.specs.Prelude.{◌≡◌, ◌++◌, ◌∷◌, [], ◌≤◌, true, drop, filter, IfOk, IfSome, OnOk, slice_get};
 ghost use Rattle.c_types.specs.Answers.{known_of};
 ghost use Rattle.sites.specs.Near.{all_firsts, begins_from, first_from, lasting, lasts};
-ghost use Rattle.sites.specs.Noted.{IsEnoughFor, IsKept, IsNotedFor, first_in};
+ghost use Rattle.sites.specs.Noted.{IsEnoughFor, IsNoted, IsNotedFor, first_in};
 ghost use Rattle.sites.specs.Standing.{EachToken, IsUpTo, StandFrom};
 ghost use Rattle.sites.specs.Visible.{all_again, is_clear, least};
 
@@ -59,7 +59,7 @@ fn first_in(firsts: &Firsts, name: &[u8]) -> Option<u32>
 
 /// Keeps where the scope of a variable with the name begins.
 fn keep(alloc: Global, firsts: &mut Firsts, name: &[u8], from: u32) -> Result<(), Memory>
-    ensures { OnOk result (IsKept name.now from firsts.old.entries firsts.new.entries) }
+    ensures { OnOk result (IsNoted name.now from firsts.old.entries firsts.new.entries) }
 {
     let first = least(from, first_in(firsts, name));
     firsts.insert(Vec::from_slice(alloc, name)?, first)?;

@@ -1,10 +1,10 @@
 ghost use Rattle.std.specs.Prelude.{◌≡◌, suc, ◌∷◌, [], Some, map, drop, option_copied, slice_get};
-ghost use Rattle.c_rules.specs.Plain.{plain_type};
+ghost use Rattle.c_types_rules.specs.Plain.{plain_type};
 ghost use Rattle.c_types.specs.Answers.{declared_at, known_of};
 ghost use Rattle.flow.specs.declared.site.Partner.TheVariants as partner;
 ghost use Rattle.sites.specs.Adding.{IsAdded};
 ghost use Rattle.sites.specs.Ground.{body_of};
-ghost use Rattle.sites.specs.Near.{TellsBehind, clear_by, hidden_among, is_named, partner_at};
+ghost use Rattle.sites.specs.Near.{TellsBehind, clear_by, hidden_among, is_variable_named, partner_at};
 ghost use Rattle.sites.specs.Noted.{IsEnough};
 ghost use Rattle.sites.specs.SitesAt.{pair_on, named_pairs, pairs_of, pairs_on, partners_of};
 ghost use Rattle.sites.specs.Visible.{all_again, is_partner, is_type, slot_of, variable_partners};
@@ -12,9 +12,9 @@ ghost use Rattle.sites.specs.Visible.{all_again, is_partner, is_type, slot_of, v
 use crate::ground::{Ground, Stand, add_site};
 use crate::noted::is_clear;
 use crate::schemes::SiteError;
-use c_rules::{CType, is_arithmetic, same_type};
 use c_types::Checked;
 use c_types_expressions::{Variable, VariableEntry};
+use c_types_rules::{CType, is_arithmetic, same_type};
 use cbi_base::{Name, Seq};
 use flow::{Partner, Site, SiteKind, Slot};
 
@@ -37,7 +37,7 @@ fn variable_at(checked: &Checked, place: usize) -> Option<&VariableEntry>
 
 /// Whether the variable at the place has the name.
 fn is_named(checked: &Checked, place: usize, name: &Name) -> bool
-    ensures { result ≡ is_named name.now (slice_get (known_of checked.now).variables place) }
+    ensures { result ≡ is_variable_named name.now (slice_get (known_of checked.now).variables place) }
 {
     match variable_at(checked, place) {
         None => false,

@@ -1,7 +1,19 @@
 ghost use Rattle.std.specs.Prelude.{◌≡◌, ◌++◌, OnOk, option_map};
 ghost use Rattle.c_syntax.specs.Plain.{plain_expr, plain_exprs, plain_links, plain_operators};
-ghost use Rattle.sites.specs.SitesAt.{token_of};
-ghost use Rattle.sites.specs.Spots.{changed, expr_spots, exprs_spots, is_sizeof, is_step, joined, links_spots, named, part_spots, postfix_spots, stepped};
+ghost use Rattle.sites.specs.SitesAt.{spot_token};
+ghost use Rattle.sites.specs.Spots.{
+  changed,
+  expr_spots,
+  exprs_spots,
+  is_sizeof,
+  is_step,
+  joined_spots,
+  links_spots,
+  named_token,
+  part_spots,
+  postfix_spots,
+  stepped_spots,
+};
 
 use c_syntax::{Expr, Link, PostfixOperator, PrefixOperator, Sign};
 use cbi_base::{Memory, Name, Seq};
@@ -22,7 +34,7 @@ pub enum Spot {
 
 /// The token at which the sites of a construct stand.
 pub fn token_of(spot: &Spot) -> Option<u32>
-    ensures { result ≡ token_of spot.now }
+    ensures { result ≡ spot_token spot.now }
 {
     match spot {
         Spot::Branch { token, .. } | Spot::Call { token, .. } => Some(*token),
@@ -33,7 +45,7 @@ pub fn token_of(spot: &Spot) -> Option<u32>
 
 /// The token of a name that stands alone.
 fn named(expr: &Expr) -> Option<u32>
-    ensures { result ≡ named (plain_expr expr.now) }
+    ensures { result ≡ named_token (plain_expr expr.now) }
 {
     match expr {
         Expr::Name { token, .. } => Some(*token),
@@ -79,7 +91,7 @@ fn push_step(
     token: u32,
     target: Option<u32>,
 ) -> Result<(), Memory>
-    ensures { OnOk result (spots.new ≡ spots.old ++ stepped operator token target) }
+    ensures { OnOk result (spots.new ≡ spots.old ++ stepped_spots operator token target) }
 {
     if is_step(operator) {
         return push_change(spots, token, target);
@@ -89,7 +101,7 @@ fn push_step(
 
 /// What an operator of a chain is.
 fn push_join(spots: &mut Seq<Spot>, token: u32, sign: Sign) -> Result<(), Memory>
-    ensures { OnOk result (spots.new ≡ spots.old ++ joined token sign) }
+    ensures { OnOk result (spots.new ≡ spots.old ++ joined_spots token sign) }
 {
     let word = match sign {
         Sign::AndAnd => BranchWord::AndAnd,

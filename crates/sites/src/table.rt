@@ -7,7 +7,7 @@ ghost use Rattle.sites.specs.declared.schemes.SiteError.TheVariants as error;
 ghost use Rattle.sites.specs.Adding.{IsAdded};
 ghost use Rattle.sites.specs.Ground.{body_of};
 ghost use Rattle.sites.specs.Noted.{IsEnoughFor, IsNotedFor};
-ghost use Rattle.sites.specs.SitesAt.{branch_sites, change_sites, gives_scalar, is_observed, return_sites, sites_at, sites_in, token_of};
+ghost use Rattle.sites.specs.SitesAt.{branch_sites, change_sites, gives_scalar, is_observed, return_sites, sites_at, sites_in, spot_token};
 ghost use Rattle.sites.specs.Standing.{EachToken, StandAtTokens, StandFrom, begins_at, item_spots};
 ghost use Rattle.sites.specs.Table.{body_sites, defined_by, functions_of, item_sites, sites_of};
 
@@ -18,9 +18,9 @@ use crate::partners::add_pairs;
 use crate::schemes::{Schemes, SiteError};
 use crate::spots::{Spot, token_of};
 use crate::statements::push_entries;
-use c_rules::is_scalar;
 use c_syntax::Item;
 use c_types::Checked;
+use c_types_rules::is_scalar;
 use cbi_base::{Name, Seq};
 use flow::{BranchWord, Site, SiteKind, SiteTable, TableParts};
 use std::alloc::Global;
@@ -97,7 +97,7 @@ fn add_change(
 
 /// Adds the sites that stand at a construct.
 fn add_sites_at(sites: &mut Seq<Site>, ground: &Ground<'_>, spot: &Spot) -> Result<(), SiteError>
-    requires { IfSome (token_of spot.now) (IsEnoughFor ground.now.schemes (known_of ground.now.checked.now) ground.now.noted.now) }
+    requires { IfSome (spot_token spot.now) (IsEnoughFor ground.now.schemes (known_of ground.now.checked.now) ground.now.noted.now) }
     ensures { IsAdded sites.old (sites_at (body_of ground.now) spot.now) result sites.new }
 {
     let Some(token) = token_of(spot) else {
@@ -195,7 +195,7 @@ fn add_item(
     }
 }
 
-/// The site table of a tree, for some schemes.
+/// The site table of a tree, for some schemes: in the order of the tokens, and at most 65,536 sites, or it is refused.
 pub fn site_table(
     alloc: Global,
     checked: &Checked,

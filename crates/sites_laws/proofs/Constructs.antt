@@ -17,18 +17,18 @@ use Rattle.flow.specs.declared.site.BranchWord.TheVariants as word
 use Rattle.sites.specs.declared.spots.Spot.{Spot}
 use Rattle.sites.specs.declared.spots.Spot.TheVariants as spot
 use Rattle.sites.specs.Bodies.{declaration_spots, entries_spots, for_spots, for_start_spots, initial_spots, start_spots, starts_spots, statement_spots}
-use Rattle.sites.specs.Spots.{changed, expr_spots, exprs_spots, joined, links_spots, named, part_spots, postfix_spots}
+use Rattle.sites.specs.Spots.{changed, expr_spots, exprs_spots, joined_spots, links_spots, named_token, part_spots, postfix_spots}
 use Rattle.sites.specs.Standing.{item_spots}
 use Rattle.sites.proofs.Rises.{Rises}
 use Rattle.sites.proofs.RisesTable.{rises-held}
-use Rattle.sites_laws.specs.Constructs.{AreMadeBy, Construct, Expression, Statement, Declared, SpotsRise, all_decide, all_make, begins_with, changes, decides}
+use Rattle.sites_laws.specs.Constructs.{AreMadeBy, SitedConstruct, Expression, Statement, Declared, SpotsRise, all_decide, all_make, begins_with, changes, decides}
 use Rattle.sites_laws.specs.Constructs.{entries_constructs, expr_constructs, exprs_constructs, for_start_constructs, initial_constructs, item_constructs}
 use Rattle.sites_laws.specs.Constructs.{links_constructs, makes, optional_constructs, postfix_constructs, starts_constructs, statement_constructs}
 use Rattle.sites_laws.specs.Constructs.{statement_makes, steps_behind}
 
 -- the tables
 
-changes_are : (token : ℕ) (x : ExprTree) → changed token (named x) ≡ changes token x
+changes_are : (token : ℕ) (x : ExprTree) → changed token (named_token x) ≡ changes token x
 changes_are own (e.Comma token operands) = refl
 changes_are own (e.Assign token s target value) = refl
 changes_are own (e.Conditional token condition first second) = refl
@@ -45,7 +45,7 @@ changes_are own (e.Paren token inner) = refl
 changes_are own (e.Null token) = refl
 changes_are own (e.EndOfFile token) = refl
 
-decides_is : (token : ℕ) (s : Sign) → joined token s ≡ decides token s
+decides_is : (token : ℕ) (s : Sign) → joined_spots token s ≡ decides token s
 decides_is token sign.LeftBrace = refl
 decides_is token sign.RightBrace = refl
 decides_is token sign.LeftParen = refl
@@ -92,7 +92,7 @@ decides_is token sign.AndEqual = refl
 decides_is token sign.XorEqual = refl
 decides_is token sign.OrEqual = refl
 
-all_both : (xs ys : List Construct) → all_make (xs ++ ys) ≡ all_make xs ++ all_make ys
+all_both : (xs ys : List SitedConstruct) → all_make (xs ++ ys) ≡ all_make xs ++ all_make ys
 all_both [] ys = refl
 all_both (x ∷ xs) ys = ap (λ zs. makes x ++ zs) (all_both xs ys) ∙ sym (append_assoc (makes x) (all_make xs) (all_make ys))
 
@@ -106,25 +106,25 @@ module _ (p : Spot → Bool) where
   abbrev n : List Spot → ℕ
   n spots = count_by p spots
 
-  abbrev m : List Construct → ℕ
+  abbrev m : List SitedConstruct → ℕ
   m constructs = count_by p (all_make constructs)
 
   both : (xs ys : List Spot) → n (xs ++ ys) ≡ n xs + n ys
   both xs ys = sum_by-append (λ (x : Spot). cond (p x) 1 0) xs ys
 
-  made_both : (xs ys : List Construct) → m (xs ++ ys) ≡ m xs + m ys
+  made_both : (xs ys : List SitedConstruct) → m (xs ++ ys) ≡ m xs + m ys
   made_both xs ys = ap n (all_both xs ys) ∙ both (all_make xs) (all_make ys)
 
   -- a construct before those in it
-  own : (x : Construct) (xs : List Construct) → m (x ∷ xs) ≡ n (makes x) + m xs
+  own : (x : SitedConstruct) (xs : List SitedConstruct) → m (x ∷ xs) ≡ n (makes x) + m xs
   own x xs = both (makes x) (all_make xs)
 
   -- `++` or `--` before an operand
   step_made : (token : ℕ) (operand : ExprTree) → n (expr_spots operand) ≡ m (expr_constructs operand)
-      → n (changed token (named operand) ++ expr_spots operand) ≡ n (changes token operand ++ all_make (expr_constructs operand))
+      → n (changed token (named_token operand) ++ expr_spots operand) ≡ n (changes token operand ++ all_make (expr_constructs operand))
   step_made token operand h = omega (
     arith,
-    both (changed token (named operand)) (expr_spots operand),
+    both (changed token (named_token operand)) (expr_spots operand),
     both (changes token operand) (all_make (expr_constructs operand)),
     ap n (changes_are token operand),
     h,
@@ -135,8 +135,8 @@ module _ (p : Spot → Bool) where
     expr_made (e.Comma token operands) = exprs_made operands
     expr_made (e.Assign token s target value) = omega (
       arith,
-      both (expr_spots target ++ changed token (named target)) (expr_spots value),
-      both (expr_spots target) (changed token (named target)),
+      both (expr_spots target ++ changed token (named_token target)) (expr_spots value),
+      both (expr_spots target) (changed token (named_token target)),
       ap n (changes_are token target),
       own (Expression (e.Assign token s target value)) (expr_constructs target ++ expr_constructs value),
       made_both (expr_constructs target) (expr_constructs value),
@@ -176,7 +176,7 @@ module _ (p : Spot → Bool) where
     expr_made (e.SizeOfType token b stars) = refl
     expr_made (e.Postfix primary operators) = omega (
       arith,
-      both (expr_spots primary) (postfix_spots (named primary) operators),
+      both (expr_spots primary) (postfix_spots (named_token primary) operators),
       own (Expression (e.Postfix primary operators)) (expr_constructs primary ++ postfix_constructs operators),
       made_both (expr_constructs primary) (postfix_constructs operators),
       expr_made primary,
@@ -209,8 +209,8 @@ module _ (p : Spot → Bool) where
     links_made e.no_links = omega arith
     links_made (e.more_links token s operand rest) = omega (
       arith,
-      both (joined token s ++ expr_spots operand) (links_spots rest),
-      both (joined token s) (expr_spots operand),
+      both (joined_spots token s ++ expr_spots operand) (links_spots rest),
+      both (joined_spots token s) (expr_spots operand),
       ap n (decides_is token s),
       both (decides token s) (all_decide rest),
       made_both (expr_constructs operand) (links_constructs rest),
@@ -234,7 +234,7 @@ module _ (p : Spot → Bool) where
 
     -- the operators behind a primary expression
     behind_made : (x : ExprTree) (operators : PostfixList)
-        → n (postfix_spots (named x) operators) ≡ n (steps_behind x operators) + m (postfix_constructs operators)
+        → n (postfix_spots (named_token x) operators) ≡ n (steps_behind x operators) + m (postfix_constructs operators)
     behind_made x e.no_postfix = omega arith
     behind_made x (e.index token y rest) = omega (
       arith,
@@ -246,9 +246,9 @@ module _ (p : Spot → Bool) where
     behind_made x (e.member token name rest) = omega (arith, postfix_made rest)
     behind_made x (e.arrow token name rest) = omega (arith, postfix_made rest)
     behind_made x (e.increment token rest) =
-        omega (arith, both (changed token (named x)) (postfix_spots None rest), ap n (changes_are token x), postfix_made rest)
+        omega (arith, both (changed token (named_token x)) (postfix_spots None rest), ap n (changes_are token x), postfix_made rest)
     behind_made x (e.decrement token rest) =
-        omega (arith, both (changed token (named x)) (postfix_spots None rest), ap n (changes_are token x), postfix_made rest)
+        omega (arith, both (changed token (named_token x)) (postfix_spots None rest), ap n (changes_are token x), postfix_made rest)
 
   part_made : (x : Option ExprTree) → n (part_spots x) ≡ m (optional_constructs x)
   part_made None = refl

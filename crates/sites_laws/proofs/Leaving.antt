@@ -11,10 +11,10 @@ use Rattle.c_syntax.specs.Spelling.{declarator_kinds}
 use Rattle.c_syntax.specs.StatementTree as s
 use Rattle.c_syntax.specs.StatementTree.{InitialTree, StartTree, ForStartTree, StatementTree, EntryList}
 use Rattle.c_meaning.specs.Trees.{token_of}
-use Rattle.c_types_notes.specs.Events.{Calls, Other, Event, Value, Initialises, Variable, Opens, Closes, Struct, Names, Defines}
-use Rattle.c_types_notes.specs.Events.{declaration_events, entries_events, expr_events, exprs_events, for_start_events, initial_events, links_events}
-use Rattle.c_types_notes.specs.Events.{optional_events, postfix_events, scoped, start_events, starts_events, statement_events}
-use Rattle.sites_laws.specs.Constructs.{AreAll, Construct, Expression, all_tokens, body_events, entries_constructs, expr_constructs, exprs_constructs}
+use Rattle.c_types_faults.specs.Events.{Calls, Other, Event, Value, Initialises, Variable, Opens, Closes, Struct, Names, Defines}
+use Rattle.c_types_faults.specs.Events.{declaration_events, entries_events, expr_events, exprs_events, for_start_events, initial_events, links_events}
+use Rattle.c_types_faults.specs.Events.{optional_events, postfix_events, scoped, start_events, starts_events, statement_events}
+use Rattle.sites_laws.specs.Constructs.{AreAll, Expression, SitedConstruct, all_tokens, body_events, entries_constructs, expr_constructs, exprs_constructs}
 use Rattle.sites_laws.specs.Constructs.{for_start_constructs, initial_constructs, item_constructs, link_tokens, links_constructs, optional_constructs}
 use Rattle.sites_laws.specs.Constructs.{own_tokens, postfix_constructs, postfix_tokens, starts_constructs, statement_constructs, tokens_of}
 
@@ -29,7 +29,7 @@ tokens_both (Struct ∷ xs) ys = tokens_both xs ys
 tokens_both (Names name ∷ xs) ys = tokens_both xs ys
 tokens_both (Defines ∷ xs) ys = tokens_both xs ys
 
-all_both : (xs ys : List Construct) → all_tokens (xs ++ ys) ≡ all_tokens xs ++ all_tokens ys
+all_both : (xs ys : List SitedConstruct) → all_tokens (xs ++ ys) ≡ all_tokens xs ++ all_tokens ys
 all_both [] ys = refl
 all_both (x ∷ xs) ys = ap (λ ks. tokens_of x ++ ks) (all_both xs ys) ∙ sym (append_assoc (tokens_of x) (all_tokens xs) (all_tokens ys))
 
@@ -41,7 +41,7 @@ module _ (p : ℕ → Bool) where
   abbrev n : List Event → ℕ
   n events = c (own_tokens events)
 
-  abbrev m : List Construct → ℕ
+  abbrev m : List SitedConstruct → ℕ
   m constructs = c (all_tokens constructs)
 
   joined : (xs ys : List ℕ) → c (xs ++ ys) ≡ c xs + c ys
@@ -50,15 +50,15 @@ module _ (p : ℕ → Bool) where
   both : (xs ys : List Event) → n (xs ++ ys) ≡ n xs + n ys
   both xs ys = ap c (tokens_both xs ys) ∙ joined (own_tokens xs) (own_tokens ys)
 
-  made_both : (xs ys : List Construct) → m (xs ++ ys) ≡ m xs + m ys
+  made_both : (xs ys : List SitedConstruct) → m (xs ++ ys) ≡ m xs + m ys
   made_both xs ys = ap c (all_both xs ys) ∙ joined (all_tokens xs) (all_tokens ys)
 
   -- an expression before those in it
-  own : (x : ExprTree) (xs : List Construct) → m (Expression x ∷ xs) ≡ c (tokens_of (Expression x)) + m xs
+  own : (x : ExprTree) (xs : List SitedConstruct) → m (Expression x ∷ xs) ≡ c (tokens_of (Expression x)) + m xs
   own x xs = joined (tokens_of (Expression x)) (all_tokens xs)
 
   -- an expression behind one part
-  behind : (token : ℕ) (es : List Event) (xs : List Construct) → n es ≡ m xs → n (es ++ Value token Other ∷ []) ≡ c (token ∷ all_tokens xs)
+  behind : (token : ℕ) (es : List Event) (xs : List SitedConstruct) → n es ≡ m xs → n (es ++ Value token Other ∷ []) ≡ c (token ∷ all_tokens xs)
   behind token es xs h = omega (arith, both es (Value token Other ∷ []), joined (token ∷ []) (all_tokens xs), h)
 
   mutual

@@ -14,9 +14,9 @@ use Rattle.flow.specs.declared.site.BranchWord.TheVariants as word
 use Rattle.sites.specs.declared.spots.Spot.{Spot}
 use Rattle.sites.specs.declared.spots.Spot.TheVariants as spot
 use Rattle.sites.specs.Bodies.{declaration_spots, entries_spots, for_spots, for_start_spots, initial_spots, start_spots, starts_spots, statement_spots}
-use Rattle.sites.specs.Spots.{branched, changed, expr_spots, exprs_spots, joined, joining, links_spots, named, part_spots, postfix_spots}
+use Rattle.sites.specs.Spots.{branched, changed, expr_spots, exprs_spots, joined_spots, joining, links_spots, named_token, part_spots, postfix_spots}
 use Rattle.sites.specs.Standing.{item_spots}
-use Rattle.sites_laws.specs.Constructs.{Construct, Expression, Statement, Declared, entries_constructs, expr_constructs, exprs_constructs}
+use Rattle.sites_laws.specs.Constructs.{SitedConstruct, Expression, Statement, Declared, entries_constructs, expr_constructs, exprs_constructs}
 use Rattle.sites_laws.specs.Constructs.{for_start_constructs, initial_constructs, item_constructs, links_constructs, numbers_in, optional_constructs}
 use Rattle.sites_laws.specs.Constructs.{postfix_constructs, starts_constructs, statement_constructs, values_in}
 
@@ -27,7 +27,7 @@ values_both (spot.Call token name ∷ xs) ys = values_both xs ys
 values_both (spot.Change token target ∷ xs) ys = values_both xs ys
 values_both (spot.Constant value ∷ xs) ys = ap (λ vs. value ∷ vs) (values_both xs ys)
 
-numbers_both : (xs ys : List Construct) → numbers_in (xs ++ ys) ≡ numbers_in xs ++ numbers_in ys
+numbers_both : (xs ys : List SitedConstruct) → numbers_in (xs ++ ys) ≡ numbers_in xs ++ numbers_in ys
 numbers_both [] ys = refl
 numbers_both (Expression (e.Comma token operands) ∷ xs) ys = numbers_both xs ys
 numbers_both (Expression (e.Assign token s target value) ∷ xs) ys = numbers_both xs ys
@@ -48,7 +48,7 @@ numbers_both (Statement x ∷ xs) ys = numbers_both xs ys
 numbers_both (Declared x ∷ xs) ys = numbers_both xs ys
 
 -- one part behind another
-in_turn : (xs ys : List Spot) (a b : List Construct) → values_in xs ≡ numbers_in a → values_in ys ≡ numbers_in b → values_in (xs ++ ys) ≡ numbers_in (a ++ b)
+in_turn : (xs ys : List Spot) (a b : List SitedConstruct) → values_in xs ≡ numbers_in a → values_in ys ≡ numbers_in b → values_in (xs ++ ys) ≡ numbers_in (a ++ b)
 in_turn xs ys a b h g = values_both xs ys ∙ ap₂ (λ l m. l ++ m) h g ∙ sym (numbers_both a b)
 
 -- what has no constant, before a part or behind it
@@ -62,7 +62,7 @@ changed_none : (token : ℕ) (o : Option ℕ) → values_in (changed token o) �
 changed_none token None = refl
 changed_none token (Some target) = refl
 
-joined_none : (token : ℕ) (s : Sign) → values_in (joined token s) ≡ []
+joined_none : (token : ℕ) (s : Sign) → values_in (joined_spots token s) ≡ []
 joined_none token s = by (joining s)
   where
     by : (o : Option BranchWord) → values_in (branched token o) ≡ []
@@ -77,9 +77,9 @@ mutual
   expr_ordered : (x : ExprTree) → values_in (expr_spots x) ≡ numbers_in (expr_constructs x)
   expr_ordered (e.Comma token operands) = exprs_ordered operands
   expr_ordered (e.Assign token s target value) =
-      in_turn (expr_spots target ++ changed token (named target)) (expr_spots value) (expr_constructs target) (expr_constructs value)
-      (after (expr_spots target) (changed token (named target)) (numbers_in (expr_constructs target)) (expr_ordered target)
-      (changed_none token (named target)))
+      in_turn (expr_spots target ++ changed token (named_token target)) (expr_spots value) (expr_constructs target) (expr_constructs value)
+      (after (expr_spots target) (changed token (named_token target)) (numbers_in (expr_constructs target)) (expr_ordered target)
+      (changed_none token (named_token target)))
       (expr_ordered value)
   expr_ordered (e.Conditional token condition first second) =
       in_turn (expr_spots condition ++ spot.Branch token word.Question ∷ expr_spots first) (expr_spots second)
@@ -92,10 +92,10 @@ mutual
       in_turn (expr_spots first) (links_spots links) (expr_constructs first) (links_constructs links) (expr_ordered first) (links_ordered links)
   expr_ordered (e.Cast token b stars operand) = expr_ordered operand
   expr_ordered (e.Prefix token prefix.Increment operand) =
-      before (changed token (named operand)) (expr_spots operand) (numbers_in (expr_constructs operand)) (changed_none token (named operand))
+      before (changed token (named_token operand)) (expr_spots operand) (numbers_in (expr_constructs operand)) (changed_none token (named_token operand))
       (expr_ordered operand)
   expr_ordered (e.Prefix token prefix.Decrement operand) =
-      before (changed token (named operand)) (expr_spots operand) (numbers_in (expr_constructs operand)) (changed_none token (named operand))
+      before (changed token (named_token operand)) (expr_spots operand) (numbers_in (expr_constructs operand)) (changed_none token (named_token operand))
       (expr_ordered operand)
   expr_ordered (e.Prefix token prefix.SizeOf operand) = refl
   expr_ordered (e.Prefix token prefix.Address operand) = expr_ordered operand
@@ -106,8 +106,8 @@ mutual
   expr_ordered (e.Prefix token prefix.Not operand) = expr_ordered operand
   expr_ordered (e.SizeOfType token b stars) = refl
   expr_ordered (e.Postfix primary operators) =
-      in_turn (expr_spots primary) (postfix_spots (named primary) operators) (expr_constructs primary) (postfix_constructs operators)
-      (expr_ordered primary) (postfix_ordered operators (named primary))
+      in_turn (expr_spots primary) (postfix_spots (named_token primary) operators) (expr_constructs primary) (postfix_constructs operators)
+      (expr_ordered primary) (postfix_ordered operators (named_token primary))
   expr_ordered (e.Name token name) = refl
   expr_ordered (e.Call token name arguments) = exprs_ordered arguments
   expr_ordered (e.Constant token kind value) = refl
@@ -124,8 +124,8 @@ mutual
   links_ordered : (links : LinkList) → values_in (links_spots links) ≡ numbers_in (links_constructs links)
   links_ordered e.no_links = refl
   links_ordered (e.more_links token s operand rest) =
-      in_turn (joined token s ++ expr_spots operand) (links_spots rest) (expr_constructs operand) (links_constructs rest)
-      (before (joined token s) (expr_spots operand) (numbers_in (expr_constructs operand)) (joined_none token s) (expr_ordered operand))
+      in_turn (joined_spots token s ++ expr_spots operand) (links_spots rest) (expr_constructs operand) (links_constructs rest)
+      (before (joined_spots token s) (expr_spots operand) (numbers_in (expr_constructs operand)) (joined_none token s) (expr_ordered operand))
       (links_ordered rest)
 
   postfix_ordered : (operators : PostfixList) (o : Option ℕ) → values_in (postfix_spots o operators) ≡ numbers_in (postfix_constructs operators)
@@ -180,10 +180,10 @@ mutual
       in_turn (spot.Branch token word.Do ∷ statement_spots body) (expr_spots condition) (statement_constructs body) (expr_constructs condition)
       (statement_ordered body) (expr_ordered condition)
   statement_ordered (s.For token start condition step body) =
-      let a : List Construct = for_start_constructs start in
-      let b : List Construct = optional_constructs condition in
-      let c : List Construct = optional_constructs step in
-      let d : List Construct = statement_constructs body in
+      let a : List SitedConstruct = for_start_constructs start in
+      let b : List SitedConstruct = optional_constructs condition in
+      let c : List SitedConstruct = optional_constructs step in
+      let d : List SitedConstruct = statement_constructs body in
       in_turn (for_spots token condition ++ for_start_spots start ++ part_spots condition ++ part_spots step) (statement_spots body) ((a ++ b) ++ c) d
       (in_turn (for_spots token condition ++ for_start_spots start ++ part_spots condition) (part_spots step) (a ++ b) c
       (in_turn (for_spots token condition ++ for_start_spots start) (part_spots condition) a b

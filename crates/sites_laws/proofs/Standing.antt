@@ -9,18 +9,18 @@ use Rattle.c_syntax.specs.Spelling.{declarator_kinds}
 use Rattle.c_syntax.specs.StatementTree as s
 use Rattle.c_syntax.specs.StatementTree.{InitialTree, StartTree, ForStartTree, StatementTree, EntryList}
 use Rattle.c_meaning.specs.Trees.{token_of}
-use Rattle.c_types_notes.specs.Events.{Construct, Calls, Selects, Other, Event, Value, Initialises, Variable, Opens, Closes, Struct, Names, Defines, construct_at, is_point_at}
-use Rattle.c_types_notes.specs.Events.{declaration_events, entries_events, expr_events, exprs_events, for_start_events, initial_events, links_events}
-use Rattle.c_types_notes.specs.Events.{optional_events, postfix_events, scoped, start_events, starts_events, statement_events}
-use Rattle.c_types_notes.proofs.Noting.{same_token}
-use Rattle.c_types_notes.proofs.Points.{Among, Once}
+use Rattle.c_types_faults.specs.Events.{Construct, Calls, Selects, Other, Event, Value, Initialises, Variable, Opens, Closes, Struct, Names, Defines, construct_at, is_point_at}
+use Rattle.c_types_faults.specs.Events.{declaration_events, entries_events, expr_events, exprs_events, for_start_events, initial_events, links_events}
+use Rattle.c_types_faults.specs.Events.{optional_events, postfix_events, scoped, start_events, starts_events, statement_events}
+use Rattle.c_types_faults.proofs.Noting.{same_token}
+use Rattle.c_types_faults.proofs.Points.{Among, Once}
 use Rattle.flow.specs.declared.site.BranchWord.{BranchWord}
 use Rattle.flow.specs.declared.site.BranchWord.TheVariants.{Question}
 use Rattle.sites.specs.declared.spots.Spot.{Spot}
 use Rattle.sites.specs.declared.spots.Spot.TheVariants as spot
 use Rattle.sites.specs.Bodies.{declaration_spots, entries_spots, for_spots, for_start_spots, initial_spots, start_spots, starts_spots, statement_spots}
-use Rattle.sites_laws.specs.Told.{IsGiven, is_variable_at}
-use Rattle.sites.specs.Spots.{branched, changed, expr_spots, exprs_spots, is_sizeof, is_step, joined, joining, links_spots, named, part_spots, postfix_spots, stepped}
+use Rattle.sites_laws.specs.Told.{IsGiven, is_variable_event}
+use Rattle.sites.specs.Spots.{branched, changed, expr_spots, exprs_spots, is_sizeof, is_step, joined_spots, joining, links_spots, named_token, part_spots, postfix_spots, stepped_spots}
 
 -- one of the events is the call
 abbrev pub HasCall : ℕ → List ℕ → List Event → Type 0
@@ -82,11 +82,11 @@ any_right p xs ys h = list_any-append p xs ys ∙ or_right (list_any p xs) (list
 
 given_left : (token target : ℕ) (xs ys : List Event) → IsGiven xs token target → IsGiven (xs ++ ys) token target
 given_left token target xs ys (inl h) = inl (any_left (is_point_at token) xs ys h)
-given_left token target xs ys (inr h) = inr (h.0, any_left (is_variable_at target) xs ys h.1)
+given_left token target xs ys (inr h) = inr (h.0, any_left (is_variable_event target) xs ys h.1)
 
 given_right : (token target : ℕ) (xs ys : List Event) → IsGiven ys token target → IsGiven (xs ++ ys) token target
 given_right token target xs ys (inl h) = inl (any_right (is_point_at token) xs ys h)
-given_right token target xs ys (inr h) = inr (h.0, any_right (is_variable_at target) xs ys h.1)
+given_right token target xs ys (inr h) = inr (h.0, any_right (is_variable_event target) xs ys h.1)
 
 -- the own token of an expression
 own_token : (token : ℕ) (c : Construct) (es : List Event) → list_any (is_point_at token) (Value token c ∷ es) ≡ true
@@ -136,10 +136,10 @@ mutual
   expr_stands (e.Comma token operands) = stand_left (exprs_events operands) (Value token Other ∷ []) (exprs_spots operands) (exprs_stand operands)
   expr_stands (e.Assign token g target value) =
       let es : List Event = expr_events target ++ (expr_events value ++ Value token Other ∷ []) in
-      together es (expr_spots target ++ changed token (named target)) (expr_spots value)
-      (together es (expr_spots target) (changed token (named target))
+      together es (expr_spots target ++ changed token (named_token target)) (expr_spots value)
+      (together es (expr_spots target) (changed token (named_token target))
       (stand_left (expr_events target) (expr_events value ++ Value token Other ∷ []) (expr_spots target) (expr_stands target))
-      (changes es token (named target)
+      (changes es token (named_token target)
       (any_right (is_point_at token) (expr_events target) (expr_events value ++ Value token Other ∷ [])
       (any_right (is_point_at token) (expr_events value) (Value token Other ∷ []) (own_token token Other [])))))
       (stand_right (expr_events target) (expr_events value ++ Value token Other ∷ []) (expr_spots value)
@@ -159,13 +159,13 @@ mutual
   expr_stands (e.Cast token b stars x) = stand_left (expr_events x) (Value token Other ∷ []) (expr_spots x) (expr_stands x)
   expr_stands (e.Prefix token operator x) =
       let es : List Event = expr_events x ++ Value token Other ∷ [] in
-      unless_sized es (is_sizeof operator) (stepped operator token (named x) ++ expr_spots x)
-      (together es (stepped operator token (named x)) (expr_spots x) (steps es (is_step operator) token (named x) (any_right (is_point_at token) (expr_events x) (Value token Other ∷ []) (own_token token Other [])))
+      unless_sized es (is_sizeof operator) (stepped_spots operator token (named_token x) ++ expr_spots x)
+      (together es (stepped_spots operator token (named_token x)) (expr_spots x) (steps es (is_step operator) token (named_token x) (any_right (is_point_at token) (expr_events x) (Value token Other ∷ []) (own_token token Other [])))
       (stand_left (expr_events x) (Value token Other ∷ []) (expr_spots x) (expr_stands x)))
   expr_stands (e.SizeOfType token b stars) = tt
   expr_stands (e.Postfix primary operators) =
-      beside (expr_events primary) (postfix_events (token_of primary) operators) (expr_spots primary) (postfix_spots (named primary) operators)
-      (expr_stands primary) (postfix_stand operators (token_of primary) (named primary))
+      beside (expr_events primary) (postfix_events (token_of primary) operators) (expr_spots primary) (postfix_spots (named_token primary) operators)
+      (expr_stands primary) (postfix_stand operators (token_of primary) (named_token primary))
   expr_stands (e.Name token name) = tt
   expr_stands (e.Call token name arguments) = (
     has_right token name (exprs_events arguments) (Value token (Calls name) ∷ []) (inl (refl, refl)),
@@ -186,8 +186,8 @@ mutual
   links_stand e.no_links = tt
   links_stand (e.more_links token g x rest) =
       let es : List Event = expr_events x ++ Value token Other ∷ links_events rest in
-      together es (joined token g ++ expr_spots x) (links_spots rest)
-      (together es (joined token g) (expr_spots x) (branches es token (joining g))
+      together es (joined_spots token g ++ expr_spots x) (links_spots rest)
+      (together es (joined_spots token g) (expr_spots x) (branches es token (joining g))
       (stand_left (expr_events x) (Value token Other ∷ links_events rest) (expr_spots x) (expr_stands x)))
       (stand_right (expr_events x) (Value token Other ∷ links_events rest) (links_spots rest)
       (stand_right (Value token Other ∷ []) (links_events rest) (links_spots rest) (links_stand rest)))
@@ -218,7 +218,7 @@ part_stands (Some x) = expr_stands x
 initial_stands : (x : Option InitialTree) (equal name_token : ℕ) → Stand (Variable name_token ∷ initial_events equal x) (initial_spots name_token x)
 initial_stands None equal name_token = tt
 initial_stands (Some (s.Value value)) equal name_token = (
-  inr (refl, or_left (name_token == name_token) (list_any (is_variable_at name_token) (Initialises equal ∷ expr_events value)) (eq-eqb name_token name_token refl)),
+  inr (refl, or_left (name_token == name_token) (list_any (is_variable_event name_token) (Initialises equal ∷ expr_events value)) (eq-eqb name_token name_token refl)),
   stand_right (Variable name_token ∷ Initialises equal ∷ []) (expr_events value) (expr_spots value) (expr_stands value),
 )
 initial_stands (Some (s.Braced token items comma)) equal name_token =

@@ -6,19 +6,19 @@ use Rattle.std.specs.Str.{bytes_eq}
 use Rattle.c_syntax.specs.ItemTree as i
 use Rattle.c_syntax.specs.ItemTree.{ItemTree, SourceTree}
 use Rattle.c_syntax.specs.WellFormed.{IsShaped}
-use Rattle.c_rules.specs.TypeTree.{TypeTree}
-use Rattle.c_rules.specs.Conversions.{is_arithmetic}
+use Rattle.c_types_rules.specs.TypeTree.{TypeTree}
+use Rattle.c_types_rules.specs.Conversions.{is_arithmetic}
 use Rattle.c_types.specs.Answers.{declared_at, place_at, type_at}
 use Rattle.c_types.specs.Fault.{walk_tree}
 use Rattle.c_types_expressions.specs.Walked.{Fine}
 use Rattle.c_types_expressions.specs.declared.walk.VariableEntry.{VariableEntry}
 use Rattle.c_types_expressions.specs.declared.walk.Walk.{Walk}
-use Rattle.c_types_walk.specs.ItemWalk.{listed}
-use Rattle.c_types_notes.specs.Calls.{number_called}
-use Rattle.c_types_notes.specs.Events.{Event, Names, Opens, Closes, Defines, entries_events, events_of, is_point, item_events, items_events, params_events}
-use Rattle.c_types_notes.proofs.Calls.{functions_are}
-use Rattle.c_types_notes.proofs.Texts.{text_left}
-use Rattle.c_types_notes.specs.Scopes.{scopes_of}
+use Rattle.c_types_walk.specs.ItemWalk.{listed_params}
+use Rattle.c_types_faults.specs.NotedCalls.{number_called}
+use Rattle.c_types_faults.specs.Events.{Event, Names, Opens, Closes, Defines, entries_events, events_of, is_point, item_events, items_events, params_events}
+use Rattle.c_types_faults.proofs.Calls.{functions_are}
+use Rattle.c_types_faults.proofs.NotedTexts.{text_left}
+use Rattle.c_types_faults.specs.Scopes.{scopes_of}
 use Rattle.flow.specs.declared.site.Partner.TheVariants as partner
 use Rattle.flow.specs.declared.site.SiteKind.TheVariants as kind
 use Rattle.sites.specs.declared.ground.Stand.{Stand}
@@ -30,7 +30,7 @@ use Rattle.sites.specs.Table.{body_with, functions_of}
 use Rattle.sites.specs.Visible.{slot_of}
 use Rattle.sites.specs.Wanted.{all_schemes}
 use Rattle.sites_laws.specs.Partners.{partners_in}
-use Rattle.sites_laws.specs.Told.{ItemTold, SpotTold, compared, is_seen, pairs_at, pairs_with}
+use Rattle.sites_laws.specs.Told.{ItemTold, SpotTold, compared_with, is_seen, pairs_at, pairs_with}
 use Rattle.sites_laws.proofs.Partners.{partners_are}
 use Rattle.sites_laws.proofs.Standing.{HasCall, Stands, entries_stand, has_construct, stand_left, stand_right}
 use Rattle.sites_laws.proofs.Standing as here
@@ -51,12 +51,12 @@ module _ (t : SourceTree) (z : Walk) (shaped : IsShaped t) (w : walk_tree t ≡ 
     pairs_alike s token at point (Some place) (Some of) =
         ap (λ xs. if is_arithmetic of then xs else []) (by (slice_get b.known.variables place))
       where
-        partners : partners_of b.known b.constants s.token place of ≡ compared t b s.token place of
+        partners : partners_of b.known b.constants s.token place of ≡ compared_with t b s.token place of
         partners = subst (λ v. partners_of v b.constants s.token place of
             ≡ partners_in v s.token place of 0 v.variables (scopes_of t) ++ map partner.Constant b.constants) (sym known)
             (partners_are t z shaped w b.constants s.token place of (subst (λ k. is_point t k ≡ true) (sym at) point))
 
-        by : (o : Option VariableEntry) → pairs_of b s place of o ≡ pairs_with (compared t b s.token place of) s o
+        by : (o : Option VariableEntry) → pairs_of b s place of o ≡ pairs_with (compared_with t b s.token place of) s o
         by None = refl
         by (Some v) = ap (map (pair_on s v.name (slot_of v.variable))) partners
 
@@ -84,13 +84,13 @@ module _ (t : SourceTree) (z : Walk) (shaped : IsShaped t) (w : walk_tree t ≡ 
   item_told number (i.Function token b stars name ps None) f = tt
   item_told number (i.Declaration d) f = tt
   item_told number (i.Function token b stars name ps (Some body)) f =
-      let es : List Event = params_events (listed ps) ++ entries_events body in
+      let es : List Event = params_events (listed_params ps) ++ entries_events body in
       spots_told (body_with z t.lines all_schemes number (entries_spots body)) refl refl refl refl (entries_spots body)
       (f (entries_spots body)
       (stand_right (Names name ∷ Opens ∷ []) ((es ++ Closes ∷ []) ++ Defines ∷ []) (entries_spots body)
       (stand_left (es ++ Closes ∷ []) (Defines ∷ []) (entries_spots body)
       (stand_left es (Closes ∷ []) (entries_spots body)
-      (stand_right (params_events (listed ps)) (entries_events body) (entries_spots body) (entries_stand body))))))
+      (stand_right (params_events (listed_params ps)) (entries_events body) (entries_spots body) (entries_stand body))))))
 
   items_told : (number : ℕ) (xs : List ItemTree) → ((ys : List Spot) → here.Stand (items_events xs) ys → here.Stand (events_of t) ys)
       → AllByRecursion (ItemTold t z number) xs

@@ -11,21 +11,21 @@ use Rattle.c_syntax.specs.ItemTree.{ItemTree}
 use Rattle.c_syntax.specs.StatementTree as s
 use Rattle.c_syntax.specs.StatementTree.{InitialTree, StartTree, ForStartTree, StatementTree, EntryList}
 use Rattle.c_meaning.specs.Trees.{token_of}
-use Rattle.c_types_notes.specs.Events.{Event, Value, entries_events, expr_events}
+use Rattle.c_types_faults.specs.Events.{Event, Value, entries_events, expr_events}
 use Rattle.flow.specs.declared.site.BranchWord.TheVariants as word
 use Rattle.sites.specs.declared.spots.Spot.{Spot}
 use Rattle.sites.specs.declared.spots.Spot.TheVariants as spot
 
-pub data Construct : Type 0 where
-  Expression : (x : ExprTree) → Construct
-  Statement : (x : StatementTree) → Construct
+pub data SitedConstruct : Type 0 where
+  Expression : (x : ExprTree) → SitedConstruct
+  Statement : (x : StatementTree) → SitedConstruct
   -- a variable that is declared
-  Declared : (x : StartTree) → Construct
+  Declared : (x : StartTree) → SitedConstruct
 
 -- each construct, and behind it those in it
 
 abbrev mutual
-  pub expr_constructs : ExprTree → List Construct
+  pub expr_constructs : ExprTree → List SitedConstruct
   expr_constructs (e.Comma token operands) = Expression (e.Comma token operands) ∷ exprs_constructs operands
   expr_constructs (e.Assign token s target value) =
       Expression (e.Assign token s target value) ∷ (expr_constructs target ++ expr_constructs value)
@@ -46,17 +46,17 @@ abbrev mutual
   expr_constructs (e.Null token) = Expression (e.Null token) ∷ []
   expr_constructs (e.EndOfFile token) = Expression (e.EndOfFile token) ∷ []
 
-  pub exprs_constructs : ExprList → List Construct
+  pub exprs_constructs : ExprList → List SitedConstruct
   exprs_constructs e.no_exprs = []
   exprs_constructs (e.more_exprs x rest) = expr_constructs x ++ exprs_constructs rest
 
   -- the operands of a chain behind its first
-  pub links_constructs : LinkList → List Construct
+  pub links_constructs : LinkList → List SitedConstruct
   links_constructs e.no_links = []
   links_constructs (e.more_links token s operand rest) = expr_constructs operand ++ links_constructs rest
 
   -- what stands within brackets
-  pub postfix_constructs : PostfixList → List Construct
+  pub postfix_constructs : PostfixList → List SitedConstruct
   postfix_constructs e.no_postfix = []
   postfix_constructs (e.index token x rest) = expr_constructs x ++ postfix_constructs rest
   postfix_constructs (e.member token name rest) = postfix_constructs rest
@@ -64,25 +64,25 @@ abbrev mutual
   postfix_constructs (e.increment token rest) = postfix_constructs rest
   postfix_constructs (e.decrement token rest) = postfix_constructs rest
 
-abbrev pub optional_constructs : Option ExprTree → List Construct
+abbrev pub optional_constructs : Option ExprTree → List SitedConstruct
 optional_constructs None = []
 optional_constructs (Some x) = expr_constructs x
 
-abbrev pub initial_constructs : Option InitialTree → List Construct
+abbrev pub initial_constructs : Option InitialTree → List SitedConstruct
 initial_constructs None = []
 initial_constructs (Some (s.Value value)) = expr_constructs value
 initial_constructs (Some (s.Braced token items comma)) = exprs_constructs items
 
-abbrev pub starts_constructs : List StartTree → List Construct
+abbrev pub starts_constructs : List StartTree → List SitedConstruct
 starts_constructs [] = []
 starts_constructs (x ∷ xs) = Declared x ∷ (initial_constructs x.initial ++ starts_constructs xs)
 
-abbrev pub for_start_constructs : ForStartTree → List Construct
+abbrev pub for_start_constructs : ForStartTree → List SitedConstruct
 for_start_constructs (s.Declares declaration) = starts_constructs declaration.starts
 for_start_constructs (s.Computes x) = optional_constructs x
 
 abbrev mutual
-  pub statement_constructs : StatementTree → List Construct
+  pub statement_constructs : StatementTree → List SitedConstruct
   statement_constructs (s.Block token entries) = Statement (s.Block token entries) ∷ entries_constructs entries
   statement_constructs (s.Empty token) = Statement (s.Empty token) ∷ []
   statement_constructs (s.Expr token x) = Statement (s.Expr token x) ∷ expr_constructs x
@@ -99,7 +99,7 @@ abbrev mutual
   statement_constructs (s.Break token) = Statement (s.Break token) ∷ []
   statement_constructs (s.Continue token) = Statement (s.Continue token) ∷ []
 
-  pub entries_constructs : EntryList → List Construct
+  pub entries_constructs : EntryList → List SitedConstruct
   entries_constructs s.no_entries = []
   entries_constructs (s.declared declaration rest) = starts_constructs declaration.starts ++ entries_constructs rest
   entries_constructs (s.stated statement rest) = statement_constructs statement ++ entries_constructs rest
@@ -153,17 +153,17 @@ abbrev pub begins_with : ℕ → Option InitialTree → List Spot
 begins_with name_token (Some (s.Value value)) = spot.Change (name_token + 1) name_token ∷ []
 begins_with name_token initial = []
 
-abbrev pub makes : Construct → List Spot
+abbrev pub makes : SitedConstruct → List Spot
 makes (Expression x) = expr_makes x
 makes (Statement x) = statement_makes x
 makes (Declared x) = begins_with x.declarator.name_token x.initial
 
-abbrev pub all_make : List Construct → List Spot
+abbrev pub all_make : List SitedConstruct → List Spot
 all_make [] = []
 all_make (x ∷ xs) = makes x ++ all_make xs
 
 -- They are what these constructs make, each as often.
-abbrev pub AreMadeBy : List Construct → List Spot → Type 0
+abbrev pub AreMadeBy : List SitedConstruct → List Spot → Type 0
 AreMadeBy constructs spots = (p : Spot → Bool) → count_by p spots ≡ count_by p (all_make constructs)
 
 -- the values of the constants among these spots
@@ -173,7 +173,7 @@ values_in (spot.Constant value ∷ rest) = value ∷ values_in rest
 values_in (other ∷ rest) = values_in rest
 
 -- the values of the constants of these constructs, from left to right
-abbrev pub numbers_in : List Construct → List ℤ
+abbrev pub numbers_in : List SitedConstruct → List ℤ
 numbers_in [] = []
 numbers_in (Expression (e.Constant token kind value) ∷ rest) = value ∷ numbers_in rest
 numbers_in (other ∷ rest) = numbers_in rest
@@ -187,7 +187,7 @@ SpotsRise low high (spot.Change token target ∷ rest) = (low ≤ token) × (tok
 SpotsRise low high (spot.Constant value ∷ rest) = SpotsRise low high rest
 
 -- the constructs of the body of a definition
-abbrev pub item_constructs : ItemTree → List Construct
+abbrev pub item_constructs : ItemTree → List SitedConstruct
 item_constructs (i.Function token b stars name ps (Some body)) = entries_constructs body
 item_constructs item = []
 
@@ -219,17 +219,17 @@ expr_tokens (e.Postfix primary operators) = postfix_tokens operators
 expr_tokens (e.Prefix token prefix.SizeOf operand) = token ∷ own_tokens (expr_events operand)
 expr_tokens x = token_of x ∷ []
 
-abbrev pub tokens_of : Construct → List ℕ
+abbrev pub tokens_of : SitedConstruct → List ℕ
 tokens_of (Expression x) = expr_tokens x
 tokens_of (Statement x) = []
 tokens_of (Declared x) = []
 
-abbrev pub all_tokens : List Construct → List ℕ
+abbrev pub all_tokens : List SitedConstruct → List ℕ
 all_tokens [] = []
 all_tokens (x ∷ xs) = tokens_of x ++ all_tokens xs
 
 -- The constructs leave no expression out: each own token is one construct's, as often as an event has it.
-abbrev pub AreAll : List Construct → List Event → Type 0
+abbrev pub AreAll : List SitedConstruct → List Event → Type 0
 AreAll constructs events = (p : ℕ → Bool) → count_by p (own_tokens events) ≡ count_by p (all_tokens constructs)
 
 -- the events of the body of a definition

@@ -4,12 +4,12 @@ ghost use Rattle.c_syntax.specs.ItemTree.{ItemTree, SourceTree};
 ghost use Rattle.c_syntax.specs.Place.{ItemAt};
 ghost use Rattle.c_syntax.specs.Spelling.{item_kinds};
 ghost use Rattle.c_syntax.specs.WellFormed.{IsShaped};
-ghost use Rattle.c_rules.specs.TypeTree.{TypeTree};
+ghost use Rattle.c_types_rules.specs.TypeTree.{TypeTree};
 ghost use Rattle.c_types.specs.Fault.{walk_tree};
 ghost use Rattle.c_types_expressions.specs.Walked.{Fine};
 ghost use Rattle.c_types_expressions.specs.declared.walk.Walk.{Walk};
-ghost use Rattle.c_types_notes.specs.Events.{is_point};
-ghost use Rattle.c_types_notes.specs.Scopes.{scopes_of};
+ghost use Rattle.c_types_faults.specs.Events.{is_point};
+ghost use Rattle.c_types_faults.specs.Scopes.{scopes_of};
 ghost use Rattle.flow.specs.declared.site.Partner.TheVariants as partner;
 ghost use Rattle.sites.specs.SitesAt.{partners_of};
 ghost use Rattle.sites.specs.Standing.{item_spots};
@@ -21,7 +21,9 @@ ghost use Rattle.sites_laws.specs.Told.{ItemTold};
 /// `=` of an initialiser, with each other variable of the type whose scope holds the token by the span of the part that
 /// declares it and which no later one of its name hides there, in the order of declaration, and then with the constants.
 pub fn partners_are_in_scope()
-    ensures { (t : SourceTree) (known : Walk) → IsShaped t → walk_tree t ≡ Fine tt known → (constants : List ℤ) (token place : ℕ) (of : TypeTree) → is_point t token ≡ true → partners_of known constants token place of ≡ partners_in known token place of 0 known.variables (scopes_of t) ++ map partner.Constant constants }
+    ensures { (t : SourceTree) (known : Walk) → IsShaped t → walk_tree t ≡ Fine tt known → (constants : List ℤ) (token place : ℕ) (of : TypeTree)
+        → is_point t token ≡ true → partners_of known constants token place of ≡ partners_in known token place of 0 known.variables (scopes_of t)
+        ++ map partner.Constant constants }
 {}
 
 /// In a tree of the grammar without a fault, the sites for all schemes of a function's body are those that its tree says: one

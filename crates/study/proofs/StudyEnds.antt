@@ -7,9 +7,9 @@ use Rattle.c_types_expressions.specs.declared.walk.Walk.{Walk}
 use Rattle.collector.specs.Collected.{mark_limit}
 use Rattle.collector.specs.Sites.{branches_of}
 use Rattle.cbi_base.specs.declared.policy.Policy.{Policy}
-use Rattle.tallies.specs.declared.labelled.LabelledRun.{LabelledRun}
+use Rattle.elimination_tallies.specs.declared.labelled.LabelledRun.{LabelledRun}
 use Rattle.elimination.specs.Laws.{OneElimination}
-use Rattle.tallies.specs.Recount.{runs_of}
+use Rattle.elimination_tallies.specs.Recount.{runs_of}
 use Rattle.flow.specs.declared.program.ProgramParts.{ProgramParts}
 use Rattle.flow.specs.declared.site.Site.{Site}
 use Rattle.flow.specs.declared.site.TableParts.{TableParts}
@@ -31,7 +31,7 @@ use Rattle.study_runs.specs.Runs as runs
 use Rattle.study_runs.proofs.Lists.{runs_more, seen_more}
 use Rattle.study.specs.declared.ranked.StudyResult.{StudyResult}
 use Rattle.compiler.specs.Compiled.{IsCompiled}
-use Rattle.study.specs.Study.{AreCrowded, AreStudyRuns, StudyRun, labelled, marks_in, study_sites}
+use Rattle.study.specs.Study.{AreCrowded, AreStudyRuns, StudyRun, labelled_run, marks_in, study_sites}
 use Rattle.study.specs.Studied.{AreCrowdedRuns, AreToldInPart, IsRefusedStudy, IsStudied, IsStudy, run_of, study_form}
 use Rattle.compiler.proofs.Refusing.{OneKnown, OneTree, moved}
 use Rattle.study.proofs.Studying.{OneBank, OneInput, labels_same, marks_grow, marks_same, mean, next, one_list, runs_snoc, seen_same}
@@ -149,7 +149,7 @@ module _ (one : OneElimination) (one_tree : OneTree) (one_known : OneKnown) (one
 
   pub same_ranking : r.ranking.items ≡ s.ranking.items
   same_ranking =
-      ranking_once one (table_of y.program) plan.policy (map (labelled y.program.sites) (map run_of y.endings)) r.ranking.items s.ranking.items
-      (subst (λ (t : TableParts). IsRankingOf t plan.policy (map (labelled t.sites) (map run_of y.endings)) r.ranking.items) same_table
-      (subst (λ (l : List StudyRun). IsRankingOf (table_of x.program) plan.policy (map (labelled x.program.sites) l) r.ranking.items) same_runs x.ranking))
+      ranking_once one (table_of y.program) plan.policy (map (labelled_run y.program.sites) (map run_of y.endings)) r.ranking.items s.ranking.items
+      (subst (λ (t : TableParts). IsRankingOf t plan.policy (map (labelled_run t.sites) (map run_of y.endings)) r.ranking.items) same_table
+      (subst (λ (l : List StudyRun). IsRankingOf (table_of x.program) plan.policy (map (labelled_run x.program.sites) l) r.ranking.items) same_runs x.ranking))
       y.ranking

@@ -5,8 +5,8 @@ use Rattle.c_syntax.specs.ItemTree.{SourceTree}
 use Rattle.c_types_expressions.specs.declared.walk.Walk.{Walk}
 use Rattle.countdown_bank.specs.Bank.{BankState, number_after}
 use Rattle.countdown_bank.specs.MadeBank.{AreMade}
-use Rattle.tallies.specs.declared.labelled.LabelledRun.{LabelledRun}
-use Rattle.tallies.specs.Recount.{runs_of}
+use Rattle.elimination_tallies.specs.declared.labelled.LabelledRun.{LabelledRun}
+use Rattle.elimination_tallies.specs.Recount.{runs_of}
 use Rattle.flow.specs.declared.program.ProgramParts.{ProgramParts}
 use Rattle.flow.specs.declared.site.Site.{Site}
 use Rattle.flow.specs.Counting.{counts_of}
@@ -20,7 +20,7 @@ use Rattle.study_runs.specs.declared.plan.StudyPlan.{StudyPlan}
 use Rattle.study_runs.specs.Runs.{AreRunsFrom, IsRunOf, reports_from}
 use Rattle.study_runs.specs.Runs as runs
 use Rattle.compiler.specs.Does.{SamplesText}
-use Rattle.study.specs.Study.{AreStudyRuns, IsStudyRun, StudyRun, all_seen, entries_in, labelled, marks_in, study_meaning, study_sites}
+use Rattle.study.specs.Study.{AreStudyRuns, IsStudyRun, StudyRun, all_seen, labelled_run, marks_in, run_entries, study_meaning, study_sites}
 use Rattle.study.specs.Studied.{run_of}
 
 -- each number of a made bank is at least 1
@@ -68,11 +68,11 @@ marks_same p [] = refl
 marks_same p (e ∷ more) =
     sum_by-cons (λ (x : Ending). length (entries_of (counts_of p.sites x.seen))) e more
     ∙ ap (λ n. length (entries_of (counts_of p.sites e.seen)) + n) (marks_same p more)
-    ∙ sym (sum_by-cons (λ (r : StudyRun). length (entries_in p.sites r)) (run_of e) (map run_of more))
+    ∙ sym (sum_by-cons (λ (r : StudyRun). length (run_entries p.sites r)) (run_of e) (map run_of more))
 
-pub labels_same : (p : ProgramParts) (number : ℕ) (endings : List Ending) → runs_of (reports_from p number endings) ≡ map (labelled p.sites) (map run_of endings)
+pub labels_same : (p : ProgramParts) (number : ℕ) (endings : List Ending) → runs_of (reports_from p number endings) ≡ map (labelled_run p.sites) (map run_of endings)
 labels_same p number [] = refl
-labels_same p number (e ∷ more) = ap (λ (l : List LabelledRun). labelled p.sites (run_of e) ∷ l) (labels_same p (suc number) more)
+labels_same p number (e ∷ more) = ap (λ (l : List LabelledRun). labelled_run p.sites (run_of e) ∷ l) (labels_same p (suc number) more)
 
 pub runs_snoc : (endings : List Ending) (e : Ending) → map run_of (endings ++ e ∷ []) ≡ map run_of endings ++ run_of e ∷ []
 runs_snoc [] e = refl
@@ -112,7 +112,7 @@ module _ (one_bank : OneBank) (one_input : OneInput) (tree : SourceTree) (known 
   marks_grow table number (r ∷ a) [] x y few = absurd (omega arith)
   marks_grow table number (r ∷ a) (s ∷ b) x y few =
       let rest = marks_grow table (suc number) a b x.1 y.1 (omega arith) in
-      let same : length (entries_in table r) ≡ length (entries_in table s) = ap (λ l. length (entries_of (counts_of table l))) (one_seen number r s x.0 y.0) in
-      let first = sum_by-cons (λ (t : StudyRun). length (entries_in table t)) r a in
-      let second = sum_by-cons (λ (t : StudyRun). length (entries_in table t)) s b in
+      let same : length (run_entries table r) ≡ length (run_entries table s) = ap (λ l. length (entries_of (counts_of table l))) (one_seen number r s x.0 y.0) in
+      let first = sum_by-cons (λ (t : StudyRun). length (run_entries table t)) r a in
+      let second = sum_by-cons (λ (t : StudyRun). length (run_entries table t)) s b in
       omega (arith, rest, same, first, second)

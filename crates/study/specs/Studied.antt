@@ -24,7 +24,7 @@ use Rattle.study.specs.declared.ranked.StudyResult.{StudyResult}
 use Rattle.compiler.specs.Compiled.{IsCompiled}
 use Rattle.compiler.specs.Planned.{FitsPlan}
 use Rattle.compiler.specs.Refused.{IsRefusedText, RefusesText}
-use Rattle.study.specs.Study.{AreCrowded, AreStudyRuns, StudyRun, all_seen, labelled, marks_in}
+use Rattle.study.specs.Study.{AreCrowded, AreStudyRuns, StudyRun, all_seen, labelled_run, marks_in}
 
 -- what a text is compiled to for a study
 abbrev pub study_form : Plan
@@ -52,9 +52,9 @@ abbrev pub IsRefusedStudy : List ℕ → StudyPlan → Type 0
 IsRefusedStudy text plan = IsRefusedText study_form text ⊎ ((run : ℕ) × AreCrowdedRuns text plan run)
 
 -- it is refused by this refusal, or memory is wanting
-abbrev pub StudyRefusedBy : List ℕ → StudyPlan → StudyFault → Type 0
-StudyRefusedBy text plan (faults.Refused refusal) = RefusesStudy text plan refusal
-StudyRefusedBy text plan faults.Memory = Unit {0}
+abbrev pub StudyRefusedWith : List ℕ → StudyPlan → StudyFault → Type 0
+StudyRefusedWith text plan (faults.Refused refusal) = RefusesStudy text plan refusal
+StudyRefusedWith text plan faults.Memory = Unit {0}
 
 -- The text is compiled to a program, which samples its visits. The runs by the machine are the study's, as the text means them: the ranking is that of
 -- their elimination, and the sums are those of their outcomes and of the machine's work.
@@ -66,7 +66,7 @@ pub record IsStudy (text : List ℕ) (plan : StudyPlan) (result : StudyResult) :
   pub ran : AreRunsFrom program plan 1 endings
   pub meant : AreStudyRuns compiled.tree compiled.known plan 1 (map run_of endings)
   pub few : marks_in program.sites (map run_of endings) ≤ mark_limit
-  pub ranking : IsRankingOf (table_of program) plan.policy (map (labelled program.sites) (map run_of endings)) result.ranking.items
+  pub ranking : IsRankingOf (table_of program) plan.policy (map (labelled_run program.sites) (map run_of endings)) result.ranking.items
   pub sums : result.sums ≡ sums_of endings
 
 module _ (text : List ℕ) (plan : StudyPlan) {B : Type 0} (told : B → List Observation) (before after : List B) where

@@ -8,7 +8,7 @@ use Rattle.c_meaning.specs.Runs.{Behaviour}
 use Rattle.c_meaning.specs.Texts.{text_meaning}
 use Rattle.collector.specs.Collected.{mark_limit}
 use Rattle.countdown_bank.specs.Bank.{BankState, number_after}
-use Rattle.tallies.specs.declared.labelled.LabelledRun.{LabelledRun}
+use Rattle.elimination_tallies.specs.declared.labelled.LabelledRun.{LabelledRun}
 use Rattle.flow.specs.declared.site.Site.{Site}
 use Rattle.flow.specs.Counting.{counts_of}
 use Rattle.flow.specs.Sampling.{samples}
@@ -30,16 +30,16 @@ abbrev pub all_seen : List StudyRun → List Observation
 all_seen runs = flat_map (λ (r : StudyRun). r.seen) runs
 
 -- the entries of a run: the sites of the table that saw something, with their counters
-abbrev pub entries_in : List Site → StudyRun → List Entry
-entries_in table r = entries_of (counts_of table r.seen)
+abbrev pub run_entries : List Site → StudyRun → List Entry
+run_entries table r = entries_of (counts_of table r.seen)
 
 -- how many entries runs have
 abbrev pub marks_in : List Site → List StudyRun → ℕ
-marks_in table runs = sum_by (λ (r : StudyRun). length (entries_in table r)) runs
+marks_in table runs = sum_by (λ (r : StudyRun). length (run_entries table r)) runs
 
 -- A run as a ranking sees it. Nothing says what its output should be, so that a run that ended succeeds.
-abbrev pub labelled : List Site → StudyRun → LabelledRun
-labelled table r = record { label = label_of r.outcome true; entries = entries_in table r }
+abbrev pub labelled_run : List Site → StudyRun → LabelledRun
+labelled_run table r = record { label = label_of r.outcome true; entries = run_entries table r }
 
 module _ (tree : SourceTree) (known : Walk) (plan : StudyPlan) where
   -- the sites of all schemes

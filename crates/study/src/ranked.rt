@@ -1,5 +1,5 @@
 ghost use Rattle.std.specs.Prelude.{◌≡◌, ◌≤◌, IfErr, IfOk, IsErr};
-ghost use Rattle.study.specs.Studied.{IsRefusedStudy, IsStudied, LeftByStudy, RefusesStudy, StudyRefusedBy};
+ghost use Rattle.study.specs.Studied.{IsRefusedStudy, IsStudied, LeftByStudy, RefusesStudy, StudyRefusedWith};
 
 use cbi_base::{Memory, Refusal};
 use compiler::{CompileError, Plan, compile, one_accepted_text};
@@ -51,7 +51,7 @@ pub fn study(
     requires rate { (1 ≤ plan.rate) × (plan.rate ≤ 65536) }
     requires turns { plan.turns ≤ 100000000 }
     ensures studied { IfOk result (IsStudied text.now plan (λ b. seen b) probes.old.items probes.new.items) }
-    ensures refused { IfErr result (StudyRefusedBy text.now plan) }
+    ensures refused { IfErr result (StudyRefusedWith text.now plan) }
     ensures refused_only { IsRefusedStudy text.now plan → IsErr result }
     ensures left { IfErr result (LeftByStudy text.now plan (λ b. seen b) probes.old.items probes.new.items) }
 {

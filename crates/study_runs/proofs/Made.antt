@@ -20,7 +20,7 @@ use Rattle.study_runs.specs.declared.fault.RunsFault.TheVariants as faults
 use Rattle.study_runs.specs.declared.plan.StudyPlan.{StudyPlan}
 use Rattle.study_runs.specs.declared.runs.StudyRuns.{StudyRuns}
 use Rattle.study_runs.specs.Faults.{IsOfStudy, IsSameFault}
-use Rattle.study_runs.specs.Left.{AreCrowdedAt, HaveRun, HaveStopped, LeftByFault, StoppedAfter}
+use Rattle.study_runs.specs.Left.{AreCrowdedAt, HaveRun, HaveStopped, RunsLeftByFault, StoppedAfter}
 use Rattle.study_runs.specs.MadeRun.{IsMadeRun}
 use Rattle.study_runs.specs.Runs.{AreRunsFrom, IsRunOf, all_seen, marks_in, no_identity, report_of, reports_from}
 
@@ -115,7 +115,7 @@ module _ (p : ProgramParts) (plan : StudyPlan) where
     of_study fault.Memory h = tt
 
     pub left : (e : Fault) (f : RunsFault) → IsSameFault e f → LeftByPlan p (made plan) 1 plan.runs plan.turns told before after nothing_read nothing_refused e
-        → LeftByFault p plan told before after f
+        → RunsLeftByFault p plan told before after f
     left (fault.Read name) f same h = absurd same
     left fault.Write f same h = absurd same
     left (fault.Refused refusal) (faults.TooManyMarks run) same (inl h) = absurd h.is.refused

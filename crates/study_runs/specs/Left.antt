@@ -55,6 +55,6 @@ module _ {B : Type 0} (p : ProgramParts) (plan : StudyPlan) (told : B → List O
     pub left : AllGrew told (all_seen done) before after ⊎ StoppedAfter done
 
   -- what is left by each fault
-  abbrev pub LeftByFault : RunsFault → Type 0
-  LeftByFault (faults.TooManyMarks run) = AreCrowdedAt run
-  LeftByFault faults.Memory = HaveStopped
+  abbrev pub RunsLeftByFault : RunsFault → Type 0
+  RunsLeftByFault (faults.TooManyMarks run) = AreCrowdedAt run
+  RunsLeftByFault faults.Memory = HaveStopped

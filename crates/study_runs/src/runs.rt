@@ -1,6 +1,6 @@
 ghost use Rattle.std.specs.Prelude.{◌≡◌, ◌≤◌, IfOk, IfErr};
 ghost use Rattle.study_runs.specs.Faults.{IsOfStudy, IsSameFault};
-ghost use Rattle.study_runs.specs.Left.{HaveRun, LeftByFault};
+ghost use Rattle.study_runs.specs.Left.{HaveRun, RunsLeftByFault};
 
 use crate::fault::RunsFault;
 use crate::plan::StudyPlan;
@@ -48,7 +48,7 @@ pub fn run_all(
     requires rate { (1 ≤ plan.rate) × (plan.rate ≤ 65536) }
     requires turns { plan.turns ≤ 100000000 }
     ensures ran { IfOk result (HaveRun program.now plan (λ b. seen b) probes.old.items probes.new.items) }
-    ensures left { IfErr result (LeftByFault program.now plan (λ b. seen b) probes.old.items probes.new.items) }
+    ensures left { IfErr result (RunsLeftByFault program.now plan (λ b. seen b) probes.old.items probes.new.items) }
 {
     // A store without names: nothing is read.
     let mut store = MemStore::new(Vec::new(alloc), Vec::new(alloc));

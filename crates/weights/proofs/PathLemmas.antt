@@ -5,7 +5,7 @@ use Rattle.flow.specs.declared.node.View.{View}
 use Rattle.flow.specs.declared.node.View.TheVariants.{Row, Halts, Forks, Turns, Calls, Gives, Quits, Marks, Skips, Tests, Picks, Imports, Exports, Nowhere}
 use Rattle.flow.specs.declared.program.Function.{Function}
 use Rattle.flow.specs.declared.program.ProgramParts.{ProgramParts}
-use Rattle.flow.specs.Code.{node_of, code_of}
+use Rattle.flow.specs.Code.{view_in, code_of}
 use Rattle.flow.specs.Fits.{LeadsOn}
 use Rattle.flow.specs.Nodes.{led_to}
 use Rattle.flow.specs.Program.{IsProgram}
@@ -72,7 +72,7 @@ pub forward : (p : ProgramParts) (weighty : ℕ → Bool) (number : ℕ) (f : Fu
 forward p weighty number f is e = record {
   later = λ place next c.
       let ones : ℕ → ℕ = λ k. 1 in
-      let there : (code_of p ones).at number place ≡ views_of f.nodes place = ap (λ o. node_of o place) e in
+      let there : (code_of p ones).at number place ≡ views_of f.nodes place = ap (λ o. view_in o place) e in
       path_later weighty place (views_of f.nodes place) next (subst (λ (v : View). LeadsOn place v) there (code_fits p ones number place is).leads) c;
   within = λ place next c. leads_within p number f is e place next (path_leads weighty (views_of f.nodes place) next c);
 }

@@ -1,6 +1,6 @@
 ghost use Rattle.std.specs.Prelude.{◌≡◌, ◌<◌, ◌≤◌, ℕ, length, slice_index, Contains};
 ghost use Rattle.flow.specs.Limits.{node_limit};
-ghost use Rattle.flow.specs.Nodes.{listed};
+ghost use Rattle.flow.specs.Nodes.{listed_ways};
 ghost use Rattle.flow.specs.View.{view};
 ghost use Rattle.regions.specs.Flags.{is_in};
 ghost use Rattle.weights.specs.Paths.{next_nodes};
@@ -11,7 +11,7 @@ use regions::is_in;
 
 /// The nodes to which a path may go on within its region.
 pub fn next_nodes(weighty: &[bool], node: Node) -> Ways
-    ensures { listed result ≡ next_nodes (is_in weighty.now) (view node) }
+    ensures { listed_ways result ≡ next_nodes (is_in weighty.now) (view node) }
 {
     match view_of(node) {
         View::Turns { .. } => Ways::None,
@@ -22,8 +22,8 @@ pub fn next_nodes(weighty: &[bool], node: Node) -> Ways
 
 /// The greatest weight of the nodes to which a path may go on.
 fn weight_ahead(weights: &[u32], ways: Ways) -> u32
-    requires { (next : ℕ) → Contains (listed ways) next → next < length weights.now }
-    ensures { result ≡ greatest (λ next. slice_index weights.now next) (listed ways) }
+    requires { (next : ℕ) → Contains (listed_ways ways) next → next < length weights.now }
+    ensures { result ≡ greatest (λ next. slice_index weights.now next) (listed_ways ways) }
 {
     match ways {
         Ways::None => 0,

@@ -23,7 +23,7 @@ fn weights_of(alloc: Global, weighty: &[bool], nodes: &[Node]) -> Result<Vec<u32
     Ok(weights)
 }
 
-/// The weight of each node of each function.
+/// The weight of each node of each function: the greatest number of visits of sites on a path from it within its region.
 pub fn weights(alloc: Global, program: &Program, weighty: &[bool]) -> Result<Vec<Vec<u32>>, Memory>
     requires { AreFlags (length program.now.functions) (IsWeighty program.now) weighty.now }
     ensures { IfOk result (λ table. EachFits (WeightsFit weighty.now) program.now.functions table.items) }

@@ -1,5 +1,5 @@
 use Rattle.std.proofs.Common.{◌+◌, subst, sym, arith}
-use Rattle.tallies.specs.Predicates.{predicates_in}
+use Rattle.elimination_tallies.specs.Predicates.{predicates_in}
 use Rattle.affinity.specs.Kept.{scores_by}
 use Rattle.affinity.specs.Near.{AreFirst}
 use Rattle.affinity.proofs.FallLemmas.{IsSeen, seen-all, seen-more, seen-same}

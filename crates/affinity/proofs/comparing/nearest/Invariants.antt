@@ -1,4 +1,4 @@
-use Rattle.tallies.specs.Predicates.{predicates_in}
+use Rattle.elimination_tallies.specs.Predicates.{predicates_in}
 use Rattle.affinity.specs.Kept.{scores_by}
 use Rattle.affinity.specs.Near.{AreFirst}
 use Rattle.affinity.proofs.FallLemmas.{IsSeen}

@@ -1,7 +1,7 @@
 use Rattle.std.proofs.Common.{subst, sym}
 use Rattle.std.specs.Prelude.{All}
-use Rattle.tallies.specs.declared.listed.Listed.{Listed}
-use Rattle.tallies.specs.Recount.{runs_of}
+use Rattle.elimination_tallies.specs.declared.listed.Listed.{Listed}
+use Rattle.elimination_tallies.specs.Recount.{runs_of}
 use Rattle.affinity.specs.Dealing.{IsListed}
 use Rattle.affinity.proofs.CardLemmas.{are-listed}
 use Rattle.affinity.proofs.dealing.cards.Goals as goal

@@ -3,9 +3,9 @@ use Rattle.std.specs.List.{list_any}
 use Rattle.std.proofs.lemmas.Bool.{and_from}
 use Rattle.report_file.specs.declared.report.Entry.{Entry}
 use Rattle.report_file.specs.declared.report.Report.{Report}
-use Rattle.tallies.specs.Predicates.{shows}
-use Rattle.tallies.specs.Recount.{fails, is_true, labelled}
-use Rattle.tallies.proofs.RunLemmas.{all-after, collection-rises}
+use Rattle.elimination_tallies.specs.Predicates.{shows}
+use Rattle.elimination_tallies.specs.Recount.{fails, is_true, labelled}
+use Rattle.elimination_tallies.proofs.RunLemmas.{all-after, collection-rises}
 use Rattle.affinity.specs.Cards.{failing_true}
 use Rattle.affinity.proofs.FailingLemmas.{failing-found, failing-lacks}
 use Rattle.affinity.proofs.first.first_failing.Goals as goal

@@ -1,5 +1,5 @@
 use Rattle.std.proofs.Common.{◌≡◌, ◌-◌, ◌^◌, ◌<◌}
-use Rattle.tallies.specs.Runs.{reports_after}
+use Rattle.elimination_tallies.specs.Runs.{reports_after}
 use Rattle.affinity.specs.Cards.{failing_true}
 use Rattle.affinity.proofs.first.first_failing.Given as goal
 

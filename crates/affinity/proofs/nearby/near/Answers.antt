@@ -1,5 +1,5 @@
 use Rattle.std.proofs.Common.{Bool, List, subst}
-use Rattle.tallies.specs.Recount.{runs_of}
+use Rattle.elimination_tallies.specs.Recount.{runs_of}
 use Rattle.affinity.specs.Near.{AreNear}
 use Rattle.affinity.proofs.nearby.near.Goals as goal
 

@@ -1,6 +1,6 @@
 use Rattle.std.proofs.Common.{arith}
 use Rattle.std.proofs.lemmas.List.{length-map}
-use Rattle.tallies.specs.Recount.{labelled, runs_of}
+use Rattle.elimination_tallies.specs.Recount.{labelled, runs_of}
 use Rattle.affinity.proofs.NearLemmas.{comparable, near-recounts}
 use Rattle.affinity.proofs.nearby.near_by.Goals as goal
 

@@ -3,13 +3,13 @@ use Rattle.std.specs.List.{list_any}
 use Rattle.std.proofs.lemmas.List.{length-map}
 use Rattle.report_file.specs.declared.report.Entry.{Entry}
 use Rattle.report_file.specs.declared.report.Report.{Report}
-use Rattle.tallies.specs.declared.numbers.Change.TheVariants.{TakeOut}
-use Rattle.tallies.specs.declared.numbers.Counted.{Counted}
-use Rattle.tallies.specs.Predicates.{shows}
-use Rattle.tallies.specs.Recount.{fails, is_true, labelled, runs_of}
-use Rattle.tallies.specs.Runs.{reports_after}
-use Rattle.tallies.specs.Tallies.{AllowsEntries, AreRecounts, ChangedByAll, Tallies, counted_as}
-use Rattle.tallies.proofs.RunLemmas.{all-after, collection-rises, collection-well}
+use Rattle.elimination_tallies.specs.declared.numbers.Change.TheVariants.{TakeOut}
+use Rattle.elimination_tallies.specs.declared.numbers.Counted.{Counted}
+use Rattle.elimination_tallies.specs.Predicates.{shows}
+use Rattle.elimination_tallies.specs.Recount.{fails, is_true, labelled, runs_of}
+use Rattle.elimination_tallies.specs.Runs.{reports_after}
+use Rattle.elimination_tallies.specs.Tallies.{AllowsEntries, AreRecounts, ChangedByAll, Tallies, counted_as}
+use Rattle.elimination_tallies.proofs.RunLemmas.{all-after, collection-rises, collection-well}
 use Rattle.affinity.proofs.RemainingLemmas.{LeftSoFar, failing-small, left-allowed, left-kept, left-start, left-taken}
 use Rattle.affinity.proofs.remaining.without.Goals as goal
 

@@ -1,6 +1,6 @@
 use Rattle.std.proofs.Common.{◌-◌, ◌^◌, ◌<◌}
-use Rattle.tallies.specs.Recount.{runs_of}
-use Rattle.tallies.specs.Runs.{reports_after}
+use Rattle.elimination_tallies.specs.Recount.{runs_of}
+use Rattle.elimination_tallies.specs.Runs.{reports_after}
 use Rattle.affinity.proofs.RemainingLemmas.{LeftSoFar}
 use Rattle.affinity.proofs.remaining.without.Given as goal
 

@@ -1,5 +1,5 @@
 use Rattle.std.proofs.Common.{◌+◌, ◌∙◌, Option, Some, ap, arith, refl, subst, sym}
-use Rattle.tallies.specs.Predicates.{predicates_in}
+use Rattle.elimination_tallies.specs.Predicates.{predicates_in}
 use Rattle.affinity.specs.declared.neighbour.Neighbour.{Neighbour}
 use Rattle.affinity.specs.Falls.{scores_over}
 use Rattle.affinity.proofs.FallLemmas.{IsSeen}

@@ -1,4 +1,4 @@
-use Rattle.tallies.specs.Predicates.{predicates_in}
+use Rattle.elimination_tallies.specs.Predicates.{predicates_in}
 use Rattle.affinity.specs.Falls.{scores_over}
 use Rattle.affinity.proofs.FallLemmas.{IsSeen}
 use Rattle.affinity_reference.specs.Choosing.{IsNext}

@@ -1,7 +1,7 @@
 use Rattle.std.proofs.Common.{arith, ap, subst, sym}
 use Rattle.fractions.specs.declared.tally.Tally.{Tally}
 use Rattle.fractions.specs.Tally.{IsTally}
-use Rattle.tallies.proofs.RecountLemmas.{recount-failing, recount-tally}
+use Rattle.elimination_tallies.proofs.RecountLemmas.{recount-failing, recount-tally}
 use Rattle.affinity_reference.proofs.falling.share.Goals as goal
 
 pub confident-requires : goal.confident-requires

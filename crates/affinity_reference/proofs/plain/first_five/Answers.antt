@@ -1,6 +1,6 @@
 use Rattle.std.proofs.Common.{◌+◌, ℕ, List, None, Some, ap, arith, length, subst, sym}
 use Rattle.std.proofs.lemmas.List.{length_push}
-use Rattle.tallies.specs.Predicates.{predicates_in}
+use Rattle.elimination_tallies.specs.Predicates.{predicates_in}
 use Rattle.affinity.specs.declared.neighbour.Neighbour.{Neighbour}
 use Rattle.affinity.specs.Falls.{scores_over}
 use Rattle.affinity.specs.Near.{AreFirst, IsNeighbour}

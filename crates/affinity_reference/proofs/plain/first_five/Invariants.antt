@@ -1,5 +1,5 @@
 use Rattle.std.proofs.Common.{◌≡◌, length}
-use Rattle.tallies.specs.Predicates.{predicates_in}
+use Rattle.elimination_tallies.specs.Predicates.{predicates_in}
 use Rattle.affinity.specs.Falls.{scores_over}
 use Rattle.affinity.specs.Near.{AreFirst, IsNeighbour}
 use Rattle.affinity_reference.proofs.plain.first_five.Given as goal

@@ -2,8 +2,8 @@ use Rattle.std.proofs.Common.{◌≡◌, ◌∙◌, Bool, List, ap, arith, lengt
 use Rattle.std.proofs.lemmas.List.{length-map}
 use Rattle.cbi_base.specs.declared.policy.Policy.TheVariants.{All as Every}
 use Rattle.collector.specs.Sites.{branches_of}
-use Rattle.tallies.specs.declared.labelled.LabelledRun.{LabelledRun}
-use Rattle.tallies.specs.Recount.{labelled, runs_of}
+use Rattle.elimination_tallies.specs.declared.labelled.LabelledRun.{LabelledRun}
+use Rattle.elimination_tallies.specs.Recount.{labelled, runs_of}
 use Rattle.elimination.specs.Elimination.{after}
 use Rattle.affinity.proofs.NearLemmas.{left-few}
 use Rattle.affinity_reference.proofs.NextLemmas.{near-is}

@@ -1,6 +1,6 @@
 use Rattle.std.proofs.Common.{◌≡◌, length}
 use Rattle.c_syntax.specs.Plain.{plain_exprs}
-use Rattle.c_rules.specs.Plain.{plain_type}
+use Rattle.c_types_rules.specs.Plain.{plain_type}
 use Rattle.c_types_walk.specs.Initialisers.{all_initialise}
 use Rattle.c_types_walk.proofs.initialisers.all_initialise.Given as goal
 

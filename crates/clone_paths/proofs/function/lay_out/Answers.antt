@@ -5,7 +5,7 @@ use Rattle.regions.specs.Weighty.{views_of}
 use Rattle.regions.proofs.Within.{node_at}
 use Rattle.clone_paths.specs.Layout.{Sheet, laid, sheet_of}
 use Rattle.clone_paths.specs.Made.{parts_from, sheet_at}
-use Rattle.clone_paths.specs.Parts.{part_of}
+use Rattle.clone_paths.specs.Parts.{part_of_node}
 use Rattle.clone_paths.specs.declared.parts.Part.{Part}
 use Rattle.clone_paths.proofs.SheetLemmas.{labels_few}
 use Rattle.clone_paths.proofs.function.lay_out.Goals as goal
@@ -24,8 +24,8 @@ loop-place-preserved c =
     let part = parts_from c.args.source.now.weighty.now c.args.source.now.nodes.now c.args.source.now.starts.now c.args.debts.now in
     let at = node_at c.args.source.now.nodes.now c.loop-place.place c.loop-place-test.true in
     let same : c.part_of-part.result ≡ part c.loop-place.place =
-    c.part_of-part.ensures ∙ ap (λ (v : View). part_of (is_in source.weighty.now) (is_in source.starts.now) c.at.result v) (sym at)
-    ∙ ap (λ (d : ℕ). part_of (is_in source.weighty.now) (is_in source.starts.now) d (views_of source.nodes.now place)) c.at.ensures
+    c.part_of-part.ensures ∙ ap (λ (v : View). part_of_node (is_in source.weighty.now) (is_in source.starts.now) c.at.result v) (sym at)
+    ∙ ap (λ (d : ℕ). part_of_node (is_in source.weighty.now) (is_in source.starts.now) d (views_of source.nodes.now place)) c.at.ensures
     in
     let whole = c.in_ok-add.ensures ∙ ap (λ (h : Bool). laid h place c.part_of-part.result (sheet_of c.loop-place.layout)) c.is_in.ensures
     ∙ ap (λ (p : Part). laid (is_in c.args.headers.now place) place p (sheet_of c.loop-place.layout)) same

@@ -2,7 +2,7 @@ use Rattle.std.proofs.Common.{◌≡◌, List, ap, sym, subst, ◌∙◌, arith}
 use Rattle.cbi_base.specs.Lines.{IsBadLine, ReadsLines}
 use Rattle.cbi_base.specs.declared.identity.ProgramId.{ProgramId}
 use Rattle.report_file.specs.declared.report.Report.{Report}
-use Rattle.collector.specs.Grammar.{Ends, Follows}
+use Rattle.collector.specs.Grammar.{BundleEnds, BundleLineFollows}
 use Rattle.collector.specs.Spelling.{SpellsBundle}
 use Rattle.collector.specs.declared.collection.Bundle.{Bundle}
 use Rattle.collector.specs.declared.draft.Draft.{Draft}
@@ -32,18 +32,18 @@ returns-in-Ok-clause-is_bundle c =
 pub returns-in-Ok-clause-only : goal.returns-in-Ok-clause-only
 returns-in-Ok-clause-only c = λ b spells.
     let read = spelled-reads c.args.alloc c.args.bytes.now b spells in
-    let whole = c.in-Ok.ensures.only read.to (subst (λ d. ReadsLines Follows Ends d c.args.bytes.now read.to) (sym c.new-draft.ensures) read.reads) in
+    let whole = c.in-Ok.ensures.only read.to (subst (λ d. ReadsLines BundleLineFollows BundleEnds d c.args.bytes.now read.to) (sym c.new-draft.ensures) read.reads) in
     c.into_bundle.ensures ∙ same-bundle _ _ b (ap (λ (d : Draft). d.program) whole ∙ read.program_is) (ap (λ (d : Draft). d.reports) whole ∙ read.reports_are)
 
 pub returns-in-Ok-clause-line_only : goal.returns-in-Ok-clause-line_only
 returns-in-Ok-clause-line_only c = λ line bad.
-    c.in-Ok.ensures.bad_only line (subst (λ d. IsBadLine Follows Ends d c.args.bytes.now line) (sym c.new-draft.ensures) bad)
+    c.in-Ok.ensures.bad_only line (subst (λ d. IsBadLine BundleLineFollows BundleEnds d c.args.bytes.now line) (sym c.new-draft.ensures) bad)
 
 pub returns-in-Err-Bad-clause-only : goal.returns-in-Err-Bad-clause-only
 returns-in-Err-Bad-clause-only c = λ b spells.
     let read = spelled-reads c.args.alloc c.args.bytes.now b spells in
-    rw c.in-Err-Bad.field-0-is at (c.in-Err-Bad.ensures.only read.to (subst (λ d. ReadsLines Follows Ends d c.args.bytes.now read.to) (sym c.new-draft.ensures) read.reads))
+    rw c.in-Err-Bad.field-0-is at (c.in-Err-Bad.ensures.only read.to (subst (λ d. ReadsLines BundleLineFollows BundleEnds d c.args.bytes.now read.to) (sym c.new-draft.ensures) read.reads))
 
 pub returns-in-Err-Bad-clause-line_only : goal.returns-in-Err-Bad-clause-line_only
 returns-in-Err-Bad-clause-line_only c = λ line bad.
-    rw c.in-Err-Bad.field-0-is at (c.in-Err-Bad.ensures.bad_only line (subst (λ d. IsBadLine Follows Ends d c.args.bytes.now line) (sym c.new-draft.ensures) bad))
+    rw c.in-Err-Bad.field-0-is at (c.in-Err-Bad.ensures.bad_only line (subst (λ d. IsBadLine BundleLineFollows BundleEnds d c.args.bytes.now line) (sym c.new-draft.ensures) bad))

@@ -1,6 +1,6 @@
 use Rattle.std.proofs.Common.{inr, refl, subst, ◌∙◌}
 use Rattle.std.proofs.lemmas.Bool.{false≢true}
-use Rattle.study.specs.Studied.{StudyRefusedBy}
+use Rattle.study.specs.Studied.{StudyRefusedWith}
 use Rattle.command_base.proofs.DeviceLemmas.{took-nothing}
 use Rattle.command_base.proofs.FaultLemmas.{published-part}
 use Rattle.command_study.proofs.StudyLemmas.{is-study, same-refused-study, study-done, study-left, study-taken, study-refused}
@@ -9,7 +9,7 @@ use Rattle.command_study.proofs.command.study_text.Goals as goal
 pub returns-in-Err-Refused-clause-was_refused : goal.returns-in-Err-Refused-clause-was_refused
 returns-in-Err-Refused-clause-was_refused g c =
     study-refused c.refused_texts_are_not_compiled.ensures.refused c.args.words.now (g.S.Store.holds c.args.store.now) c.in-Ok.text c.as_slice.result.now c.in-Err-Refused.refusal c.as_slice.ensures c.in-Ok.ensures.bytes
-    (subst (StudyRefusedBy c.as_slice.result.now c.args.words.now.plan) c.in-Err-Refused.field-0-is c.in-Err-Refused.ensures.refused)
+    (subst (StudyRefusedWith c.as_slice.result.now c.args.words.now.plan) c.in-Err-Refused.field-0-is c.in-Err-Refused.ensures.refused)
 
 pub returns-in-Err-Refused-clause-left : goal.returns-in-Err-Refused-clause-left
 returns-in-Err-Refused-clause-left g c =

@@ -1,11 +1,11 @@
 use Rattle.std.proofs.Common.{Bool, List, subst, arith}
 use Rattle.std.proofs.lemmas.List.{length-map}
-use Rattle.tallies.specs.Predicates.{predicates_in}
-use Rattle.tallies.specs.Recount.{failing_runs, labelled, recount, runs_of}
-use Rattle.pair_counts.specs.Truth.{pair_recount}
+use Rattle.elimination_tallies.specs.Predicates.{predicates_in}
+use Rattle.elimination_tallies.specs.Recount.{failing_runs, labelled, recount, runs_of}
+use Rattle.compound_counts.specs.Truth.{pair_recount}
 use Rattle.compound.specs.declared.listing.Candidate.{Candidate}
-use Rattle.compound.specs.Found.{AreScanned, IsFound}
-use Rattle.compound.specs.Listing.{predicates_of}
+use Rattle.compound.specs.Found.{ArePairsScanned, IsFound}
+use Rattle.compound.specs.Listing.{candidate_predicates}
 use Rattle.compound.specs.Pairs.{pairs_of}
 use Rattle.compound.proofs.FoundLemmas.{found-text}
 use Rattle.compound.proofs.ListingLemmas.{listed-candidates}
@@ -17,10 +17,10 @@ returns-clause-found c =
     let runs = runs_of c.args.collection.now.reports in
     let found = c.in_ok-found.found in
     let list = c.in_ok-listed.listed.items in
-    let scanned : AreScanned (recount branches runs) (pair_recount branches runs) (failing_runs runs) (pairs_of (predicates_of list)) found =
-    subst (λ (xs : List Candidate). AreScanned (recount branches runs) (pair_recount branches runs) (failing_runs runs) (pairs_of (predicates_of xs)) found) c.as_slice.ensures.value c.in_ok-found.ensures in
+    let scanned : ArePairsScanned (recount branches runs) (pair_recount branches runs) (failing_runs runs) (pairs_of (candidate_predicates list)) found =
+    subst (λ (xs : List Candidate). ArePairsScanned (recount branches runs) (pair_recount branches runs) (failing_runs runs) (pairs_of (candidate_predicates xs)) found) c.as_slice.ensures.value c.in_ok-found.ensures in
     subst (λ (bs : List Bool). IsFound bs runs found) c.requires (record {
-      candidates = predicates_of list;
+      candidates = candidate_predicates list;
       are_candidates = listed-candidates (recount branches runs) (predicates_in branches) (failing_runs runs) list c.in_ok-listed.ensures;
       are_scanned = scanned;
     })

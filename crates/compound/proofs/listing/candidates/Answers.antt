@@ -2,9 +2,9 @@ use Rattle.std.proofs.Common.{refl, ap, subst, sym, arith}
 use Rattle.std.proofs.lemmas.List.{length-map}
 use Rattle.fractions.specs.declared.tally.Tally.{Tally}
 use Rattle.fractions.specs.Tally.{IsTally}
-use Rattle.tallies.specs.Recount.{failing_runs, labelled, recount, runs_of}
+use Rattle.elimination_tallies.specs.Recount.{failing_runs, labelled, recount, runs_of}
 use Rattle.compound.specs.declared.listing.Candidate.{Candidate}
-use Rattle.compound.specs.Listing.{IsCandidate, IsRated}
+use Rattle.compound.specs.Listing.{IsRated, IsRatedCandidate}
 use Rattle.compound.proofs.ListingLemmas.{fractions-listed, listed-more, listed-skip, rated-fraction}
 use Rattle.compound.proofs.LookLemmas.{counted}
 use Rattle.compound.proofs.TallyLemmas.{recount-observed, recount-tally}
@@ -52,5 +52,5 @@ loop-predicate-preserved c =
     let next : Candidate = record { predicate = p; failing = c.of-tally.result.a; rating = c.rating.result } in
     let rated : IsRated (numbers p) (failing_runs runs) c.rating.result =
     subst (λ (t : Tally). IsRated t (failing_runs runs) c.rating.result) is (subst (λ k. IsRated c.of-tally.result k c.rating.result) c.failing_runs-failing.ensures.value c.rating.ensures) in
-    let one : IsCandidate numbers (failing_runs runs) next = record { failing_is = ap (λ (t : Tally). t.a) is; rated = rated } in
+    let one : IsRatedCandidate numbers (failing_runs runs) next = record { failing_is = ap (λ (t : Tally). t.a) is; rated = rated } in
     listed-more numbers p (failing_runs runs) c.loop-predicate.list.items c.add.new.list.items next c.loop-predicate.invariant one refl (omega (arith, c.if-tally-eq0.false)) c.in_ok-add.ensures

@@ -1,4 +1,4 @@
-use Rattle.tallies.specs.Recount.{failing_runs, recount, runs_of}
+use Rattle.elimination_tallies.specs.Recount.{failing_runs, recount, runs_of}
 use Rattle.compound.specs.Listing.{AreListed}
 use Rattle.compound.proofs.listing.candidates.Given as goal
 

@@ -1,11 +1,11 @@
 use Rattle.std.proofs.Common.{◌≡◌, ℕ, ◌<◌, ◌∷◌, ◌++◌, [], Bool, List, None, length, get_or, take, refl, ap, subst, sym, ◌∙◌, arith}
 use Rattle.std.specs.Prelude.{All}
 use Rattle.std.proofs.lemmas.List.{length-map}
-use Rattle.tallies.specs.Predicates.{predicates_in}
-use Rattle.tallies.specs.Recount.{failing_runs, labelled, recount, runs_of}
-use Rattle.pair_counts.specs.Truth.{pair_recount}
+use Rattle.elimination_tallies.specs.Predicates.{predicates_in}
+use Rattle.elimination_tallies.specs.Recount.{failing_runs, labelled, recount, runs_of}
+use Rattle.compound_counts.specs.Truth.{pair_recount}
 use Rattle.compound.specs.declared.listing.Candidate.{Candidate}
-use Rattle.compound.specs.Listing.{predicates_of}
+use Rattle.compound.specs.Listing.{candidate_predicates}
 use Rattle.compound.specs.Pairs.{pairs_of}
 use Rattle.compound.specs.Scanning.{IsScan}
 use Rattle.compound.proofs.FoundLemmas.{scan-found}
@@ -61,7 +61,7 @@ look-scan-requires-clause-tally c =
     let none : Candidate = record { predicate = 0; failing = 0; rating = None } in
     let p = get_or c.as_slice-places-items.result.now c.loop-places.places-index (0, 0) in
     let both = within (length list) c.loop-places.places-index c.as_slice-places-items.result.now (c.as_slice-places-items.ensures.value ∙ c.in_ok-pairs.ensures) c.loop-places-test.true in
-    let ps : c.as_slice.result.now ≡ predicates_of list = c.as_slice.ensures.value ∙ c.in_ok-predicates.ensures in
+    let ps : c.as_slice.result.now ≡ candidate_predicates list = c.as_slice.ensures.value ∙ c.in_ok-predicates.ensures in
     let long = ap length ps ∙ length-map list (λ (x : Candidate). x.predicate) in
     pair-sound branches runs (predicates_in branches) c.failing_runs-failing.result list _ p.0 p.1 none (omega (arith, length-map c.args.collection.now.reports labelled, c.reports_held-held.ensures)) c.failing_runs-failing.ensures.value c.requires.candidates both.0 both.1
     (pair-numbers c.args.tallies.now.branches branches runs c.in_ok-counter.counter list c.as_slice.result.now p.0 p.1 none c.requires.tallies.branches_are ps both.0 both.1 (c.in_ok-counter.ensures.numbers p.0 p.1 (omega (arith, both.0, long)) (omega (arith, both.1, long))))
@@ -84,8 +84,8 @@ loop-places-preserved c =
     let are = c.as_slice-places-items.ensures.value ∙ c.in_ok-pairs.ensures in
     let p = get_or places i (0, 0) in
     let both = within (length list) i places are c.loop-places-test.true in
-    let done = take i (pairs_of (predicates_of list)) in
-    let ps : c.as_slice.result.now ≡ predicates_of list = c.as_slice.ensures.value ∙ c.in_ok-predicates.ensures in
+    let done = take i (pairs_of (candidate_predicates list)) in
+    let ps : c.as_slice.result.now ≡ candidate_predicates list = c.as_slice.ensures.value ∙ c.in_ok-predicates.ensures in
     let long = ap length ps ∙ length-map list (λ (x : Candidate). x.predicate) in
     let numbers = pair-numbers c.args.tallies.now.branches branches runs c.in_ok-counter.counter list c.as_slice.result.now p.0 p.1 none c.requires.tallies.branches_are ps both.0 both.1 (c.in_ok-counter.ensures.numbers p.0 p.1 (omega (arith, both.0, long)) (omega (arith, both.1, long))) in
     let so_far = subst (λ k. IsScan one pair k done c.loop-places.scan) (sym c.failing_runs-failing.ensures.value) c.loop-places.invariant.scan in
@@ -105,5 +105,5 @@ returns c =
     let one = recount branches runs in
     let pair = pair_recount branches runs in
     let all = subst (λ (pairs : List (ℕ × ℕ)). IsScan one pair (failing_runs runs) pairs c.loop-places.scan) (done-all list (length list) c.loop-places.places-index places refl are c.loop-places-test.false) c.loop-places.invariant.scan in
-    scan-found one pair (failing_runs runs) (pairs_of (predicates_of list)) c.loop-places.scan c.found.result all
+    scan-found one pair (failing_runs runs) (pairs_of (candidate_predicates list)) c.loop-places.scan c.found.result all
     (omega (arith, c.found.ensures.pairs, c.len.ensures, c.as_slice-places-items.ensures.len, places-many list (length list) places refl are)) c.found.ensures.counted c.found.ensures.skipped c.found.ensures.best

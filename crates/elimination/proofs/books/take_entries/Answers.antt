@@ -1,6 +1,6 @@
 use Rattle.std.proofs.Common.{arith}
 use Rattle.elimination.specs.Slots.{change_of}
-use Rattle.tallies.proofs.EntryChanges.{entries-allowed, entries-made}
+use Rattle.elimination_tallies.proofs.EntryChanges.{entries-allowed, entries-made}
 use Rattle.elimination.proofs.books.take_entries.Goals as goal
 
 pub take_entry-requires-clause-allows : goal.take_entry-requires-clause-allows

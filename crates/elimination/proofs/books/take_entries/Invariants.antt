@@ -1,6 +1,6 @@
 use Rattle.std.proofs.Common.{◌≡◌, ◌+◌}
 use Rattle.elimination.specs.Slots.{change_of}
-use Rattle.tallies.proofs.EntryChanges.{MadeUpTo}
+use Rattle.elimination_tallies.proofs.EntryChanges.{MadeUpTo}
 use Rattle.elimination.proofs.books.take_entries.Given as goal
 
 abbrev pub invariant-loop-entry : goal.invariant-loop-entry

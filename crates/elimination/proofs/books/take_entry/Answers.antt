@@ -1,9 +1,9 @@
 use Rattle.std.proofs.Common.{inl, inr, sym, subst}
 use Rattle.cbi_base.specs.declared.policy.Policy.{Policy}
-use Rattle.tallies.specs.declared.numbers.Counted.{Counted}
-use Rattle.tallies.specs.declared.numbers.Change.TheVariants.{TakeOut}
+use Rattle.elimination_tallies.specs.declared.numbers.Counted.{Counted}
+use Rattle.elimination_tallies.specs.declared.numbers.Change.TheVariants.{TakeOut}
 use Rattle.elimination.specs.Slots.{change_of}
-use Rattle.tallies.specs.Tallies.{AllowsEntry, counted_as}
+use Rattle.elimination_tallies.specs.Tallies.{AllowsEntry, counted_as}
 use Rattle.elimination.proofs.books.take_entry.Goals as goal
 
 pub take_out-requires : goal.take_out-requires

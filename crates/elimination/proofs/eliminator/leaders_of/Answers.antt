@@ -1,9 +1,9 @@
 use Rattle.std.proofs.Common.{◌≡◌, ◌+◌, ◌∙◌, Bool, List, ap, arith, subst, sym}
 use Rattle.cbi_base.specs.declared.policy.Policy.{Policy}
-use Rattle.tallies.specs.declared.labelled.LabelledRun.{LabelledRun}
+use Rattle.elimination_tallies.specs.declared.labelled.LabelledRun.{LabelledRun}
 use Rattle.elimination.specs.Elimination.{EliminatorState, after, entries_taken}
-use Rattle.tallies.specs.Leading.{IsLeader, NonePasses}
-use Rattle.tallies.specs.Recount.{failing_runs}
+use Rattle.elimination_tallies.specs.Leading.{IsLeader, NonePasses}
+use Rattle.elimination_tallies.specs.Recount.{failing_runs}
 use Rattle.elimination.proofs.EliminationLemmas.{IsListing, leader-falls, listing-end, listing-more}
 use Rattle.elimination.proofs.eliminator.leaders_of.Goals as goal
 

@@ -1,5 +1,5 @@
 use Rattle.std.proofs.Common.{◌≡◌}
-use Rattle.tallies.specs.Recount.{failing_runs}
+use Rattle.elimination_tallies.specs.Recount.{failing_runs}
 use Rattle.elimination.proofs.EliminationLemmas.{IsListing}
 use Rattle.elimination.proofs.eliminator.leaders_of.Given as goal
 

@@ -1,10 +1,10 @@
 use Rattle.std.proofs.Common.{◌≡◌, ◌++◌, List, [], ◌∷◌, ap, sym, ◌∙◌, append_assoc, arith}
 use Rattle.std.proofs.lemmas.List.{append-nil}
 use Rattle.report_file.specs.declared.report.Report.{Report}
-use Rattle.tallies.specs.declared.labelled.LabelledRun.{LabelledRun}
-use Rattle.tallies.specs.Recount.{labelled, runs_of}
-use Rattle.tallies.specs.Runs.{reports_after}
-use Rattle.tallies.proofs.RunLemmas.{all-after, collection-rises, next-is, next-later, none-after}
+use Rattle.elimination_tallies.specs.declared.labelled.LabelledRun.{LabelledRun}
+use Rattle.elimination_tallies.specs.Recount.{labelled, runs_of}
+use Rattle.elimination_tallies.specs.Runs.{reports_after}
+use Rattle.elimination_tallies.proofs.RunLemmas.{all-after, collection-rises, next-is, next-later, none-after}
 use Rattle.elimination_reference.proofs.collected.runs_of.Goals as goal
 
 pub loop-report-init : goal.loop-report-init

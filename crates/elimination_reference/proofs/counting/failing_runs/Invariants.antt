@@ -1,5 +1,5 @@
 use Rattle.std.proofs.Common.{◌≡◌, ◌+◌, ◌≤◌, length}
-use Rattle.tallies.specs.Recount.{failing_runs}
+use Rattle.elimination_tallies.specs.Recount.{failing_runs}
 use Rattle.elimination_reference.proofs.counting.failing_runs.Given as goal
 
 abbrev pub invariant-loop-rest : goal.invariant-loop-rest

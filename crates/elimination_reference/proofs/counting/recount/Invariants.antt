@@ -1,6 +1,6 @@
 use Rattle.std.proofs.Common.{length}
-use Rattle.tallies.specs.Recount.{recount}
-use Rattle.tallies.proofs.TotalLemmas.{IsSum}
+use Rattle.elimination_tallies.specs.Recount.{recount}
+use Rattle.elimination_tallies.proofs.TotalLemmas.{IsSum}
 use Rattle.elimination_reference.proofs.counting.recount.Given as goal
 
 abbrev pub invariant-loop-rest : goal.invariant-loop-rest

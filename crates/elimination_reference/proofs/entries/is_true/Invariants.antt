@@ -1,6 +1,6 @@
 use Rattle.std.proofs.Common.{◌≡◌, length}
 use Rattle.std.specs.List.{list_any}
-use Rattle.tallies.specs.Predicates.{shows}
+use Rattle.elimination_tallies.specs.Predicates.{shows}
 use Rattle.elimination_reference.proofs.entries.is_true.Given as goal
 
 abbrev pub invariant-loop-rest : goal.invariant-loop-rest

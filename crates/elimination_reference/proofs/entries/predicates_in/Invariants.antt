@@ -1,5 +1,5 @@
 use Rattle.std.proofs.Common.{◌≡◌, ◌+◌, ◌*◌, ◌≤◌, length}
-use Rattle.tallies.specs.Predicates.{predicates_in}
+use Rattle.elimination_tallies.specs.Predicates.{predicates_in}
 use Rattle.elimination_reference.proofs.entries.predicates_in.Given as goal
 
 abbrev pub invariant-loop-rest : goal.invariant-loop-rest

@@ -1,4 +1,4 @@
-use Rattle.tallies.specs.Recount.{recount}
+use Rattle.elimination_tallies.specs.Recount.{recount}
 use Rattle.elimination_reference.specs.Best.{AreFractions, IsBest}
 use Rattle.elimination_reference.proofs.leading.leader.Given as goal
 

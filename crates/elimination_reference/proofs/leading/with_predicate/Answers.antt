@@ -1,9 +1,9 @@
 use Rattle.std.proofs.Common.{rules, ap, sym, subst, arith}
 use Rattle.fractions.specs.declared.tally.Tally.{Tally}
 use Rattle.fractions.specs.Tally.{IsTally, Passes}
-use Rattle.tallies.specs.Recount.{recount}
-use Rattle.tallies.proofs.RecountLemmas.{recount-failing, recount-tally}
-use Rattle.tallies.proofs.ScanLemmas.{fractions-more}
+use Rattle.elimination_tallies.specs.Recount.{recount}
+use Rattle.elimination_tallies.proofs.RecountLemmas.{recount-failing, recount-tally}
+use Rattle.elimination_tallies.proofs.ScanLemmas.{fractions-more}
 use Rattle.elimination_reference.specs.Best.{IsBest, IsRow}
 use Rattle.elimination_reference.proofs.PlainLemmas.{first-row, passed-over, row-instead, row-stays}
 use Rattle.elimination_reference.proofs.leading.with_predicate.Goals as goal

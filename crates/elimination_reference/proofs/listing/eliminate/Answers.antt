@@ -1,10 +1,10 @@
 use Rattle.std.proofs.Common.{◌≤◌, ◌<◌, ◌++◌, List, [], length, sym, subst, rules, arith}
 use Rattle.std.proofs.lemmas.List.{append-nil}
-use Rattle.tallies.specs.declared.labelled.LabelledRun.{LabelledRun}
-use Rattle.tallies.specs.declared.listed.Listed.{Listed}
+use Rattle.elimination_tallies.specs.declared.labelled.LabelledRun.{LabelledRun}
+use Rattle.elimination_tallies.specs.declared.listed.Listed.{Listed}
 use Rattle.elimination.specs.Elimination.{IsElimination}
-use Rattle.tallies.specs.Leading.{IsLeader, NonePasses}
-use Rattle.tallies.specs.Recount.{failing_runs}
+use Rattle.elimination_tallies.specs.Leading.{IsLeader, NonePasses}
+use Rattle.elimination_tallies.specs.Recount.{failing_runs}
 use Rattle.elimination.proofs.EliminationLemmas.{leader-falls}
 use Rattle.elimination_reference.proofs.PlainLemmas.{after-few, one-more}
 use Rattle.elimination_reference.proofs.listing.eliminate.Goals as goal

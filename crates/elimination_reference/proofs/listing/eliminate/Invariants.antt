@@ -1,7 +1,7 @@
 use Rattle.std.proofs.Common.{◌≤◌, ◌++◌, List, length}
-use Rattle.tallies.specs.declared.listed.Listed.{Listed}
+use Rattle.elimination_tallies.specs.declared.listed.Listed.{Listed}
 use Rattle.elimination.specs.Elimination.{IsElimination}
-use Rattle.tallies.specs.Recount.{failing_runs}
+use Rattle.elimination_tallies.specs.Recount.{failing_runs}
 use Rattle.elimination_reference.proofs.listing.eliminate.Given as goal
 
 abbrev pub invariant-loop-row : goal.invariant-loop-row

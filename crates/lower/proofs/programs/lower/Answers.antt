@@ -1,5 +1,5 @@
 use Rattle.c_types.specs.Answers.{known_of, tree_of}
-use Rattle.lower_parts_fit.proofs.LocalSizes.{variables_sized}
+use Rattle.lower_fits.proofs.LocalSizes.{variables_sized}
 use Rattle.lower.proofs.Assembling.{few_strings, ready_facts}
 use Rattle.lower.proofs.Graphing.{means_is}
 use Rattle.lower.proofs.programs.lower.Goals as goal

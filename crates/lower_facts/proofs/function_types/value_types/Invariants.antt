@@ -1,7 +1,7 @@
 use Rattle.std.proofs.Common.{◌≡◌, take}
 use Rattle.std.specs.Prelude.{map}
-use Rattle.c_meaning.specs.Known.{value_type}
+use Rattle.c_meaning.specs.Known.{computed_type}
 use Rattle.lower_facts.proofs.function_types.value_types.Given as goal
 
 abbrev pub invariant-loop-ctype : goal.invariant-loop-ctype
-invariant-loop-ctype l = l.values.items ≡ map (value_type l.structs) (take l.ctype-index l.types)
+invariant-loop-ctype l = l.values.items ≡ map (computed_type l.structs) (take l.ctype-index l.types)

@@ -1,12 +1,12 @@
 use Rattle.std.proofs.Common.{◌≡◌, drop}
 use Rattle.std.specs.Prelude.{map}
 use Rattle.c_syntax.specs.Plain.{plain_start}
-use Rattle.flow.specs.Machine.{global_object}
+use Rattle.flow.specs.Machine.{object_of_global}
 use Rattle.lower_facts.specs.Facts.{facts_in}
-use Rattle.lower_globals.specs.Objects.{all_objects, behind}
+use Rattle.lower_globals.specs.Objects.{all_objects, objects_behind}
 use Rattle.lower_globals.proofs.globals.globals_of_starts.Given as goal
 
 abbrev pub invariant-loop-start : goal.invariant-loop-start
 invariant-loop-start l =
-    behind (map (global_object (facts_in l.facts).statics.globals) l.globals.items) (all_objects l.facts (map plain_start (drop l.start-index l.starts)))
+    objects_behind (map (object_of_global (facts_in l.facts).statics.globals) l.globals.items) (all_objects l.facts (map plain_start (drop l.start-index l.starts)))
     ≡ all_objects l.facts (map plain_start l.starts)

@@ -1,5 +1,5 @@
 use Rattle.std.proofs.Common.{rules, ◌-◌, ap, subst, arith, length}
-use Rattle.lower_nodes.specs.Finished.{Finished, turned}
+use Rattle.lower_nodes.specs.Finished.{Finished, turned_number}
 use Rattle.lower_nodes.proofs.Numbers.{all_turned, none_turned, turned_before}
 use Rattle.lower_nodes.proofs.Ordered.{leads_on}
 use Rattle.lower_nodes.proofs.numbering.finish.Goals as goal
@@ -17,7 +17,7 @@ loop-i-preserved c =
 
 pub returns-clause-finished : goal.returns-clause-finished
 returns-clause-finished c =
-    subst (λ l. Finished l c.loop-i.finished.items (turned (length l - 1))) c.nodes-nodes.ensures.value
+    subst (λ l. Finished l c.loop-i.finished.items (turned_number (length l - 1))) c.nodes-nodes.ensures.value
     (all_turned _ _ c.loop-i.i (omega (arith, c.loop-i-test.false)) c.loop-i.invariant)
 
 pub returns-clause-as_many : goal.returns-clause-as_many

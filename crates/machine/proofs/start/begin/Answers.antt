@@ -1,7 +1,7 @@
 use Rattle.std.proofs.Common.{[], ap, subst, sym, ◌∙◌}
 use Rattle.flow.specs.Calls.{enter}
 use Rattle.flow.specs.Code.{code_of}
-use Rattle.flow.specs.Machine.{first_objects, each_made, begin_with}
+use Rattle.flow.specs.Machine.{program_objects, each_made, begin_with}
 use Rattle.machine.specs.Begun.{first_past}
 use Rattle.machine_rows.specs.Starting.{IsAllMade}
 use Rattle.machine.specs.Steps.{IsNext}
@@ -14,10 +14,10 @@ returns-clause-next c = λ bank e.
     let s = c.args.state.now in
     let code = code_of p bank in
     let objects = c.make_first.new.objects in
-    let made = all_there (each_made (first_objects p) s.now.objects) objects
-    (subst (λ b. IsAllMade (each_made (first_objects p) s.now.objects) b objects) c.if-not-branch.false
-    (subst (λ q. IsAllMade (each_made (first_objects q) s.now.objects) c.in_ok-make_first.field-0 objects) c.program.ensures.value c.in_ok-make_first.ensures)) in
+    let made = all_there (each_made (program_objects p) s.now.objects) objects
+    (subst (λ b. IsAllMade (each_made (program_objects p) s.now.objects) b objects) c.if-not-branch.false
+    (subst (λ q. IsAllMade (each_made (program_objects q) s.now.objects) c.in_ok-make_first.field-0 objects) c.program.ensures.value c.in_ok-make_first.ensures)) in
     subst (λ n. IsNext code (first_past bank) n c.enter_main.result c.enter_main.new.state)
     (ap (enter (code.callee p.main) p.main []) (starts p bank s objects c.requires e)
-    ∙ sym (ap (begin_with code p.main s.now.input.now s.turns) (ap (each_made (first_objects p)) (sym c.requires.objects) ∙ made)))
+    ∙ sym (ap (begin_with code p.main s.now.input.now s.turns) (ap (each_made (program_objects p)) (sym c.requires.objects) ∙ made)))
     (c.enter_main.ensures.next (first_past bank) 0)

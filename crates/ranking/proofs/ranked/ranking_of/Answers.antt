@@ -1,7 +1,7 @@
 use Rattle.std.proofs.Common.{List, sym, subst, arith}
 use Rattle.std.proofs.lemmas.List.{length-map}
-use Rattle.tallies.specs.declared.listed.Listed.{Listed}
-use Rattle.tallies.specs.Recount.{labelled, runs_of}
+use Rattle.elimination_tallies.specs.declared.listed.Listed.{Listed}
+use Rattle.elimination_tallies.specs.Recount.{labelled, runs_of}
 use Rattle.elimination.specs.Elimination.{IsElimination}
 use Rattle.ranking.specs.Ranking.{AreRowsOf}
 use Rattle.ranking.proofs.ranked.ranking_of.Goals as goal

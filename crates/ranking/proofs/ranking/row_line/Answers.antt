@@ -3,7 +3,7 @@ use Rattle.csv.specs.Writing.{default_writer, row_text}
 use Rattle.std.specs.List.{join_with_byte}
 use Rattle.cbi_base.specs.Text.{ended}
 use Rattle.flow.specs.Predicates.{predicate_text, site_at}
-use Rattle.ranking.specs.Plain.{IsPlain}
+use Rattle.ranking.specs.Plain.{IsPlainField}
 use Rattle.ranking.specs.Ranking.{place_fields, share_fields, tally_fields}
 use Rattle.ranking.proofs.PlainLemmas.{are-plain-append, row-line}
 use Rattle.ranking.proofs.ranking.row_line.Goals as goal
@@ -20,8 +20,8 @@ returns c =
     let third = c.in_ok-push_place.ensures.fields ∙ ap (λ (fs : List (List ℕ)). fs ++ place) second in
     let fourth = c.in_ok-push_tally.ensures.fields ∙ ap (λ (fs : List (List ℕ)). fs ++ tally) third in
     let fifth = c.in_ok-push_shares.ensures.fields ∙ ap (λ (fs : List (List ℕ)). fs ++ shares) fourth in
-    let rank : IsPlain (decimal c.args.rank) = c.in_ok-push_number.ensures.plain in
-    let predicate : IsPlain (decimal c.from.result) = c.in_ok-push_number-2.ensures.plain in
+    let rank : IsPlainField (decimal c.args.rank) = c.in_ok-push_number.ensures.plain in
+    let predicate : IsPlainField (decimal c.from.result) = c.in_ok-push_number-2.ensures.plain in
     let rest = are-plain-append (place ++ tally) shares (are-plain-append place tally c.place_is_plain.ensures c.in_ok-push_tally.ensures.plain) c.in_ok-push_shares.ensures.plain in
     let line = row-line (decimal c.args.rank) (decimal c.from.result) (place ++ tally ++ shares) (rank, (predicate, rest)) in
     c.in_ok-line.ensures ∙ ap (row_text default_writer) fifth ∙ line

@@ -1,6 +1,6 @@
 use Rattle.std.proofs.Common.{◌-◌, sym, arith}
 use Rattle.session.proofs.Runs.{at-next, no-next, none-at-zero, not-next}
-use Rattle.tallies.proofs.RunLemmas.{are-entries}
+use Rattle.elimination_tallies.proofs.RunLemmas.{are-entries}
 use Rattle.session.proofs.kept.report_of.Goals as goal
 
 pub returns-then-run-eq0-clause-value : goal.returns-then-run-eq0-clause-value

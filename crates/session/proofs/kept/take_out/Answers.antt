@@ -2,9 +2,9 @@ use Rattle.std.proofs.Common.{◌-◌, List, sym, subst, ap, arith}
 use Rattle.report_file.specs.declared.report.Entry.{Entry}
 use Rattle.report_file.specs.declared.report.Report.{Report}
 use Rattle.session.specs.Session.{AreKept}
-use Rattle.tallies.specs.Tallies.{AllowsEntries, ChangedByAll, counted_as}
-use Rattle.tallies.specs.declared.numbers.Change.TheVariants.{TakeOut}
-use Rattle.tallies.specs.declared.numbers.Counted.{Counted}
+use Rattle.elimination_tallies.specs.Tallies.{AllowsEntries, ChangedByAll, counted_as}
+use Rattle.elimination_tallies.specs.declared.numbers.Change.TheVariants.{TakeOut}
+use Rattle.elimination_tallies.specs.declared.numbers.Counted.{Counted}
 use Rattle.session.proofs.Changes.{fails-split, kept-take, take-allowed}
 use Rattle.session.proofs.Runs.{without-absent}
 use Rattle.session.proofs.kept.take_out.Goals as goal

@@ -1,5 +1,5 @@
 use Rattle.std.proofs.Common.{◌≡◌, ◌++◌, length, map}
-use Rattle.c_rules.specs.Plain.{plain_type}
+use Rattle.c_types_rules.specs.Plain.{plain_type}
 use Rattle.c_types.specs.Answers.{known_of}
 use Rattle.sites.specs.Near.{TellEach, partners_among}
 use Rattle.sites.specs.SitesAt.{pair_on}

@@ -1,6 +1,6 @@
 use Rattle.std.proofs.Common.{inr, refl, subst}
 use Rattle.flow.specs.declared.site.TableParts.{TableParts}
-use Rattle.tallies.specs.Recount.{runs_of}
+use Rattle.elimination_tallies.specs.Recount.{runs_of}
 use Rattle.ranking.specs.Ranked.{IsRankingOf}
 use Rattle.study.proofs.StudyEnds.{crowded, crowded_told, never_refused, ranked, ran_told, stopped}
 use Rattle.study.proofs.ranked.study.Goals as goal

@@ -1,6 +1,6 @@
 use Rattle.std.proofs.Common.{◌+◌, ◌≤◌, IsTrue, length, subst, sym, ◌∙◌, arith}
 use Rattle.cbi_base.specs.Objects.{Objects, has_room, cell_limit}
-use Rattle.c_store.specs.Kept.{IsKept}
+use Rattle.c_store.specs.Kept.{AreObjectsKept}
 use Rattle.c_store.proofs.Keeping.{room_parts, kept_by_make, undone_made}
 use Rattle.c_store.proofs.objects.Objects.add.Goals as goal
 
@@ -11,7 +11,7 @@ invariant_of-self-2 c =
     let room : IsTrue (has_room (length c.args.block.cells) o) = subst (λ p. IsTrue (has_room (length c.args.block.cells) p)) (sym c.self.view_is) c.requires in
     let parts = room_parts (length c.args.block.cells) o room in
     let fits : s.cells + c.len-cells.result ≤ cell_limit = omega (arith, parts.0, c.self.invariant.counted, c.len-cells.ensures) in
-    subst (λ m. IsKept (s.cells + c.len-cells.result) (record { made = s.made + 1; live = m })) (sym c.in_ok-insert.ensures.ok)
+    subst (λ m. AreObjectsKept (s.cells + c.len-cells.result) (record { made = s.made + 1; live = m })) (sym c.in_ok-insert.ensures.ok)
     (kept_by_make s.cells o c.self.invariant c.args.block c.len-cells.result (sym c.len-cells.ensures) fits parts.1)
 
 pub returns-clause-back : goal.returns-clause-back

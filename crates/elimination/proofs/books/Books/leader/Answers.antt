@@ -1,9 +1,9 @@
 use Rattle.std.proofs.Common.{arith, sym, subst}
 use Rattle.elimination.specs.Slots.{left_of}
 use Rattle.elimination.proofs.StepLemmas.{left-most}
-use Rattle.tallies.specs.Scanning.{AreScanned}
-use Rattle.tallies.specs.Tallies.{AreRecounts, Tallies}
-use Rattle.tallies.proofs.RecountLemmas.{fails-most, recounts-leader, recounts-none, recounts-scanned}
+use Rattle.elimination_tallies.specs.Scanning.{AreScanned}
+use Rattle.elimination_tallies.specs.Tallies.{AreRecounts, Tallies}
+use Rattle.elimination_tallies.proofs.RecountLemmas.{fails-most, recounts-leader, recounts-none, recounts-scanned}
 use Rattle.elimination.proofs.books.Books.leader.Goals as goal
 
 pub leader_in-requires-clause-tallies : goal.leader_in-requires-clause-tallies

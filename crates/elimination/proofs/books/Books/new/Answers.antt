@@ -3,13 +3,13 @@ use Rattle.std.specs.Prelude.{All}
 use Rattle.std.proofs.lemmas.List.{length-map}
 use Rattle.report_file.specs.declared.report.Report.{Report}
 use Rattle.elimination.specs.declared.books.Slot.{Slot}
-use Rattle.tallies.specs.declared.labelled.LabelledRun.{LabelledRun}
-use Rattle.tallies.specs.Recount.{failing_runs, labelled, runs_of}
-use Rattle.tallies.specs.Runs.{AreEntriesOf, reports_after}
+use Rattle.elimination_tallies.specs.declared.labelled.LabelledRun.{LabelledRun}
+use Rattle.elimination_tallies.specs.Recount.{failing_runs, labelled, runs_of}
+use Rattle.elimination_tallies.specs.Runs.{AreEntriesOf, reports_after}
 use Rattle.elimination.specs.Slots.{left_of}
-use Rattle.tallies.specs.Tallies.{AreRecounts}
+use Rattle.elimination_tallies.specs.Tallies.{AreRecounts}
 use Rattle.elimination.proofs.Gathering.{Gathered, gathered-next-fails, gathered-runs, gathered-start, gathered-step, new_slot}
-use Rattle.tallies.proofs.RunLemmas.{all-after, collection-rises}
+use Rattle.elimination_tallies.proofs.RunLemmas.{all-after, collection-rises}
 use Rattle.elimination.proofs.books.Books.new.Goals as goal
 
 pub loop-report-init : goal.loop-report-init

@@ -1,6 +1,6 @@
 use Rattle.std.proofs.Common.{◌-◌, ◌^◌, ◌<◌}
-use Rattle.tallies.specs.Recount.{runs_of}
-use Rattle.tallies.specs.Runs.{reports_after}
+use Rattle.elimination_tallies.specs.Recount.{runs_of}
+use Rattle.elimination_tallies.specs.Runs.{reports_after}
 use Rattle.elimination.proofs.Gathering.{Gathered}
 use Rattle.elimination.proofs.books.Books.new.Given as goal
 

@@ -7,12 +7,12 @@ use Rattle.report_file.specs.declared.report.Entry.{Entry}
 use Rattle.elimination.specs.declared.books.Books.{Books}
 use Rattle.elimination.specs.declared.books.Slot.{Slot}
 use Rattle.elimination.specs.Elimination.{is_taken}
-use Rattle.elimination.specs.Slots.{change_of, pending, stepped, taken_slot, takes}
-use Rattle.tallies.specs.Tallies.{AllowsEntries, ChangedByAll}
+use Rattle.elimination.specs.Slots.{change_of, pending, stepped_slot, taken_slot, takes_slot}
+use Rattle.elimination_tallies.specs.Tallies.{AllowsEntries, ChangedByAll}
 use Rattle.elimination.proofs.BooksLemmas.{IsTaken, step-allowed, step-books, step-fails, step-length}
 use Rattle.elimination.proofs.books.Books.step.Goals as goal
 
-taken-at : (b : Books) (policy : Policy) (leader place : ℕ) (s : Slot) → slice_get b.slots.items place ≡ Some s → takes b.tallies.branches policy leader s ≡ true → IsTaken b policy leader place s
+taken-at : (b : Books) (policy : Policy) (leader place : ℕ) (s : Slot) → slice_get b.slots.items place ≡ Some s → takes_slot b.tallies.branches policy leader s ≡ true → IsTaken b policy leader place s
 taken-at b policy leader place s stands has =
     let parts = and_parts s.left (is_taken b.tallies.branches policy leader s.run) has in
     record { stands = stands; left = parts.0; taken = parts.1 }
@@ -58,8 +58,8 @@ returns-clause-step g c =
     record {
       branches_stay = c.take_entries.ensures.changed.branches_stay;
       slots = λ x is. ap (set b.slots.items c.args.place)
-          (c.take_slot.ensures ∙ sym (cond-true (takes b.tallies.branches c.args.policy c.args.leader s) (taken_slot c.args.policy s) s (sym c.if-not-takes.ensures))
-          ∙ ap (stepped b.tallies.branches c.args.policy c.args.leader) (same_Some s x (sym stands ∙ is)));
+          (c.take_slot.ensures ∙ sym (cond-true (takes_slot b.tallies.branches c.args.policy c.args.leader s) (taken_slot c.args.policy s) s (sym c.if-not-takes.ensures))
+          ∙ ap (stepped_slot b.tallies.branches c.args.policy c.args.leader) (same_Some s x (sym stands ∙ is)));
     }
 
 pub returns-clause-steps : goal.returns-clause-steps
@@ -69,5 +69,5 @@ returns-clause-steps g c = λ x is.
     let stands = slice_get_read b.slots.items (length b.slots.items) c.args.place s refl c.requires.place c.index_mut-slot.ensures.value in
     c.take_entries.ensures.steps
     ∙ ap (λ n. c.args.steps.now + n)
-    (ap length c.as_slice-entries.ensures ∙ sym (cond-true (takes b.tallies.branches c.args.policy c.args.leader s) (length s.run.entries) 0 (sym c.if-not-takes.ensures))
+    (ap length c.as_slice-entries.ensures ∙ sym (cond-true (takes_slot b.tallies.branches c.args.policy c.args.leader s) (length s.run.entries) 0 (sym c.if-not-takes.ensures))
     ∙ ap (pending b.tallies.branches c.args.policy c.args.leader) (same_Some s x (sym stands ∙ is)))

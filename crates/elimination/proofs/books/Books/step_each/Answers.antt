@@ -1,6 +1,6 @@
 use Rattle.std.proofs.Common.{◌≡◌, ◌<◌, ◌∙◌, ap, arith, get_or, length, refl}
 use Rattle.std.proofs.lemmas.List.{get_or_default, length-set}
-use Rattle.elimination.specs.Slots.{stepped}
+use Rattle.elimination.specs.Slots.{stepped_slot}
 use Rattle.elimination.proofs.SlotLemmas.{pending-more, slot-there, stepped-more, stepped-none}
 use Rattle.elimination.proofs.books.Books.step_each.Goals as goal
 
@@ -18,7 +18,7 @@ loop-place-preserved g c =
     let inside : place < length b.slots.items = omega (arith, c.requires.places j 0 c.loop-place-test.true, c.loop-place.invariant.2) in
     let there = slot-there b.slots.items place inside in
     let len : length c.step.new.self.slots.items ≡ length b.slots.items =
-    ap length (c.step.ensures.step.slots there.0 there.1) ∙ length-set b.slots.items place (stepped b.tallies.branches c.args.policy c.args.leader there.0) in (
+    ap length (c.step.ensures.step.slots there.0 there.1) ∙ length-set b.slots.items place (stepped_slot b.tallies.branches c.args.policy c.args.leader there.0) in (
       c.step.ensures.books,
       stepped-more c.args.policy c.args.leader j place c.args.places.now c.args.self.now b c.step.new.self there.0 c.loop-place-test.true (get_or_default c.args.places.now j 0 place c.loop-place-test.true) there.1 c.loop-place.invariant.1 c.step.ensures.step,
       len ∙ c.loop-place.invariant.2,

@@ -1,6 +1,6 @@
 use Rattle.std.proofs.Common.{subst}
 use Rattle.elimination.specs.Elimination.{EliminatorState}
-use Rattle.tallies.specs.Leading.{NonePasses}
+use Rattle.elimination_tallies.specs.Leading.{NonePasses}
 use Rattle.elimination.proofs.eliminator.Eliminator.next.Goals as goal
 
 pub returns-in_default-clause-none : goal.returns-in_default-clause-none

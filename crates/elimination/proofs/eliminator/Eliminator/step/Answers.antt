@@ -1,7 +1,7 @@
 use Rattle.std.proofs.Common.{◌≡◌, ◌+◌, ◌∙◌, Bool, List, Some, ap, arith, length, refl, subst, sym}
 use Rattle.std.specs.Prelude.{slice_get, sum_by}
 use Rattle.std.proofs.lemmas.Option.{slice_get_read}
-use Rattle.tallies.specs.declared.labelled.LabelledRun.{LabelledRun}
+use Rattle.elimination_tallies.specs.declared.labelled.LabelledRun.{LabelledRun}
 use Rattle.elimination.specs.Elimination.{EliminatorState, after, entries_taken, stepped_on}
 use Rattle.elimination.specs.Slots.{AreHolders, left_of, pending}
 use Rattle.elimination.proofs.SlotLemmas.{holders-stay, left-after, pending-is, step-complete, stepped-pends}

@@ -1,8 +1,8 @@
 use Rattle.std.proofs.Common.{IfNone, IfSome, subst, arith}
 use Rattle.std.proofs.lemmas.List.{length-map}
-use Rattle.tallies.specs.Leading.{IsLeader, NonePasses}
-use Rattle.tallies.specs.Recount.{labelled, runs_of}
-use Rattle.tallies.proofs.RecountLemmas.{recounts-scanned}
+use Rattle.elimination_tallies.specs.Leading.{IsLeader, NonePasses}
+use Rattle.elimination_tallies.specs.Recount.{labelled, runs_of}
+use Rattle.elimination_tallies.proofs.RecountLemmas.{recounts-scanned}
 use Rattle.session.specs.Session.{SessionState}
 use Rattle.session.proofs.Changes.{few-fail, leader-is, none-is}
 use Rattle.session.proofs.session.Session.leader.Goals as goal

@@ -1,6 +1,6 @@
 use Rattle.std.proofs.Common.{◌≡◌, sym, subst}
-use Rattle.tallies.proofs.RunChanges.{recount-at}
-use Rattle.tallies.specs.Recount.{recount, runs_of}
+use Rattle.elimination_tallies.proofs.RunChanges.{recount-at}
+use Rattle.elimination_tallies.specs.Recount.{recount, runs_of}
 use Rattle.session.specs.Session.{SessionState}
 use Rattle.session.proofs.session.Session.tally.Goals as goal
 

@@ -1,0 +1,49 @@
+-- Lists in parts: what holds of both parts, and how many tokens there are.
+use Rattle.std.proofs.Common.{◌≡◌, ℕ, ◌≤◌, arith, List, [], ◌∷◌, ◌++◌, Some, None, ◌+◌, length, length-append}
+use Rattle.std.specs.Prelude.{Option, sum_by}
+use Rattle.std.specs.List.{AllByRecursion, flat_map}
+use Rattle.std.proofs.lemmas.List.Concat.{length-flat_map}
+use Rattle.cbi_base.specs.declared.operators.Binary.{Binary}
+use Rattle.c_syntax.specs.declared.token.Sign.{Sign}
+use Rattle.c_syntax.specs.declared.token.Sign.TheVariants as sign
+use Rattle.c_syntax.specs.Shape.{HasOne}
+use Rattle.c_syntax.specs.Spelling.{Kinds, a_sign, text_kinds}
+use Rattle.c_types_expressions.specs.ExprWalk.{compound_of}
+use Rattle.c_meaning_laws.proofs.RuledOperators.{IsNoEquality}
+
+-- all of the first list, and of the second
+pub all_first : {A : Type 0} (P : A → Type 0) (xs ys : List A) → AllByRecursion P (xs ++ ys) → AllByRecursion P xs
+all_first P [] ys h = tt
+all_first P (x ∷ xs) ys h = (h.0, all_first P xs ys h.1)
+
+pub all_second : {A : Type 0} (P : A → Type 0) (xs ys : List A) → AllByRecursion P (xs ++ ys) → AllByRecursion P ys
+all_second P [] ys h = h
+all_second P (x ∷ xs) ys h = all_second P xs ys h.1
+
+pub bytes_long : (parts : List (List ℕ)) → length (flat_map (λ bytes. bytes) parts) ≡ sum_by length parts
+bytes_long parts = length-flat_map (λ bytes. bytes) parts
+
+pub infix_long : (xs ys : Kinds) (s : Sign) → length (xs ++ a_sign s ++ ys) ≡ length xs + 1 + length ys
+infix_long xs ys s = omega (arith, length-append (xs ++ a_sign s) ys, length-append xs (a_sign s))
+
+pub texts_long : (parts : List (List ℕ)) → HasOne parts → 1 ≤ length (text_kinds parts)
+texts_long [] h = absurd h
+texts_long (p ∷ parts) h = omega arith
+
+-- no compound assignment is an equality
+abbrev pub NoEquality : Option Binary → Type 0
+NoEquality None = Unit {0}
+NoEquality (Some o) = IsNoEquality o
+
+pub no_equality : (s : Sign) → NoEquality (compound_of s)
+no_equality sign.StarEqual = tt
+no_equality sign.SlashEqual = tt
+no_equality sign.PercentEqual = tt
+no_equality sign.PlusEqual = tt
+no_equality sign.MinusEqual = tt
+no_equality sign.ShiftLeftEqual = tt
+no_equality sign.ShiftRightEqual = tt
+no_equality sign.AndEqual = tt
+no_equality sign.XorEqual = tt
+no_equality sign.OrEqual = tt
+no_equality s = tt

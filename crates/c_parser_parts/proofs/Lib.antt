@@ -1,4 +1,0 @@
-pub mod MemberLines
-pub mod ParamLists
-pub mod ParamParses
-pub mod PartTurns

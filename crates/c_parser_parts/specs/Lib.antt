@@ -1,2 +1,0 @@
-pub mod PartParser
-pub mod Parts

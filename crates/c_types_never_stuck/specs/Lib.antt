@@ -1,6 +1,0 @@
-pub mod Rules
-pub mod Typed
-pub mod TypedStatements
-pub mod TypedSource
-pub mod Example
-pub mod TypedText

@@ -1,4 +1,0 @@
-pub mod Events
-pub mod Scopes
-pub mod Offsets
-pub mod Calls

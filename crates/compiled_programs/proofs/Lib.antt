@@ -1,5 +1,0 @@
-pub mod Bytes
-pub mod Compiled
-pub mod Lexed
-pub mod Pieces
-pub mod Semicolons

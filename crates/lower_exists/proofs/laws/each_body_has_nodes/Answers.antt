@@ -1,5 +1,0 @@
-use Rattle.lower_exists.proofs.Functions.{function}
-use Rattle.lower_exists.proofs.laws.each_body_has_nodes.Goals as goal
-
-pub returns : goal.returns
-returns c = λ facts sites is_main gives body. function facts sites is_main gives body

@@ -1,5 +1,0 @@
-use Rattle.lower_exists.proofs.Expressions.{expression}
-use Rattle.lower_exists.proofs.laws.each_expression_has_nodes.Goals as goal
-
-pub returns : goal.returns
-returns c = λ facts sites y. expression facts sites y

@@ -1,5 +1,0 @@
-use Rattle.lower_exists.proofs.Functions.{stand_behind}
-use Rattle.lower_exists.proofs.laws.nodes_stand_where_they_are_put.Goals as goal
-
-pub returns : goal.returns
-returns c = λ before nodes after. stand_behind before nodes after

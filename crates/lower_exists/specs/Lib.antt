@@ -1,4 +1,0 @@
-pub mod Built
-pub mod Emits
-pub mod Functions
-pub mod Programs

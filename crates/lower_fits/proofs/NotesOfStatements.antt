@@ -1,0 +1,247 @@
+-- What the walk through declarations and statements notes.
+use Rattle.std.proofs.Common.{◌≡◌, ℕ, refl, subst, List, [], ◌∷◌, Some, None, Bool, true, false, length}
+use Rattle.std.specs.Prelude.{Option, if◌then◌else◌, is_some, nat_le, not, ◌&&◌, ◌||◌, ◌+◌}
+use Rattle.c_syntax.specs.ExprTree.{ExprTree}
+use Rattle.c_syntax.specs.FirstToken.{first_token}
+use Rattle.c_syntax.specs.ItemTree.{SourceTree}
+use Rattle.c_syntax.specs.StatementTree as s
+use Rattle.c_syntax.specs.StatementTree.{InitialTree, StartTree, DeclarationTree, ForStartTree, StatementTree, EntryList}
+use Rattle.c_types_rules.specs.declared.fault.FaultKind.{FaultKind}
+use Rattle.c_types_rules.specs.declared.fault.FaultKind.TheVariants as fault
+use Rattle.c_types_rules.specs.declared.layout.StructType.{StructType}
+use Rattle.c_types_rules.specs.TypeTree.{TypeTree}
+use Rattle.c_types_rules.specs.Assigning.{assignable}
+use Rattle.c_types_rules.specs.Conversions.{is_struct, is_void}
+use Rattle.c_types_rules.specs.Operators.{is_scalar_value}
+use Rattle.c_types_rules.specs.Sizes.{cells_of, is_object, most_cells}
+use Rattle.c_types_expressions.specs.declared.walk.FunctionEntry.{FunctionEntry}
+use Rattle.c_types_expressions.specs.declared.walk.Walk.{Walk}
+use Rattle.c_types_walk.specs.Declarators.{declared_type, is_open}
+use Rattle.c_types_expressions.specs.ExprWalk.{with_stars}
+use Rattle.c_types_walk.specs.Initialisers.{cells_of_string, listed_type, valued, walk_initial}
+use Rattle.c_types_expressions.specs.Names.{is_name_taken}
+use Rattle.c_types_walk.specs.StatementWalk.{counted_cells, is_condition_part, is_struct_part, sized, walk_closed, walk_declaration, walk_entries, walk_for_start}
+use Rattle.c_types_walk.specs.StatementWalk.{walk_open, walk_optional, walk_start, walk_starts, walk_statement, walk_typed, with_declared_type}
+use Rattle.c_types_expressions.specs.Walked.{Walked, Done, Fine, Faulty, ◌>>=◌, closing, opened, unless, with_variable}
+use Rattle.c_meaning_sound.proofs.Declaring.{if_faulty, long_core}
+use Rattle.c_meaning_sound.proofs.Ending.{Sums}
+use Rattle.c_meaning_sound.proofs.Forming.{Ended}
+use Rattle.c_meaning_sound.proofs.Growing.{Grows}
+use Rattle.c_meaning_sound.proofs.Initialising.{Lengthened, as_it_is, completed, listed_length, valued_length}
+use Rattle.c_meaning_sound.proofs.Noting.{Deep, Gives, Stays, and_then}
+use Rattle.c_meaning_sound.proofs.Sizing.{Open, core, core_deep, declared_core, object_stays, open_by, whole_by}
+use Rattle.lower_fits.proofs.Lists.{all_join, all_replaced}
+use Rattle.lower_fits.proofs.NotesOfExpressions.{Known, MembersFit, ResultsFit, base_then, expr_good, exprs_good, named_deep, whole_good}
+
+module _ (tree : SourceTree) (z : Walk) (ends : Ended tree z) (sums : Sums z) (structs : List StructType) (functions : List FunctionEntry)
+    (members : MembersFit tree z structs) (results : ResultsFit tree z functions) (grows : Grows structs z.structs) (stays : Stays structs z.structs) where
+  -- what is known within an item
+  abbrev pub Within : Walk → Type 0
+  Within w = Known tree z sums structs functions members results w
+
+  -- what is known behind a part of the walk
+  abbrev pub Behind : {A : Type 0} → A → Walk → Type 0
+  Behind x v = Within v
+
+  -- a fault, or nothing more
+  unless_known : (b : Bool) (kind : FaultKind) (token : ℕ) (w : Walk) → Within w → Gives (unless b kind token w) Behind
+  unless_known true kind token w k = record { by = tt }
+  unless_known false kind token w k = record { by = k }
+
+  -- where a scope begins, the same is known
+  opened_known : (w : Walk) → Within w → Within (opened w)
+  opened_known w k = record {
+    structs_are = k.structs_are;
+    functions_are = k.functions_are;
+    noted = record { types = k.noted.types; offsets = k.noted.offsets; declared = k.noted.declared };
+  }
+
+  -- and where it ends
+  pub closing_known : (done : Done) (w : Walk) → Within w → Gives (closing done w) Behind
+  closing_known done w k = record {
+    by = record {
+      structs_are = k.structs_are;
+      functions_are = k.functions_are;
+      noted = record { types = k.noted.types; offsets = k.noted.offsets; declared = k.noted.declared };
+    };
+  }
+
+  -- a variable more
+  pub declared_known : (global : Bool) (token : ℕ) (name : List ℕ) (of : TypeTree) (w : Walk) → Within w → Deep tree z of
+      → Within (with_variable global token name of w)
+  declared_known true token name of w k d = record {
+    structs_are = k.structs_are;
+    functions_are = k.functions_are;
+    noted = record {
+      types = k.noted.types;
+      offsets = k.noted.offsets;
+      declared = all_join (Deep tree z) w.declared_types (of ∷ []) k.noted.declared (d, tt);
+    };
+  }
+  declared_known false token name of w k d = record {
+    structs_are = k.structs_are;
+    functions_are = k.functions_are;
+    noted = record {
+      types = k.noted.types;
+      offsets = k.noted.offsets;
+      declared = all_join (Deep tree z) w.declared_types (of ∷ []) k.noted.declared (d, tt);
+    };
+  }
+
+  -- a variable whose type is completed
+  completed_known : (index : ℕ) (of : TypeTree) (w : Walk) → Within w → Deep tree z of → Within (with_declared_type index of w)
+  completed_known index of w k d = record {
+    structs_are = k.structs_are;
+    functions_are = k.functions_are;
+    noted = record {
+      types = k.noted.types;
+      offsets = k.noted.offsets;
+      declared = all_replaced (Deep tree z) w.declared_types index of k.noted.declared d;
+    };
+  }
+
+  -- what is known where cells are counted, or too many
+  cells_known : (b c : Bool) (token cells : ℕ) (w : Walk) → Within w
+      → Gives (if not b then Fine tt w else if c then Fine tt (record w { global_cells = cells }) else Faulty fault.Object token) (Behind {A = Done})
+  cells_known false c token cells w k = record { by = k }
+  cells_known true true token cells w k = record {
+    by = record {
+      structs_are = k.structs_are;
+      functions_are = k.functions_are;
+      noted = record { types = k.noted.types; offsets = k.noted.offsets; declared = k.noted.declared };
+    };
+  }
+  cells_known true false token cells w k = record { by = tt }
+
+  -- the cells of a global are counted
+  counted_known : (global : Bool) (token cells : ℕ) (w : Walk) → Within w → Gives (counted_cells global token cells w) Behind
+  counted_known global token cells w k = cells_known global (nat_le (w.global_cells + cells) most_cells) token (w.global_cells + cells) w k
+
+  -- a type that objects may have
+  sized_known : {A : Type 0} {Q : A → Walk → Type 0} (global : Bool) (token : ℕ) (of : TypeTree) (w : Walk) (next : Done → Walk → Walked A) → Within w
+      → ((v : Walk) → Within v → is_object structs of ≡ true → Gives (next tt v) Q) → Gives (sized global token of w >>= next) Q
+  sized_known {A = A} {Q = Q} global token of w next k h =
+      either (is_object w.structs of) (subst (λ own. is_object own of ≡ is_object w.structs of) k.structs_are refl)
+    where
+      either : (b : Bool) → is_object structs of ≡ b → Gives ((if b then counted_cells global token (cells_of w.structs of) w else Faulty fault.Object token) >>= next) Q
+      either true e = and_then (counted_known global token (cells_of w.structs of) w k) (λ done v g. h v g e)
+      either false e = record { by = tt }
+
+  -- an object's type points to what has steps
+  object_deep : (of : TypeTree) → Deep tree z (core of) → is_object structs of ≡ true → Deep tree z of
+  object_deep of d h = (whole_by tree z of d (object_stays structs z.structs of grows stays h)).0
+
+  -- what is known behind an initialiser, and the type as it completes it
+  abbrev Completes : TypeTree → TypeTree → Walk → Type 0
+  Completes of u v = Within v × Lengthened of u
+
+  -- an initialiser notes what its expressions do
+  initial_good : (global : Bool) (of : TypeTree) (x : Option InitialTree) (w : Walk) → Within w → Gives (walk_initial global of x w) (Completes of)
+  initial_good global of None w k = record { by = (k, as_it_is of) }
+  initial_good global of (Some (s.Value value)) w k = and_then (expr_good tree z sums structs functions members results value w k) (λ x v g.
+      completed (first_token value) (valued global of value x (cells_of_string value)) v (λ u h.
+      (g.1, valued_length global (cells_of_string value) of u value x h)))
+  initial_good global of (Some (s.Braced token items comma)) w k = and_then (exprs_good tree z sums structs functions members results items [] w k tt) (λ xs v g.
+      completed token (listed_type global items xs of) v (λ u h. (g.1, listed_length tree z ends global of u items xs h)))
+
+  -- a variable whose length its initialiser gives
+  open_good : (global : Bool) (x : StartTree) (of : TypeTree) (w : Walk) → Within w → Deep tree z (core of) → is_open structs of ≡ true
+      → Gives (walk_open global x of w) Behind
+  open_good global x of w k d h =
+      let unknown : Open tree z of = open_by tree z structs of grows stays h d in
+      and_then (initial_good global of x.initial (with_variable global x.declarator.name_token x.declarator.name of w)
+      (declared_known global x.declarator.name_token x.declarator.name of w k unknown.whole.0)) (λ u v g.
+      sized_known global x.token u v (λ _ r. Fine tt (with_declared_type (length w.variables) u r)) g.0 (λ r q object. record {
+        by = completed_known (length w.variables) u r q (object_deep u (rw (long_core of u g.1) d) object);
+      }))
+
+  -- any other variable
+  closed_good : (global : Bool) (x : StartTree) (of : TypeTree) (w : Walk) → Within w → Deep tree z (core of) → Gives (walk_closed global x of w) Behind
+  closed_good global x of w k d =
+      sized_known global x.token of w (λ _ v.
+      walk_initial global of x.initial (with_variable global x.declarator.name_token x.declarator.name of v) >>= λ _ u. Fine tt u) k (λ v q object.
+      and_then (initial_good global of x.initial (with_variable global x.declarator.name_token x.declarator.name of v)
+      (declared_known global x.declarator.name_token x.declarator.name of v q (object_deep of d object))) (λ u r g. record { by = g.0 }))
+
+  -- a variable of a type that is known, or none
+  typed_good : (global : Bool) (x : StartTree) (o : Option TypeTree) (w : Walk) → Within w → ((of : TypeTree) → o ≡ Some of → Deep tree z (core of))
+      → Gives (walk_typed global x o w) Behind
+  unfolding walk_typed
+  typed_good global x None w k d = record { by = tt }
+  typed_good global x (Some of) w k d = either (is_some x.initial) (is_open w.structs of)
+      (subst (λ own. is_open own of ≡ is_open w.structs of) k.structs_are refl)
+    where
+      either : (b c : Bool) → is_open structs of ≡ c → Gives (if b && c then walk_open global x of w else walk_closed global x of w) Behind
+      either true true e = open_good global x of w k (d of refl) e
+      either true false e = closed_good global x of w k (d of refl)
+      either false c e = closed_good global x of w k (d of refl)
+
+  -- a variable of a named base
+  start_good : (global : Bool) (base : TypeTree) (x : StartTree) (w : Walk) → Within w → ((n : ℕ) → Deep tree z (with_stars n base))
+      → Gives (walk_start global base x w) Behind
+  start_good global base x w k d =
+      if_faulty (is_name_taken x.declarator.name w.names) (walk_typed global x (declared_type x.declarator base) w) fault.Redeclared x.token (λ free.
+      typed_good global x (declared_type x.declarator base) w k (λ of e. rw (declared_core x.declarator base of e)
+      (core_deep tree z (with_stars x.declarator.stars base) (d x.declarator.stars))))
+
+  -- several variables of one base
+  starts_good : (global : Bool) (base : TypeTree) (xs : List StartTree) (w : Walk) → Within w → ((n : ℕ) → Deep tree z (with_stars n base))
+      → Gives (walk_starts global base xs w) Behind
+  starts_good global base [] w k d = record { by = k }
+  starts_good global base (x ∷ xs) w k d = and_then (start_good global base x w k d) (λ done v g. starts_good global base xs v g d)
+
+  -- a declaration, of globals or of locals
+  pub declaration_good : (global : Bool) (d : DeclarationTree) (w : Walk) → Within w → Gives (walk_declaration global d w) Behind
+  declaration_good global d w k = base_then d.base w (λ of v. walk_starts global of d.starts v) (λ of flat.
+      starts_good global of d.starts w k (λ n. named_deep tree z sums structs functions members results (with_stars n of) (flat n)))
+
+  -- an expression that may be left out
+  optional_good : (x : Option ExprTree) (w : Walk) → Within w → Gives (walk_optional x w) Behind
+  optional_good None w k = record { by = k }
+  optional_good (Some x) w k = and_then (expr_good tree z sums structs functions members results x w k) (λ y v g. record { by = g.1 })
+
+  -- the first part of a `for`
+  begun_good : (x : ForStartTree) (w : Walk) → Within w → Gives (walk_for_start x w) Behind
+  begun_good (s.Declares d) w k = and_then (declaration_good false d w k) (λ done v g. record { by = g })
+  begun_good (s.Computes x) w k = optional_good x w k
+
+  mutual
+    -- a statement
+    statement_good : (gives : TypeTree) (looping : Bool) (x : StatementTree) (w : Walk) → Within w → Gives (walk_statement gives looping x w) Behind
+    statement_good gives looping (s.Block token entries) w k =
+        and_then (entries_good gives looping entries (opened w) (opened_known w k)) (λ done v g. closing_known done v g)
+    statement_good gives looping (s.Empty token) w k = record { by = k }
+    statement_good gives looping (s.Expr token x) w k = and_then (whole_good tree z sums structs functions members results x w k) (λ y v g.
+        unless_known (is_struct y.ctype) fault.Operands token v g.1)
+    statement_good gives looping (s.If token condition first) w k =
+        and_then (expr_good tree z sums structs functions members results condition w k) (λ x v g.
+        and_then (statement_good gives looping first v g.1) (λ done u h. unless_known (not (is_scalar_value x)) fault.Operands token u h))
+    statement_good gives looping (s.IfElse token condition first second) w k =
+        and_then (expr_good tree z sums structs functions members results condition w k) (λ x v g.
+        and_then (statement_good gives looping first v g.1) (λ done u h. and_then (statement_good gives looping second u h) (λ last r i.
+        unless_known (not (is_scalar_value x)) fault.Operands token r i)))
+    statement_good gives looping (s.While token condition body) w k =
+        and_then (expr_good tree z sums structs functions members results condition w k) (λ x v g.
+        and_then (statement_good gives true body v g.1) (λ done u h. unless_known (not (is_scalar_value x)) fault.Operands token u h))
+    statement_good gives looping (s.Do token body condition) w k = and_then (statement_good gives true body w k) (λ done v g.
+        and_then (expr_good tree z sums structs functions members results condition v g) (λ x u h.
+        unless_known (not (is_scalar_value x)) fault.Operands token u h.1))
+    statement_good gives looping (s.For token start condition step body) w k =
+        and_then (begun_good start (opened w) (opened_known w k)) (λ x v g. and_then (optional_good condition v g) (λ y u h.
+        and_then (optional_good step u h) (λ o r i. and_then (statement_good gives true body r i) (λ done q j.
+        and_then (unless_known (is_struct_part x || not (is_condition_part y) || is_struct_part o) fault.Operands token q j) (λ last p l.
+        closing_known last p l)))))
+    statement_good gives looping (s.Return token None) w k = unless_known (not (is_void gives)) fault.Jump token w k
+    statement_good gives looping (s.Return token (Some value)) w k = and_then (expr_good tree z sums structs functions members results value w k) (λ x v g.
+        if_faulty (is_void gives) (unless (not (assignable gives x)) fault.Operands token v) fault.Jump token (λ some.
+        unless_known (not (assignable gives x)) fault.Operands token v g.1))
+    statement_good gives looping (s.Break token) w k = unless_known (not looping) fault.Jump token w k
+    statement_good gives looping (s.Continue token) w k = unless_known (not looping) fault.Jump token w k
+
+    -- the declarations and statements of a block
+    pub entries_good : (gives : TypeTree) (looping : Bool) (xs : EntryList) (w : Walk) → Within w → Gives (walk_entries gives looping xs w) Behind
+    entries_good gives looping s.no_entries w k = record { by = k }
+    entries_good gives looping (s.declared declaration rest) w k = and_then (declaration_good false declaration w k) (λ done v g.
+        entries_good gives looping rest v g)
+    entries_good gives looping (s.stated statement rest) w k = and_then (statement_good gives looping statement w k) (λ done v g.
+        entries_good gives looping rest v g)

@@ -1,5 +1,0 @@
-use Rattle.lower_nodes_fit.proofs.ConversionsOfFormats.{format_counted}
-use Rattle.lower_nodes_fit.proofs.nodes.a_format_has_its_conversions.Goals as goal
-
-pub returns : goal.returns
-returns c = λ bytes xs h. format_counted bytes xs h

@@ -1,5 +1,0 @@
-use Rattle.lower_nodes_fit.proofs.Bodies.{body_stands}
-use Rattle.lower_nodes_fit.proofs.nodes.the_bodies_of_a_text_stand_among_its_tokens.Goals as goal
-
-pub returns : goal.returns
-returns c = λ text number body shaped constants e. body_stands text number body shaped constants e

@@ -1,3 +1,0 @@
-pub mod Brought
-pub mod Ready
-pub mod Parts

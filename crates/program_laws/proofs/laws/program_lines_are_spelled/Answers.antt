@@ -1,5 +1,0 @@
-use Rattle.program_laws.proofs.Spelled.{lines_are_spelled}
-use Rattle.program_laws.proofs.laws.program_lines_are_spelled.Goals as goal
-
-pub returns : goal.returns
-returns c = lines_are_spelled

@@ -1,5 +1,0 @@
-use Rattle.program_laws.proofs.Spelled.{lines_come}
-use Rattle.program_laws.proofs.laws.spelled_lines_come.Goals as goal
-
-pub returns : goal.returns
-returns c = lines_come

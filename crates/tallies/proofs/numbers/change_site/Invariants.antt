@@ -1,5 +1,0 @@
-use Rattle.tallies.proofs.SiteChanges.{SoFar}
-use Rattle.tallies.proofs.numbers.change_site.Given as goal
-
-abbrev pub invariant-loop-number : goal.invariant-loop-number
-invariant-loop-number l = SoFar l.change l.branch l.counts l.start l.number l.initial.tallies l.tallies

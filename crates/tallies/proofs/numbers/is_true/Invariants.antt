@@ -1,7 +1,0 @@
-use Rattle.std.proofs.Common.{◌≡◌, false, take}
-use Rattle.std.specs.List.{list_any}
-use Rattle.tallies.specs.Predicates.{shows}
-use Rattle.tallies.proofs.numbers.is_true.Given as goal
-
-abbrev pub invariant-loop-entry : goal.invariant-loop-entry
-invariant-loop-entry l = list_any (shows l.numbers.branches l.predicate) (take l.entry-index l.entries) ≡ false

@@ -1,5 +1,0 @@
-use Rattle.words_laws.proofs.Commands.{taken_as_said}
-use Rattle.words_laws.proofs.laws.commands_take_what_is_said.Goals as goal
-
-pub returns : goal.returns
-returns c = taken_as_said

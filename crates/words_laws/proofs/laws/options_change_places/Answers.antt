@@ -1,5 +1,0 @@
-use Rattle.words_laws.proofs.Moving.{change_places}
-use Rattle.words_laws.proofs.laws.options_change_places.Goals as goal
-
-pub returns : goal.returns
-returns c = change_places

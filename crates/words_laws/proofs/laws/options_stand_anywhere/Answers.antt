@@ -1,5 +1,0 @@
-use Rattle.words_laws.proofs.Moving.{stand_anywhere}
-use Rattle.words_laws.proofs.laws.options_stand_anywhere.Goals as goal
-
-pub returns : goal.returns
-returns c = stand_anywhere

@@ -1,5 +1,0 @@
-use Rattle.words_laws.proofs.Reading.{in_order}
-use Rattle.words_laws.proofs.laws.words_are_read_in_order.Goals as goal
-
-pub returns : goal.returns
-returns c = in_order
