@@ -1,6 +1,6 @@
 #!/usr/bin/env python3
-"""Looks at the scripts of the house, in a small house that is made for each case: checks/house, tools/above, tools/map and tools/reading; and at what
-editors read of it: tags by Universal Ctags, colours by Vim.
+"""Looks at the scripts of the house, in a small house that is made for each case: checks/house, tools/above, tools/map, tools/promises and tools/reading;
+and at what editors read of it: tags by Universal Ctags, colours by Vim.
 
     checks/look_at_house.py [CASE..]
 """
@@ -65,6 +65,60 @@ impl Work for TopWords {
     fn make(&self) {}
 }
 """
+# what is public of it: a law, a method and a member of a trait, but neither what is hidden nor what another type has
+PASSED_SOURCE = """\
+//! What is passed on.
+mod part;
+
+pub use part::{Box, a_law};
+"""
+PART_SOURCE = """\
+/// A law of `|`. It has more to say.
+pub fn a_law(
+    n: u8,
+)
+    requires small { n ≤ 3 }
+    ensures first { IsLow n }
+    ensures { let xs = n in
+        IsHigh xs }
+{
+    more();
+}
+
+/// Nobody sees it.
+pub fn more()
+    ensures hidden { IsLow }
+{}
+
+impl Box {
+    /// Opens it.
+    #[inline]
+    pub fn open(&self) -> u8
+        ensures { IsOpen }
+        ensures { IsBox }
+    {
+        0
+    }
+
+    fn close(&self)
+        ensures closed { IsClosed }
+    {}
+}
+
+impl Shown for Box {
+    ghost shown = { λ b. b };
+
+    fn show(&self)
+        ensures told { IsTold }
+    {}
+}
+
+impl Other {
+    pub fn other()
+        ensures other { IsOther }
+    {}
+}
+"""
 
 
 class House(unittest.TestCase):
@@ -72,7 +126,7 @@ class House(unittest.TestCase):
 
     def setUp(self) -> None:
         self.room = tempfile.mkdtemp(prefix="house-")
-        for script in ("checks/house", "tools/above", "tools/map", "tools/reading"):
+        for script in ("checks/house", "tools/above", "tools/map", "tools/promises", "tools/reading"):
             self.write(script, "")
             shutil.copy(os.path.join(ROOT, script), os.path.join(self.room, script))
         self.write("crates.txt", "# Base\nlow:\n\n# Tops\ntop: low\n")
@@ -153,12 +207,33 @@ class House(unittest.TestCase):
         self.write("docs/ARCHITECTURE.md", "`low`\n")
         self.told("off-the-map top: 1")
 
-    def test_what_is_known_passes_and_no_more_of_it(self) -> None:
+    def test_what_is_known_passes_for_a_reason_and_no_more_of_it(self) -> None:
         self.write("crates/top/specs/Top.antt", TOP_SPEC + "-- " + "x" * 158 + "\n")
         self.assertEqual(self.call("checks/house", "--write").returncode, 0)
+        self.told("long-line crates/top/specs/Top.antt: checks/house.known says no reason")
+        self.write("checks/house.known", "long-line crates/top/specs/Top.antt 1 # a word of 158 letters\n")
         self.assertEqual(self.call("checks/house").returncode, 0)
+        self.assertEqual(self.call("checks/house", "--write").returncode, 0)
+        with open(os.path.join(self.room, "checks", "house.known"), encoding="utf-8") as it:
+            self.assertEqual(it.read(), "long-line crates/top/specs/Top.antt 1 # a word of 158 letters\n")
         self.write("crates/top/specs/Top.antt", TOP_SPEC + ("-- " + "x" * 158 + "\n") * 2)
         self.told("long-line crates/top/specs/Top.antt: 2, known are 1")
+
+    def test_a_field_is_no_definition_where_its_record_has_a_long_head(self) -> None:
+        self.write("crates/top/specs/Top.antt", TOP_SPEC + "\npub record IsLong (n : ℕ)\n    (m : ℕ) : Type 0 where\n  pub lonely : IsWhole []\n\nabbrev pub Uses : Type 0\nUses = IsLong 0 0\n"
+                   + "\nabbrev pub Both : Type 0\nBoth = Uses × Both\n")
+        self.assertEqual(self.call("checks/house").stdout, "house: 0 new, 0 in all\n")
+
+    def test_a_field_that_is_given_names_no_definition_of_its_own(self) -> None:
+        proof = "lone : IsWhole []\nlone = whole\n\nuser : IsWhole []\nuser =\n      lone at (record { one = whole })\n\nlast : IsWhole []\nlast = user last\n"
+        self.write("crates/top/proofs/Top.antt", proof)
+        self.assertEqual(self.call("checks/house").stdout, "house: 0 new, 0 in all\n")
+
+    def test_a_worked_example_stands_for_itself(self) -> None:
+        self.write("crates/top/proofs/Examples.antt", "worked : IsWhole []\nworked = whole\n")
+        self.assertEqual(self.call("checks/house").returncode, 0)
+        self.write("crates/top/proofs/Lemmas.antt", "lemma : IsWhole []\nlemma = whole\n")
+        self.told("unnamed crates/top/proofs/Lemmas.antt:lemma: 1")
 
     def test_above_lists_what_stands_on_a_crate(self) -> None:
         # `most` stands on `low` by `top` alone
@@ -176,6 +251,33 @@ class House(unittest.TestCase):
         self.assertEqual(self.call("tools/map", "--check").returncode, 0)
         self.write("crates/low/specs/Low.antt", "-- What is lower." + LOW_SPEC[len("-- What is low."):])
         self.assertEqual(self.call("tools/map", "--check").returncode, 1)
+
+    def test_promises_has_each_public_function_with_the_names_of_its_clauses(self) -> None:
+        self.write("crates/low/src/lib.rt", PASSED_SOURCE)
+        self.write("crates/low/src/part.rt", PART_SOURCE)
+        self.assertEqual(self.call("tools/promises", "--write").returncode, 0)
+        with open(os.path.join(self.room, "docs", "PROMISES.md"), encoding="utf-8") as it:
+            rows = [row for row in it.read().splitlines() if row.startswith(("#", "| ["))]
+        self.assertEqual(rows[1:], [
+            "## Base",
+            "### `low`",
+            "| [`a_law`](../crates/low/src/part.rt) | A law of `\\|`. | `small` | `first`, `{..}` |",
+            "| [`Box::open`](../crates/low/src/part.rt) | Opens it. |  | `{..}` 2 |",
+            "| [`Box`](../crates/low/src/part.rt) | It is a `Shown`. |  | `shown` |",
+            "| [`Box::show`](../crates/low/src/part.rt) | As `Shown` has it. |  | `told` |",
+            "## Tops",
+            "### `top`",
+            "| [`whole`](../crates/top/src/lib.rt) | The whole. |  | `deep` |"])
+
+    def test_promises_tells_a_clause_that_has_another_name(self) -> None:
+        self.assertEqual(self.call("tools/promises", "--write").returncode, 0)
+        self.assertEqual(self.call("tools/promises", "--check").returncode, 0)
+        self.write("crates/top/src/lib.rt", TOP_SOURCE.replace("ensures deep", "ensures deeper"))
+        ran = self.call("tools/promises", "--check")
+        self.assertEqual((ran.returncode, ran.stderr), (1, "docs/PROMISES.md isn't what tools/promises prints: tools/promises --write\n"))
+
+    def test_promises_names_a_crate_without_clauses(self) -> None:
+        self.assertIn("No public function with a clause: `low`.", self.call("tools/promises").stdout.splitlines())
 
     def test_reading_follows_definitions_through_crates(self) -> None:
         ran = self.call("tools/reading", "--files", "top::whole")
