@@ -54,7 +54,10 @@ class Ways(Case):
     def begin(self, name, *words, path=None, tmp=None, **more):
         """Begins a command for a fresh clone, in one that has no executable, and with no cbi on the path."""
         if not os.path.exists(self.path("top")):
-            os.makedirs(self.path("top/crates/cbi"))
+            for part in ("cbi/src/main.rt", "low/src/lib.rt", "low/must-fail/one.edit", "low/out/old", "high/src/lib.rt"):
+                self.write("top/crates/" + part, "\n")
+            self.write("top/crates.txt", "# two rooms\nlow:\nhigh: low\ncbi: low kit\n")
+            self.write("top/HANDLES", "Handles allowed: none.\n")
             for part in ("demo", "check", "build"):
                 shutil.copy(os.path.join(looking.TOP, part), self.path("top", part))
             for part in ("tools", "examples", "docs"):
@@ -69,15 +72,19 @@ class Ways(Case):
         out, err = begun.communicate()
         return begun.returncode, out.decode(), err.decode()
 
-    BUILT = "#!/bin/sh\necho \"$(basename \"$PWD\") $*\" >>'{log}'\necho a line of rt >&2\necho 1\ncd \"${{PWD%/crates/cbi}}\" && mkdir -p crates/cbi/out && cp '{cbi}' crates/cbi/out/cbi\n"
+    BUILT = "#!/bin/sh\necho \"$*\" >>'{log}'\nfind . -path './crates/*' -type f | sort >>'{log}'\necho a line of rt >&2\nmkdir -p crates/cbi/out && cp '{cbi}' crates/cbi/out/cbi\n"
 
     def test_build_proves_what_the_executable_needs_and_leaves_it_with_its_scripts(self):
         """What stands in for rt notes what it is asked for, and leaves an executable where rt does."""
-        for words, asked in (([], "cbi run -- bank --rate 1 --count 1 --seed 1\n"), (["--gate"], "top ci\n")):
+        needed = ["ci", "./crates/cbi/src/main.rt", "./crates/low/src/lib.rt"]
+        whole = [*needed[:2], "./crates/high/src/lib.rt", "./crates/low/must-fail/one.edit", "./crates/low/out/old", needed[2]]
+        os.mkdir(self.path("tmp"))
+        for words, asked in (([], needed), (["--gate"], whole)):
             self.executable("rt", self.BUILT.format(log=self.path("log"), cbi=os.path.abspath(looking.CBI)))
             self.write("log", "")
-            status, out, err = self.way("build", "here", "--man", "pages", *words)
-            self.assertEqual((status, self.read("log").decode()), (0, asked))
+            status, out, err = self.way("build", "here", "--man", "pages", *words, tmp=self.path("tmp"))
+            self.assertEqual((status, self.read("log").decode().splitlines()), (0, asked))
+            self.assertEqual(os.listdir(self.path("tmp")), [])
             self.assertTrue(out.endswith(f"{self.path('here/cbi')}\n{self.path('pages/man1/cbi.1')}\n"), out)
             self.assertRegex(err, r"^\./build: rt [^\n]*README\.md says how long it takes\. [^\n]*\na line of rt\n$")
             self.assertTrue(os.path.exists(self.path("pages/man1/cbi.1")))
