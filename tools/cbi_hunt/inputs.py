@@ -43,11 +43,12 @@ def files_of(folder: str) -> Tuple[Dict[str, str], List[str]]:
     for here, folders, names in os.walk(folder):
         fuzzed = "fuzzer_stats" in names
         inside = os.path.relpath(here, folder)
+        plain = frozenset(names)
         for name in sorted(names + folders):
             whole = name if inside == "." else os.path.join(inside, name)
             if name.startswith("."):
                 hidden.append(whole)
-            elif name in names and not fuzzed and not (name == "README.txt" and any(other.startswith("id:") for other in names)) and os.path.isfile(os.path.join(here, name)):
+            elif name in plain and not fuzzed and not (name == "README.txt" and any(other.startswith("id:") for other in names)) and os.path.isfile(os.path.join(here, name)):
                 files[whole] = os.path.join(here, name)
         folders[:] = sorted(name for name in folders if not name.startswith(".") and (not fuzzed or name in OF_FUZZERS))
     return files, [name for name in hidden if os.path.basename(name) not in OF_FUZZERS]
