@@ -49,6 +49,11 @@ class Work(NamedTuple):
         """How many runs that are, about."""
         return int(len(self.faults) * max(self.chosen.runs) * (len(self.chosen.rates) + 1) + 4 * sum(self.three) + 4 * max(self.tables, default=0))
 
+    def seconds(self, results: Results) -> float:
+        """How long that takes, about: of a program that isn't taken at all nothing is known."""
+        right = results["programs"].get(self.name)
+        return self.size() * right["seconds"] / right["runs"] if right else 0.0
+
 
 def numbers(text: str) -> List[int]:
     return [int(word) for word in text.split(",") if word]
@@ -100,17 +105,18 @@ def scratch() -> str:
 
 
 def measure(work: Work) -> Results:
-    """Measures what is to be measured of a program."""
+    """Measures what is to be measured of a program: first its right version, and in another call the others."""
     chosen, began, used = work.chosen, time.monotonic(), processor_seconds()
     found: Results = {part: {} for part in PARTS}
     with tempfile.TemporaryDirectory(prefix="corpus-", dir=scratch()) as folder:
         try:
             subject = read_subject(work.name)
             runs = Runs(chosen.cbi, folder, 1, chosen.seed)
-            bench = Bench(subject, runs, folder, max([*(chosen.runs if work.faults else [RIGHT_RUNS]), *work.three, *work.tables]), chosen.seed)
+            bench = Bench(subject, runs, folder, RIGHT_RUNS if work.right else max([*(chosen.runs if work.faults else []), *work.three, *work.tables]), chosen.seed)
             taken = Measure(bench, chosen.rates, chosen.runs, chosen.again)
             if work.right:
                 add(found, chosen, "programs", work.name, taken.right_version(RIGHT_RUNS))
+                work = work._replace(faults=(), three=(), tables=())
             for fault in subject.faults:
                 if fault.name in work.faults:
                     add(found, chosen, "faults", fault.title(), taken.fault(fault))
@@ -157,8 +163,8 @@ def keep(path: str, results: Results) -> None:
         os.replace(path + ".part", path)
 
 
-def take(results: Results, found: Results, done: str) -> None:
-    """Adds what was measured of a program to the results, and tells of it."""
+def take(results: Results, found: Results, done: str) -> float:
+    """Adds what was measured of a program to the results, and tells of it; answers how many seconds of a processor it took."""
     results["not taken"] = {name: why for name, why in results["not taken"].items() if name not in found["seconds"]}
     for part in PARTS[:-2]:
         results[part].update(found[part])
@@ -168,18 +174,22 @@ def take(results: Results, found: Results, done: str) -> None:
     for name, seconds in found["seconds"].items():
         lacking = "".join(f"; {why}" for why in found["not taken"].values())
         print(f"{done} {name}: {len(found['faults'])} faults, {seconds:.0f} s, {found['processor'][name]:.0f} of a processor{lacking}", flush=True)
+    return float(sum(found["processor"].values()))
 
 
 def main() -> int:
     chosen = arguments()
     began, results = time.monotonic(), load(chosen.results)
     work = [missing(read_subject(name), chosen, results) for name in chosen.names or names()]
-    work = sorted((one for one in work if one.size()), key=lambda one: -one.size())
+    work = [one for one in work if one.size()]
     used = 0.0
     with multiprocessing.Pool(chosen.jobs) as pool:
-        for number, found in enumerate(pool.imap_unordered(measure, work, 1), 1):
-            take(results, found, f"{number}/{len(work)}")
-            used += sum(found["processor"].values())
+        for found in pool.imap_unordered(measure, [one for one in work if one.right], 1):
+            used += take(results, found, "right version of")
+        # What takes longest comes first, so that at the end all have work.
+        longest = sorted((one._replace(right=False) for one in work), key=lambda one: -one.seconds(results))
+        for number, found in enumerate(pool.imap_unordered(measure, longest, 1), 1):
+            used += take(results, found, f"{number}/{len(work)}")
             keep(chosen.results, results)
     if work:
         print(f"{time.monotonic() - began:.0f} s by the clock with {chosen.jobs} at a time, {used:.0f} s of a processor, on {os.cpu_count()} processors "
