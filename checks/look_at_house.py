@@ -193,6 +193,11 @@ class House(unittest.TestCase):
         self.write("crates/top/specs/Top.antt", TOP_SPEC + "\nabbrev pub Lonely : Type 0\nLonely = IsWhole []\n")
         self.told("unnamed crates/top/specs/Top.antt:Lonely: 1")
 
+    def test_that_a_page_passes_a_name_on_is_no_use_of_it(self) -> None:
+        self.write("crates/top/specs/Top.antt", TOP_SPEC + "\nabbrev pub Lonely : Type 0\nLonely = IsWhole []\n")
+        self.write("crates/top/specs/Words.antt", "-- The words.\npub use Rattle.top.specs.Top.{Lonely}\n")
+        self.told("unnamed crates/top/specs/Top.antt:Lonely: 1")
+
     def test_an_edge_that_nothing_uses_is_told(self) -> None:
         self.write("crates.txt", "low:\nother:\ntop: low other\n")
         self.write("crates/other/src/lib.rt", "//! Another.\n")

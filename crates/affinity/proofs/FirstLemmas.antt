@@ -44,10 +44,10 @@ pub not-before-itself : (a : Neighbour) → StandsBefore a a → ⊥
 not-before-itself a x = elim x [ inl f ↦ omega (arith, f) | inr f ↦ omega (arith, f.1) ]
 
 ordered-take : (k : ℕ) (rows : List Neighbour) → AreInOrder rows → AreInOrder (take k rows)
+ordered-take (suc k) (n ∷ more) order = (All-take (StandsBefore n) k more order.0, ordered-take k more order.1)
 ordered-take zero [] order = tt
 ordered-take zero (n ∷ more) order = tt
 ordered-take (suc k) [] order = tt
-ordered-take (suc k) (n ∷ more) order = (All-take (StandsBefore n) k more order.0, ordered-take k more order.1)
 
 ordered-right : (xs ys : List Neighbour) → AreInOrder (xs ++ ys) → AreInOrder ys
 ordered-right [] ys order = order
@@ -60,7 +60,7 @@ ordered-insert (x ∷ xs) ys n order above below = (
   ordered-insert xs ys n order.1 (All-tail (λ m. StandsBefore m n) x xs above) below,
 )
 
-stands : (m n : Neighbour) → n.fall ≤ m.fall → m.predicate < n.predicate → StandsBefore m n
+pub stands : (m n : Neighbour) → n.fall ≤ m.fall → m.predicate < n.predicate → StandsBefore m n
 stands m n fall less = elim (cases_lt n.fall m.fall) [ inl greater ↦ inl greater | inr most ↦ inr (omega (arith, fall, most), less) ]
 
 above-all : (xs : List Neighbour) (n : Neighbour) → All (λ m. n.fall ≤ m.fall) xs → All (λ m. m.predicate < n.predicate) xs → All (λ m. StandsBefore m n) xs
@@ -95,10 +95,10 @@ cut (suc k) (n ∷ more) m order has =
     ]
 
 take-most : (k : ℕ) (rows : List Neighbour) → length (take k rows) ≤ k
+take-most (suc k) (n ∷ more) = omega (arith, take-most k more)
 take-most zero [] = omega arith
 take-most zero (n ∷ more) = omega arith
 take-most (suc k) [] = omega arith
-take-most (suc k) (n ∷ more) = omega (arith, take-most k more)
 
 -- those who stood before it still do
 full-all : (k : ℕ) (xs ys : List Neighbour) (n m : Neighbour) → All (StandsBefore n) ys → length (xs ++ ys) ≡ k → All (λ x. StandsBefore x m) (xs ++ ys) → All (λ x. StandsBefore x m) (take k (xs ++ n ∷ ys))

@@ -2,6 +2,7 @@
 use Rattle.std.proofs.Common.{◌≡◌, ℕ, ◌+◌, ◌≤◌, Bool, true, false, not, cond, List, [], ◌∷◌, ◌++◌, length, refl, sym, ap, subst, ◌∙◌, append_assoc, arith}
 use Rattle.std.proofs.lemmas.List.{length-append}
 use Rattle.std.proofs.lemmas.List.Sums.{sum_by-append, sum_by-cons}
+use Rattle.elimination_tallies.proofs.TotalLemmas.{one-most}
 use Rattle.cbi_base.specs.declared.policy.Policy.TheVariants.{All as Every}
 use Rattle.elimination_tallies.specs.declared.labelled.LabelledRun.{LabelledRun}
 use Rattle.elimination_tallies.specs.declared.numbers.Change.TheVariants.{TakeOut}
@@ -59,10 +60,6 @@ left-kept branches p r rest all numbers failing every so_far was =
       every_are = every-more every r rest all so_far.every_are;
     }
 
-one-small : (b : Bool) → one_if b ≤ 1
-one-small true = omega arith
-one-small false = omega arith
-
 pub failing-small : (branches : List Bool) (p : ℕ) (rest all : List LabelledRun) (numbers : Tallies) (failing every : ℕ) (l : Bool) → LeftSoFar branches p rest all numbers failing every → failing + one_if l ≤ length all + 1
 failing-small branches p rest all numbers failing every l so_far =
-    omega (arith, so_far.failing_are, fails-most so_far.kept, ap length so_far.runs, length-append so_far.kept (after branches Every p rest), left-few branches p all, one-small l)
+    omega (arith, so_far.failing_are, fails-most so_far.kept, ap length so_far.runs, length-append so_far.kept (after branches Every p rest), left-few branches p all, one-most l)

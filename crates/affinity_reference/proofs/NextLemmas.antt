@@ -4,6 +4,7 @@ use Rattle.std.specs.Prelude.{All, Contains, nat_lt}
 use Rattle.std.proofs.lemmas.Bool.{cases_lt, false≢true, le-ltb, lt-ltb}
 use Rattle.std.proofs.lemmas.List.{length_push}
 use Rattle.std.proofs.lemmas.List.Elements.{All-head, All-nil, All-push, All-tail, Contains-append_left, Contains-push}
+use Rattle.base_lists.proofs.Numbers.{is_less, not_less}
 use Rattle.affinity.specs.declared.neighbour.Neighbour.{Neighbour}
 use Rattle.cbi_base.specs.declared.policy.Policy.TheVariants.{All as Every}
 use Rattle.elimination_tallies.specs.declared.labelled.LabelledRun.{LabelledRun}
@@ -12,7 +13,7 @@ use Rattle.elimination.specs.Elimination.{after}
 use Rattle.affinity.specs.Falls.{IsFall, Scores, scores_over}
 use Rattle.affinity.specs.Near.{AreFirst, AreInOrder, AreNear, AreNearBy, IsNeighbour, StandsBefore}
 use Rattle.affinity.proofs.FallLemmas.{IsSeen, seen-one}
-use Rattle.affinity.proofs.FirstLemmas.{IsOneMore, before-trans}
+use Rattle.affinity.proofs.FirstLemmas.{IsOneMore, before-trans, stands}
 use Rattle.affinity_reference.specs.Choosing.{IsBehind, IsNext, better_of}
 
 -- none yet
@@ -59,29 +60,20 @@ pub next-same : (S T : Neighbour → Type 0) (rows : List Neighbour) (best : Opt
 next-same S T rows None up down is = λ n other. is n (record { is = down n other; behind = other.behind })
 next-same S T rows (Some b) up down is = (behind-up S T rows b (up b) is.0, λ n other. is.1 n (record { is = down n other; behind = other.behind }))
 
-is-less : (a b : ℕ) → nat_lt a b ≡ true → a < b
-is-less a b is = elim (cases_lt a b) [ inl less ↦ less | inr most ↦ absurd (false≢true (sym (le-ltb a b most) ∙ is)) ]
-
-is-most : (a b : ℕ) → nat_lt a b ≡ false → b ≤ a
-is-most a b is = elim (cases_lt a b) [ inl less ↦ absurd (false≢true (sym is ∙ lt-ltb a b less)) | inr most ↦ most ]
-
-not-less : (b n : Neighbour) → n.fall ≤ b.fall → b.predicate < n.predicate → StandsBefore b n
-not-less b n most less = elim (cases_lt n.fall b.fall) [ inl greater ↦ inl greater | inr rest ↦ inr (omega (arith, most, rest), less) ]
-
 by-test : (S T : Neighbour → Type 0) (rows : List Neighbour) (b n : Neighbour) → IsOneMore S T n → IsBehind T rows n → IsNext S rows (Some b) → (t : Bool) → nat_lt b.fall n.fall ≡ t → IsNext T rows (Some (cond t n b))
 by-test S T rows b n one is so_far true less = (
   is,
   λ m other. elim (one.down m other.is) [
     | inl same ↦ inl same
     | inr was ↦
-        let before : StandsBefore n b = inl (is-less b.fall n.fall less) in
+        let before : StandsBefore n b = inl (is_less b.fall n.fall less) in
         elim (so_far.1 m (record { is = was; behind = other.behind })) [ inl same ↦ inr (subst (StandsBefore n) (sym same) before) | inr after ↦ inr (before-trans n b m before after) ]
   ],
 )
 by-test S T rows b n one is so_far false less = (
   behind-up S T rows b (one.up b) so_far.0,
   λ m other. elim (one.down m other.is) [
-    | inl same ↦ inr (subst (StandsBefore b) (sym same) (not-less b n (is-most b.fall n.fall less) (one.last b so_far.0.is)))
+    | inl same ↦ inr (subst (StandsBefore b) (sym same) (stands b n (not_less b.fall n.fall less) (one.last b so_far.0.is)))
     | inr was ↦ so_far.1 m (record { is = was; behind = other.behind })
   ],
 )

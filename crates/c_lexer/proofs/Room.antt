@@ -11,13 +11,12 @@ use Rattle.c_syntax.specs.declared.token.Token.{Token}
 use Rattle.c_syntax.specs.declared.token.TokenKind.{TokenKind}
 use Rattle.c_syntax.specs.declared.token.Word.{Word}
 use Rattle.c_syntax.specs.declared.parts.Constant.{Constant}
-use Rattle.c_syntax.specs.Tokens.{IsAtLeastChar, IsOfBytes, IsTokens, KindFits, NameFits, lines_of, text_len}
+use Rattle.c_syntax.specs.Words.{IsAtLeastChar, IsOfBytes, IsTokens, KindFits, NameFits, lines_of, text_len, greatest_line, most_bytes, most_tokens}
 use Rattle.c_lexer.specs.declared.lexer.Lexer.{Lexer}
 use Rattle.c_lexer_pieces.specs.Piece.{Piece, Nothing, Name, Constant', Text, Punctuator, Definition, Known}
 use Rattle.c_lexer_pieces.specs.Found.{known_by}
 use Rattle.c_lexer_pieces.specs.Spellings.{word_of}
 use Rattle.c_lexer.specs.Lexing.{kind_at, known_after, name_kind, word_kind, with_line}
-use Rattle.c_syntax.specs.Limits.{greatest_line, most_bytes, most_tokens}
 use Rattle.c_lexer_pieces.specs.Bytes.{newlines}
 use Rattle.c_lexer.specs.State.{Roomy, Advances, between, AllFit, TokenFits}
 use Rattle.c_lexer_pieces.specs.PieceFacts.{PieceFits, Fits}
@@ -33,18 +32,14 @@ name-text line (Some c) name = omega arith
 
 -- a token's string is its piece's
 pub piece-text : (line : ℕ) (known : Known) (p : Piece) → sum_by text_len (with_line line (kind_at known p)) ≤ piece_len p
-piece-text line known Nothing = omega arith
 piece-text line known (Name name) = name-text line (known name) name
-piece-text line known (Constant' c) = omega arith
-piece-text line known (Text values) = omega arith
-piece-text line known (Punctuator sign) = omega arith
-piece-text line known (Definition name c) = omega arith
+piece-text line known p = omega arith
 
-one_at_most : (line : ℕ) (kind : Option TokenKind) → length (with_line line kind) ≤ 1
+pub one_at_most : (line : ℕ) (kind : Option TokenKind) → length (with_line line kind) ≤ 1
 one_at_most line None = omega arith
 one_at_most line (Some k) = omega arith
 
-line-kept : (line : ℕ) (kind : Option TokenKind) → All (λ x. x ≤ line) (lines_of (with_line line kind))
+pub line-kept : (line : ℕ) (kind : Option TokenKind) → All (λ x. x ≤ line) (lines_of (with_line line kind))
 line-kept line None = All-nil (λ x. x ≤ line)
 line-kept line (Some k) = All-cons (λ x. x ≤ line) line [] (omega arith) (All-nil (λ x. x ≤ line))
 
@@ -93,14 +88,10 @@ keeps false count line line' kind tokens few lines le = record {
 }
 
 -- A definition that fits leaves all that is known fitting.
-known-fits : (known : Known) (p : Piece) → AllFit known → PieceFits p → AllFit (known_after known p)
-known-fits known Nothing all fits name = all name
-known-fits known (Name n) all fits name = all name
-known-fits known (Constant' c) all fits name = all name
-known-fits known (Text values) all fits name = all name
-known-fits known (Punctuator sign) all fits name = all name
+pub known-fits : (known : Known) (p : Piece) → AllFit known → PieceFits p → AllFit (known_after known p)
 known-fits known (Definition n c) all fits name =
     elim (bytes_eq n name) as (λ v. IfSome (cond v (Some c) (known name)) Fits) [ true ↦ fits | false ↦ all name ]
+known-fits known p all fits name = all name
 
 pub room-next : (old new : Lexer) (a : Advances old new) → Roomy old → ReadsPiece old.left.now (a.piece, new.left.now) → PieceFits a.piece → Roomy new
 room-next old new a room read fits =

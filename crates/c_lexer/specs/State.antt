@@ -3,8 +3,7 @@ use Rattle.std.specs.Prelude.{◌≡◌, ℕ, ◌+◌, ◌-◌, ◌≤◌, ◌<�
 use Rattle.std.specs.Prelude.{slice_index}
 use Rattle.c_syntax.specs.declared.token.Token.{Token}
 use Rattle.c_syntax.specs.declared.token.TokenKind.{TokenKind}
-use Rattle.c_syntax.specs.Limits.{most_bytes, most_tokens, greatest_line}
-use Rattle.c_syntax.specs.Tokens.{IsAtLeastChar, IsOfBytes, KindFits, NameFits, lines_of, text_len}
+use Rattle.c_syntax.specs.Words.{most_bytes, most_tokens, greatest_line, IsAtLeastChar, IsOfBytes, KindFits, NameFits, lines_of, text_len}
 use Rattle.c_lexer.specs.declared.error.LexError.{LexError}
 use Rattle.c_lexer.specs.declared.error.LexError.TheVariants as error
 use Rattle.c_lexer.specs.declared.lexer.Lexer.{Lexer}

@@ -1,13 +1,14 @@
 -- A comment is read where one stands, and nothing else is.
 use Rattle.std.proofs.Common.{◌≡◌, ℕ, Bool, true, false, cond, ◌&&◌, List, [], ◌∷◌, ◌++◌, drop, Option, Some, None, refl, ap, sym, ◌∙◌, eqb, ⊎_elim, subst, option_and_then}
 use Rattle.std.proofs.lemmas.Bool.{eqb-true}
+use Rattle.base_lists.proofs.Tests.{cond_cases_of}
 use Rattle.c_lexer_pieces.specs.declared.bytes.Class.TheVariants as class
 use Rattle.c_lexer_pieces.specs.Bytes.{has, run, past, begins}
 use Rattle.c_lexer_pieces.specs.Reading.{strip, comment_at}
 use Rattle.c_lexer_pieces.specs.Values.{after_close}
 use Rattle.c_lexer_pieces.specs.Pieces.{RunEnds, IsComment, line, block}
 use Rattle.c_lexer_pieces.proofs.RunLaws.{run-past, run-AllOf, past-RunEnds, past-append}
-use Rattle.c_lexer_pieces.proofs.Steps.{bound, chosen, strip-some}
+use Rattle.c_lexer_pieces.proofs.Steps.{bound, strip-some}
 
 -- a comment in front of the rest
 pub record SplitsComment (bytes rest : List ℕ) : Type 0 where
@@ -39,7 +40,7 @@ close-splits (b ∷ c ∷ cs) rest h =
     let inner = close-splits (c ∷ cs) rest w.1 in
     let first : begins 47 inner.body ≡ eqb c 47 = sym (begins-append 47 inner.body rest inner.close) ∙ ap (begins 47) (sym inner.is) in
     record { body = b ∷ inner.body; is = ap (λ xs. b ∷ xs) inner.is; close = rw (first, w.0) inner.close })
-    (chosen (eqb b 42 && eqb c 47) (Some cs) (after_close (c ∷ cs)) (Some rest) h)
+    (cond_cases_of (eqb b 42 && eqb c 47) (Some cs) (after_close (c ∷ cs)) (Some rest) h)
 
 pub close-append : (body after : List ℕ) → after_close body ≡ Some [] → after_close (body ++ after) ≡ Some after
 close-append [] after h = cc
@@ -48,7 +49,7 @@ close-append (b ∷ c ∷ cs) after h =
     ⊎_elim
     (λ (w : ((eqb b 42 && eqb c 47) ≡ true) × (Some cs ≡ Some [])). let none : cs ≡ [] = cc in rw (w.0, none) refl)
     (λ (w : ((eqb b 42 && eqb c 47) ≡ false) × (after_close (c ∷ cs) ≡ Some [])). rw w.0 (close-append (c ∷ cs) after w.1))
-    (chosen (eqb b 42 && eqb c 47) (Some cs) (after_close (c ∷ cs)) (Some []) h)
+    (cond_cases_of (eqb b 42 && eqb c 47) (Some cs) (after_close (c ∷ cs)) (Some []) h)
 
 unchosen : (b : Bool) (x : List ℕ) (o : Option (List ℕ)) → cond b (Some x) o ≡ None → o ≡ None
 unchosen true x o h = cc
@@ -64,7 +65,7 @@ unclosed_body bytes rest body h first second =
     let is : bytes ≡ 47 ∷ 42 ∷ body = strip-some 47 bytes rest first ∙ ap (λ xs. 47 ∷ xs) (strip-some 42 rest body second) in
     unclosed-after (47 ∷ 42 ∷ []) body (ap after_close (sym is) ∙ h)
 
-begins-is : (c : ℕ) (bytes : List ℕ) → begins c bytes ≡ true → bytes ≡ c ∷ drop 1 bytes
+pub begins-is : (c : ℕ) (bytes : List ℕ) → begins c bytes ≡ true → bytes ≡ c ∷ drop 1 bytes
 begins-is c [] h = cc
 begins-is c (b ∷ bs) h = let same : b ≡ c = eqb-true b c h in ap (λ x. x ∷ bs) same
 
@@ -102,7 +103,7 @@ comment-splits bytes rest h =
     (λ (w : (begins 47 r ≡ false) × (option_and_then after_close (strip 42 r) ≡ Some rest)).
     let second = bound (strip 42 r) after_close rest w.1 in
     block_splits bytes second.value rest (bytes_is ∙ ap (λ xs. 47 ∷ xs) (strip-some 42 r second.value second.is)) (close-splits second.value rest second.then))
-    (chosen (begins 47 r) (Some (past class.Line r)) (option_and_then after_close (strip 42 r)) (Some rest) first.then)
+    (cond_cases_of (begins 47 r) (Some (past class.Line r)) (option_and_then after_close (strip 42 r)) (Some rest) first.then)
 
 pub comment-append : (bytes after : List ℕ) → IsComment bytes after → comment_at (bytes ++ after) ≡ Some after
 unfolding comment_at

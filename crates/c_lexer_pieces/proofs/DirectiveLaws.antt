@@ -5,6 +5,9 @@ use Rattle.std.specs.Str.{bytes_eq}
 use Rattle.std.specs.Option.{option_map_or}
 use Rattle.std.proofs.lemmas.Slice.Eq.{bytes_eq-Decides}
 use Rattle.std.proofs.lemmas.Bool.{eqb-true}
+use Rattle.std.proofs.lemmas.Option.{cond_some}
+use Rattle.base_lists.proofs.Tests.{cond_cases_of}
+use Rattle.base_lists.proofs.Options.{not_some}
 use Rattle.cbi_base.specs.Name.{IsName}
 use Rattle.c_syntax.specs.declared.parts.Constant.{Constant}
 use Rattle.c_lexer_pieces.specs.declared.bytes.Class.TheVariants as class
@@ -16,11 +19,11 @@ use Rattle.c_lexer_pieces.proofs.RunLaws.{run-past, run-AllOf}
 use Rattle.c_lexer_pieces.proofs.CommentLaws.{comment-splits}
 use Rattle.c_lexer_pieces.proofs.Fronts.{name-parts, name-IsName, first_of-some}
 use Rattle.c_lexer_pieces.proofs.SoundLaws.{number-found, character-found}
-use Rattle.c_lexer_pieces.proofs.Steps.{bound, chosen, some_if, some_unless, strip-some}
+use Rattle.c_lexer_pieces.proofs.Steps.{bound, some_unless, strip-some}
 
 pub strip_text-some : (front bytes rest : List ℕ) → strip_text front bytes ≡ Some rest → bytes ≡ front ++ rest
 strip_text-some front bytes rest h =
-    let found = some_if (bytes_eq front (take (length front) bytes)) (drop (length front) bytes) rest h in
+    let found = cond_some (bytes_eq front (take (length front) bytes)) (drop (length front) bytes) rest h in
     let same : front ≡ take (length front) bytes = (bytes_eq-Decides front (take (length front) bytes)).0 found.0 in
     sym (take-append-drop (length front) bytes) ∙ (λ i. sym same i ++ found.1 i)
 
@@ -46,7 +49,7 @@ trailing-found (b ∷ bs) rest h =
     ⊎_elim
     (λ (w : ((has class.Blank b || eqb b 13) ≡ true) × (Some bs ≡ Some rest)). blank-found b bs rest w.0 (let e : Some bs ≡ Some rest = w.1 in cc))
     (λ (w : ((has class.Blank b || eqb b 13) ≡ false) × (comment_at (b ∷ bs) ≡ Some rest)). comment-trailing (b ∷ bs) rest w.1)
-    (chosen (has class.Blank b || eqb b 13) (Some bs) (comment_at (b ∷ bs)) (Some rest) h)
+    (cond_cases_of (has class.Blank b || eqb b 13) (Some bs) (comment_at (b ∷ bs)) (Some rest) h)
 
 trails-more : (n : ℕ) (bytes : List ℕ) (o : Option (List ℕ)) → o ≡ trailing_at bytes → ((rest : List ℕ) → trails_within n rest ≡ true → EndsLine rest) → option_map_or (trails_within n) o false ≡ true → EndsLine bytes
 trails-more n bytes None e inner h = cc
@@ -116,7 +119,7 @@ run-some (b ∷ bs) h = rw h (omega arith)
 
 blanks-found : (bytes rest : List ℕ) → blanks_at bytes ≡ Some rest → BlanksFound bytes rest
 blanks-found bytes rest h =
-    let found = some_if (begins_with class.Blank bytes) (past class.Blank bytes) rest h in
+    let found = cond_some (begins_with class.Blank bytes) (past class.Blank bytes) rest h in
     record {
       blanks = run class.Blank bytes;
       is = sym (run-past class.Blank bytes) ∙ ap (λ xs. run class.Blank bytes ++ xs) found.1;
@@ -134,7 +137,7 @@ constant-found bytes x h =
     ⊎_elim
     (λ (w : (begins 39 bytes ≡ true) × (character_at bytes ≡ Some x)). let c = character-found bytes x w.1 in record { spelled = c.front; is = c.is; constant = inr c.character })
     (λ (w : (begins 39 bytes ≡ false) × (number_at bytes ≡ Some x)). let n = number-found bytes x w.1 in record { spelled = n.front; is = n.is; constant = inl n.number })
-    (chosen (begins 39 bytes) (character_at bytes) (number_at bytes) (Some x) h)
+    (cond_cases_of (begins 39 bytes) (character_at bytes) (number_at bytes) (Some x) h)
 
 record NameFound (bytes : List ℕ) (x : List ℕ × List ℕ) : Type 0 where
   spelled : List ℕ
@@ -144,10 +147,6 @@ record NameFound (bytes : List ℕ) (x : List ℕ × List ℕ) : Type 0 where
   is : named ≡ x.0 ++ x.1
   is_name : IsName x.0
   no_word : word_of x.0 ≡ None
-
-pub none-of : {A : Type 0} (o : Option A) → is_some o ≡ false → o ≡ None
-none-of None h = refl
-none-of (Some x) h = cc
 
 name-whole : (bytes : List ℕ) (x : List ℕ × List ℕ) → name_at bytes ≡ Some x → bytes ≡ x.0 ++ x.1
 name-whole bytes x h = sym (run-past class.Name bytes) ∙ ap (λ (y : List ℕ × List ℕ). y.0 ++ y.1) (name-parts bytes x h).1
@@ -168,7 +167,7 @@ defined-name-found bytes x h =
       blanks_is = b.is;
       is = name-whole b.value x named;
       is_name = name-IsName b.value x named;
-      no_word = subst (λ (y : List ℕ × List ℕ). word_of y.0 ≡ None) same (none-of (word_of c.value.0) d.0);
+      no_word = subst (λ (y : List ℕ × List ℕ). word_of y.0 ≡ None) same (not_some (word_of c.value.0) d.0);
     }
 
 -- A line that begins with `#` and blanks, and goes on as a `#define`, is one.
@@ -180,7 +179,7 @@ define-found line rest x opens h =
     let n = a.value in
     let b = bound (blanks_at n.1) (λ spelled. option_and_then (λ c. cond (trails c.1) (Some (n.0, c.0)) None) (constant_at spelled)) x a.then in
     let c = bound (constant_at b.value) (λ c. cond (trails c.1) (Some (n.0, c.0)) None) x b.then in
-    let d = some_if (trails c.value.1) (n.0, c.value.0) x c.then in
+    let d = cond_some (trails c.value.1) (n.0, c.value.0) x c.then in
     let name = defined-name-found text n a.is in
     let before_name = blanks-found name.spelled name.named name.blanks_is in
     let before_constant = blanks-found n.1 b.value b.is in

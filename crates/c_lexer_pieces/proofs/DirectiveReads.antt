@@ -7,6 +7,7 @@ use Rattle.std.proofs.lemmas.Slice.Eq.{bytes_eq-Decides}
 use Rattle.std.proofs.Math.Seq.{take-append_seam, drop-append_seam}
 use Rattle.std.specs.List.{list_all}
 use Rattle.std.proofs.lemmas.Bool.Decides.{nat_tests}
+use Rattle.std.proofs.lemmas.Bool.{and_parts, ne_eqb}
 use Rattle.cbi_base.specs.Name.{IsName, is_letter, is_name_byte, begins_name}
 use Rattle.c_lexer_pieces.specs.declared.constants.Radix.{Radix}
 use Rattle.c_lexer_pieces.specs.declared.constants.Radix.TheVariants as radix
@@ -18,9 +19,8 @@ use Rattle.c_lexer_pieces.specs.Reading.{strip, strip_text, blanks_at, constant_
 use Rattle.c_lexer_pieces.specs.Values.{class_of}
 use Rattle.c_lexer_pieces.specs.Pieces.{AllOf, RunEnds, IsComment, line, block, Spells, IsNumber, IsCharacter, IsConstant, IsTrailing, blank, return, comment, Trails, EndsLine, IsHeader, standard_io, standard_library, assert, IsInclude, IsDefine}
 use Rattle.c_lexer_pieces.proofs.RunLaws.{run-append, past-append, all_of_first}
-use Rattle.c_lexer_pieces.proofs.Fronts.{and_true}
 use Rattle.c_lexer_pieces.proofs.CommentLaws.{comment-append}
-use Rattle.c_lexer_pieces.proofs.ReadLaws.{ne-eqb, octal_range, number-read, character-read}
+use Rattle.c_lexer_pieces.proofs.ReadLaws.{octal_range, number-read, character-read}
 
 strip_text-read : (front rest : List ℕ) → strip_text front (front ++ rest) ≡ Some rest
 strip_text-read front rest =
@@ -50,7 +50,7 @@ trailing-read front more (blank b is h) = rw is (blank-read b more h)
 trailing-read front more (return is) = rw is (return-read more)
 trailing-read front more (comment c) = comment_part-read front more c
 
-comment-some : (front more : List ℕ) → IsComment front more → 0 < length front
+pub comment-some : (front more : List ℕ) → IsComment front more → 0 < length front
 comment-some front more (line body is all stops) = omega (arith, ap length is)
 comment-some front more (block body is close) = omega (arith, ap length is)
 
@@ -132,7 +132,7 @@ pub record FirstDigit (bytes : List ℕ) : Type 0 where
 
 digit_range : (d : ℕ) → has class.Decimal d ≡ true → (48 ≤ d) × (d ≤ 57)
 unfolding has
-digit_range d h = let tests = and_true (leb 48 d) (leb d 57) h in (leb-true 48 d tests.0, leb-true d 57 tests.1)
+digit_range d h = let tests = and_parts (leb 48 d) (leb d 57) h in (leb-true 48 d tests.0, leb-true d 57 tests.1)
 
 octal_first : (bytes digits suffix : List ℕ) → bytes ≡ digits ++ suffix → 0 < length digits → AllOf class.Octal digits → FirstDigit bytes
 octal_first bytes [] suffix is some all = absurd (omega arith)
@@ -160,10 +160,10 @@ number-first bytes after constant h = first_of_spelled h.radix bytes h.spelled h
 
 no_blank : (b : ℕ) → 33 ≤ b → has class.Blank b ≡ false
 unfolding has
-no_blank b h = rw (ne-eqb b 32 (λ e. omega arith), ne-eqb b 9 (λ e. omega arith)) refl
+no_blank b h = rw (ne_eqb b 32 (λ e. omega arith), ne_eqb b 9 (λ e. omega arith)) refl
 
 number_at-constant : (d : ℕ) (rest : List ℕ) → 48 ≤ d → constant_at (d ∷ rest) ≡ number_at (d ∷ rest)
-number_at-constant d rest h = rw (ne-eqb d 39 (λ e. omega arith)) refl
+number_at-constant d rest h = rw (ne_eqb d 39 (λ e. omega arith)) refl
 
 constant_number-read : (spelled end : List ℕ) (c : Constant) (f : FirstDigit spelled) → IsNumber spelled end c → constant_at (spelled ++ end) ≡ Some (c, end)
 constant_number-read spelled end c f h =

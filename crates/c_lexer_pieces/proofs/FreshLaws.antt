@@ -1,6 +1,7 @@
 -- Whether a place is fresh can be followed byte by byte.
 use Rattle.std.proofs.Common.{◌≡◌, ℕ, Bool, true, false, ◌||◌, ◌&&◌, eqb, eqb-true, List, [], ◌∷◌, ◌++◌, refl, ap, ◌∙◌, ◌⊎◌, inl, inr, ⊎_elim}
 use Rattle.std.specs.List.{list_all}
+use Rattle.std.proofs.lemmas.Bool.{and_parts}
 use Rattle.c_lexer_pieces.specs.declared.bytes.Class.TheVariants as class
 use Rattle.c_lexer_pieces.specs.Bytes.{has}
 use Rattle.c_lexer_pieces.specs.Pieces.{AllOf, IsFresh}
@@ -50,10 +51,6 @@ fresh-is before h =
     (λ (w : (true ≡ true) × AllOf class.Blank before). record { lines = []; blanks = before; is = refl; whole = inl refl; are_blank = w.1 })
     (λ (w : LastLine before). record { lines = w.front ++ 10 ∷ []; blanks = w.blanks; is = w.is; whole = inr (w.front, refl); are_blank = w.are_blank })
     (last-line true before h)
-
-and_parts : (a b : Bool) → (a && b) ≡ true → (a ≡ true) × (b ≡ true)
-and_parts true b h = (refl, h)
-and_parts false b h = cc
 
 or_true : (a b : Bool) → b ≡ true → (a || b && true) ≡ true
 or_true true b h = refl

@@ -14,14 +14,16 @@ use Rattle.c_lexer_pieces.specs.Reading.{first_some, strip, with_rest, hexadecim
 use Rattle.c_lexer_pieces.specs.Values.{class_of, base_of, kind_of, simple_escape, signed_byte}
 use Rattle.c_lexer_pieces.specs.Cutting.{as_piece, sign_with, sign_at, comment_or_sign, plain_at, line_piece, directive_at, unless_known, new_directive_at, piece_at}
 use Rattle.c_lexer_pieces.specs.Piece.{Piece, Nothing, Name, Constant', Text, Punctuator, Definition, Known}
-use Rattle.std.proofs.lemmas.Bool.{eqb-false}
+use Rattle.std.proofs.lemmas.Bool.{eqb-false, and_parts, or_parts}
 use Rattle.std.specs.List.{list_all}
+use Rattle.std.proofs.lemmas.Option.{cond_some}
+use Rattle.base_lists.proofs.Tests.{cond_cases_of}
 use Rattle.c_lexer_pieces.specs.Pieces.{AllOf}
 use Rattle.c_lexer_pieces.specs.PieceFacts.{IsNamed}
 use Rattle.c_lexer_pieces.proofs.RunLaws.{run-past, run-AllOf}
 use Rattle.c_lexer_pieces.proofs.CommentLaws.{comment-splits}
 use Rattle.c_lexer_pieces.proofs.Lengths.{past-le, comment-less}
-use Rattle.c_lexer_pieces.proofs.Steps.{bound, chosen, some_if, some_unless, strip-some}
+use Rattle.c_lexer_pieces.proofs.Steps.{bound, some_unless, strip-some}
 
 pub record Splits (bytes rest : List ℕ) : Type 0 where
   pub front : List ℕ
@@ -78,8 +80,8 @@ escape-splits (c ∷ rest) x h =
     ⊎_elim
     (λ (v : (is_some (simple_escape c) ≡ true) × (with_rest (simple_escape c) rest ≡ Some x)). splits-to _ _ _ front (with_rest-is (simple_escape c) rest x v.1))
     (λ (v : (is_some (simple_escape c) ≡ false) × (octal_at (c ∷ rest) ≡ Some x)). octal-splits (c ∷ rest) x v.1)
-    (chosen (is_some (simple_escape c)) (with_rest (simple_escape c) rest) (octal_at (c ∷ rest)) (Some x) w.1))
-    (chosen (eqb c 120) (hexadecimal_escape_at rest) (cond (is_some (simple_escape c)) (with_rest (simple_escape c) rest) (octal_at (c ∷ rest))) (Some x) h)
+    (cond_cases_of (is_some (simple_escape c)) (with_rest (simple_escape c) rest) (octal_at (c ∷ rest)) (Some x) w.1))
+    (cond_cases_of (eqb c 120) (hexadecimal_escape_at rest) (cond (is_some (simple_escape c)) (with_rest (simple_escape c) rest) (octal_at (c ∷ rest))) (Some x) h)
 
 -- an element takes at least one byte
 pub record Element (bytes rest : List ℕ) : Type 0 where
@@ -101,7 +103,7 @@ element-splits quote (c ∷ rest) x h =
     let same : (c, rest) ≡ x = cc in
     let e : rest ≡ x.1 = ap (λ y. y.1) same in
     record { splits = splits-to _ _ _ front e; less = omega (arith, ap length e) })
-    (chosen (eqb c 92) (escape_at rest) (Some (c, rest)) (Some x) w.1)
+    (cond_cases_of (eqb c 92) (escape_at rest) (Some (c, rest)) (Some x) w.1)
 
 abbrev character_of : ℕ × List ℕ → Constant
 character_of e = record { kind = scalar.Int; value = signed_byte e.0 }
@@ -173,7 +175,7 @@ text_within-splits (suc n) bytes x h =
     let a = bound (element_at 34 bytes) (λ e. option_and_then (λ t. Some (e.0 ∷ t.0, t.1)) (text_within n e.1)) x w.1 in
     let b = bound (text_within n a.value.1) (λ t. Some (a.value.0 ∷ t.0, t.1)) x a.then in
     text-more bytes a.value b.value x (element-splits 34 bytes a.value a.is) (text_within-splits n a.value.1 b.value b.is) (let e : Some (a.value.0 ∷ b.value.0, b.value.1) ≡ Some x = b.then in cc))
-    (chosen (begins 34 bytes) (Some ([], drop 1 bytes)) (option_and_then (λ e. option_and_then (λ t. Some (e.0 ∷ t.0, t.1)) (text_within n e.1)) (element_at 34 bytes)) (Some x) h)
+    (cond_cases_of (begins 34 bytes) (Some ([], drop 1 bytes)) (option_and_then (λ e. option_and_then (λ t. Some (e.0 ∷ t.0, t.1)) (text_within n e.1)) (element_at 34 bytes)) (Some x) h)
 
 hexadecimal_at-splits : (bytes digits : List ℕ) → hexadecimal_at bytes ≡ Some digits → Splits bytes digits
 hexadecimal_at-splits bytes digits h =
@@ -182,7 +184,7 @@ hexadecimal_at-splits bytes digits h =
     ⊎_elim
     (λ (w : (begins 120 a.value ≡ true) × (Some (drop 1 a.value) ≡ Some digits)). let e : drop 1 a.value ≡ digits = cc in splits-to _ _ _ (splits-trans _ _ _ front (drop-splits 1 a.value)) e)
     (λ (w : (begins 120 a.value ≡ false) × (strip 88 a.value ≡ Some digits)). splits-trans _ _ _ front (strip-splits 88 a.value digits w.1))
-    (chosen (begins 120 a.value) (Some (drop 1 a.value)) (strip 88 a.value) (Some digits) a.then)
+    (cond_cases_of (begins 120 a.value) (Some (drop 1 a.value)) (strip 88 a.value) (Some digits) a.then)
 
 radix-splits : (bytes : List ℕ) → Splits bytes (radix_at bytes).1
 unfolding radix_at
@@ -206,13 +208,9 @@ pub record ConstantParts (r : Radix) (digits : List ℕ) (end : Bool × List ℕ
   pub value_is : pos value ≡ x.0.value
   pub rest_is : end.1 ≡ x.1
 
-pub or_false : (a b : Bool) → (a || b) ≡ false → (a ≡ false) × (b ≡ false)
-or_false true b h = cc
-or_false false b h = (refl, h)
-
 no_digit : (digits : List ℕ) (b : Bool) → (eqb (length digits) 0 || b) ≡ false → (0 < length digits) × (b ≡ false)
 no_digit digits b h =
-    let tests = or_false (eqb (length digits) 0) b h in
+    let tests = or_parts (eqb (length digits) 0) b h in
     let some = eqb-false (length digits) 0 tests.0 in
     (omega (arith, some), tests.1)
 
@@ -255,11 +253,7 @@ letter_in_name b h = rw h refl
 
 pub name-parts : (bytes : List ℕ) (x : List ℕ × List ℕ) → name_at bytes ≡ Some x → ((begins_name bytes && nat_le (length (run class.Name bytes)) 63) ≡ true) × ((run class.Name bytes, past class.Name bytes) ≡ x)
 unfolding name_at
-name-parts bytes x h = some_if (begins_name bytes && nat_le (length (run class.Name bytes)) 63) (run class.Name bytes, past class.Name bytes) x h
-
-pub and_true : (a b : Bool) → (a && b) ≡ true → (a ≡ true) × (b ≡ true)
-and_true true b h = (refl, h)
-and_true false b h = cc
+name-parts bytes x h = cond_some (begins_name bytes && nat_le (length (run class.Name bytes)) 63) (run class.Name bytes, past class.Name bytes) x h
 
 run-begins : (bytes : List ℕ) → begins_name bytes ≡ true → begins_name (run class.Name bytes) ≡ true
 run-begins [] h = cc
@@ -273,7 +267,7 @@ all_name_bytes bytes h = h
 pub name-IsName : (bytes : List ℕ) (x : List ℕ × List ℕ) → name_at bytes ≡ Some x → IsName x.0
 name-IsName bytes x h =
     let parts = name-parts bytes x h in
-    let tests = and_true (begins_name bytes) (nat_le (length (run class.Name bytes)) 63) parts.0 in
+    let tests = and_parts (begins_name bytes) (nat_le (length (run class.Name bytes)) 63) parts.0 in
     let named : IsName (run class.Name bytes) = record {
       begins = run-begins bytes tests.0;
       runs = all_name_bytes (run class.Name bytes) (run-AllOf class.Name bytes);
@@ -377,10 +371,10 @@ plain_at-piece (b ∷ bs) x h =
     ⊎_elim
     (λ (t : (eqb b 39 ≡ true) × (as_piece Constant' (character_at (b ∷ bs)) ≡ Some x)). plain-piece Constant' (b ∷ bs) (character_at (b ∷ bs)) x (λ a. refl) (λ y g. character-element (b ∷ bs) y g) (λ y g. tt) t.1)
     (λ (t : (eqb b 39 ≡ false) × (four ≡ Some x)). comment_or_sign-piece (b ∷ bs) x t.1)
-    (chosen (eqb b 39) (as_piece Constant' (character_at (b ∷ bs))) four (Some x) u.1))
-    (chosen (is_digit b) (as_piece Constant' (number_at (b ∷ bs))) three (Some x) v.1))
-    (chosen (is_letter b) (as_piece Name (name_at (b ∷ bs))) two (Some x) w.1))
-    (chosen (is_separator b) (Some (Nothing, bs)) one (Some x) h)
+    (cond_cases_of (eqb b 39) (as_piece Constant' (character_at (b ∷ bs))) four (Some x) u.1))
+    (cond_cases_of (is_digit b) (as_piece Constant' (number_at (b ∷ bs))) three (Some x) v.1))
+    (cond_cases_of (is_letter b) (as_piece Name (name_at (b ∷ bs))) two (Some x) w.1))
+    (cond_cases_of (is_separator b) (Some (Nothing, bs)) one (Some x) h)
 
 line-rest : (text after : List ℕ) (x : Piece × List ℕ) → line_piece text after ≡ Some x → (piece_len x.0 ≡ 0) × (after ≡ x.1) × IsNamed x.0
 line-rest text after x h =
@@ -390,15 +384,11 @@ line-rest text after x h =
     let a = bound (define_in text) (λ d. Some (Definition d.0 d.1, after)) x w.1 in
     let same : (Definition a.value.0 a.value.1, after) ≡ x = let e : Some (Definition a.value.0 a.value.1, after) ≡ Some x = a.then in cc in
     (sym (ap (λ z. piece_len z.0) same), ap (λ z. z.1) same, subst (λ (z : Piece × List ℕ). IsNamed z.0) same tt))
-    (chosen (is_include text) (Some (Nothing, after)) (option_and_then (λ d. Some (Definition d.0 d.1, after)) (define_in text)) (Some x) h)
+    (cond_cases_of (is_include text) (Some (Nothing, after)) (option_and_then (λ d. Some (Definition d.0 d.1, after)) (define_in text)) (Some x) h)
 
 pub unless_known-is : (known : Known) (y x : Piece × List ℕ) → unless_known known y ≡ Some x → y ≡ x
 unless_known-is known (Definition n c, after) x h = let e = (some_unless (is_some (known n)) (Some (Definition n c, after)) x h).1 in cc
-unless_known-is known (Nothing, after) x h = cc
-unless_known-is known (Name n, after) x h = cc
-unless_known-is known (Constant' c, after) x h = cc
-unless_known-is known (Text vs, after) x h = cc
-unless_known-is known (Punctuator s, after) x h = cc
+unless_known-is known y x h = cc
 
 directive-piece : (bytes : List ℕ) (x : Piece × List ℕ) → directive_at bytes ≡ Some x → ReadsPiece bytes x
 unfolding directive_at
@@ -445,5 +435,5 @@ piece-read fresh known bytes x h =
     ⊎_elim
     (λ (v : (begins 35 bytes ≡ true) × (directive ≡ Some x)). new_directive-piece fresh known bytes x v.1)
     (λ (v : (begins 35 bytes ≡ false) × (plain_at bytes ≡ Some x)). plain_at-piece bytes x v.1)
-    (chosen (begins 35 bytes) directive (plain_at bytes) (Some x) w.1))
-    (chosen (begins 34 bytes) (as_piece Text (text_at (drop 1 bytes))) others (Some x) h)
+    (cond_cases_of (begins 35 bytes) directive (plain_at bytes) (Some x) w.1))
+    (cond_cases_of (begins 34 bytes) (as_piece Text (text_at (drop 1 bytes))) others (Some x) h)

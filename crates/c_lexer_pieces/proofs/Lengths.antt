@@ -1,5 +1,7 @@
 -- What is read is shorter than what it was read from.
 use Rattle.std.proofs.Common.{◌≡◌, ◌≤◌, ◌<◌, ℕ, length, true, false, cond, ◌||◌, eqb, List, [], ◌∷◌, take, drop, Option, Some, None, is_some, ap, sym, ⊎_elim, arith, length-append, length-drop}
+use Rattle.c_lexer_pieces.proofs.DirectiveReads.{comment-some}
+use Rattle.base_lists.proofs.Tests.{cond_cases_of}
 use Rattle.c_lexer_pieces.specs.declared.bytes.Class.{Class}
 use Rattle.c_lexer_pieces.specs.declared.bytes.Class.TheVariants as class
 use Rattle.c_lexer_pieces.specs.Bytes.{run, past, begins, begins_with}
@@ -8,7 +10,7 @@ use Rattle.c_lexer_pieces.specs.Values.{simple_escape}
 use Rattle.c_lexer_pieces.specs.Pieces.{IsComment, line, block}
 use Rattle.c_lexer_pieces.proofs.RunLaws.{run-past}
 use Rattle.c_lexer_pieces.proofs.CommentLaws.{comment-splits}
-use Rattle.c_lexer_pieces.proofs.Steps.{bound, chosen}
+use Rattle.c_lexer_pieces.proofs.Steps.{bound}
 
 pub past-le : (k : Class) (bytes : List ℕ) → length (past k bytes) ≤ length bytes
 past-le k bytes = omega (arith, ap length (run-past k bytes), length-append (run k bytes) (past k bytes))
@@ -41,8 +43,8 @@ escape-le (c ∷ rest) x h =
     ⊎_elim
     (λ (v : (is_some (simple_escape c) ≡ true) × (with_rest (simple_escape c) rest ≡ Some x)). omega (arith, ap length (with_rest-is (simple_escape c) rest x v.1)))
     (λ (v : (is_some (simple_escape c) ≡ false) × (octal_at (c ∷ rest) ≡ Some x)). octal-le (c ∷ rest) x v.1)
-    (chosen (is_some (simple_escape c)) (with_rest (simple_escape c) rest) (octal_at (c ∷ rest)) (Some x) w.1))
-    (chosen (eqb c 120) (hexadecimal_escape_at rest) (cond (is_some (simple_escape c)) (with_rest (simple_escape c) rest) (octal_at (c ∷ rest))) (Some x) h)
+    (cond_cases_of (is_some (simple_escape c)) (with_rest (simple_escape c) rest) (octal_at (c ∷ rest)) (Some x) w.1))
+    (cond_cases_of (eqb c 120) (hexadecimal_escape_at rest) (cond (is_some (simple_escape c)) (with_rest (simple_escape c) rest) (octal_at (c ∷ rest))) (Some x) h)
 
 pub element-less : (quote : ℕ) (bytes : List ℕ) (x : ℕ × List ℕ) → element_at quote bytes ≡ Some x → length x.1 < length bytes
 unfolding element_at
@@ -54,17 +56,13 @@ element-less quote (c ∷ rest) x h =
     ⊎_elim
     (λ (v : (eqb c 92 ≡ true) × (escape_at rest ≡ Some x)). omega (arith, escape-le rest x v.1))
     (λ (v : (eqb c 92 ≡ false) × (Some (c, rest) ≡ Some x)). let same : (c, rest) ≡ x = cc in omega (arith, ap (λ y. length y.1) same))
-    (chosen (eqb c 92) (escape_at rest) (Some (c, rest)) (Some x) w.1))
-    (chosen (eqb c 10 || eqb c quote) None (cond (eqb c 92) (escape_at rest) (Some (c, rest))) (Some x) h)
-
-has_bytes : (bytes after : List ℕ) → IsComment bytes after → 0 < length bytes
-has_bytes bytes after (line body is all stops) = omega (arith, ap length is)
-has_bytes bytes after (block body is close) = omega (arith, ap length is)
+    (cond_cases_of (eqb c 92) (escape_at rest) (Some (c, rest)) (Some x) w.1))
+    (cond_cases_of (eqb c 10 || eqb c quote) None (cond (eqb c 92) (escape_at rest) (Some (c, rest))) (Some x) h)
 
 pub comment-less : (bytes rest : List ℕ) → comment_at bytes ≡ Some rest → length rest < length bytes
 comment-less bytes rest h =
     let s = comment-splits bytes rest h in
-    omega (arith, ap length s.is, length-append s.front rest, has_bytes s.front rest s.comment)
+    omega (arith, ap length s.is, length-append s.front rest, comment-some s.front rest s.comment)
 
 pub trailing-less : (bytes rest : List ℕ) → 0 < length bytes → trailing_at bytes ≡ Some rest → length rest < length bytes
 unfolding trailing_at
@@ -72,4 +70,4 @@ trailing-less bytes rest nonempty h =
     ⊎_elim
     (λ (w : ((begins_with class.Blank bytes || begins 13 bytes) ≡ true) × (Some (drop 1 bytes) ≡ Some rest)). let same : drop 1 bytes ≡ rest = cc in omega (arith, ap length same, length-drop 1 bytes))
     (λ (w : ((begins_with class.Blank bytes || begins 13 bytes) ≡ false) × (comment_at bytes ≡ Some rest)). comment-less bytes rest w.1)
-    (chosen (begins_with class.Blank bytes || begins 13 bytes) (Some (drop 1 bytes)) (comment_at bytes) (Some rest) h)
+    (cond_cases_of (begins_with class.Blank bytes || begins 13 bytes) (Some (drop 1 bytes)) (comment_at bytes) (Some rest) h)

@@ -17,12 +17,12 @@ use Rattle.c_lexer_pieces.specs.Piece.{Piece, Nothing, Name, Constant', Text, Pu
 use Rattle.c_lexer_pieces.specs.Pieces.{Place, StandsAs, AllOf, RunEnds, IsComment, IsNumber, IsCharacter, IsText, IsInclude, IsDefine}
 use Rattle.c_lexer_pieces.specs.Pieces as piece
 use Rattle.c_lexer_pieces.proofs.FreshLaws.{fresh-known}
-use Rattle.c_lexer_pieces.proofs.Steps.{bound, strip-some, chosen, some_unless}
-use Rattle.std.proofs.lemmas.Bool.{eq-eqb}
+use Rattle.c_lexer_pieces.proofs.Steps.{bound, strip-some, some_unless}
+use Rattle.std.proofs.lemmas.Bool.{eq-eqb, and_parts, ne_eqb, not-true, or_parts}
+use Rattle.base_lists.proofs.Tests.{cond_cases_of}
 use Rattle.c_lexer_pieces.proofs.RunLaws.{run-append, past-append}
 use Rattle.c_lexer_pieces.proofs.CommentLaws.{comment-splits, comment-append}
-use Rattle.c_lexer_pieces.proofs.Fronts.{and_true, or_false}
-use Rattle.c_lexer_pieces.proofs.ReadLaws.{ne-eqb, number-read, character-read, text-read}
+use Rattle.c_lexer_pieces.proofs.ReadLaws.{number-read, character-read, text-read}
 use Rattle.c_lexer_pieces.proofs.DirectiveReads.{number-first, name-first, name-read, letter_high, Opened, include-read, define-read}
 
 -- a piece is read, and reaches as far; where no farther, it is this one
@@ -38,7 +38,7 @@ itself place left after p h = record { found = (p, after); is = h; far = omega a
 -- a byte that begins neither a string nor a directive
 plain-piece : (fresh : Bool) (known : Known) (b : ℕ) (rest : List ℕ) → b ≢ 34 → b ≢ 35 → piece_at fresh known (b ∷ rest) ≡ plain_at (b ∷ rest)
 unfolding piece_at
-plain-piece fresh known b rest no_quote no_hash = rw (ne-eqb b 34 no_quote, ne-eqb b 35 no_hash) refl
+plain-piece fresh known b rest no_quote no_hash = rw (ne_eqb b 34 no_quote, ne_eqb b 35 no_hash) refl
 
 separator_low : (b : ℕ) → is_separator b ≡ true → b ≤ 32
 separator_low b h = grind (arith, nat_tests)
@@ -155,11 +155,11 @@ all_apart = refl
 value-apart : (table : List (List ℕ × Sign)) (bytes : List ℕ) (s : Sign) → list_all (λ (e : List ℕ × Sign). is_apart e.0) table ≡ true → value_in table bytes ≡ Some s → is_apart bytes ≡ true
 value-apart [] bytes s all h = cc
 value-apart (e ∷ es) bytes s all h =
-    let tests = and_true (is_apart e.0) (list_all (λ (e : List ℕ × Sign). is_apart e.0) es) all in
+    let tests = and_parts (is_apart e.0) (list_all (λ (e : List ℕ × Sign). is_apart e.0) es) all in
     ⊎_elim
     (λ (w : (bytes_eq e.0 bytes ≡ true) × (Some e.1 ≡ Some s)). subst (λ xs. is_apart xs ≡ true) ((bytes_eq-Decides e.0 bytes).0 w.0) tests.0)
     (λ (w : (bytes_eq e.0 bytes ≡ false) × (value_in es bytes ≡ Some s)). value-apart es bytes s tests.1 w.1)
-    (chosen (bytes_eq e.0 bytes) (Some e.1) (value_in es bytes) (Some s) h)
+    (cond_cases_of (bytes_eq e.0 bytes) (Some e.1) (value_in es bytes) (Some s) h)
 
 pub record Apart (bytes : List ℕ) : Type 0 where
   pub first : ℕ
@@ -169,16 +169,12 @@ pub record Apart (bytes : List ℕ) : Type 0 where
   pub tests : (is_separator first || is_letter first || is_digit first || eqb first 34 || eqb first 35 || eqb first 39) ≡ false
   pub no_comment : (leb (length others) 0 || not (eqb first 47 && (begins 47 others || begins 42 others))) ≡ true
 
-not_true : (b : Bool) → not b ≡ true → b ≡ false
-not_true true h = cc
-not_true false h = refl
-
 apart-parts : (bytes : List ℕ) → is_apart bytes ≡ true → Apart bytes
 apart-parts [] h = cc
 apart-parts (b ∷ bs) h =
-    let one = and_true (leb (length bs) 2) (not (is_separator b || is_letter b || is_digit b || eqb b 34 || eqb b 35 || eqb b 39) && (leb (length bs) 0 || not (eqb b 47 && (begins 47 bs || begins 42 bs)))) h in
-    let two = and_true (not (is_separator b || is_letter b || is_digit b || eqb b 34 || eqb b 35 || eqb b 39)) (leb (length bs) 0 || not (eqb b 47 && (begins 47 bs || begins 42 bs))) one.1 in
-    record { first = b; others = bs; is = refl; short = leb-true (length bs) 2 one.0; tests = not_true _ two.0; no_comment = two.1 }
+    let one = and_parts (leb (length bs) 2) (not (is_separator b || is_letter b || is_digit b || eqb b 34 || eqb b 35 || eqb b 39) && (leb (length bs) 0 || not (eqb b 47 && (begins 47 bs || begins 42 bs)))) h in
+    let two = and_parts (not (is_separator b || is_letter b || is_digit b || eqb b 34 || eqb b 35 || eqb b 39)) (leb (length bs) 0 || not (eqb b 47 && (begins 47 bs || begins 42 bs))) one.1 in
+    record { first = b; others = bs; is = refl; short = leb-true (length bs) 2 one.0; tests = not-true _ two.0; no_comment = two.1 }
 
 pub sign-apart : (bytes : List ℕ) (s : Sign) → sign_spelled bytes ≡ Some s → Apart bytes
 sign-apart bytes s h = apart-parts bytes (value-apart signs bytes s all_apart h)
@@ -187,11 +183,11 @@ sign-apart bytes s h = apart-parts bytes (value-apart signs bytes s all_apart h)
 apart-read : (b : ℕ) (rest : List ℕ) → (is_separator b || is_letter b || is_digit b || eqb b 34 || eqb b 35 || eqb b 39) ≡ false → (fresh : Bool) (known : Known) → piece_at fresh known (b ∷ rest) ≡ comment_or_sign (comment_at (b ∷ rest)) (b ∷ rest)
 unfolding piece_at plain_at
 apart-read b rest h fresh known =
-    let a = or_false (is_separator b || is_letter b || is_digit b || eqb b 34 || eqb b 35) (eqb b 39) h in
-    let c = or_false (is_separator b || is_letter b || is_digit b || eqb b 34) (eqb b 35) a.0 in
-    let d = or_false (is_separator b || is_letter b || is_digit b) (eqb b 34) c.0 in
-    let e = or_false (is_separator b || is_letter b) (is_digit b) d.0 in
-    let f = or_false (is_separator b) (is_letter b) e.0 in
+    let a = or_parts (is_separator b || is_letter b || is_digit b || eqb b 34 || eqb b 35) (eqb b 39) h in
+    let c = or_parts (is_separator b || is_letter b || is_digit b || eqb b 34) (eqb b 35) a.0 in
+    let d = or_parts (is_separator b || is_letter b || is_digit b) (eqb b 34) c.0 in
+    let e = or_parts (is_separator b || is_letter b) (is_digit b) d.0 in
+    let f = or_parts (is_separator b) (is_letter b) e.0 in
     rw (d.1, c.1, f.0, f.1, e.1, a.1) refl
 
 zero_or_more : (n : ℕ) → (n ≡ 0) ⊎ (0 < n)

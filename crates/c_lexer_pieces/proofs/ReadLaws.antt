@@ -1,6 +1,6 @@
 -- What stands is read.
 use Rattle.std.proofs.Common.{◌≡◌, ◌+◌, ◌^◌, ◌≤◌, ◌<◌, ℕ, zero, suc, length, Bool, true, false, eqb, ltb, lt-ltb, leb, leb-true, List, [], ◌∷◌, ◌++◌, take, drop, Some, None, is_some, refl, ap, sym, ◌∙◌, ⊎_elim, arith, pos, append_assoc, length-append}
-use Rattle.std.proofs.lemmas.Bool.{eqb-true}
+use Rattle.std.proofs.lemmas.Bool.{eqb-true, and_parts, ne_eqb}
 use Rattle.std.proofs.lemmas.Bool.Decides.{nat_tests}
 use Rattle.std.proofs.Math.Seq.{drop-append_seam}
 use Rattle.c_syntax.specs.declared.parts.Constant.{Constant}
@@ -14,10 +14,6 @@ use Rattle.c_lexer_pieces.specs.Reading.{strip, with_rest, radix_at, suffix_at, 
 use Rattle.c_lexer_pieces.specs.Values.{class_of, base_of, value_of, kind_of, simple_escape}
 use Rattle.c_lexer_pieces.specs.Pieces.{AllOf, RunEnds, Spells, IsSuffix, IsNumber, IsElement, plain, letter, octal, hexadecimal, AreElements, IsCharacter}
 use Rattle.c_lexer_pieces.proofs.RunLaws.{run-append, past-append, all_of_first}
-use Rattle.c_lexer_pieces.proofs.Fronts.{and_true}
-
-pub ne-eqb : (a b : ℕ) → (a ≡ b → ⊥) → eqb a b ≡ false
-ne-eqb a b h = elim (eqb a b) as (λ v. eqb a b ≡ v → eqb a b ≡ false) [ true ↦ λ e. absurd (h (eqb-true a b e)) | false ↦ λ e. e ] refl
 
 -- Elements
 
@@ -28,7 +24,7 @@ small-read base digits h = let below : ltb (value_of base digits) (2 ^ 32) ≡ t
 byte-read : (base value : ℕ) (digits : List ℕ) → 0 < length digits → value ≡ value_of base digits → value < 256 → byte_of base digits ≡ Some value
 unfolding byte_of
 byte-read base value digits some is small =
-    let none : eqb (length digits) 0 ≡ false = ne-eqb (length digits) 0 (λ e. omega arith) in
+    let none : eqb (length digits) 0 ≡ false = ne_eqb (length digits) 0 (λ e. omega arith) in
     let v = value_of base digits in
     let below : ltb v 256 ≡ true = lt-ltb v 256 (omega arith) in
     rw (none, small-read base digits (omega (arith)), below, is) refl
@@ -55,19 +51,19 @@ hexadecimal-read value digits after some all stops is small =
 
 pub octal_range : (d : ℕ) → has class.Octal d ≡ true → (48 ≤ d) × (d ≤ 55)
 unfolding has
-octal_range d h = let tests = and_true (leb 48 d) (leb d 55) h in (leb-true 48 d tests.0, leb-true d 55 tests.1)
+octal_range d h = let tests = and_parts (leb 48 d) (leb d 55) h in (leb-true 48 d tests.0, leb-true d 55 tests.1)
 
 no_octal_escape : (d : ℕ) → 48 ≤ d → d ≤ 55 → is_some (simple_escape d) ≡ false
 unfolding simple_escape
 no_octal_escape d low high =
-    rw (ne-eqb d 110 (λ e. omega arith), ne-eqb d 116 (λ e. omega arith), ne-eqb d 114 (λ e. omega arith), ne-eqb d 97 (λ e. omega arith), ne-eqb d 98 (λ e. omega arith), ne-eqb d 102 (λ e. omega arith), ne-eqb d 118 (λ e. omega arith), ne-eqb d 92 (λ e. omega arith), ne-eqb d 39 (λ e. omega arith), ne-eqb d 34 (λ e. omega arith), ne-eqb d 63 (λ e. omega arith)) refl
+    rw (ne_eqb d 110 (λ e. omega arith), ne_eqb d 116 (λ e. omega arith), ne_eqb d 114 (λ e. omega arith), ne_eqb d 97 (λ e. omega arith), ne_eqb d 98 (λ e. omega arith), ne_eqb d 102 (λ e. omega arith), ne_eqb d 118 (λ e. omega arith), ne_eqb d 92 (λ e. omega arith), ne_eqb d 39 (λ e. omega arith), ne_eqb d 34 (λ e. omega arith), ne_eqb d 63 (λ e. omega arith)) refl
 
 octal_escape-read : (digits after : List ℕ) → 0 < length digits → AllOf class.Octal digits → escape_at (digits ++ after) ≡ octal_at (digits ++ after)
 unfolding escape_at
 octal_escape-read [] after some all = absurd (omega arith)
 octal_escape-read (d ∷ ds) after some all =
     let range = octal_range d (all_of_first class.Octal d ds all).0 in
-    rw (ne-eqb d 120 (λ e. omega (arith, range.1)), no_octal_escape d range.0 range.1) refl
+    rw (ne_eqb d 120 (λ e. omega (arith, range.1)), no_octal_escape d range.0 range.1) refl
 
 no_x_escape : (c value : ℕ) → simple_escape c ≡ Some value → c ≡ 120 → ⊥
 unfolding simple_escape
@@ -75,12 +71,12 @@ no_x_escape c value h e = let none : simple_escape 120 ≡ None = refl in let th
 
 letter-read : (c value : ℕ) (after : List ℕ) → simple_escape c ≡ Some value → escape_at (c ∷ after) ≡ Some (value, after)
 unfolding escape_at
-letter-read c value after h = rw (ne-eqb c 120 (no_x_escape c value h), h) refl
+letter-read c value after h = rw (ne_eqb c 120 (no_x_escape c value h), h) refl
 
 -- An element is read, where its quote is no backslash.
 pub element-read : (quote value : ℕ) (bytes after : List ℕ) → eqb 92 quote ≡ false → IsElement quote bytes after value → element_at quote (bytes ++ after) ≡ Some (value, after)
 unfolding element_at escape_at
-element-read quote value bytes after q (plain is line other slash) = rw (is, ne-eqb value 10 line, ne-eqb value quote other, ne-eqb value 92 slash) refl
+element-read quote value bytes after q (plain is line other slash) = rw (is, ne_eqb value 10 line, ne_eqb value quote other, ne_eqb value 92 slash) refl
 element-read quote value bytes after q (letter c is e) = rw (is, q) (letter-read c value after e)
 element-read quote value bytes after q (octal digits is some short all stops v small) = rw (is, q) (octal_escape-read digits after some all ∙ octal-read value digits after some short all stops v small)
 element-read quote value bytes after q (hexadecimal digits is some all stops v small) = rw (is, q) (hexadecimal-read value digits after some all stops v small)
@@ -94,7 +90,7 @@ character-read bytes after constant h =
 
 -- an element has a first byte that isn't its quote
 element-begins : (quote value : ℕ) (bytes rest : List ℕ) (after : List ℕ) → eqb 92 quote ≡ false → IsElement quote bytes after value → begins quote (bytes ++ rest) ≡ false
-element-begins quote value bytes rest after q (plain is line other slash) = rw is (ne-eqb value quote other)
+element-begins quote value bytes rest after q (plain is line other slash) = rw is (ne_eqb value quote other)
 element-begins quote value bytes rest after q (letter c is e) = rw is q
 element-begins quote value bytes rest after q (octal digits is some short all stops v small) = rw is q
 element-begins quote value bytes rest after q (hexadecimal digits is some all stops v small) = rw is q
@@ -141,7 +137,7 @@ octal-NoX : (digits rest : List ℕ) → AllOf class.Octal digits → NoX rest �
 octal-NoX [] rest all none = none
 octal-NoX (d ∷ ds) rest all none =
     let range = octal_range d (all_of_first class.Octal d ds all).0 in
-    record { lower = ne-eqb d 120 (λ e. omega (arith, range.1)); upper = ne-eqb d 88 (λ e. omega (arith, range.1)) }
+    record { lower = ne_eqb d 120 (λ e. omega (arith, range.1)); upper = ne_eqb d 88 (λ e. omega (arith, range.1)) }
 
 octal_radix-read : (digits rest : List ℕ) → begins 48 digits ≡ true → AllOf class.Octal digits → NoX rest → radix_at (digits ++ rest) ≡ (radix.Octal, digits ++ rest)
 unfolding radix_at
@@ -165,7 +161,7 @@ radix-read radix.Hexadecimal spelled digits rest h some all none =
 -- a byte that is in no number is none of these
 number_byte : (c : ℕ) (after : List ℕ) → has class.Number c ≡ true → RunEnds class.Number after → begins c after ≡ false
 number_byte c [] h stops = refl
-number_byte c (a ∷ rest) h stops = ne-eqb a c (λ e. let there : has class.Number a ≡ true = ap (has class.Number) e ∙ h in let not_there : has class.Number a ≡ false = stops in cc)
+number_byte c (a ∷ rest) h stops = ne_eqb a c (λ e. let there : has class.Number a ≡ true = ap (has class.Number) e ∙ h in let not_there : has class.Number a ≡ false = stops in cc)
 
 letters_in_number : (has class.Number 117 ≡ true) × (has class.Number 85 ≡ true) × (has class.Number 120 ≡ true) × (has class.Number 88 ≡ true)
 unfolding has
@@ -211,7 +207,7 @@ kind-small r suffixed v k h = grind (arith, nat_tests)
 
 constant-read : (r : Radix) (digits : List ℕ) (suffixed : Bool) (after : List ℕ) (constant : Constant) → 0 < length digits → RunEnds class.Number after → kind_of r suffixed (value_of (base_of r) digits) ≡ Some constant.kind → constant.value ≡ pos (value_of (base_of r) digits) → constant_from r digits (suffixed, after) ≡ Some (constant, after)
 constant-read r digits suffixed after constant some stops kind value =
-    let none : eqb (length digits) 0 ≡ false = ne-eqb (length digits) 0 (λ e. omega arith) in
+    let none : eqb (length digits) 0 ≡ false = ne_eqb (length digits) 0 (λ e. omega arith) in
     let small = small-read (base_of r) digits (kind-small r suffixed (value_of (base_of r) digits) constant.kind kind) in
     rw (none, stops, small, kind) (λ i. Some (record { kind = constant.kind; value = sym value i }, after))
 

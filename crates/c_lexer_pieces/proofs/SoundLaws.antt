@@ -1,6 +1,9 @@
 -- What is read stands there as what it is read as.
 use Rattle.std.proofs.Common.{◌≡◌, ◌^◌, ◌≤◌, ◌<◌, ℕ, zero, suc, length, Bool, true, false, cond, ◌||◌, eqb, ltb, ltb-true, List, [], ◌∷◌, ◌++◌, take, drop, Option, Some, None, option_and_then, is_some, refl, ap, sym, ◌∙◌, ⊎_elim, inl, inr, ◌⊎◌, subst, arith, pos, append_assoc}
-use Rattle.std.proofs.lemmas.Bool.{eqb-true, eqb-false}
+use Rattle.std.proofs.lemmas.Bool.{eqb-true, eqb-false, or_parts}
+use Rattle.std.proofs.lemmas.Option.{cond_some}
+use Rattle.c_lexer_pieces.proofs.CommentLaws.{begins-is}
+use Rattle.base_lists.proofs.Tests.{cond_cases_of}
 use Rattle.c_syntax.specs.declared.parts.Constant.{Constant}
 use Rattle.c_lexer_pieces.specs.declared.constants.Radix.{Radix}
 use Rattle.c_lexer_pieces.specs.declared.constants.Radix.TheVariants as radix
@@ -11,12 +14,8 @@ use Rattle.c_lexer_pieces.specs.Reading.{strip, with_rest, hexadecimal_at, radix
 use Rattle.c_lexer_pieces.specs.Values.{class_of, base_of, value_of, kind_of, simple_escape}
 use Rattle.c_lexer_pieces.specs.Pieces.{RunEnds, Spells, IsSuffix, IsNumber, IsElement, plain, letter, octal, hexadecimal, AreElements, IsCharacter}
 use Rattle.c_lexer_pieces.proofs.RunLaws.{run-past, run-AllOf, past-RunEnds}
-use Rattle.c_lexer_pieces.proofs.Fronts.{constant-parts, character-parts, or_false}
-use Rattle.c_lexer_pieces.proofs.Steps.{bound, chosen, some_if, some_unless, strip-some}
-
-begins-is : (c : ℕ) (bytes : List ℕ) → begins c bytes ≡ true → bytes ≡ c ∷ drop 1 bytes
-begins-is c [] h = cc
-begins-is c (b ∷ bs) h = let same : b ≡ c = eqb-true b c h in ap (λ x. x ∷ bs) same
+use Rattle.c_lexer_pieces.proofs.Fronts.{constant-parts, character-parts}
+use Rattle.c_lexer_pieces.proofs.Steps.{bound, some_unless, strip-some}
 
 begins-front : (c : ℕ) (front rest : List ℕ) → 0 < length front → begins c (front ++ rest) ≡ begins c front
 begins-front c [] rest h = absurd (omega arith)
@@ -54,7 +53,7 @@ hexadecimal-spelled bytes start digits after h is =
       is = front ∙ ap (λ xs. 48 ∷ xs) (strip-some 88 a.value start w.1 ∙ ap (λ xs. 88 ∷ xs) is);
       spells = inr refl;
     })
-    (chosen (begins 120 a.value) (Some (drop 1 a.value)) (strip 88 a.value) (Some start) a.then)
+    (cond_cases_of (begins 120 a.value) (Some (drop 1 a.value)) (strip 88 a.value) (Some start) a.then)
 
 radix-spelled : (bytes digits after : List ℕ) → (radix_at bytes).1 ≡ digits ++ after → 0 < length digits → Spelled bytes digits after (radix_at bytes).0
 unfolding radix_at
@@ -100,7 +99,7 @@ number-found bytes x h =
     let p = constant-parts r digits (suffix_at after) x h in
     let s = radix-spelled bytes digits after (sym (run-past (class_of r) start)) p.has_digit in
     let f = suffix-found after in
-    let v : value_of (base_of r) digits ≡ p.value = (some_if (ltb (value_of (base_of r) digits) (2 ^ 32)) (value_of (base_of r) digits) p.value p.small).1 in
+    let v : value_of (base_of r) digits ≡ p.value = (cond_some (ltb (value_of (base_of r) digits) (2 ^ 32)) (value_of (base_of r) digits) p.value p.small).1 in
     record {
       front = s.spelled ++ f.suffix;
       is = s.is ∙ ap (λ xs. s.spelled ++ xs) (f.is ∙ ap (λ xs. f.suffix ++ xs) p.rest_is) ∙ sym (append_assoc s.spelled f.suffix x.1);
@@ -158,8 +157,8 @@ unfolding byte_of
 byte-parts base digits value h =
     let found = some_unless (eqb (length digits) 0) (option_and_then (λ v. cond (ltb v 256) (Some v) None) (small_value base digits)) value h in
     let a = bound (small_value base digits) (λ v. cond (ltb v 256) (Some v) None) value found.1 in
-    let b = some_if (ltb a.value 256) a.value value a.then in
-    let v = (some_if (ltb (value_of base digits) (2 ^ 32)) (value_of base digits) a.value a.is).1 in
+    let b = cond_some (ltb a.value 256) a.value value a.then in
+    let v = (cond_some (ltb (value_of base digits) (2 ^ 32)) (value_of base digits) a.value a.is).1 in
     let none = eqb-false (length digits) 0 found.0 in
     record { some = omega (arith, none); is = sym (v ∙ b.1); small = subst (λ y. y < 256) b.1 (ltb-true a.value 256 b.0) }
 
@@ -209,15 +208,15 @@ escape-found quote (c ∷ rest) x h =
     let parts = with_rest-parts (simple_escape c) rest x v.1 in
     record { front = 92 ∷ c ∷ []; is = ap (λ xs. 92 ∷ c ∷ xs) parts.1; element = letter c refl parts.0 })
     (λ (v : (is_some (simple_escape c) ≡ false) × (octal_at (c ∷ rest) ≡ Some x)). octal-found quote (c ∷ rest) x v.1)
-    (chosen (is_some (simple_escape c)) (with_rest (simple_escape c) rest) (octal_at (c ∷ rest)) (Some x) w.1))
-    (chosen (eqb c 120) (hexadecimal_escape_at rest) (cond (is_some (simple_escape c)) (with_rest (simple_escape c) rest) (octal_at (c ∷ rest))) (Some x) h)
+    (cond_cases_of (is_some (simple_escape c)) (with_rest (simple_escape c) rest) (octal_at (c ∷ rest)) (Some x) w.1))
+    (cond_cases_of (eqb c 120) (hexadecimal_escape_at rest) (cond (is_some (simple_escape c)) (with_rest (simple_escape c) rest) (octal_at (c ∷ rest))) (Some x) h)
 
 pub element-found : (quote : ℕ) (bytes : List ℕ) (x : ℕ × List ℕ) → element_at quote bytes ≡ Some x → ElementFound quote bytes x
 unfolding element_at
 element-found quote [] x h = cc
 element-found quote (c ∷ rest) x h =
     let w = some_unless (eqb c 10 || eqb c quote) (cond (eqb c 92) (escape_at rest) (Some (c, rest))) x h in
-    let tests = or_false (eqb c 10) (eqb c quote) w.0 in
+    let tests = or_parts (eqb c 10) (eqb c quote) w.0 in
     ⊎_elim
     (λ (v : (eqb c 92 ≡ true) × (escape_at rest ≡ Some x)).
     let same : c ≡ 92 = eqb-true c 92 v.0 in
@@ -231,7 +230,7 @@ element-found quote (c ∷ rest) x h =
       is = (λ i. c_is i ∷ (same i).1);
       element = plain refl (λ e. eqb-false c 10 tests.0 (c_is ∙ e)) (λ e. eqb-false c quote tests.1 (c_is ∙ e)) (λ e. eqb-false c 92 v.0 (c_is ∙ e));
     })
-    (chosen (eqb c 92) (escape_at rest) (Some (c, rest)) (Some x) w.1)
+    (cond_cases_of (eqb c 92) (escape_at rest) (Some (c, rest)) (Some x) w.1)
 
 pub record CharacterFound (bytes : List ℕ) (x : Constant × List ℕ) : Type 0 where
   pub front : List ℕ
@@ -280,4 +279,4 @@ text-found (suc n) bytes x h =
     let a = bound (element_at 34 bytes) (λ e. option_and_then (λ t. Some (e.0 ∷ t.0, t.1)) (text_within n e.1)) x w.1 in
     let b = bound (text_within n a.value.1) (λ t. Some (a.value.0 ∷ t.0, t.1)) x a.then in
     text-more bytes a.value b.value x (element-found 34 bytes a.value a.is) (text-found n a.value.1 b.value b.is) (let e : Some (a.value.0 ∷ b.value.0, b.value.1) ≡ Some x = b.then in cc))
-    (chosen (begins 34 bytes) (Some ([], drop 1 bytes)) (option_and_then (λ e. option_and_then (λ t. Some (e.0 ∷ t.0, t.1)) (text_within n e.1)) (element_at 34 bytes)) (Some x) h)
+    (cond_cases_of (begins 34 bytes) (Some ([], drop 1 bytes)) (option_and_then (λ e. option_and_then (λ t. Some (e.0 ∷ t.0, t.1)) (text_within n e.1)) (element_at 34 bytes)) (Some x) h)

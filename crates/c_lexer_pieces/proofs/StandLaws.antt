@@ -1,6 +1,8 @@
 -- The piece that is read at a place stands there.
 use Rattle.std.proofs.Common.{◌≡◌, ◌+◌, ℕ, length, true, false, cond, eqb, List, [], ◌∷◌, ◌++◌, take, drop, Option, Some, None, option_and_then, is_some, refl, ap, sym, ◌∙◌, ⊎_elim, subst, append_assoc, take-append-drop, ltb}
 use Rattle.std.proofs.lemmas.Bool.{eqb-true}
+use Rattle.base_lists.proofs.Tests.{cond_cases_of}
+use Rattle.base_lists.proofs.Options.{not_some}
 use Rattle.cbi_base.specs.Name.{is_letter}
 use Rattle.c_syntax.specs.declared.token.Sign.{Sign}
 use Rattle.c_lexer_pieces.specs.declared.bytes.Class.TheVariants as class
@@ -15,8 +17,8 @@ use Rattle.c_lexer_pieces.proofs.RunLaws.{run-past, run-AllOf, past-RunEnds}
 use Rattle.c_lexer_pieces.proofs.CommentLaws.{comment-splits}
 use Rattle.c_lexer_pieces.proofs.Fronts.{name-parts, name-IsName, first_of-some, unless_known-is}
 use Rattle.c_lexer_pieces.proofs.SoundLaws.{number-found, character-found, text-found}
-use Rattle.c_lexer_pieces.proofs.DirectiveLaws.{include-found, define-found, none-of}
-use Rattle.c_lexer_pieces.proofs.Steps.{bound, chosen, some_unless}
+use Rattle.c_lexer_pieces.proofs.DirectiveLaws.{include-found, define-found}
+use Rattle.c_lexer_pieces.proofs.Steps.{bound, some_unless}
 
 pub record StandsFound (place : Place) (left : List ℕ) (x : Piece × List ℕ) : Type 0 where
   pub bytes : List ℕ
@@ -97,10 +99,10 @@ plain-stands place (b ∷ bs) x h =
     ⊎_elim
     (λ (t : (eqb b 39 ≡ true) × (as_piece Constant' (character_at (b ∷ bs)) ≡ Some x)). as-found Constant' place (b ∷ bs) (character_at (b ∷ bs)) x (λ y g. let c = character-found (b ∷ bs) y g in record { bytes = c.front; is = c.is; stands = character y.0 c.character refl }) t.1)
     (λ (t : (eqb b 39 ≡ false) × (four ≡ Some x)). comment_or_sign-stands place (b ∷ bs) x t.1)
-    (chosen (eqb b 39) (as_piece Constant' (character_at (b ∷ bs))) four (Some x) u.1))
-    (chosen (is_digit b) (as_piece Constant' (number_at (b ∷ bs))) three (Some x) v.1))
-    (chosen (is_letter b) (as_piece Name (name_at (b ∷ bs))) two (Some x) w.1))
-    (chosen (is_separator b) (Some (Nothing, bs)) one (Some x) h)
+    (cond_cases_of (eqb b 39) (as_piece Constant' (character_at (b ∷ bs))) four (Some x) u.1))
+    (cond_cases_of (is_digit b) (as_piece Constant' (number_at (b ∷ bs))) three (Some x) v.1))
+    (cond_cases_of (is_letter b) (as_piece Name (name_at (b ∷ bs))) two (Some x) w.1))
+    (cond_cases_of (is_separator b) (Some (Nothing, bs)) one (Some x) h)
 
 text-stands : (place : Place) (left : List ℕ) (y : List ℕ × List ℕ) → begins 34 left ≡ true → text_at (drop 1 left) ≡ Some y → StandsFound place left (Text y.0, y.1)
 unfolding text_at
@@ -139,9 +141,9 @@ directive-stands place left x fresh h =
     moved-found place left (Definition d.value.0 d.value.1, after) x (let e : Some (Definition d.value.0 d.value.1, after) ≡ Some x = new.1 in cc) (record {
       bytes = line;
       is = whole;
-      stands = define d.value.0 d.value.1 (fresh-is place.before fresh) (define-found line b.value d.value b.is d.is) (none-of (place.known d.value.0) new.0) (run-AllOf class.Line left) (past-RunEnds class.Line left) refl;
+      stands = define d.value.0 d.value.1 (fresh-is place.before fresh) (define-found line b.value d.value b.is d.is) (not_some (place.known d.value.0) new.0) (run-AllOf class.Line left) (past-RunEnds class.Line left) refl;
     }))
-    (chosen (is_include text) (Some (Nothing, after)) (option_and_then (λ d. Some (Definition d.0 d.1, after)) (define_in text)) (Some a.value) b.then)
+    (cond_cases_of (is_include text) (Some (Nothing, after)) (option_and_then (λ d. Some (Definition d.0 d.1, after)) (define_in text)) (Some a.value) b.then)
 
 pub piece-stands : (place : Place) (left : List ℕ) (x : Piece × List ℕ) → piece_at (is_fresh place.before) place.known left ≡ Some x → StandsFound place left x
 unfolding piece_at
@@ -157,7 +159,7 @@ piece-stands place left x h =
     ⊎_elim
     (λ (u : (fresh ≡ true) × (new_directive_at place.known left ≡ Some x)). directive-stands place left x u.0 u.1)
     (λ (u : (fresh ≡ false) × (None ≡ Some x)). absurd cc)
-    (chosen fresh (new_directive_at place.known left) None (Some x) v.1))
+    (cond_cases_of fresh (new_directive_at place.known left) None (Some x) v.1))
     (λ (v : (begins 35 left ≡ false) × (plain_at left ≡ Some x)). plain-stands place left x v.1)
-    (chosen (begins 35 left) directive (plain_at left) (Some x) w.1))
-    (chosen (begins 34 left) (as_piece Text (text_at (drop 1 left))) others (Some x) h)
+    (cond_cases_of (begins 35 left) directive (plain_at left) (Some x) w.1))
+    (cond_cases_of (begins 34 left) (as_piece Text (text_at (drop 1 left))) others (Some x) h)

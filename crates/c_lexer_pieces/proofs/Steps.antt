@@ -1,6 +1,7 @@
 -- What a reader's answer says of the steps that made it.
 use Rattle.std.proofs.Common.{◌≡◌, ℕ, Bool, true, false, cond, eqb, ◌⊎◌, inl, inr, List, [], ◌∷◌, Option, Some, None, option_and_then, refl, arith}
 use Rattle.std.proofs.lemmas.Bool.Decides.{nat_tests}
+use Rattle.std.proofs.lemmas.Option.{cond_some}
 use Rattle.c_lexer_pieces.specs.Reading.{strip}
 
 pub record Bound {A B : Type 0} (o : Option A) (f : A → Option B) (y : B) : Type 0 where
@@ -12,14 +13,6 @@ pub bound : {A B : Type 0} (o : Option A) (f : A → Option B) (y : B) → optio
 bound None f y h = cc
 bound (Some x) f y h = record { value = x; is = refl; then = h }
 
-pub chosen : {A : Type 0} (b : Bool) (x y z : A) → cond b x y ≡ z → ((b ≡ true) × (x ≡ z)) ⊎ ((b ≡ false) × (y ≡ z))
-chosen true x y z h = inl (refl, h)
-chosen false x y z h = inr (refl, h)
-
-pub some_if : {A : Type 0} (b : Bool) (x z : A) → cond b (Some x) None ≡ Some z → (b ≡ true) × (x ≡ z)
-some_if true x z h = (refl, cc)
-some_if false x z h = cc
-
 pub some_unless : {A : Type 0} (b : Bool) (o : Option A) (z : A) → cond b None o ≡ Some z → (b ≡ false) × (o ≡ Some z)
 some_unless true o z h = cc
 some_unless false o z h = (refl, h)
@@ -27,6 +20,6 @@ some_unless false o z h = (refl, h)
 pub strip-some : (b : ℕ) (bytes rest : List ℕ) → strip b bytes ≡ Some rest → bytes ≡ b ∷ rest
 strip-some b [] rest h = cc
 strip-some b (c ∷ cs) rest h =
-    let found = some_if (eqb c b) cs rest h in
+    let found = cond_some (eqb c b) cs rest h in
     let same : c ≡ b = grind (arith, nat_tests) in
     cc

@@ -6,13 +6,11 @@ use Rattle.cbi_base.specs.declared.scalar.Kind.TheVariants.{Int, Unsigned}
 use Rattle.cbi_base.specs.declared.scalar.Scalar.{Scalar}
 use Rattle.cbi_base.specs.declared.scalar.Scalar.TheVariants.{Number, Undefined}
 use Rattle.cbi_base.specs.declared.trap.Trap.TheVariants as trap
-use Rattle.cbi_base.specs.Objects.{allocated, released}
+use Rattle.cbi_base.specs.Words.{allocated, released, is_defined_value, Byte, Conversion, FormatPiece, pieces_of}
 use Rattle.std.specs.List.{list_all}
 use Rattle.c_types_rules.specs.declared.library.Library.{Library}
 use Rattle.c_types_rules.specs.declared.library.Library.TheVariants as library
 use Rattle.flow.specs.declared.program.Text.{Text}
-use Rattle.flow.specs.Now.{is_defined}
-use Rattle.flow.specs.Printing.{Piece, Byte, Conversion, pieces_of}
 use Rattle.c_meaning.specs.declared.value_type.Called.{Called}
 use Rattle.c_meaning.specs.declared.value_type.Called.TheVariants as called
 use Rattle.c_meaning.specs.declared.value_type.ValueType.{ValueType}
@@ -58,14 +56,14 @@ type_taken letter =
     else if letter == 117 then type.Number Unsigned
     else type.Number Int
 
-abbrev pub types_taken : List Piece → List ValueType
+abbrev pub types_taken : List FormatPiece → List ValueType
 types_taken [] = []
 types_taken (Byte byte ∷ pieces) = types_taken pieces
 types_taken (Conversion letter ∷ pieces) = type_taken letter ∷ types_taken pieces
 
 -- several values at once, the last one first: none of them is undefined
 abbrev pub all_defined : List Scalar → World → Out (List Scalar)
-all_defined vs w = if list_all is_defined vs then Go (reverse vs) w else Stop (Trapped trap.Undefined) w
+all_defined vs w = if list_all is_defined_value vs then Go (reverse vs) w else Stop (Trapped trap.Undefined) w
 
 -- arguments of these types, evaluated and handed over one after another: the last one first
 abbrev pub Arguments : Type 0

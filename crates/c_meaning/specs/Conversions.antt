@@ -9,8 +9,7 @@ use Rattle.cbi_base.specs.declared.scalar.Scalar.TheVariants.{Null, Undefined}
 use Rattle.cbi_base.specs.declared.scalar.Want.TheVariants as want
 use Rattle.cbi_base.specs.declared.trap.Trap.{Trap}
 use Rattle.cbi_base.specs.declared.trap.Trap.TheVariants as trap
-use Rattle.cbi_base.specs.Objects.{loaded}
-use Rattle.cbi_base.specs.Scalars.{converted}
+use Rattle.cbi_base.specs.Words.{loaded, converted}
 use Rattle.c_syntax.specs.ExprTree as e
 use Rattle.c_syntax.specs.ExprTree.{ExprTree}
 use Rattle.c_meaning.specs.declared.conversion.Conversion.{Conversion}

@@ -1,10 +1,10 @@
 -- What the meaning of a tree rests on: what is known of its tokens, and the sites.
 use Rattle.std.specs.Prelude.{ℕ, List, Option}
+use Rattle.cbi_base.specs.Frames.{Locals}
 use Rattle.c_syntax.specs.declared.parts.Base.{Base}
 use Rattle.flow.specs.declared.site.Site.{Site}
 use Rattle.flow.specs.declared.site.Slot.{Slot}
-use Rattle.flow.specs.Now.{Locals}
-use Rattle.flow.specs.Rows.{Statics}
+use Rattle.flow.specs.Statics.{Statics}
 use Rattle.c_meaning.specs.declared.value_type.ValueType.{ValueType}
 use Rattle.c_meaning.specs.World.{Caller}
 

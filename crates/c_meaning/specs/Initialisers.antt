@@ -1,21 +1,17 @@
 -- Declared variables and their initialisers (C99 6.7.8).
 use Rattle.std.specs.Prelude.{ℕ, suc, ◌+◌, Bool, List, [], ◌∷◌, Option, Some, None}
 use Rattle.std.specs.Option.{option_and_then}
+use Rattle.cbi_base.specs.Words.{zero_value, filled, local_at, cleared, stored_bytes}
 use Rattle.cbi_base.specs.declared.scalar.Scalar.{Scalar}
 use Rattle.cbi_base.specs.declared.scalar.Scalar.TheVariants.{Place}
 use Rattle.cbi_base.specs.declared.scalar.Want.{Want}
 use Rattle.cbi_base.specs.declared.scalar.Want.TheVariants as want
-use Rattle.cbi_base.specs.Frames.{filled}
-use Rattle.cbi_base.specs.Objects.{cleared}
 use Rattle.c_syntax.specs.ExprTree as e
-use Rattle.c_syntax.specs.ExprTree.{ExprTree, ExprList}
+use Rattle.c_syntax.specs.Words.{ExprTree, ExprList, InitialTree, StartTree, DeclarationTree}
 use Rattle.c_syntax.specs.StatementTree as tree
-use Rattle.c_syntax.specs.StatementTree.{InitialTree, StartTree, DeclarationTree}
 use Rattle.flow.specs.declared.program.Text.{Text}
 use Rattle.flow.specs.declared.site.Slot.{Slot}
 use Rattle.flow.specs.declared.site.Slot.TheVariants as slot
-use Rattle.flow.specs.Now.{local_at}
-use Rattle.flow.specs.Rows.{spelled, zero_value}
 use Rattle.c_meaning.specs.declared.value_type.ValueType.{ValueType}
 use Rattle.c_meaning.specs.declared.value_type.ValueType.TheVariants as type
 use Rattle.c_meaning.specs.Conversions.{is_null_as}
@@ -52,7 +48,7 @@ zeroed (Some wanted) number w = Go tt (record w { objects = filled number (zero_
 -- the bytes of a string are stored from the first cell on, without the closing zero
 abbrev pub spell : Option Text → ℕ → World → OutDone
 spell None number w = stuck w
-spell (Some text) number w = bind (answered (spelled number 0 text.bytes w.objects) w) (λ objects u. Go tt (record u { objects = objects }))
+spell (Some text) number w = bind (answered (stored_bytes number 0 text.bytes w.objects) w) (λ objects u. Go tt (record u { objects = objects }))
 
 module _ (s : Setting) where
   abbrev pub object_of : Option Slot → Option ℕ

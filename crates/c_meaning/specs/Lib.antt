@@ -16,3 +16,4 @@ pub mod Literals
 pub mod Known
 pub mod Globals
 pub mod Texts
+pub mod Words

@@ -10,11 +10,9 @@ use Rattle.cbi_base.specs.declared.operators.Order.{Order}
 use Rattle.cbi_base.specs.declared.operators.Order.TheVariants as order
 use Rattle.cbi_base.specs.declared.trap.Trap.{Trap}
 use Rattle.cbi_base.specs.declared.trap.Trap.TheVariants.{Internal}
-use Rattle.cbi_base.specs.Arithmetic.{flag, kind_given}
-use Rattle.cbi_base.specs.Objects.{Objects, ◌>>=◌, compared, difference}
-use Rattle.cbi_base.specs.Scalars.{applied}
+use Rattle.cbi_base.specs.Words.{flag, kind_given, Objects, compared, difference, moved_by, applied}
+use Rattle.cbi_base.specs.Objects.{◌>>=◌}
 use Rattle.c_types_rules.specs.Laws.{common_kind, promoted_kind}
-use Rattle.flow.specs.Rows.{moved_by}
 use Rattle.c_meaning.specs.declared.operation.Operation.{Operation}
 use Rattle.c_meaning.specs.declared.operation.Operation.TheVariants.{Numbers, MoveLeft, MoveRight, Span, Ordered, Wrong}
 use Rattle.c_meaning.specs.declared.value_type.ValueType.{ValueType}

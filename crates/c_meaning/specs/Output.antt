@@ -1,14 +1,12 @@
 -- What a run reads and writes (C99 7.19).
 use Rattle.std.specs.Prelude.{ℕ, ◌+◌, ◌-◌, nat_le, ℤ, pos, negsuc, List, [], ◌∷◌, ◌++◌, length, take, if◌then◌else◌, Option, Some, None}
+use Rattle.cbi_base.specs.Words.{Printed, pieces_of, printed_format, string_at, take_values, then_print, these, output_limit, low_byte}
 use Rattle.cbi_base.specs.declared.outcome.Outcome.TheVariants.{Trapped, CutOutput}
 use Rattle.cbi_base.specs.declared.scalar.Kind.TheVariants.{Int}
 use Rattle.cbi_base.specs.declared.scalar.Scalar.{Scalar}
 use Rattle.cbi_base.specs.declared.scalar.Scalar.TheVariants.{Number, Undefined}
 use Rattle.cbi_base.specs.declared.trap.Trap.{Trap}
 use Rattle.cbi_base.specs.declared.trap.Trap.TheVariants as trap
-use Rattle.flow.specs.Limits.{output_limit}
-use Rattle.flow.specs.Now.{byte_of}
-use Rattle.flow.specs.Printing.{Printed, pieces_of, printed, string_at, take_values, then_print, these}
 use Rattle.c_meaning.specs.World.{World, Out, Go, Stop, OutDone, bind, choose, nothing, stuck}
 
 -- Bytes are written; where there isn't room for all of them the run is cut, and those stay that there is room for.
@@ -34,7 +32,7 @@ next_byte (byte ∷ rest) w = Go (Number Int (pos byte)) (record w { input = res
 -- `putchar` writes a value modulo 256, and gives that
 abbrev pub put_byte : Scalar → World → Out Scalar
 put_byte Undefined w = Stop (Trapped trap.Undefined) w
-put_byte (Number Int value) w = bind (written (byte_of value ∷ []) w) (λ _. Go (Number Int (pos (byte_of value))))
+put_byte (Number Int value) w = bind (written (low_byte value ∷ []) w) (λ _. Go (Number Int (pos (low_byte value))))
 put_byte other w = stuck w
 
 -- `puts` writes the string and a newline, and gives 0
@@ -46,4 +44,4 @@ put_string p w = bind (print (then_print (string_at p w.objects) (these (10 ∷ 
 -- `printf` writes piece by piece, each conversion the value at its place
 abbrev pub put_format : List ℕ → List Scalar → World → OutDone
 put_format format values w =
-    choose (take_values (pieces_of format) values) (print (printed (pieces_of format) values w.objects)) stuck w
+    choose (take_values (pieces_of format) values) (print (printed_format (pieces_of format) values w.objects)) stuck w

@@ -1,6 +1,7 @@
 -- What a whole text does: calls of its functions, and a run from its start to its end (C99 5.1.2.2, 5.1.2.3, 6.5.2.2, 6.9.1).
 use Rattle.std.specs.Prelude.{ℕ, zero, suc, ◌+◌, ◌-◌, ◌==◌, Bool, true, false, nat_lt, if◌then◌else◌, pos, List, [], length, Option, Some, None, Result}
 use Rattle.std.specs.Prelude.{Ok, Err}
+use Rattle.cbi_base.specs.Words.{active_limit, all_killed, all_made, first_cells, Locals, each_made, Object, Objects, no_objects}
 use Rattle.cbi_base.specs.declared.observation.Observation.{Observation}
 use Rattle.cbi_base.specs.declared.outcome.Outcome.{Outcome}
 use Rattle.cbi_base.specs.declared.outcome.Outcome.TheVariants.{Ended, Trapped, CutTurns}
@@ -8,12 +9,7 @@ use Rattle.cbi_base.specs.declared.scalar.Kind.TheVariants.{Int}
 use Rattle.cbi_base.specs.declared.scalar.Scalar.{Scalar}
 use Rattle.cbi_base.specs.declared.scalar.Scalar.TheVariants.{Number, Undefined}
 use Rattle.cbi_base.specs.declared.trap.Trap.TheVariants as trap
-use Rattle.cbi_base.specs.Frames.{all_killed, all_made, first_cells}
-use Rattle.cbi_base.specs.Objects.{Object, Objects, no_objects}
 use Rattle.c_syntax.specs.StatementTree.{EntryList}
-use Rattle.flow.specs.Limits.{active_limit}
-use Rattle.flow.specs.Machine.{each_made}
-use Rattle.flow.specs.Now.{Locals}
 use Rattle.c_meaning.specs.declared.value_type.ValueType.{ValueType}
 use Rattle.c_meaning.specs.Calls.{all_defined}
 use Rattle.c_meaning.specs.Facts.{Facts, Setting, Signature, Sites}

@@ -3,14 +3,9 @@ use Rattle.std.specs.Prelude.{ℕ, List, [], ◌∷◌, ◌++◌, Bool, Option, 
 use Rattle.cbi_base.specs.declared.observation.Seen.{Seen}
 use Rattle.cbi_base.specs.declared.scalar.Scalar.{Scalar}
 use Rattle.cbi_base.specs.Scalars.{truth_of}
-use Rattle.flow.specs.Now.{Now, Locals}
 use Rattle.flow.specs.Truths.{looked}
 use Rattle.c_meaning.specs.Facts.{Setting}
 use Rattle.c_meaning.specs.World.{World, Out, Go, bind, answered}
-
--- what a site can look at: the value, and the variables
-abbrev pub now_of : Locals → List Scalar → World → Now
-now_of locals operands w = record { operands = operands; locals = locals; objects = w.objects; input = w.input; output = w.output }
 
 abbrev pub world_with_seen : ℕ → Seen → World → World
 world_with_seen site seen w = record w { seen = w.seen ++ record { site = site; seen = seen } ∷ [] }
@@ -25,7 +20,7 @@ truth v w = answered (truth_of v) w
 module _ (s : Setting) where
   -- one visit: the site sees the value, which goes on
   abbrev pub observed_value : ℕ → Scalar → World → Out Scalar
-  observed_value site v w = bind (answered (looked (s.sites.site site) (now_of s.locals (v ∷ []) w)) w) (λ seen u. Go v (world_with_seen site seen u))
+  observed_value site v w = bind (answered (looked (s.sites.site site) (Some v) s.locals w.objects) w) (λ seen u. Go v (world_with_seen site seen u))
 
   -- visits of several sites, one after another
   abbrev pub visited : List ℕ → Scalar → World → Out Scalar

@@ -7,13 +7,7 @@ use Rattle.c_syntax.specs.declared.token.Sign.TheVariants as sign
 use Rattle.c_syntax.specs.ExprTree as e
 use Rattle.c_syntax.specs.ExprTree.{ExprTree}
 use Rattle.c_meaning.specs.declared.value_type.ValueType.{ValueType}
-use Rattle.c_meaning.specs.Expressions.{Sense, valued}
-use Rattle.c_meaning.specs.Facts.{Setting}
-use Rattle.c_meaning.specs.Meaning.{expr}
-use Rattle.c_meaning.specs.Operation.{operation, operate}
-use Rattle.c_meaning.specs.Places.{pointed_place}
-use Rattle.c_meaning.specs.Trees.{type_of}
-use Rattle.c_meaning.specs.World.{World, Out, Go, answered, bind}
+use Rattle.c_meaning.specs.Words.{Sense, valued, Setting, expr, operation, operate, pointed_place, type_of, World, Out, Go, answered, bind}
 use Rattle.std.proofs.Common.{Option}
 use Rattle.c_meaning_laws.specs.Addresses.{AddressOfIndexIsSum, AddressOfTargetIsPointer}
 use Rattle.c_meaning_laws.specs.Parentheses.{IsWritten}

@@ -2,6 +2,7 @@
 use Rattle.std.proofs.Common.{◌≡◌, ◌⊎◌, ℕ, ℤ, Bool, true, false, cond, List, [], ◌∷◌, Option, Some, None, Result, Ok, Err, slice_get, refl, ap, sym, ◌∙◌}
 use Rattle.std.proofs.Common.{subst, inl, inr}
 use Rattle.std.specs.FinMap.{get}
+use Rattle.cbi_base.specs.Words.{local_at, Object, Objects, found_cell, is_text, live_or, loaded, set_in, stored, with_object}
 use Rattle.cbi_base.specs.declared.observation.Seen.{Seen}
 use Rattle.cbi_base.specs.declared.scalar.Kind.{Kind}
 use Rattle.cbi_base.specs.declared.scalar.Kind.TheVariants.{Char, Int, Unsigned}
@@ -11,27 +12,19 @@ use Rattle.cbi_base.specs.declared.scalar.Want.{Want}
 use Rattle.cbi_base.specs.declared.scalar.Want.TheVariants as want
 use Rattle.cbi_base.specs.declared.trap.Trap.{Trap}
 use Rattle.cbi_base.specs.declared.trap.Trap.TheVariants as trap
-use Rattle.cbi_base.specs.Objects.{Object, Objects, found_cell, is_text, live_or, loaded, set_in, stored, with_object, ◌>>=◌}
+use Rattle.cbi_base.specs.Objects.{◌>>=◌}
 use Rattle.c_syntax.specs.declared.token.Sign.{Sign}
 use Rattle.c_syntax.specs.ExprTree as e
 use Rattle.c_syntax.specs.ExprTree.{ExprTree}
 use Rattle.flow.specs.declared.site.Slot.{Slot}
 use Rattle.flow.specs.declared.site.Slot.TheVariants as slot
-use Rattle.flow.specs.Now.{local_at}
 use Rattle.flow.specs.Truths.{looked}
 use Rattle.c_meaning.specs.declared.operation.Operation.{Operation}
 use Rattle.c_meaning.specs.declared.value_type.ValueType.{ValueType}
 use Rattle.c_meaning.specs.declared.value_type.ValueType.TheVariants as type
-use Rattle.c_meaning.specs.Conversions.{as_wanted, conversion, is_null_as, load_at}
-use Rattle.c_meaning.specs.Expressions.{assign, wanted_value}
-use Rattle.c_meaning.specs.Facts.{Facts, Setting}
-use Rattle.c_meaning.specs.Meaning.{expr}
-use Rattle.c_meaning.specs.Operation.{operate, operation, type_given}
-use Rattle.c_meaning.specs.Places.{assigned_at, changed, object_place, store_at, variable}
-use Rattle.c_meaning.specs.Runs.{call_at, setting_of}
-use Rattle.c_meaning.specs.Trees.{Assignment, Plain, By, assignment, type_of}
-use Rattle.c_meaning.specs.Visits.{now_of, observed_value, visited, world_with_seen}
-use Rattle.c_meaning.specs.World.{World, Out, Go, answered, bind, stuck}
+use Rattle.c_meaning.specs.Words.{as_wanted, conversion, is_null_as, load_at, assign, wanted_value, Facts, Setting, expr, operate, operation, type_given}
+use Rattle.c_meaning.specs.Words.{assigned_at, changed, object_place, store_at, variable, call_at, setting_of, Assignment, Plain, By, assignment, type_of}
+use Rattle.c_meaning.specs.Words.{observed_value, visited, world_with_seen, World, Out, Go, answered, bind, stuck}
 use Rattle.c_meaning_laws.specs.Rules.{Assigns, IsScalar, TakesOrNull}
 use Rattle.c_meaning_laws.specs.TypedSource.{without_sites}
 use Rattle.c_meaning_laws.proofs.Expressions.{expr_safe}
@@ -74,10 +67,7 @@ wanted_there (Some (type.Pointer size)) (Place a j) h i f = refl
 wanted_there (Some (type.Pointer size)) Null h i f = refl
 wanted_there (Some (type.Pointer size)) Undefined h i f = absurd i
 wanted_there (Some (type.Pointer size)) (Number other n) h i f = absurd f
-wanted_there (Some (type.Array size)) v h i f = absurd h
-wanted_there (Some type.Void) v h i f = absurd h
-wanted_there (Some type.Struct) v h i f = absurd h
-wanted_there None v h i f = absurd h
+wanted_there of v h i f = absurd h
 
 put_load : (wanted : Want) (n : ℕ) (o : Objects) (object : Object) (v : Scalar) (cells : List Scalar) → object.cells ≡ v ∷ cells
     → loaded wanted (Place n 0) (with_object o n object) ≡ found_cell wanted (Some v)
@@ -89,10 +79,7 @@ put_held : (of : Option ValueType) (n : ℕ) (o : Objects) (object : Object) (v 
     → held of n (with_object o n object) ≡ wants of v
 put_held (Some (type.Number kind)) n o object v cells is = put_load (want.Number kind) n o object v cells is
 put_held (Some (type.Pointer size)) n o object v cells is = put_load want.Pointer n o object v cells is
-put_held (Some (type.Array size)) n o object v cells is = refl
-put_held (Some type.Void) n o object v cells is = refl
-put_held (Some type.Struct) n o object v cells is = refl
-put_held None n o object v cells is = refl
+put_held of n o object v cells is = refl
 
 module _ (of : Option ValueType) (n : ℕ) (scalar : IsScalar of) where
   -- a value of the type is what the object holds
@@ -124,9 +111,7 @@ module _ (of : Option ValueType) (n : ℕ) (scalar : IsScalar of) where
   stored_holds : (v : Scalar) (o : Objects) → Stores v (stored (Place n 0) v o)
   unfolding stored
   stored_holds Undefined o = tt
-  stored_holds (Number kind m) o = found_holds (Number kind m) o (get o.live n) tt
-  stored_holds (Place a j) o = found_holds (Place a j) o (get o.live n) tt
-  stored_holds Null o = found_holds Null o (get o.live n) tt
+  stored_holds v o = found_holds v o (get o.live n) tt
 
   answer_holds : (v : Scalar) (r : Result Objects Trap) (w : World) → Stores v r
       → Ends HeldIn (bind (answered r w) (λ objects u. Go v (record u { objects = objects })))
@@ -142,7 +127,7 @@ module _ (of : Option ValueType) (n : ℕ) (scalar : IsScalar of) where
     visited_holds : (sites : List ℕ) (v : Scalar) (w : World) → Holds v w.objects → Ends HeldIn (visited s sites v w)
     visited_holds [] v w h = h
     visited_holds (site ∷ more) v w h =
-        ends_bind HeldIn HeldIn (observed_value s site v w) (visited s more) (seen_holds site v w (looked (s.sites.site site) (now_of s.locals (v ∷ []) w)) h)
+        ends_bind HeldIn HeldIn (observed_value s site v w) (visited s more) (seen_holds site v w (looked (s.sites.site site) (Some v) s.locals w.objects) h)
         (visited_holds more)
 
     assigned_holds : (token : ℕ) (p v : Scalar) (w : World) → p ≡ Place n 0 → Ends HeldIn (assigned_at s token p v w)
@@ -191,15 +176,15 @@ variable_finds s (Some (slot.Local index)) = object_finds (local_at index s.loca
 variable_finds s (Some (slot.Global index)) = inl (index, λ w. refl)
 
 -- what is assigned to where types fit is a scalar
-taken_scalar : (b : Bool) (t u : Option ValueType) → TakesOrNull b t u → IsScalar t
+pub taken_scalar : (b : Bool) (t u : Option ValueType) → TakesOrNull b t u → IsScalar t
 taken_scalar true (Some (type.Pointer size)) u h = tt
 taken_scalar true (Some (type.Number kind)) u h = tt
+taken_scalar false (Some (type.Pointer size)) u h = tt
+taken_scalar false (Some (type.Number kind)) u h = tt
 taken_scalar true (Some (type.Array size)) u h = absurd h
 taken_scalar true (Some type.Void) u h = absurd h
 taken_scalar true (Some type.Struct) u h = absurd h
 taken_scalar true None u h = absurd h
-taken_scalar false (Some (type.Pointer size)) u h = tt
-taken_scalar false (Some (type.Number kind)) u h = tt
 taken_scalar false (Some (type.Array size)) u h = absurd h
 taken_scalar false (Some type.Void) u h = absurd h
 taken_scalar false (Some type.Struct) u h = absurd h
@@ -212,10 +197,7 @@ assigned_scalar facts (By o) t x h = h.0
 held_load : (of : Option ValueType) (n : ℕ) (v : Scalar) (u : World) → IsScalar of → held of n u.objects ≡ Ok v → load_at of (Place n 0) u ≡ Go v u
 held_load (Some (type.Number kind)) n v u h is = ap (λ r. answered r u) is
 held_load (Some (type.Pointer size)) n v u h is = ap (λ r. answered r u) is
-held_load (Some (type.Array size)) n v u h is = absurd h
-held_load (Some type.Void) n v u h is = absurd h
-held_load (Some type.Struct) n v u h is = absurd h
-held_load None n v u h is = absurd h
+held_load of n v u h is = absurd h
 
 never_given : {A : Type 0} (out : Out Scalar) (w : World) (next : Scalar → World → Out A) (v : A) (u : World) → out ≡ stuck w → bind out next ≡ Go v u → ⊥
 never_given out w next v u is given = cc

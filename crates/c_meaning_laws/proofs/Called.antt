@@ -4,30 +4,24 @@ use Rattle.std.proofs.lemmas.Bool.{true≢false}
 use Rattle.std.proofs.lemmas.Bool.Decides.{nat_tests}
 use Rattle.std.specs.Prelude.{Option, ℤ, unsigned_abs, ◌==◌, reverse, if◌then◌else◌}
 use Rattle.std.specs.List.{list_all}
+use Rattle.cbi_base.specs.Words.{is_defined_value, pieces_of, released}
+use Rattle.base_lists.proofs.Numbers.{number_is}
 use Rattle.cbi_base.specs.declared.outcome.Outcome.TheVariants.{Trapped}
 use Rattle.cbi_base.specs.declared.scalar.Kind.{Kind}
 use Rattle.cbi_base.specs.declared.scalar.Kind.TheVariants.{Int, Unsigned}
 use Rattle.cbi_base.specs.declared.scalar.Scalar.{Scalar}
 use Rattle.cbi_base.specs.declared.scalar.Scalar.TheVariants.{Number, Place, Null, Undefined}
 use Rattle.cbi_base.specs.declared.trap.Trap.TheVariants as trap
-use Rattle.cbi_base.specs.Objects.{released}
 use Rattle.c_types_rules.specs.declared.library.Library.{Library}
 use Rattle.c_types_rules.specs.declared.library.Library.TheVariants as library
 use Rattle.flow.specs.declared.program.Text.{Text}
-use Rattle.flow.specs.Now.{is_defined}
-use Rattle.flow.specs.Printing.{pieces_of}
 use Rattle.c_meaning.specs.declared.value_type.Called.{Called}
 use Rattle.c_meaning.specs.declared.value_type.Called.TheVariants as called
 use Rattle.c_meaning.specs.declared.value_type.ValueType.{ValueType}
 use Rattle.c_meaning.specs.declared.value_type.ValueType.TheVariants as type
-use Rattle.c_meaning.specs.Calls.{Argument, Arguments, abort, all_defined, allocate, as_type, assert}
-use Rattle.c_meaning.specs.Calls.{call_function, call_library, call_sense, exit, print_by, release, types_taken, with_result}
-use Rattle.c_meaning.specs.Conversions.{as_used}
-use Rattle.c_meaning.specs.Expressions.{Sense}
-use Rattle.c_meaning.specs.Facts.{Setting, Signature}
-use Rattle.c_meaning.specs.Output.{next_byte}
-use Rattle.c_meaning.specs.Trees.{has_value}
-use Rattle.c_meaning.specs.World.{World, Out, Go, Stop, OutDone, Caller, stuck}
+use Rattle.c_meaning.specs.Words.{Argument, Arguments, abort, all_defined, allocate, as_type, assert, call_function, call_library, call_sense, exit, print_by}
+use Rattle.c_meaning.specs.Words.{release, types_taken, with_result, as_used, Sense, Setting, Signature, next_byte, has_value, World, Out, Go, Stop, OutDone}
+use Rattle.c_meaning.specs.Words.{Caller, stuck}
 use Rattle.c_meaning_laws.specs.Rules.{IsPointer, IsValue}
 use Rattle.c_meaning_laws.specs.Typed.{CallsFunction, CallsLibrary, TypedCall}
 use Rattle.c_meaning_laws.specs.TypedSource.{SitesFit}
@@ -90,13 +84,10 @@ defined_or P vs back false w h = (tt, refl)
 
 pub all_defined_safe : (P : List Scalar → Type 0) (vs : List Scalar) → P (reverse vs) → Safe P (all_defined vs) (all_defined vs)
 all_defined_safe P vs h = record {
-  at = λ w. (defined_or P vs (reverse vs) (list_all is_defined vs) w h).0;
+  at = λ w. (defined_or P vs (reverse vs) (list_all is_defined_value vs) w h).0;
   same = λ w.
-      (defined_or P vs (reverse vs) (list_all is_defined vs) w h).1;
+      (defined_or P vs (reverse vs) (list_all is_defined_value vs) w h).1;
 }
-
-same_count : (n m : ℕ) → n ≡ m → (n == m) ≡ true
-same_count n m h = grind (arith, nat_tests, h)
 
 pub print_by_safe : (format : Option Text) (n : ℕ) (arguments arguments0 : Arguments) (Fit : List ValueType → Type 0)
     → ((types : List ValueType) → Fit types → Safe (Backwards types) (arguments types) (arguments0 types))
@@ -104,17 +95,15 @@ pub print_by_safe : (format : Option Text) (n : ℕ) (arguments arguments0 : Arg
     (print_by format n arguments0)
 print_by_safe None n arguments arguments0 Fit a c h = absurd h
 print_by_safe (Some format) n arguments arguments0 Fit a c h =
-    chosen_true stuck stuck (n == length (types_taken (pieces_of format.bytes))) (same_count n (length (types_taken (pieces_of format.bytes))) (c
+    chosen_true stuck stuck (n == length (types_taken (pieces_of format.bytes))) (number_is n (length (types_taken (pieces_of format.bytes))) (c
     (types_taken (pieces_of format.bytes)) h))
     (seq (a (types_taken (pieces_of format.bytes)) h) (λ vs g.
     seq (all_defined_safe (AllGiven (types_taken (pieces_of format.bytes))) vs g) (λ values k. put_format_safe format.bytes values k)))
 
 void_value : (t : ValueType) → has_value t ≡ false → IsValue (Some t) → ⊥
 void_value type.Void h l = l
-void_value (type.Number k) h l = true≢false h
-void_value (type.Pointer k) h l = true≢false h
-void_value (type.Array k) h l = true≢false h
 void_value type.Struct h l = l
+void_value t h l = true≢false h
 
 not_void : (t : Option ValueType) → t ≡ Some type.Void → IsValue t → ⊥
 not_void t e l = subst IsValue e l
@@ -142,7 +131,7 @@ module _ (s : Setting) (call0 : Caller) (fit : SitesFit s.sites) (calls : CallsS
   function_safe token number None e Fit One n arguments arguments0 lone lone0 t a h = absurd h
   function_safe token number (Some f) e Fit One n arguments arguments0 lone lone0 t a h = rw h.1
       (with_result_safe token (Some f.result) (has_value f.result) _ _
-      (chosen_true stuck stuck (n == length f.params) (same_count n (length f.params) (a.count f.params h.0))
+      (chosen_true stuck stuck (n == length f.params) (number_is n (length f.params) (a.count f.params h.0))
       (seq (a.all f.params h.0) (λ vs _. calls.by number f e vs)))
       (void_value f.result))
 
@@ -151,7 +140,7 @@ module _ (s : Setting) (call0 : Caller) (fit : SitesFit s.sites) (calls : CallsS
       (t : Option ValueType) (print print0 : World → OutDone) → ArgumentsSafe Fit One n arguments arguments0 lone lone0 → CallsLibrary function Fit One t
       → SafeCall t (call_library s token function n lone print) (call_library (bare s call0) token function n lone0 print0)
   library_safe token library.Getchar Fit One n arguments arguments0 lone lone0 t print print0 a h =
-      rw h.1 (valued_safe (returned_safe s call0 fit token (chosen_true stuck stuck (n == 0) (same_count n 0 (a.count [] h.0)) next_byte_safe)))
+      rw h.1 (valued_safe (returned_safe s call0 fit token (chosen_true stuck stuck (n == 0) (number_is n 0 (a.count [] h.0)) next_byte_safe)))
   library_safe token library.Putchar Fit One n arguments arguments0 lone lone0 t print print0 a h =
       rw h.1 (valued_safe (seq (a.typed (type.Number Int) h.0) (λ v g. put_value_safe v g.0)))
   library_safe token library.Puts Fit One n arguments arguments0 lone lone0 t print print0 a h =
@@ -163,7 +152,7 @@ module _ (s : Setting) (call0 : Caller) (fit : SitesFit s.sites) (calls : CallsS
   library_safe token library.Exit Fit One n arguments arguments0 lone lone0 t print print0 a h =
       effected_safe t (not_void t h.1) (seq (a.typed (type.Number Int) h.0) (λ v g. exit_safe v g.0))
   library_safe token library.Abort Fit One n arguments arguments0 lone lone0 t print print0 a h =
-      effected_safe t (not_void t h.1) (chosen_true stuck stuck (n == 0) (same_count n 0 (a.count [] h.0)) abort_safe)
+      effected_safe t (not_void t h.1) (chosen_true stuck stuck (n == 0) (number_is n 0 (a.count [] h.0)) abort_safe)
   library_safe token library.Assert Fit One n arguments arguments0 lone lone0 t print print0 a h =
       effected_safe t (not_void t h.1) (seq (a.used h.0) (λ v _. seq (truth_safe v) (λ b _. assert_safe b)))
   library_safe token library.Printf Fit One n arguments arguments0 lone lone0 t print print0 a h = absurd h

@@ -1,6 +1,7 @@
 -- A chain of operators, and the chain behind its first one.
 use Rattle.std.proofs.Common.{◌≡◌, ℕ, Bool, false, Option, Some, None, refl, ap, sym, ◌∙◌}
 use Rattle.std.proofs.Math.Path.{fun_ext}
+use Rattle.base_lists.proofs.Tests.{and_false}
 use Rattle.cbi_base.specs.declared.operators.Binary.{Binary}
 use Rattle.cbi_base.specs.declared.operators.Binary.TheVariants as op
 use Rattle.cbi_base.specs.declared.scalar.Scalar.{Scalar}
@@ -9,21 +10,16 @@ use Rattle.c_syntax.specs.ExprTree as e
 use Rattle.c_syntax.specs.ExprTree.{ExprTree, LinkList}
 use Rattle.c_types_expressions.specs.ExprWalk.{binary_of}
 use Rattle.c_meaning.specs.declared.value_type.ValueType.{ValueType}
-use Rattle.c_meaning.specs.Conversions.{is_pointer_value}
-use Rattle.c_meaning.specs.Expressions.{linked, null_or, valued}
-use Rattle.c_meaning.specs.Facts.{Facts, Setting}
-use Rattle.c_meaning.specs.Meaning.{expr, links_value}
-use Rattle.c_meaning.specs.Trees.{begins_null, is_null_beside, joint, operand_type, type_of}
-use Rattle.c_meaning.specs.World.{World, Out, bind}
+use Rattle.c_meaning.specs.Words.{is_pointer_value, linked, null_or, valued, Facts, Setting, expr, links_value, begins_null, is_null_beside, joint}
+use Rattle.c_meaning.specs.Words.{operand_type, type_of, World, Out, bind}
 use Rattle.c_meaning_laws.specs.Chains.{ChainGroupsLeft}
-use Rattle.c_meaning_laws.proofs.Compounds.{never_both}
 use Rattle.c_meaning_laws.proofs.Parts.{bind_behind, bind_go}
 
 -- what stands within parentheses is no null constant
 never_beside : (o : Option Binary) (of : Option ValueType) (paren : ℕ) (x : ExprTree) → is_null_beside o of (e.Paren paren x) ≡ false
 never_beside None of paren x = refl
-never_beside (Some op.Eq) of paren x = never_both (is_pointer_value of)
-never_beside (Some op.Ne) of paren x = never_both (is_pointer_value of)
+never_beside (Some op.Eq) of paren x = and_false (is_pointer_value of)
+never_beside (Some op.Ne) of paren x = and_false (is_pointer_value of)
 never_beside (Some o) of paren x = refl
 
 never_begins : (facts : Facts) (paren : ℕ) (x : ExprTree) (rest : LinkList) → begins_null facts (e.Paren paren x) rest ≡ false

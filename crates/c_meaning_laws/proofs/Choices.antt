@@ -8,14 +8,8 @@ use Rattle.c_syntax.specs.ExprTree as e
 use Rattle.c_syntax.specs.ExprTree.{ExprTree, ExprList}
 use Rattle.c_meaning.specs.declared.value_type.ValueType.{ValueType}
 use Rattle.c_meaning.specs.declared.value_type.ValueType.TheVariants as type
-use Rattle.c_meaning.specs.Conversions.{is_null_as}
-use Rattle.c_meaning.specs.Expressions.{arm_effect}
-use Rattle.c_meaning.specs.Facts.{Setting}
-use Rattle.c_meaning.specs.Meaning.{expr, last_sense}
-use Rattle.c_meaning.specs.Statements.{after_entry, exec, exec_all}
-use Rattle.c_meaning.specs.Trees.{type_of}
-use Rattle.c_meaning.specs.Visits.{decided, listed, truth, visited}
-use Rattle.c_meaning.specs.World.{World, Out, Go, Stop, OutDone, Flow, Next, answered, bind, choose}
+use Rattle.c_meaning.specs.Words.{is_null_as, arm_effect, Setting, expr, last_sense, after_entry, exec, exec_all, type_of, decided, listed, truth, visited}
+use Rattle.c_meaning.specs.Words.{World, Out, Go, Stop, OutDone, Flow, Next, answered, bind, choose}
 use Rattle.c_meaning_laws.specs.Choices.{CommaIsSequence, ConditionalIsIf, NegatedConditionSwaps, in_sequence}
 use Rattle.c_meaning_laws.proofs.Parts.{bind_behind}
 

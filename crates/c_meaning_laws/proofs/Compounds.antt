@@ -9,19 +9,15 @@ use Rattle.c_syntax.specs.ExprTree.{ExprTree, LinkList}
 use Rattle.c_types_expressions.specs.ExprWalk.{binary_of, compound_of}
 use Rattle.flow.specs.declared.site.Slot.{Slot}
 use Rattle.flow.specs.declared.site.Slot.TheVariants as slot
-use Rattle.flow.specs.Now.{local_at}
 use Rattle.c_meaning.specs.declared.value_type.ValueType.{ValueType}
 use Rattle.c_meaning.specs.declared.value_type.ValueType.TheVariants as type
 use Rattle.cbi_base.specs.declared.trap.Trap.{Trap}
 use Rattle.std.specs.Prelude.{Result, Ok, Err}
-use Rattle.c_meaning.specs.Conversions.{as_wanted, conversion, is_null_as, is_pointer_value, load_at}
-use Rattle.c_meaning.specs.Expressions.{Sense, assign, linked, null_or, settled, spot, wanted_value}
-use Rattle.c_meaning.specs.Facts.{Setting}
-use Rattle.c_meaning.specs.Meaning.{expr, links_value}
-use Rattle.c_meaning.specs.Operation.{operate, operation, type_given}
-use Rattle.c_meaning.specs.Places.{assigned_at, changed, object_place, variable}
-use Rattle.c_meaning.specs.Trees.{Joint, Computes, assigned_by, computes, is_null_beside, is_place, joint, operand_type, type_of}
-use Rattle.c_meaning.specs.World.{World, Out, Go, Stop, answered, bind}
+use Rattle.cbi_base.specs.Frames.{local_at}
+use Rattle.base_lists.proofs.Tests.{and_false}
+use Rattle.c_meaning.specs.Words.{as_wanted, conversion, is_null_as, is_pointer_value, load_at, Sense, assign, linked, null_or, settled, spot, wanted_value}
+use Rattle.c_meaning.specs.Words.{Setting, expr, links_value, operate, operation, type_given, assigned_at, changed, object_place, variable, Joint, Computes}
+use Rattle.c_meaning.specs.Words.{assigned_by, computes, is_null_beside, is_place, joint, operand_type, type_of, World, Out, Go, Stop, answered, bind}
 use Rattle.c_meaning_laws.specs.Compound.{CompoundIsOperation, CompoundOfVariable, Stays, TypedTargetMeets}
 use Rattle.c_meaning_laws.specs.Parentheses.{KeepsType}
 use Rattle.c_meaning_laws.proofs.Parts.{bind_alike, bind_behind, bind_go}
@@ -38,10 +34,6 @@ never_null : (compound : Sign) (of : Option ValueType) (x : ExprTree) → is_nul
 never_null sign.PlusEqual of x = refl
 never_null compound of x = refl
 
-pub never_both : (b : Bool) → (b && false) ≡ false
-never_both true = refl
-never_both false = refl
-
 answer_stays : {A : Type 0} (r : Result A Trap) (w : World) → Stays w (answered r w)
 answer_stays (Ok x) w = refl
 answer_stays (Err t) w = tt
@@ -54,9 +46,7 @@ load_stays : (of : Option ValueType) (p : Scalar) (w : World) → Stays w (load_
 load_stays (Some (type.Number kind)) p w = answer_stays _ w
 load_stays (Some (type.Pointer size)) p w = answer_stays _ w
 load_stays (Some (type.Array size)) p w = refl
-load_stays (Some type.Void) p w = tt
-load_stays (Some type.Struct) p w = tt
-load_stays None p w = tt
+load_stays of p w = tt
 
 module _ (s : Setting) (operator : ℕ) (o : Binary) (plain : Sign) (x right : ExprTree) (computing : joint plain ≡ Computes o)
     (other : (of : Option ValueType) (y : ExprTree) → is_null_beside (binary_of plain) of y ≡ false) where
@@ -83,7 +73,7 @@ module _ (s : Setting) (operator : ℕ) (o : Binary) (plain : Sign) (x right : E
       → wanted_value (is_null_as (type_of s.facts x) (e.Chain level x link)) (s.facts.type_at operator) (type_of s.facts x) (expr s (e.Chain level x link)) u
       ≡ bind (bind ((expr s x).value u) then_right) (as_wanted (conversion (s.facts.type_at operator) (type_of s.facts x)))
   simple_value level u =
-      ap (λ (b : Bool). wanted_value b (s.facts.type_at operator) (type_of s.facts x) (expr s (e.Chain level x link)) u) (never_both (is_pointer_value (type_of s.facts x)))
+      ap (λ (b : Bool). wanted_value b (s.facts.type_at operator) (type_of s.facts x) (expr s (e.Chain level x link)) u) (and_false (is_pointer_value (type_of s.facts x)))
       ∙ ap (λ out. bind out (as_wanted (conversion (s.facts.type_at operator) (type_of s.facts x)))) (chain_value level u)
 
   -- both forms once the place is found, and the value known that stands right

@@ -9,15 +9,11 @@ use Rattle.cbi_base.specs.declared.scalar.Kind.{Kind}
 use Rattle.cbi_base.specs.declared.scalar.Kind.TheVariants.{Char, Int, Unsigned}
 use Rattle.cbi_base.specs.declared.scalar.Scalar.{Scalar}
 use Rattle.cbi_base.specs.declared.scalar.Scalar.TheVariants.{Number, Place, Null, Undefined}
-use Rattle.cbi_base.specs.Kind.{wrapped}
-use Rattle.cbi_base.specs.Objects.{Object}
-use Rattle.cbi_base.specs.Scalars.{applied_to_one, converted}
+use Rattle.cbi_base.specs.Words.{wrapped, Object, applied_to_one, converted}
 use Rattle.c_syntax.specs.declared.expr.PrefixOperator.TheVariants as prefix
 use Rattle.c_syntax.specs.ExprTree as e
-use Rattle.c_syntax.specs.ExprTree.{ExprTree, ExprList}
-use Rattle.c_syntax.specs.ItemTree.{SourceTree}
+use Rattle.c_syntax.specs.Words.{ExprTree, ExprList, SourceTree, InitialTree, StartTree}
 use Rattle.c_syntax.specs.StatementTree as tree
-use Rattle.c_syntax.specs.StatementTree.{InitialTree, StartTree}
 use Rattle.c_types_rules.specs.TypeTree.{TypeTree}
 use Rattle.c_types_expressions.specs.declared.walk.Walk.{Walk}
 use Rattle.c_types.specs.Answers.{declared_at}
@@ -25,16 +21,10 @@ use Rattle.flow.specs.declared.program.Text.{Text}
 use Rattle.flow.specs.declared.site.Site.{Site}
 use Rattle.c_meaning.specs.declared.value_type.ValueType.{ValueType}
 use Rattle.c_meaning.specs.declared.value_type.ValueType.TheVariants as type
-use Rattle.c_meaning.specs.Conversions.{as_wanted, between, conversion, converts, is_null_as}
-use Rattle.c_meaning.specs.Expressions.{Sense, one_operand, wanted_value}
-use Rattle.c_meaning.specs.Facts.{Facts}
-use Rattle.c_meaning.specs.Globals.{before_all, before_cells, constant, constants, given_by, given_to}
-use Rattle.c_meaning.specs.Globals.{global_object, global_objects, nowhere, object_with, one_more, spelled_cells, starts_of}
-use Rattle.c_meaning.specs.Known.{computed_type, element_type, facts_of}
-use Rattle.c_meaning.specs.Meaning.{expr, text_of_string, text_place}
-use Rattle.c_meaning.specs.Texts.{source_of}
-use Rattle.c_meaning.specs.Trees.{type_of}
-use Rattle.c_meaning.specs.World.{Out, Go, World, answered}
+use Rattle.c_meaning.specs.Words.{as_wanted, between, conversion, converts, is_null_as, Sense, one_operand, wanted_value, Facts, before_all, before_cells}
+use Rattle.c_meaning.specs.Words.{constant, constants, given_by, given_to, global_object, global_objects, nowhere, object_with, one_more, spelled_cells}
+use Rattle.c_meaning.specs.Words.{starts_of, computed_type, element_type, facts_of, expr, text_of_string, text_place, source_of, type_of, Out, Go, World}
+use Rattle.c_meaning.specs.Words.{answered}
 use Rattle.c_meaning_laws.specs.Rules.{Accepts, TakesOrNull, TakesType}
 use Rattle.c_meaning_laws.specs.TypedSource.{SourceFits}
 use Rattle.c_meaning_laws.specs.TypedText.{GlobalInitial, GlobalItems, IsConstant, Negates, TypedText, TypedGlobal, TypedGlobals}
@@ -48,14 +38,14 @@ Gives t w m = (v : Scalar) × Given t v × (m ≡ Go v w)
 number_converts : (have wanted : Kind) (n : ℤ) (w : World) → Gives (Some (type.Number wanted)) w (answered (converts (between have wanted) (Number have n)) w)
 unfolding converted
 number_converts Char Char n w = (Number Char n, (refl, refl), refl)
+number_converts Int Int n w = (Number Int n, (refl, refl), refl)
+number_converts Unsigned Unsigned n w = (Number Unsigned n, (refl, refl), refl)
 number_converts Char Int n w = (Number Int (wrapped Int n), (refl, refl), refl)
 number_converts Char Unsigned n w = (Number Unsigned (wrapped Unsigned n), (refl, refl), refl)
 number_converts Int Char n w = (Number Char (wrapped Char n), (refl, refl), refl)
-number_converts Int Int n w = (Number Int n, (refl, refl), refl)
 number_converts Int Unsigned n w = (Number Unsigned (wrapped Unsigned n), (refl, refl), refl)
 number_converts Unsigned Char n w = (Number Char (wrapped Char n), (refl, refl), refl)
 number_converts Unsigned Int n w = (Number Int (wrapped Int n), (refl, refl), refl)
-number_converts Unsigned Unsigned n w = (Number Unsigned n, (refl, refl), refl)
 
 takes_given : (t u : Option ValueType) (v : Scalar) (w : World) → TakesType t u → Given u v → Gives t w (as_wanted (conversion u t) v w)
 takes_given (Some (type.Number wanted)) (Some (type.Number have)) (Number k n) w h g =
@@ -134,15 +124,8 @@ given_some : (facts : Facts) (of : ValueType) (element : Option ValueType) (x : 
     → IsSome (given_to facts of element x)
 given_some facts of element None h = refl
 given_some facts (type.Array size) element (Some (tree.Value x)) h = spelled_some (text_of_string facts x) h
-given_some facts (type.Number kind) element (Some (tree.Value x)) h = mapped_some (λ v. v ∷ []) (constant facts (Some (type.Number kind)) x)
-    (constant_some facts (Some (type.Number kind)) x h.0 h.1)
-given_some facts (type.Pointer size) element (Some (tree.Value x)) h = mapped_some (λ v. v ∷ []) (constant facts (Some (type.Pointer size)) x)
-    (constant_some facts (Some (type.Pointer size)) x h.0 h.1)
-given_some facts type.Void element (Some (tree.Value x)) h = mapped_some (λ v. v ∷ []) (constant facts (Some type.Void) x)
-    (constant_some facts (Some type.Void) x h.0 h.1)
-given_some facts type.Struct element (Some (tree.Value x)) h = mapped_some (λ v. v ∷ []) (constant facts (Some type.Struct) x)
-    (constant_some facts (Some type.Struct) x h.0 h.1)
 given_some facts of element (Some (tree.Braced token items comma)) h = constants_some facts element items h
+given_some facts of element (Some (tree.Value x)) h = mapped_some (λ v. v ∷ []) (constant facts (Some of) x) (constant_some facts (Some of) x h.0 h.1)
 
 -- objects
 object_some : (facts : Facts) (w : Walk) (x : StartTree) (o : Option TypeTree) → TypedGlobal facts w x o → IsSome (option_and_then (object_with facts w x) o)

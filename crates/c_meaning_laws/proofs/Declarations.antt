@@ -2,27 +2,18 @@
 use Rattle.std.proofs.Common.{◌≡◌, ℕ, suc, ◌+◌, refl, List, [], ◌∷◌, Some, None}
 use Rattle.std.proofs.lemmas.Bool.{false≢true}
 use Rattle.std.specs.Prelude.{Option, pos, IsSome}
+use Rattle.cbi_base.specs.Words.{local_at, moved, stored, stored_bytes}
 use Rattle.cbi_base.specs.declared.scalar.Scalar.{Scalar}
-use Rattle.cbi_base.specs.Objects.{moved, stored}
 use Rattle.c_syntax.specs.ExprTree as e
-use Rattle.c_syntax.specs.ExprTree.{ExprTree, ExprList}
+use Rattle.c_syntax.specs.Words.{ExprTree, ExprList, InitialTree, StartTree}
 use Rattle.c_syntax.specs.StatementTree as tree
-use Rattle.c_syntax.specs.StatementTree.{InitialTree, StartTree}
 use Rattle.flow.specs.declared.program.Text.{Text}
 use Rattle.flow.specs.declared.site.Slot.{Slot}
 use Rattle.flow.specs.declared.site.Slot.TheVariants as slot
-use Rattle.flow.specs.Now.{local_at}
-use Rattle.flow.specs.Rows.{spelled}
 use Rattle.c_meaning.specs.declared.value_type.ValueType.{ValueType}
 use Rattle.c_meaning.specs.declared.value_type.ValueType.TheVariants as type
-use Rattle.c_meaning.specs.Conversions.{is_null_as}
-use Rattle.c_meaning.specs.Facts.{Setting}
-use Rattle.c_meaning.specs.Initialisers.{all_started, clear, element_set, elements_set, equals_token, initialised}
-use Rattle.c_meaning.specs.Initialisers.{object_of, on_object, scalar_set, spell, value_set, want_of, zeroed}
-use Rattle.c_meaning.specs.Meaning.{text_of_string}
-use Rattle.c_meaning.specs.Places.{member_place, store_at}
-use Rattle.c_meaning.specs.Trees.{type_of}
-use Rattle.c_meaning.specs.World.{World, OutDone, Caller}
+use Rattle.c_meaning.specs.Words.{is_null_as, Setting, all_started, clear, element_set, elements_set, equals_token, initialised, object_of, on_object}
+use Rattle.c_meaning.specs.Words.{scalar_set, spell, value_set, want_of, zeroed, text_of_string, member_place, store_at, type_of, World, OutDone, Caller}
 use Rattle.c_meaning_laws.specs.Rules.{Accepts, IsScalar}
 use Rattle.c_meaning_laws.specs.Typed.{HasSlot, PairsFit, Typed}
 use Rattle.c_meaning_laws.specs.TypedSource.{SitesFit}
@@ -44,7 +35,7 @@ zeroed_safe t number h = absurd h
 spell_safe : (o : Option Text) (number : ℕ) → IsSome o → Safe Any (spell o number) (spell o number)
 spell_safe None number h = absurd (false≢true h)
 spell_safe (Some text) number h =
-    seq (answers (λ w. spelled number 0 text.bytes w.objects) (λ w. refl) (λ w. spelled_calm number 0 text.bytes w.objects))
+    seq (answers (λ w. stored_bytes number 0 text.bytes w.objects) (λ w. refl) (λ w. spelled_calm number 0 text.bytes w.objects))
     (λ o _. record { at = λ w. tt; same = λ w. refl })
 
 store_safe : (p v : Scalar) → IsAt p → Safe Any (store_at p v) (store_at p v)
@@ -104,11 +95,7 @@ module _ (s : Setting) (call0 : Caller) (fit : SitesFit s.sites) (calls : CallsS
       → TypedValue s.facts s.sites s.locals.count token t x
       → Safe Any (value_set s token t x) (value_set (bare s call0) token t x)
   value_set_safe token (Some (type.Array size)) x l h = text_set_safe token x l h.0 h.1
-  value_set_safe token (Some (type.Number kind)) x l h = scalar_set_safe token x (local_slot (s.facts.slot_at token) l) h.0 h.1 h.2
-  value_set_safe token (Some (type.Pointer size)) x l h = scalar_set_safe token x (local_slot (s.facts.slot_at token) l) h.0 h.1 h.2
-  value_set_safe token (Some type.Void) x l h = scalar_set_safe token x (local_slot (s.facts.slot_at token) l) h.0 h.1 h.2
-  value_set_safe token (Some type.Struct) x l h = scalar_set_safe token x (local_slot (s.facts.slot_at token) l) h.0 h.1 h.2
-  value_set_safe token None x l h = scalar_set_safe token x (local_slot (s.facts.slot_at token) l) h.0 h.1 h.2
+  value_set_safe token t x l h = scalar_set_safe token x (local_slot (s.facts.slot_at token) l) h.0 h.1 h.2
 
   initialised_safe : (token : ℕ) (x : Option InitialTree) → IsLocal s.facts s.sites s.locals.count (s.facts.slot_at token)
       → TypedInitial s.facts s.sites s.locals.count token x

@@ -1,5 +1,6 @@
 -- What an expression does where nothing takes its value is what it does where its value is taken.
 use Rattle.std.proofs.Common.{◌≡◌, ℕ, Bool, true, false, ◌==◌, length, List, [], Option, Some, None, refl, ap, sym, ◌∙◌, subst}
+use Rattle.c_meaning_laws.proofs.Values.{decayed_value}
 use Rattle.cbi_base.specs.declared.scalar.Scalar.{Scalar}
 use Rattle.c_types_rules.specs.declared.library.Library.{Library}
 use Rattle.c_types_rules.specs.declared.library.Library.TheVariants as library
@@ -11,15 +12,10 @@ use Rattle.c_meaning.specs.declared.value_type.Called.{Called}
 use Rattle.c_meaning.specs.declared.value_type.Called.TheVariants as called
 use Rattle.c_meaning.specs.declared.value_type.ValueType.{ValueType}
 use Rattle.c_meaning.specs.declared.value_type.ValueType.TheVariants as type
-use Rattle.c_meaning.specs.Calls.{Argument, Arguments, call_function, call_library, call_sense, with_result}
-use Rattle.c_meaning.specs.Conversions.{as_used, is_null_as, load_at}
-use Rattle.c_meaning.specs.Expressions.{Sense, arm_effect, arm_value, cast, conditional, is_struct_value, placed, postfixed, prefixed_sense, size_value, spot}
-use Rattle.c_meaning.specs.Facts.{Setting, Signature}
-use Rattle.c_meaning.specs.Meaning.{arguments_value, expr, formatted, last_sense, lone_value, onward}
-use Rattle.c_meaning.specs.Places.{pointed_place, variable}
-use Rattle.c_meaning.specs.Trees.{called_as, count, ends_as_place, has_value, is_place, token_of, type_of}
-use Rattle.c_meaning.specs.Visits.{decided}
-use Rattle.c_meaning.specs.World.{World, Out, Go, Next, OutDone, answered, bind, choose, done, nothing, stuck}
+use Rattle.c_meaning.specs.Words.{Argument, Arguments, call_function, call_library, call_sense, with_result, as_used, is_null_as, load_at, Sense, arm_effect}
+use Rattle.c_meaning.specs.Words.{arm_value, cast, conditional, is_struct_value, placed, postfixed, prefixed_sense, size_value, spot, Setting, Signature}
+use Rattle.c_meaning.specs.Words.{arguments_value, expr, formatted, last_sense, lone_value, onward, pointed_place, variable, called_as, count, ends_as_place}
+use Rattle.c_meaning.specs.Words.{has_value, is_place, token_of, type_of, decided, World, Out, Go, Next, OutDone, answered, bind, choose, done, nothing, stuck}
 use Rattle.c_meaning_laws.specs.Rules.{IsValue}
 use Rattle.c_meaning_laws.specs.Typed.{CallsFunction, CallsLibrary, Typed, TypedArguments, TypedCall, TypedLast, TypedLone}
 use Rattle.c_meaning_laws.specs.Discarding.{CastDiscards, StatementDiscards}
@@ -30,12 +26,10 @@ abbrev LetsGo : Sense → Type 0
 LetsGo m = (w : World) → m.effect w ≡ done (m.value w)
 
 load_goes : (of : Option ValueType) (v : Scalar) (w : World) → IsValue of → choose (is_struct_value of) nothing (λ u. done (load_at of v u)) w ≡ done (load_at of v w)
-load_goes (Some (type.Number kind)) v w h = refl
-load_goes (Some (type.Pointer size)) v w h = refl
-load_goes (Some (type.Array size)) v w h = refl
 load_goes (Some type.Void) v w h = absurd h
 load_goes (Some type.Struct) v w h = absurd h
 load_goes None v w h = absurd h
+load_goes of v w h = refl
 
 place_goes : (of : Option ValueType) (p : World → Out Scalar) → IsValue of → LetsGo (placed of p)
 place_goes of p h w = bind_behind (p w) (load_at of) _ (λ _. nothing) (λ v u. load_goes of v u h)
@@ -49,47 +43,29 @@ size_goes None w = refl
 size_goes (Some cells) w = refl
 
 cast_goes : (b : Bool) (of : Option ValueType) (m : Sense) → IsValue of → LetsGo (cast b of m)
-cast_goes b (Some (type.Number kind)) m h w = refl
-cast_goes b (Some (type.Pointer size)) m h w = refl
-cast_goes b (Some (type.Array size)) m h w = refl
 cast_goes b (Some type.Void) m h w = absurd h
 cast_goes b (Some type.Struct) m h w = absurd h
 cast_goes b None m h w = absurd h
+cast_goes b of m h w = refl
 
 pub arm_goes : (b : Bool) (have of : Option ValueType) (m : Sense) (w : World) → IsValue of → arm_effect b have of m w ≡ done (arm_value b have of m w)
-arm_goes b have (Some (type.Number kind)) m w h = refl
-arm_goes b have (Some (type.Pointer size)) m w h = refl
-arm_goes b have (Some (type.Array size)) m w h = refl
 arm_goes b have (Some type.Void) m w h = absurd h
 arm_goes b have (Some type.Struct) m w h = absurd h
 arm_goes b have None m w h = absurd h
+arm_goes b have of m w h = refl
 
 chosen_goes : (b : Bool) (first second : World → Out Scalar) (act other : World → OutDone) (w : World) → act w ≡ done (first w) → other w ≡ done (second w)
     → choose b act other w ≡ done (choose b first second w)
 chosen_goes true first second act other w h k = h
 chosen_goes false first second act other w h k = k
 
-used_value : (of : Option ValueType) → IsValue (as_used of) → IsValue of
-used_value (Some (type.Number kind)) h = tt
-used_value (Some (type.Pointer size)) h = tt
-used_value (Some (type.Array size)) h = tt
-used_value (Some type.Void) h = h
-used_value (Some type.Struct) h = h
-used_value None h = h
-
 module _ (s : Setting) (room : ℕ) where
   prefix_goes : (token : ℕ) (o : PrefixOperator) (of : Option ValueType) (cells : Option ℕ) (m : Sense) → IsValue (s.facts.type_at token)
       → LetsGo (prefixed_sense s token o of cells m)
-  prefix_goes token prefix.Increment of cells m h w = refl
-  prefix_goes token prefix.Decrement of cells m h w = refl
-  prefix_goes token prefix.Address of cells m h w = refl
   prefix_goes token prefix.Indirection of cells m h w =
       place_goes (s.facts.type_at token) (λ u. bind (m.value u) (λ v y. answered (pointed_place v) y)) h w
-  prefix_goes token prefix.Plus of cells m h w = refl
-  prefix_goes token prefix.Minus of cells m h w = refl
-  prefix_goes token prefix.Complement of cells m h w = refl
-  prefix_goes token prefix.Not of cells m h w = refl
   prefix_goes token prefix.SizeOf of cells m h w = size_goes cells w
+  prefix_goes token o of cells m h w = refl
 
   pub conditional_goes : (token : ℕ) (c : Sense) (first second : World → Out Scalar) (act other : World → OutDone)
       → ((w : World) → act w ≡ done (first w)) → ((w : World) → other w ≡ done (second w)) → LetsGo (conditional s token c first second act other)
@@ -98,11 +74,9 @@ module _ (s : Setting) (room : ℕ) where
       bind_behind (decided s token v u) _ _ (λ _. nothing) (λ b y. chosen_goes b first second act other y (h y) (k y)))
 
   result_goes : (token : ℕ) (of : ValueType) (m : World → Out Scalar) → IsValue (Some of) → LetsGo (with_result s token (has_value of) m)
-  result_goes token (type.Number kind) m h w = refl
-  result_goes token (type.Pointer size) m h w = refl
-  result_goes token (type.Array size) m h w = refl
   result_goes token type.Void m h w = absurd h
   result_goes token type.Struct m h w = absurd h
+  result_goes token of m h w = refl
 
   function_goes : (token number : ℕ) (f : Option Signature) (n : ℕ) (arguments : Arguments) (Fit : List ValueType → Type 0) (of : Option ValueType)
       → CallsFunction f Fit of → IsValue of → LetsGo (call_function s token number f n arguments)
@@ -112,15 +86,12 @@ module _ (s : Setting) (room : ℕ) where
 
   library_goes : (token : ℕ) (function : Library) (n : ℕ) (argument : Argument) (print : World → OutDone) (Fit : List ValueType → Type 0) (One : Type 0)
       (of : Option ValueType) → CallsLibrary function Fit One of → IsValue of → LetsGo (call_library s token function n argument print)
-  library_goes token library.Getchar n argument print Fit One of h k w = refl
-  library_goes token library.Putchar n argument print Fit One of h k w = refl
-  library_goes token library.Puts n argument print Fit One of h k w = refl
-  library_goes token library.Malloc n argument print Fit One of h k w = refl
   library_goes token library.Free n argument print Fit One of h k w = absurd (subst IsValue h.1 k)
   library_goes token library.Exit n argument print Fit One of h k w = absurd (subst IsValue h.1 k)
   library_goes token library.Abort n argument print Fit One of h k w = absurd (subst IsValue h.1 k)
   library_goes token library.Assert n argument print Fit One of h k w = absurd (subst IsValue h.1 k)
   library_goes token library.Printf n argument print Fit One of h k w = absurd h
+  library_goes token function n argument print Fit One of h k w = refl
 
   call_goes : (token : ℕ) (what : Called) (n : ℕ) (arguments : Arguments) (argument : Argument) (print : World → OutDone) (Fit : List ValueType → Type 0)
       (One : Type 0) (of : Option ValueType) → TypedCall s.facts s.sites room what Fit One of → IsValue of
@@ -133,7 +104,6 @@ module _ (s : Setting) (room : ℕ) where
   mutual
     goes : (x : ExprTree) → Typed s.facts s.sites room x → IsValue (type_of s.facts x) → LetsGo (expr s x)
     goes (e.Comma token operands) h k w = last_goes (s.facts.type_at token) operands h k w
-    goes (e.Assign token sign target value) h k w = refl
     goes (e.Conditional token condition first second) h k w =
         conditional_goes token (expr s condition)
         (arm_value (is_null_as (s.facts.type_at token) first) (type_of s.facts first) (s.facts.type_at token) (expr s first))
@@ -142,7 +112,6 @@ module _ (s : Setting) (room : ℕ) where
         (arm_effect (is_null_as (s.facts.type_at token) second) (type_of s.facts second) (s.facts.type_at token) (expr s second))
         (λ u. arm_goes (is_null_as (s.facts.type_at token) first) (type_of s.facts first) (s.facts.type_at token) (expr s first) u k)
         (λ u. arm_goes (is_null_as (s.facts.type_at token) second) (type_of s.facts second) (s.facts.type_at token) (expr s second) u k) w
-    goes (e.Chain level first links) h k w = refl
     goes (e.Cast token base stars operand) h k w = cast_goes (is_null_as (s.facts.type_at token) operand) (s.facts.type_at token) (expr s operand) k w
     goes (e.Prefix token operator operand) h k w =
         prefix_goes token operator (type_of s.facts operand) (s.facts.cells_at (token_of operand)) (expr s operand) k w
@@ -155,15 +124,12 @@ module _ (s : Setting) (room : ℕ) where
         call_goes token (called_as (s.facts.function_at token) name) (count arguments) (λ types. arguments_value s types arguments [])
         (λ want. lone_value s want arguments) (formatted s arguments) (λ types. TypedArguments s.facts s.sites room types arguments)
         (TypedLone s.facts s.sites room arguments) (s.facts.type_at token) h k w
-    goes (e.Constant token kind value) h k w = refl
-    goes (e.Strings token parts) h k w = refl
     goes (e.Paren token inner) h k w = goes inner h.0 (subst IsValue h.1 k) w
-    goes (e.Null token) h k w = refl
-    goes (e.EndOfFile token) h k w = refl
+    goes x h k w = refl
 
     last_goes : (of : Option ValueType) (operands : ExprList) → TypedLast s.facts s.sites room of operands → IsValue of → LetsGo (last_sense s operands)
     last_goes of e.no_exprs h k w = absurd h
-    last_goes of (e.more_exprs x e.no_exprs) h k w = goes x h.0 (used_value (type_of s.facts x) (subst IsValue h.1 k)) w
+    last_goes of (e.more_exprs x e.no_exprs) h k w = goes x h.0 (decayed_value (type_of s.facts x) (subst IsValue h.1 k)) w
     last_goes of (e.more_exprs x (e.more_exprs y rest)) h k w =
         bind_behind ((expr s x).effect w) (λ _. (last_sense s (e.more_exprs y rest)).value) _ (λ _. nothing)
         (λ _ u. last_goes of (e.more_exprs y rest) h.1 k u)

@@ -5,30 +5,19 @@ use Rattle.cbi_base.specs.declared.scalar.Kind.{Kind}
 use Rattle.cbi_base.specs.declared.scalar.Kind.TheVariants.{Char, Int, Unsigned}
 use Rattle.cbi_base.specs.declared.scalar.Scalar.{Scalar}
 use Rattle.cbi_base.specs.declared.scalar.Scalar.TheVariants.{Number, Place, Null, Undefined}
-use Rattle.cbi_base.specs.Kind.{wrapped}
-use Rattle.cbi_base.specs.Scalars.{converted}
+use Rattle.cbi_base.specs.Words.{wrapped, converted, Locals, Object, Objects}
 use Rattle.c_values.proofs.Modulo.{wrapped-inside}
 use Rattle.std.specs.Prelude.{codes}
 use Rattle.c_syntax.specs.ExprTree as e
-use Rattle.c_syntax.specs.ExprTree.{ExprTree}
+use Rattle.c_syntax.specs.Words.{ExprTree, StatementTree, EntryList}
 use Rattle.c_syntax.specs.StatementTree as tree
-use Rattle.c_syntax.specs.StatementTree.{StatementTree, EntryList}
 use Rattle.c_meaning.specs.declared.value_type.ValueType.{ValueType}
 use Rattle.c_meaning.specs.declared.value_type.ValueType.TheVariants as type
-use Rattle.c_meaning.specs.Calls.{call_sense, exit}
-use Rattle.c_meaning.specs.Conversions.{as_wanted, conversion, handed}
-use Rattle.c_meaning.specs.Facts.{Setting}
-use Rattle.c_meaning.specs.Initialisers.{declares}
-use Rattle.c_meaning.specs.Meaning.{arguments_value, condition, expr, formatted, lone_value}
-use Rattle.c_meaning.specs.Runs.{behaves, call_at, enter_function, enter_with, first_world, gives_value, inside, locals_at, meaning}
-use Rattle.c_meaning.specs.Runs.{run_body, run_from, run_main, setting_of, value_left}
-use Rattle.cbi_base.specs.Objects.{Object, Objects}
-use Rattle.flow.specs.Now.{Locals}
-use Rattle.c_meaning.specs.Facts.{Signature}
-use Rattle.c_meaning.specs.Statements.{after_body, after_entry, do_round, exec, exec_all, for_round, for_started}
-use Rattle.c_meaning.specs.Statements.{optional_condition, optional_effect, rounds, while_round}
-use Rattle.c_meaning.specs.Trees.{called_as, count, has_value, type_of}
-use Rattle.c_meaning.specs.World.{World, Out, Go, Stop, OutDone, Flow, Next, Broken, Continued, Returned, answered, bind, choose, spend}
+use Rattle.c_meaning.specs.Words.{call_sense, exit, as_wanted, conversion, handed, Setting, declares, arguments_value, condition, expr, formatted, lone_value}
+use Rattle.c_meaning.specs.Words.{behaves, call_at, enter_function, enter_with, first_world, gives_value, inside, locals_at, meaning, run_body, run_from}
+use Rattle.c_meaning.specs.Words.{run_main, setting_of, value_left, Signature, after_body, after_entry, do_round, exec, exec_all, for_round, for_started}
+use Rattle.c_meaning.specs.Words.{optional_condition, optional_effect, rounds, while_round, called_as, count, has_value, type_of, World, Out, Go, Stop, OutDone}
+use Rattle.c_meaning.specs.Words.{Flow, Next, Broken, Continued, Returned, answered, bind, choose, spend}
 use Rattle.c_meaning_laws.specs.Rules.{IsNumberType}
 use Rattle.c_meaning_laws.specs.Exits.{AreExited, IsExited, ReturnOfMainExits, RunIsOfMain, exit_with, main_body}
 use Rattle.c_meaning_laws.specs.Negation.{IsOf}
@@ -90,9 +79,7 @@ body_ends again other h (Returned v) w = inl refl
 
 entry_ends : (rest other : World → Out Flow) → Ends rest other → (flow : Flow) → Ends (after_entry rest flow) (after_entry other flow)
 entry_ends rest other h Next w = h w
-entry_ends rest other h Continued w = inl refl
-entry_ends rest other h Broken w = inl refl
-entry_ends rest other h (Returned v) w = inl refl
+entry_ends rest other h flow w = inl refl
 
 spend_ends : (turns : ℕ) (w : World) (m other : World → Out Flow) → Ends m other → EndsAs (spend turns w m) (spend turns w other)
 spend_ends zero w m other h = inl refl
@@ -137,9 +124,7 @@ turned_int : (k : Kind) (v : Scalar) (w : World)
     → EndsAs (bind (answered (converted Int v) w) (λ x. Go (Returned (Some x)))) (bind (bind (answered (converted Int v) w) exit) (λ _. Go Next))
 unfolding converted
 turned_int k (Number j n) w = inr (Number Int (wrapped Int n), w, refl, λ _. refl)
-turned_int k Undefined w = inl refl
-turned_int k Null w = inl refl
-turned_int k (Place number offset) w = inl refl
+turned_int k v w = inl refl
 
 value_ends : (of : Option ValueType) (v : Scalar) (w : World) → IsNumberType of
     → EndsAs (bind (as_wanted (conversion of (Some (type.Number Int))) v w) (λ x. Go (Returned (Some x))))
@@ -147,11 +132,7 @@ value_ends : (of : Option ValueType) (v : Scalar) (w : World) → IsNumberType o
 value_ends (Some (type.Number Int)) v w h = inr (v, w, refl, kept_int v w)
 value_ends (Some (type.Number Char)) v w h = turned_int Char v w
 value_ends (Some (type.Number Unsigned)) v w h = turned_int Unsigned v w
-value_ends (Some (type.Pointer size)) v w h = absurd h
-value_ends (Some (type.Array size)) v w h = absurd h
-value_ends (Some type.Void) v w h = absurd h
-value_ends (Some type.Struct) v w h = absurd h
-value_ends None v w h = absurd h
+value_ends of v w h = absurd h
 
 out_ends : (of : Option ValueType) (out : Out Scalar) → IsNumberType of
     → EndsAs (bind (bind out (as_wanted (conversion of (Some (type.Number Int))))) (λ x. Go (Returned (Some x))))
@@ -193,7 +174,6 @@ module _ (s : Setting) (n : ℕ) where
   mutual
     statement_ends : (x y : StatementTree) → IsExited s.facts x y → Ends (exec s n result x) (exec s n result y)
     statement_ends (tree.Return token (Some v)) y h = return_ends token v y h
-    statement_ends (tree.Return token None) y h = alike (tree.Return token None) y h
     statement_ends (tree.Block token entries) y h =
         as_written (tree.Block token entries) y (tree.Block token h.0) h.1 (entries_end entries h.0 h.2)
     statement_ends (tree.If token c first) y h =
@@ -217,10 +197,7 @@ module _ (s : Setting) (n : ℕ) where
         as_written (tree.For token start c step body) y (tree.For token start c step h.0) h.1 (λ w. same_ends (for_started s start w) _ _ (λ _.
         rounds_end (for_round holds (exec s n result body) act) (for_round holds (exec s n result h.0) act)
         (for_ends holds (exec s n result body) (exec s n result h.0) act (statement_ends body h.0 h.2)) n))
-    statement_ends (tree.Empty token) y h = alike (tree.Empty token) y h
-    statement_ends (tree.Expr token x) y h = alike (tree.Expr token x) y h
-    statement_ends (tree.Break token) y h = alike (tree.Break token) y h
-    statement_ends (tree.Continue token) y h = alike (tree.Continue token) y h
+    statement_ends x y h = alike x y h
 
     entries_end : (xs ys : EntryList) → AreExited s.facts xs ys → Ends (exec_all s n result xs) (exec_all s n result ys)
     entries_end tree.no_entries ys h w = inl (ap (λ zs. exec_all s n result zs w) h)

@@ -5,29 +5,23 @@ use Rattle.std.proofs.lemmas.Bool.{false≢true, true≢false}
 use Rattle.std.proofs.lemmas.Bool.Decides.{nat_tests}
 use Rattle.std.proofs.lemmas.List.{reverse-append, reverse-reverse}
 use Rattle.std.specs.Prelude.{Option, pos, negsuc, IsSome, ◌&&◌, reverse}
+use Rattle.cbi_base.specs.Words.{Locals, local_at, moved}
+use Rattle.base_lists.proofs.Tests.{and_first}
 use Rattle.cbi_base.specs.declared.operators.Binary.TheVariants as op
 use Rattle.cbi_base.specs.declared.scalar.Kind.TheVariants.{Int}
 use Rattle.cbi_base.specs.declared.scalar.Scalar.{Scalar}
 use Rattle.cbi_base.specs.declared.scalar.Scalar.TheVariants.{Number, Place, Null}
-use Rattle.cbi_base.specs.Objects.{moved}
 use Rattle.c_syntax.specs.ExprTree as e
 use Rattle.c_syntax.specs.ExprTree.{ExprTree, ExprList, LinkList, PostfixList}
 use Rattle.c_types_expressions.specs.ExprWalk.{binary_of}
 use Rattle.flow.specs.declared.site.Slot.{Slot}
 use Rattle.flow.specs.declared.site.Slot.TheVariants as slot
-use Rattle.flow.specs.Now.{Locals, local_at}
 use Rattle.c_meaning.specs.declared.value_type.ValueType.{ValueType}
 use Rattle.c_meaning.specs.declared.value_type.ValueType.TheVariants as type
-use Rattle.c_meaning.specs.Calls.{as_type}
-use Rattle.c_meaning.specs.Conversions.{as_used, is_null_as, is_null_constant, is_pointer_value}
-use Rattle.c_meaning.specs.Expressions.{Sense, postfixed, settled, spot}
-use Rattle.c_meaning.specs.Facts.{Facts, Setting}
-use Rattle.c_meaning.specs.Meaning.{arguments_value, condition, expr, last_sense, links_value, lone_value, onward, text_place}
-use Rattle.c_meaning.specs.Operation.{operation}
-use Rattle.c_meaning.specs.Places.{member_place, variable}
-use Rattle.c_meaning.specs.Trees.{assignment, begins_null, called_as, count, ends_as_place, is_null_beside}
-use Rattle.c_meaning.specs.Trees.{is_place, joint, link_token, operand_type, postfix_token, token_of, type_of}
-use Rattle.c_meaning.specs.World.{World, Out, Caller}
+use Rattle.c_meaning.specs.Words.{as_type, as_used, is_null_as, is_null_constant, is_pointer_value, Sense, postfixed, settled, spot, Facts, Setting}
+use Rattle.c_meaning.specs.Words.{arguments_value, condition, expr, last_sense, links_value, lone_value, onward, text_place, operation, member_place, variable}
+use Rattle.c_meaning.specs.Words.{assignment, begins_null, called_as, count, ends_as_place, is_null_beside, is_place, joint, link_token, operand_type}
+use Rattle.c_meaning.specs.Words.{postfix_token, token_of, type_of, World, Out, Caller}
 use Rattle.c_meaning_laws.specs.Rules.{IsPointing, IsValue, OperatorsEnd, TakesOrNull, type_beside}
 use Rattle.c_meaning_laws.specs.Typed.{HasSlot, Typed, TypedArguments, TypedLast, TypedLinks, TypedLone, TypedPostfix, variable_named}
 use Rattle.c_meaning_laws.specs.TypedSource.{SitesFit}
@@ -84,13 +78,7 @@ takes_used t false h l = takes_itself t l
 takes_used (Some (type.Number kind)) true h l = absurd (false≢true (h refl))
 takes_used (Some (type.Pointer size)) true h l = tt
 takes_used (Some (type.Array size)) true h l = tt
-takes_used (Some type.Void) true h l = absurd l
-takes_used (Some type.Struct) true h l = absurd l
-takes_used None true h l = absurd l
-
-left_true : (a b : Bool) → (a && b) ≡ true → a ≡ true
-left_true true b h = refl
-left_true false b h = h
+takes_used t true h l = absurd l
 
 -- arguments before those that are there: values of these types, the last one first
 abbrev pub Onto : List ValueType → List Scalar → List Scalar → Type 0
@@ -163,10 +151,8 @@ module _ (s : Setting) (call0 : Caller) (fit : SitesFit s.sites) (calls : CallsS
       → IsValue t
   postfix_value e.no_postfix slot t h = h
   postfix_value (e.index token i rest) slot t h = (moves_values (operation op.Add t (type_of s.facts i)) t (type_of s.facts i) h.1).0
-  postfix_value (e.member token name rest) slot t h = absurd (false≢true h.0)
   postfix_value (e.arrow token name rest) slot t h = pointing_value t h.0
-  postfix_value (e.increment token rest) slot t h = absurd (false≢true h.0)
-  postfix_value (e.decrement token rest) slot t h = absurd (false≢true h.0)
+  postfix_value operators slot t h = absurd (false≢true h.0)
 
   value_of_false : (known : Bool) (operators : PostfixList) (slot : Option Slot) (t : Option ValueType)
       → TypedPostfix s.facts s.sites s.locals.count known slot t operators → known ≡ false → IsValue t
@@ -260,18 +246,16 @@ module _ (s : Setting) (call0 : Caller) (fit : SitesFit s.sites) (calls : CallsS
         (λ q at. behind_safe rest true None (s.facts.type_at token) q h.2 at)))
     behind_safe (e.member token name rest) true slot t v h held =
         seq (member_safe (s.facts.offset_at token) v h.1 (spot_at s.locals slot v held)) (λ q at. behind_safe rest true None (s.facts.type_at token) q h.2 at)
-    behind_safe (e.member token name rest) false slot t v h held = absurd (false≢true h.0)
     behind_safe (e.arrow token name rest) known slot t v h held =
         seq (settled_safe known slot t v (pointing_value t h.0) held) (λ p f.
         seq (member_behind_safe t (s.facts.offset_at token) p h.0 h.1 f) (λ q at. behind_safe rest true None (s.facts.type_at token) q h.2 at))
     behind_safe (e.increment token rest) true slot t v h held =
         seq (stepped_behind_safe s call0 fit true token slot t v h.1 held) (λ old f. behind_safe rest false None (s.facts.type_at token) old h.2
         (subst (λ a. Fits a old) (sym h.1.2) f))
-    behind_safe (e.increment token rest) false slot t v h held = absurd (false≢true h.0)
     behind_safe (e.decrement token rest) true slot t v h held =
         seq (stepped_behind_safe s call0 fit false token slot t v h.1 held) (λ old f. behind_safe rest false None (s.facts.type_at token) old h.2
         (subst (λ a. Fits a old) (sym h.1.2) f))
-    behind_safe (e.decrement token rest) false slot t v h held = absurd (false≢true h.0)
+    behind_safe operators false slot t v h held = absurd (false≢true h.0)
 
     pub arguments_safe : (xs : ExprList) (types : List ValueType) (before : List Scalar) → TypedArguments s.facts s.sites s.locals.count types xs
         → Safe (Onto types before) (arguments_value s types xs before) (arguments_value (bare s call0) types xs before)
@@ -292,7 +276,7 @@ module _ (s : Setting) (call0 : Caller) (fit : SitesFit s.sites) (calls : CallsS
     lone_used e.no_exprs h = absurd h
     lone_used (e.more_exprs x e.no_exprs) h =
         weaker (λ _ _. tt) (handed_value_safe (is_null_as (as_used (type_of s.facts x)) x) (as_used (type_of s.facts x)) (type_of s.facts x) _ _
-        (takes_used (type_of s.facts x) (is_null_as (as_used (type_of s.facts x)) x) (left_true (is_pointer_value (as_used (type_of s.facts x)))
+        (takes_used (type_of s.facts x) (is_null_as (as_used (type_of s.facts x)) x) (and_first (is_pointer_value (as_used (type_of s.facts x)))
         (is_null_constant x)) h.1)
         (expr_safe x h.0).value)
     lone_used (e.more_exprs x (e.more_exprs y rest)) h = absurd h

@@ -4,12 +4,9 @@ use Rattle.std.proofs.Math.Path.{fun_ext}
 use Rattle.cbi_base.specs.declared.scalar.Kind.TheVariants.{Int}
 use Rattle.cbi_base.specs.declared.scalar.Scalar.TheVariants.{Number}
 use Rattle.c_syntax.specs.StatementTree as tree
-use Rattle.c_meaning.specs.Facts.{Setting}
-use Rattle.c_meaning.specs.Initialisers.{declares}
-use Rattle.c_meaning.specs.Meaning.{condition, expr}
-use Rattle.c_meaning.specs.Statements.{after_body, after_entry, exec, for_round, for_started, optional_condition, optional_effect, rounds, while_round}
-use Rattle.c_meaning.specs.Visits.{listed, truth, visited}
-use Rattle.c_meaning.specs.World.{World, Out, Go, Stop, OutDone, Flow, Next, Broken, Continued, Returned, bind, choose, spend}
+use Rattle.c_meaning.specs.Words.{Setting, declares, condition, expr, after_body, after_entry, exec, for_round, for_started, optional_condition}
+use Rattle.c_meaning.specs.Words.{optional_effect, rounds, while_round, listed, truth, visited, World, Out, Go, Stop, OutDone, Flow, Next, Broken, Continued}
+use Rattle.c_meaning.specs.Words.{Returned, bind, choose, spend}
 use Rattle.c_meaning_laws.specs.Constants.{one_at}
 use Rattle.c_meaning_laws.specs.Rounds.{ForIsWhile, ForStartsBefore, ForWithoutStepIsWhile, MissingConditionIsTrue}
 
@@ -25,10 +22,8 @@ after_round : (step : World → OutDone) (again other : World → Out Flow) → 
     bind out (after_body (λ u. bind (step u) (λ _. again)))
     ≡ bind (bind out (after_entry (λ u. bind (bind (step u) (λ _. Go Next)) (after_entry (Go Next))))) (after_body other)
 after_round step again other same (Go Next w) none = after_step again other same (step w)
-after_round step again other same (Go Broken w) none = refl
 after_round step again other same (Go Continued w) none = absurd (none w refl)
-after_round step again other same (Go (Returned v) w) none = refl
-after_round step again other same (Stop outcome w) none = refl
+after_round step again other same out none = refl
 
 module _ (test : World → Out Bool) (body : World → Out Flow) (step : World → OutDone) (none : (u v : World) → body u ≡ Go Continued v → ⊥) where
   abbrev stepped : World → Out Flow

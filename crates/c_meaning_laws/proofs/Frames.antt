@@ -6,21 +6,17 @@ use Rattle.std.specs.Prelude.{if◌then◌else◌, reverse}
 use Rattle.std.specs.FinMap.{get, remove}
 use Rattle.std.specs.List.{list_all}
 use Rattle.std.specs.Option.{option_and_then}
+use Rattle.cbi_base.specs.Words.{is_defined_value, active_limit, all_killed, all_made, first_cells, Locals, Object, Objects, has_room, one_object_more}
+use Rattle.base_lists.proofs.Numbers.{less_is, same_number}
 use Rattle.cbi_base.specs.declared.outcome.Outcome.TheVariants.{Trapped}
 use Rattle.cbi_base.specs.declared.scalar.Class.TheVariants.{Local}
 use Rattle.cbi_base.specs.declared.scalar.Scalar.{Scalar}
 use Rattle.cbi_base.specs.declared.scalar.Scalar.TheVariants.{Undefined}
 use Rattle.cbi_base.specs.declared.trap.Trap.TheVariants as trap
-use Rattle.cbi_base.specs.Frames.{all_killed, all_made, first_cells}
-use Rattle.cbi_base.specs.Objects.{Object, Objects, has_room, one_object_more}
-use Rattle.flow.specs.Limits.{active_limit}
-use Rattle.flow.specs.Now.{Locals, is_defined}
-use Rattle.c_meaning.specs.Calls.{all_defined}
-use Rattle.c_meaning.specs.Facts.{Signature}
-use Rattle.c_meaning.specs.Runs.{Source, call_at, enter_function, enter_with, gives_value, left_function, locals_of, value_left}
-use Rattle.c_meaning.specs.World.{World, Out, Go, Stop, bind, spend}
+use Rattle.c_meaning.specs.Words.{all_defined, Signature, Source, call_at, enter_function, enter_with, gives_value, left_function, locals_of, value_left, World}
+use Rattle.c_meaning.specs.Words.{Out, Go, Stop, bind, spend}
 use Rattle.c_meaning_laws.specs.Frames.{BodyBeginsAfresh, HasOwnVariables, VariablesDie}
-use Rattle.c_meaning_laws.proofs.Objects.{put_found, put_other, removed_here, removed_other, same_number}
+use Rattle.c_meaning_laws.proofs.Objects.{put_found, put_other, removed_here, removed_other}
 use Rattle.c_meaning_laws.proofs.Parts.{Ends, anything, ends_bind, ends_go}
 
 -- objects made one after another
@@ -77,10 +73,10 @@ made_all (x ∷ rest) before after is =
 -- the cells of each variable
 parameter_cells : (sizes : List ℕ) (vs : List Scalar) (index size : ℕ) (v : Scalar) → slice_get sizes index ≡ Some size → slice_get vs index ≡ Some v
     → slice_get (first_cells vs sizes) index ≡ Some (v ∷ replicate (size - 1) Undefined)
+parameter_cells (n ∷ sizes) (x ∷ vs) (suc index) size v h k = parameter_cells sizes vs index size v h k
 parameter_cells [] vs index size v h k = cc
 parameter_cells (n ∷ sizes) [] index size v h k = cc
 parameter_cells (n ∷ sizes) (x ∷ vs) zero size v h k = cc
-parameter_cells (n ∷ sizes) (x ∷ vs) (suc index) size v h k = parameter_cells sizes vs index size v h k
 
 other_cells : (sizes : List ℕ) (vs : List Scalar) (index size : ℕ) → slice_get sizes index ≡ Some size → length vs ≤ index
     → slice_get (first_cells vs sizes) index ≡ Some (replicate size Undefined)
@@ -104,16 +100,13 @@ own_variables f arguments before after h = record {
   made = h.made ∙ ap (λ n. before.made + n) (cells_long f.locals arguments);
 }
 
-low_number : (m n : ℕ) → m < n → nat_lt m n ≡ true
-low_number m n h = grind (arith, nat_tests, h)
-
 pub body_begins_afresh : BodyBeginsAfresh
 body_begins_afresh src call turns number f arguments w objects few made = (
   ap (λ (b : Bool). if b then enter_with src call turns number f w (all_made (first_cells arguments f.locals) w.objects)
-      else Stop (Trapped trap.StackOverflow) w) (low_number w.active active_limit few)
+      else Stop (Trapped trap.StackOverflow) w) (less_is w.active active_limit few)
       ∙ ap (enter_with src call turns number f w) made,
   own_variables f arguments w.objects objects (made_all (first_cells arguments f.locals) w.objects objects made),
-  λ index low. ap (λ (b : Bool). if b then Some (w.objects.made + index) else None) (low_number index (length f.locals) low),
+  λ index low. ap (λ (b : Bool). if b then Some (w.objects.made + index) else None) (less_is index (length f.locals) low),
 )
 
 lower : (index count : ℕ) → index < suc count → (index ≡ count → ⊥) → index < count
@@ -171,7 +164,7 @@ spent_dead src (suc n) number f vs w known = by_turns w.turns
     by_turns (suc turns) =
         let u : World = record w { turns = turns } in
         given_dead w.objects.made (length f.locals) src n number vs (src.facts.signature number) u
-        (ap (λ g. (locals_of g u).first) known) (ap (λ g. (locals_of g u).count) known) (list_all is_defined vs)
+        (ap (λ g. (locals_of g u).first) known) (ap (λ g. (locals_of g u).count) known) (list_all is_defined_value vs)
 
 pub variables_die : VariablesDie
 variables_die src turns number f arguments v w u known is =

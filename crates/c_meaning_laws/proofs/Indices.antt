@@ -10,14 +10,9 @@ use Rattle.c_meaning.specs.declared.operation.Operation.{Operation}
 use Rattle.c_meaning.specs.declared.operation.Operation.TheVariants.{Numbers, MoveLeft, MoveRight, Span, Ordered, Wrong}
 use Rattle.c_meaning.specs.declared.value_type.ValueType.{ValueType}
 use Rattle.c_meaning.specs.declared.value_type.ValueType.TheVariants as type
-use Rattle.c_meaning.specs.Conversions.{is_pointer_value}
-use Rattle.c_meaning.specs.Expressions.{Sense, placed, postfixed, settled, spot}
-use Rattle.c_meaning.specs.Facts.{Setting}
-use Rattle.c_meaning.specs.Meaning.{expr, onward}
-use Rattle.c_meaning.specs.Operation.{operation, operate}
-use Rattle.c_meaning.specs.Places.{member_place, pointed_place, stepped_behind}
-use Rattle.c_meaning.specs.Trees.{ends_as_place, is_place, postfix_token, token_of, type_of}
-use Rattle.c_meaning.specs.World.{World, Out, Go, answered, bind, choose, stuck}
+use Rattle.c_meaning.specs.Words.{is_pointer_value, Sense, placed, postfixed, settled, spot, Setting, expr, onward, operation, operate, member_place}
+use Rattle.c_meaning.specs.Words.{pointed_place, stepped_behind, ends_as_place, is_place, postfix_token, token_of, type_of, World, Out, Go, answered, bind}
+use Rattle.c_meaning.specs.Words.{choose, stuck}
 use Rattle.c_meaning_laws.specs.Rules.{IsPointing, Moves}
 use Rattle.c_meaning_laws.specs.Typed.{Typed, TypedPostfix, variable_named}
 use Rattle.c_meaning_laws.specs.Indexing.{FollowedIndexMeansSum, HasPointer, IndexIsPlaceOfSum, IndexMeansSum, TypedIndexMeets, at_sum, followed, then_more}
@@ -47,11 +42,7 @@ token_more token (e.decrement next rest) more = token_more next rest more
 type_more : (s : Setting) (token other : ℕ) (more : PostfixList) → s.facts.type_at token ≡ s.facts.type_at other
     → s.facts.type_at (postfix_token token more) ≡ s.facts.type_at (postfix_token other more)
 type_more s token other e.no_postfix same = same
-type_more s token other (e.index next i rest) same = refl
-type_more s token other (e.member next name rest) same = refl
-type_more s token other (e.arrow next name rest) same = refl
-type_more s token other (e.increment next rest) same = refl
-type_more s token other (e.decrement next rest) same = refl
+type_more s token other more same = refl
 
 behind_more : (s : Setting) (operators more : PostfixList) (known : Bool) (token : ℕ) (v : Scalar) (w : World)
     → onward s known (s.facts.type_at token) (then_more operators more) v w
@@ -132,18 +123,12 @@ module _ (s : Setting) (bracket : ℕ) (i : ExprTree) where
   pointing_pointer : (of : Option ValueType) → IsPointing of → is_pointer_value of ≡ true
   pointing_pointer (Some (type.Pointer size)) h = refl
   pointing_pointer (Some (type.Array size)) h = refl
-  pointing_pointer (Some (type.Number kind)) h = absurd h
-  pointing_pointer (Some type.Void) h = absurd h
-  pointing_pointer (Some type.Struct) h = absurd h
-  pointing_pointer None h = absurd h
+  pointing_pointer of h = absurd h
 
   moves_pointer : (o : Operation) (a : ExprTree) → Moves o (type_of s.facts a) (type_of s.facts i) → HasPointer s.facts a i
   moves_pointer (MoveLeft size) a h = inl (pointing_pointer (type_of s.facts a) h.0)
   moves_pointer (MoveRight size) a h = inr (pointing_pointer (type_of s.facts i) h.1)
-  moves_pointer (Numbers o left right) a h = absurd h
-  moves_pointer (Span size) a h = absurd h
-  moves_pointer (Ordered o) a h = absurd h
-  moves_pointer Wrong a h = absurd h
+  moves_pointer o a h = absurd h
 
   typed_behind : (count : ℕ) (operators more : PostfixList) (known : Bool) (named : Option Slot) (token : ℕ)
       → TypedPostfix s.facts s.sites count known named (s.facts.type_at token) (then_more operators (e.index bracket i more))

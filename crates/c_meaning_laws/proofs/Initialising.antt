@@ -2,23 +2,14 @@
 use Rattle.std.proofs.Common.{◌≡◌, ℕ, List, [], ◌∷◌, ◌++◌, Option, Some, None, refl, ap, sym, ◌∙◌}
 use Rattle.cbi_base.specs.declared.scalar.Scalar.{Scalar}
 use Rattle.c_syntax.specs.ExprTree as e
-use Rattle.c_syntax.specs.ExprTree.{ExprTree}
+use Rattle.c_syntax.specs.Words.{ExprTree, DeclarationTree, EntryList, StartTree}
 use Rattle.c_syntax.specs.declared.token.Sign.TheVariants as sign
 use Rattle.c_syntax.specs.StatementTree as tree
-use Rattle.c_syntax.specs.StatementTree.{DeclarationTree, EntryList, StartTree}
 use Rattle.flow.specs.declared.site.Slot.{Slot}
 use Rattle.c_meaning.specs.declared.value_type.ValueType.{ValueType}
 use Rattle.c_meaning.specs.declared.value_type.ValueType.TheVariants as type
-use Rattle.c_meaning.specs.Conversions.{is_null_as}
-use Rattle.c_meaning.specs.Expressions.{wanted_value}
-use Rattle.c_meaning.specs.Facts.{Setting}
-use Rattle.c_meaning.specs.Initialisers.{all_started, clear, equals_token, on_local, scalar_set, started, value_set}
-use Rattle.c_meaning.specs.Meaning.{expr}
-use Rattle.c_meaning.specs.Places.{store_at, variable}
-use Rattle.c_meaning.specs.Statements.{after_entry, exec_all}
-use Rattle.c_meaning.specs.Trees.{type_of}
-use Rattle.c_meaning.specs.Visits.{visited}
-use Rattle.c_meaning.specs.World.{World, Out, Go, Stop, OutDone, Flow, Next, bind, done, nothing}
+use Rattle.c_meaning.specs.Words.{is_null_as, wanted_value, Setting, all_started, clear, equals_token, on_local, scalar_set, started, value_set, expr, store_at}
+use Rattle.c_meaning.specs.Words.{variable, after_entry, exec_all, type_of, visited, World, Out, Go, Stop, OutDone, Flow, Next, bind, done, nothing}
 use Rattle.c_meaning_laws.specs.Rules.{IsScalar}
 use Rattle.c_meaning_laws.specs.Initialising.{DeclarationIsOneOfEach, InitialiserIsAssignment, NamesDeclared, set_to}
 use Rattle.c_meaning_laws.proofs.Parts.{bind_alike, bind_behind}
@@ -27,10 +18,7 @@ scalar_value : (s : Setting) (token : ℕ) (of : Option ValueType) (value : Expr
     → value_set s token of value w ≡ scalar_set s token value w
 scalar_value s token (Some (type.Number kind)) value w h = refl
 scalar_value s token (Some (type.Pointer size)) value w h = refl
-scalar_value s token (Some (type.Array size)) value w h = absurd h
-scalar_value s token (Some type.Void) value w h = absurd h
-scalar_value s token (Some type.Struct) value w h = absurd h
-scalar_value s token None value w h = absurd h
+scalar_value s token of value w h = absurd h
 
 module _ (s : Setting) (value : ExprTree) where
   -- the variable is found, and then the value, which is stored and seen by these sites

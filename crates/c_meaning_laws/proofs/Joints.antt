@@ -8,14 +8,8 @@ use Rattle.c_syntax.specs.ExprTree as e
 use Rattle.c_syntax.specs.ExprTree.{ExprTree}
 use Rattle.c_meaning.specs.declared.value_type.ValueType.{ValueType}
 use Rattle.c_meaning.specs.declared.value_type.ValueType.TheVariants as type
-use Rattle.c_meaning.specs.Conversions.{is_null_as}
-use Rattle.c_meaning.specs.Expressions.{Sense, arm_effect, arm_value, as_flag, conditional, valued}
-use Rattle.c_meaning.specs.Facts.{Setting}
-use Rattle.c_meaning.specs.Meaning.{expr}
-use Rattle.c_meaning.specs.Operation.{flag_value}
-use Rattle.c_meaning.specs.Trees.{type_of}
-use Rattle.c_meaning.specs.Visits.{decided, listed, truth, visited}
-use Rattle.c_meaning.specs.World.{World, Out, Go, OutDone, bind, choose, done, stuck}
+use Rattle.c_meaning.specs.Words.{is_null_as, Sense, arm_effect, arm_value, as_flag, conditional, valued, Setting, expr, flag_value, type_of, decided, listed}
+use Rattle.c_meaning.specs.Words.{truth, visited, World, Out, Go, OutDone, bind, choose, done, stuck}
 use Rattle.c_meaning_laws.specs.Constants.{one_at, zero_at}
 use Rattle.c_meaning_laws.specs.Joints.{AndIsConditional, AreInts, OrIsConditional, flag_of, joined_by}
 use Rattle.c_meaning_laws.proofs.Effects.{arm_goes, conditional_goes}

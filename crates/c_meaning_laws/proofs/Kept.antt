@@ -8,8 +8,8 @@ use Rattle.cbi_base.specs.declared.scalar.Scalar.{Scalar}
 use Rattle.cbi_base.specs.declared.scalar.Scalar.TheVariants.{Number, Place, Null, Undefined}
 use Rattle.cbi_base.specs.declared.scalar.Want.{Want}
 use Rattle.cbi_base.specs.declared.trap.Trap.{Trap}
-use Rattle.cbi_base.specs.Frames.{filled}
-use Rattle.cbi_base.specs.Objects.{Objects, allocated, cleared, killed, loaded, made_with, moved, released, stored, ◌>>=◌}
+use Rattle.cbi_base.specs.Words.{filled, Objects, allocated, cleared, killed, loaded, made_with, moved, released, stored}
+use Rattle.cbi_base.specs.Objects.{◌>>=◌}
 use Rattle.c_meaning.specs.World.{World, Out, Go, Stop, answered, bind, choose, done, nothing, spend}
 use Rattle.c_meaning_laws.proofs.Parts.{Ends, ends_bind}
 

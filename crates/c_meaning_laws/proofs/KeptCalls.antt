@@ -4,20 +4,16 @@ use Rattle.std.proofs.Common.{subst, arith}
 use Rattle.std.specs.Prelude.{if◌then◌else◌, reverse}
 use Rattle.std.specs.List.{AllByRecursion, list_all}
 use Rattle.std.specs.Option.{option_and_then}
+use Rattle.cbi_base.specs.Words.{is_defined_value, active_limit, all_killed, all_made, first_cells, Locals, Objects, made_with}
 use Rattle.cbi_base.specs.declared.outcome.Outcome.TheVariants.{Trapped}
 use Rattle.cbi_base.specs.declared.scalar.Class.TheVariants.{Local}
 use Rattle.cbi_base.specs.declared.scalar.Kind.TheVariants.{Int}
 use Rattle.cbi_base.specs.declared.scalar.Scalar.{Scalar}
 use Rattle.cbi_base.specs.declared.scalar.Scalar.TheVariants.{Number, Place, Null, Undefined}
 use Rattle.cbi_base.specs.declared.trap.Trap.TheVariants as trap
-use Rattle.cbi_base.specs.Frames.{all_killed, all_made, first_cells}
-use Rattle.cbi_base.specs.Objects.{Objects, made_with}
 use Rattle.c_syntax.specs.StatementTree.{EntryList}
-use Rattle.flow.specs.Limits.{active_limit}
-use Rattle.flow.specs.Now.{Locals, is_defined}
-use Rattle.c_meaning.specs.Facts.{Signature}
-use Rattle.c_meaning.specs.Runs.{Source, call_at, enter_function, enter_with, gives_value, inside, left_function, locals_at, locals_of, run_body, setting_of, value_left}
-use Rattle.c_meaning.specs.World.{World, Out, Go, Stop, Caller, Flow, Next, Broken, Continued, Returned, bind}
+use Rattle.c_meaning.specs.Words.{Signature, Source, call_at, enter_function, enter_with, gives_value, inside, left_function, locals_at, locals_of, run_body}
+use Rattle.c_meaning.specs.Words.{setting_of, value_left, World, Out, Go, Stop, Caller, Flow, Next, Broken, Continued, Returned, bind}
 use Rattle.c_meaning_laws.proofs.Parts.{Ends, ends_bind}
 use Rattle.c_meaning_laws.proofs.Kept.{Closed, Keeps, Made, changes, gives, seq, spends, stops}
 use Rattle.c_meaning_laws.proofs.KeptPlaces.{LocalsOwn, StaticsOwn, stuck_kept}
@@ -33,11 +29,11 @@ module _ {Q : Scalar → Type 0} {Own : ℕ → Type 0} {I : Objects → Type 0}
   value_left_kept is_main true (Returned None) h = gives Undefined c.undefined
   value_left_kept true true Next h = gives (Number Int (pos 0)) (c.numbers Int (pos 0))
   value_left_kept false true Next h = gives Undefined c.undefined
+  value_left_kept is_main false (Returned None) h = gives Undefined c.undefined
+  value_left_kept is_main false Next h = gives Undefined c.undefined
   value_left_kept is_main true Broken h = stuck_kept c
   value_left_kept is_main true Continued h = stuck_kept c
-  value_left_kept is_main false (Returned None) h = gives Undefined c.undefined
   value_left_kept is_main false (Returned (Some v)) h = stuck_kept c
-  value_left_kept is_main false Next h = gives Undefined c.undefined
   value_left_kept is_main false Broken h = stuck_kept c
   value_left_kept is_main false Continued h = stuck_kept c
 
@@ -143,4 +139,4 @@ module _ {Q : Scalar → Type 0} {Own : ℕ → Type 0} {I : Objects → Type 0}
     pub calls_kept : (turns number : ℕ) (vs : List Scalar) → AllByRecursion Q vs → Keeps I Q (call_at src turns number vs)
     calls_kept zero number vs h = record { at = λ w a. tt }
     calls_kept (suc n) number vs h =
-        record { at = (spends (given_kept n (call_at src n) (calls_kept n) number (reverse vs) (list_all is_defined vs) (each_reversed Q vs h))).at }
+        record { at = (spends (given_kept n (call_at src n) (calls_kept n) number (reverse vs) (list_all is_defined_value vs) (each_reversed Q vs h))).at }

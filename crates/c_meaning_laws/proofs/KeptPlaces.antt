@@ -2,6 +2,9 @@
 use Rattle.std.proofs.Common.{◌≡◌, ℕ, ◌+◌, ◌++◌, ◌-◌, ℤ, ◌*ℤ◌, Bool, true, false, pos, negsuc, nat_le, length, take, List, [], ◌∷◌, Option, Some, None}
 use Rattle.std.proofs.Common.{Result, Ok, Err, refl}
 use Rattle.std.specs.Prelude.{if◌then◌else◌}
+use Rattle.cbi_base.specs.Words.{Printed, pieces_of, printed_format, string_at, take_values, then_print, these, output_limit, Locals, local_at, binary_value}
+use Rattle.cbi_base.specs.Words.{is_zero, kind_given, low_byte, Objects, compared, difference, loaded, moved, stored, moved_by, applied, as_number, converted}
+use Rattle.cbi_base.specs.Words.{takes, truth_of}
 use Rattle.cbi_base.specs.declared.operators.Binary.{Binary}
 use Rattle.cbi_base.specs.declared.outcome.Outcome.TheVariants.{Trapped, CutOutput}
 use Rattle.cbi_base.specs.declared.scalar.Kind.{Kind}
@@ -11,15 +14,8 @@ use Rattle.cbi_base.specs.declared.scalar.Scalar.TheVariants.{Number, Place, Nul
 use Rattle.cbi_base.specs.declared.scalar.Want.TheVariants as want
 use Rattle.cbi_base.specs.declared.trap.Trap.{Trap}
 use Rattle.cbi_base.specs.declared.trap.Trap.TheVariants as trap
-use Rattle.cbi_base.specs.Arithmetic.{binary_value, is_zero, kind_given}
-use Rattle.cbi_base.specs.Objects.{Objects, compared, difference, loaded, moved, stored}
-use Rattle.cbi_base.specs.Scalars.{applied, as_number, converted, takes, truth_of}
 use Rattle.flow.specs.declared.site.Slot.{Slot}
 use Rattle.flow.specs.declared.site.Slot.TheVariants as slot
-use Rattle.flow.specs.Limits.{output_limit}
-use Rattle.flow.specs.Now.{Locals, byte_of, local_at}
-use Rattle.flow.specs.Printing.{Printed, pieces_of, printed, string_at, take_values, then_print, these}
-use Rattle.flow.specs.Rows.{moved_by}
 use Rattle.flow.specs.Truths.{looked}
 use Rattle.c_meaning.specs.declared.conversion.Conversion.{Conversion}
 use Rattle.c_meaning.specs.declared.conversion.Conversion.TheVariants.{Keep, To, Misfit}
@@ -27,15 +23,10 @@ use Rattle.c_meaning.specs.declared.operation.Operation.{Operation}
 use Rattle.c_meaning.specs.declared.operation.Operation.TheVariants.{Numbers, MoveLeft, MoveRight, Span, Ordered, Wrong}
 use Rattle.c_meaning.specs.declared.value_type.ValueType.{ValueType}
 use Rattle.c_meaning.specs.declared.value_type.ValueType.TheVariants as type
-use Rattle.c_meaning.specs.Conversions.{as_wanted, between, conversion, converts, defined, handed, load_at}
-use Rattle.c_meaning.specs.Facts.{Facts, Setting}
-use Rattle.c_meaning.specs.Operation.{counted_value, flagged, left_kind, operate, right_kind, type_given}
-use Rattle.c_meaning.specs.Output.{next_byte, print, put_byte, put_format, put_string, stop_or, written}
-use Rattle.c_meaning.specs.Places.{assigned_at, changed, member_place, object_place, one_beside, pointed_place, step_operation, store_at, stepped_value, stepped_behind}
-use Rattle.c_meaning.specs.Places.{unless_zero, variable}
-use Rattle.c_meaning.specs.Trees.{one_kind}
-use Rattle.c_meaning.specs.Visits.{decided, listed, now_of, observed_value, truth, visited, world_with_seen}
-use Rattle.c_meaning.specs.World.{Go, Stop, answered, bind, choose, stuck}
+use Rattle.c_meaning.specs.Words.{as_wanted, between, conversion, converts, defined, handed, load_at, Facts, Setting, counted_value, flagged, left_kind}
+use Rattle.c_meaning.specs.Words.{operate, right_kind, type_given, next_byte, print, put_byte, put_format, put_string, stop_or, written, assigned_at, changed}
+use Rattle.c_meaning.specs.Words.{member_place, object_place, one_beside, pointed_place, step_operation, store_at, stepped_value, stepped_behind, unless_zero}
+use Rattle.c_meaning.specs.Words.{variable, one_kind, decided, listed, observed_value, truth, visited, world_with_seen, Go, Stop, answered, bind, choose, stuck}
 use Rattle.c_meaning_laws.proofs.Kept.{Answers, Any, Closed, Keeps, answers, answers_bind, by_state, changes, chosen, gives, seq, stops}
 
 -- the objects that a text names by itself: its globals and its strings, and the variables of the running function
@@ -57,10 +48,8 @@ module _ {Q : Scalar → Type 0} {Own : ℕ → Type 0} {I : Objects → Type 0}
 
   converted_kept : (kind : Kind) (v : Scalar) → Answers Q (converted kind v)
   unfolding converted
-  converted_kept kind Undefined = tt
   converted_kept kind (Number from value) = c.numbers kind _
-  converted_kept kind (Place number offset) = tt
-  converted_kept kind Null = tt
+  converted_kept kind v = tt
 
   converts_kept : (o : Conversion) (v : Scalar) → Q v → Answers Q (converts o v)
   converts_kept Keep v h = h
@@ -72,26 +61,19 @@ module _ {Q : Scalar → Type 0} {Own : ℕ → Type 0} {I : Objects → Type 0}
 
   defined_kept : (v : Scalar) → Q v → Answers Q (defined v)
   defined_kept Undefined h = tt
-  defined_kept (Number kind value) h = h
-  defined_kept (Place number offset) h = h
-  defined_kept Null h = h
+  defined_kept v h = h
 
   pub handed_kept : (of : Option ValueType) (v : Scalar) → Q v → Keeps I Q (handed of v)
   handed_kept (Some (type.Number kind)) v h = answers (λ w. converted kind v) (λ w a. converted_kept kind v)
   handed_kept (Some (type.Pointer size)) v h = answers (λ w. defined v) (λ w a. defined_kept v h)
-  handed_kept (Some (type.Array size)) v h = stuck_kept
-  handed_kept (Some type.Void) v h = stuck_kept
-  handed_kept (Some type.Struct) v h = stuck_kept
-  handed_kept None v h = stuck_kept
+  handed_kept of v h = stuck_kept
 
   -- loads and operations
   pub load_kept : (of : Option ValueType) (p : Scalar) → Q p → Keeps I Q (load_at of p)
   load_kept (Some (type.Number kind)) p h = answers (λ w. loaded (want.Number kind) p w.objects) (λ w a. c.loads (want.Number kind) p w.objects h a)
   load_kept (Some (type.Pointer size)) p h = answers (λ w. loaded want.Pointer p w.objects) (λ w a. c.loads want.Pointer p w.objects h a)
   load_kept (Some (type.Array size)) p h = gives p h
-  load_kept (Some type.Void) p h = stuck_kept
-  load_kept (Some type.Struct) p h = stuck_kept
-  load_kept None p h = stuck_kept
+  load_kept of p h = stuck_kept
 
   given_kept : (o : Binary) (b : Bool) (kind : Kind) (left right : ℤ)
       → Answers Q (if b then as_number (kind_given o kind) (binary_value o kind left right) else Err trap.Internal)
@@ -100,8 +82,8 @@ module _ {Q : Scalar → Type 0} {Own : ℕ → Type 0} {I : Objects → Type 0}
 
   applied_kept : (o : Binary) (x y : Scalar) → Answers Q (applied o x y)
   unfolding applied
-  applied_kept o Undefined y = tt
   applied_kept o (Number kind left) (Number other right) = given_kept o (takes o kind other) kind left right
+  applied_kept o Undefined y = tt
   applied_kept o (Number kind left) Undefined = tt
   applied_kept o (Number kind left) Null = tt
   applied_kept o (Number kind left) (Place number offset) = tt
@@ -116,17 +98,17 @@ module _ {Q : Scalar → Type 0} {Own : ℕ → Type 0} {I : Objects → Type 0}
 
   moved_kept : (size : ℤ) (p by : Scalar) (o : Objects) → Q p → Answers Q (moved_by size p by o)
   unfolding moved_by
+  moved_kept size (Number kind value) (Number other n) o h = c.moves (Number kind value) (n *ℤ size) o h
+  moved_kept size (Place number offset) (Number other n) o h = c.moves (Place number offset) (n *ℤ size) o h
+  moved_kept size Null (Number other n) o h = c.moves Null (n *ℤ size) o h
   moved_kept size Undefined by o h = tt
   moved_kept size (Number kind value) Undefined o h = tt
-  moved_kept size (Number kind value) (Number other n) o h = c.moves (Number kind value) (n *ℤ size) o h
   moved_kept size (Number kind value) (Place number offset) o h = tt
   moved_kept size (Number kind value) Null o h = tt
   moved_kept size (Place number offset) Undefined o h = tt
-  moved_kept size (Place number offset) (Number other n) o h = c.moves (Place number offset) (n *ℤ size) o h
   moved_kept size (Place number offset) (Place k l) o h = tt
   moved_kept size (Place number offset) Null o h = tt
   moved_kept size Null Undefined o h = tt
-  moved_kept size Null (Number other n) o h = c.moves Null (n *ℤ size) o h
   moved_kept size Null (Place number offset) o h = tt
   moved_kept size Null Null o h = tt
 
@@ -207,11 +189,8 @@ module _ {Q : Scalar → Type 0} {Own : ℕ → Type 0} {I : Objects → Type 0}
 
   pub put_byte_kept : (v : Scalar) → Keeps I Q (put_byte v)
   put_byte_kept Undefined = stops (Trapped trap.Undefined)
-  put_byte_kept (Number Int value) = seq (written_kept (byte_of value ∷ [])) (λ _ _. gives (Number Int (pos (byte_of value))) (c.numbers Int _))
-  put_byte_kept (Number Char value) = stuck_kept
-  put_byte_kept (Number Unsigned value) = stuck_kept
-  put_byte_kept (Place number offset) = stuck_kept
-  put_byte_kept Null = stuck_kept
+  put_byte_kept (Number Int value) = seq (written_kept (low_byte value ∷ [])) (λ _ _. gives (Number Int (pos (low_byte value))) (c.numbers Int _))
+  put_byte_kept v = stuck_kept
 
   string_kept : (p : Scalar) → Keeps I Q (λ w. bind (print (then_print (string_at p w.objects) (these (10 ∷ []))) w) (λ _. Go (Number Int (pos 0))))
   string_kept p =
@@ -226,8 +205,8 @@ module _ {Q : Scalar → Type 0} {Own : ℕ → Type 0} {I : Objects → Type 0}
 
   pub put_format_kept : (format : List ℕ) (values : List Scalar) → Keeps I Any (put_format format values)
   put_format_kept format values =
-      by_state (λ w. w.objects) (λ o. choose (take_values (pieces_of format) values) (print (printed (pieces_of format) values o)) stuck)
-      (λ o. chosen (take_values (pieces_of format) values) (print_kept (printed (pieces_of format) values o)) stuck_kept)
+      by_state (λ w. w.objects) (λ o. choose (take_values (pieces_of format) values) (print (printed_format (pieces_of format) values o)) stuck)
+      (λ o. chosen (take_values (pieces_of format) values) (print_kept (printed_format (pieces_of format) values o)) stuck_kept)
 
   module _ (s : Setting) where
     object_kept : (number : Option ℕ) → ((n : ℕ) → number ≡ Some n → Own n) → Keeps I Q (object_place number)
@@ -244,8 +223,8 @@ module _ {Q : Scalar → Type 0} {Own : ℕ → Type 0} {I : Objects → Type 0}
 
     observed_kept : (site : ℕ) (v : Scalar) → Q v → Keeps I Q (observed_value s site v)
     observed_kept site v h =
-        seq {P = Any} (answers (λ w. looked (s.sites.site site) (now_of s.locals (v ∷ []) w))
-        (λ w a. any_seen (looked (s.sites.site site) (now_of s.locals (v ∷ []) w))))
+        seq {P = Any} (answers (λ w. looked (s.sites.site site) (Some v) s.locals w.objects)
+        (λ w a. any_seen (looked (s.sites.site site) (Some v) s.locals w.objects)))
         (λ seen _. changes (λ w. v) (λ w. world_with_seen site seen w) (λ w a. (h, a)))
       where
         any_seen : {A : Type 0} (r : Result A Trap) → Answers Any r

@@ -4,6 +4,7 @@ use Rattle.std.proofs.Common.{subst, sym}
 use Rattle.std.proofs.lemmas.List.{reverse-append}
 use Rattle.std.specs.Prelude.{if◌then◌else◌, unsigned_abs, reverse}
 use Rattle.std.specs.List.{AllByRecursion, list_all}
+use Rattle.cbi_base.specs.Words.{pieces_of, complement, fitted, Objects, allocated, released, applied_to_one, as_promoted, opposite, truth_of, is_defined_value}
 use Rattle.cbi_base.specs.declared.operators.Unary.{Unary}
 use Rattle.cbi_base.specs.declared.operators.Unary.TheVariants as unary
 use Rattle.cbi_base.specs.declared.outcome.Outcome.TheVariants.{Trapped, Ended}
@@ -13,33 +14,20 @@ use Rattle.cbi_base.specs.declared.scalar.Scalar.{Scalar}
 use Rattle.cbi_base.specs.declared.scalar.Scalar.TheVariants.{Number, Place, Null, Undefined}
 use Rattle.cbi_base.specs.declared.trap.Trap.{Trap}
 use Rattle.cbi_base.specs.declared.trap.Trap.TheVariants as trap
-use Rattle.cbi_base.specs.Arithmetic.{complement, fitted}
-use Rattle.cbi_base.specs.Objects.{Objects, allocated, released}
-use Rattle.cbi_base.specs.Scalars.{applied_to_one, as_promoted, opposite, truth_of}
 use Rattle.c_types_rules.specs.declared.library.Library.{Library}
 use Rattle.c_types_rules.specs.declared.library.Library.TheVariants as library
 use Rattle.c_syntax.specs.declared.expr.PrefixOperator.{PrefixOperator}
 use Rattle.c_syntax.specs.declared.expr.PrefixOperator.TheVariants as prefix
 use Rattle.flow.specs.declared.program.Text.{Text}
-use Rattle.flow.specs.Now.{is_defined}
-use Rattle.flow.specs.Printing.{pieces_of}
 use Rattle.c_meaning.specs.declared.value_type.Called.{Called}
 use Rattle.c_meaning.specs.declared.value_type.Called.TheVariants as called
 use Rattle.c_meaning.specs.declared.value_type.ValueType.{ValueType}
 use Rattle.c_meaning.specs.declared.value_type.ValueType.TheVariants as type
-use Rattle.c_meaning.specs.Calls.{Argument, Arguments, all_defined, allocate, as_type, assert, call_function, call_library, call_sense, exit, print_by}
-use Rattle.c_meaning.specs.Calls.{release}
-use Rattle.c_meaning.specs.Calls.{returned, types_taken, with_result}
-use Rattle.c_meaning.specs.Conversions.{as_used, conversion}
-use Rattle.c_meaning.specs.Expressions.{Sense, arm_as, arm_effect, arm_value, as_flag, assign, cast, comma, conditional, effected, handed_value}
-use Rattle.c_meaning.specs.Expressions.{is_other_pointer}
-use Rattle.c_meaning.specs.Expressions.{is_struct_value, linked, null_or, one_operand, placed, postfixed, prefixed_sense, settled, size_value, spot, valued, wanted_value}
-use Rattle.c_meaning.specs.Facts.{Setting, Signature}
-use Rattle.c_meaning.specs.Operation.{flag_value, operation}
-use Rattle.c_meaning.specs.Places.{pointed_place}
-use Rattle.c_meaning.specs.Trees.{Assignment, Plain, By, Joint, Both, Either, Computes, Unjoined, has_value}
-use Rattle.c_meaning.specs.Visits.{listed}
-use Rattle.c_meaning.specs.World.{World, Out, Go, Stop, OutDone, bind}
+use Rattle.c_meaning.specs.Words.{Argument, Arguments, all_defined, allocate, as_type, assert, call_function, call_library, call_sense, exit, print_by, release}
+use Rattle.c_meaning.specs.Words.{returned, types_taken, with_result, as_used, conversion, Sense, arm_as, arm_effect, arm_value, as_flag, assign, cast, comma}
+use Rattle.c_meaning.specs.Words.{conditional, effected, handed_value, is_other_pointer, is_struct_value, linked, null_or, one_operand, placed, postfixed}
+use Rattle.c_meaning.specs.Words.{prefixed_sense, settled, size_value, spot, valued, wanted_value, Setting, Signature, flag_value, operation, pointed_place}
+use Rattle.c_meaning.specs.Words.{Assignment, Plain, By, Joint, Both, Either, Computes, Unjoined, has_value, listed, World, Out, Go, Stop, OutDone, bind}
 use Rattle.c_meaning_laws.proofs.Kept.{Answers, Any, Closed, Keeps, answers, changes, chosen, done_kept, gives, nothing_kept, seq, stops}
 use Rattle.c_meaning_laws.proofs.KeptPlaces.{assigned_kept, changed_kept, decided_kept, handed_kept, load_kept, next_kept, number_kept, operate_kept}
 use Rattle.c_meaning_laws.proofs.KeptPlaces.{pointed_kept}
@@ -97,22 +85,14 @@ module _ {Q : Scalar → Type 0} {Own : ℕ → Type 0} {I : Objects → Type 0}
 
   pub arm_effect_kept : (b : Bool) (have want : Option ValueType) (m : Sense) → SenseKept Q I m → Keeps I Any (arm_effect b have want m)
   arm_effect_kept b have (Some type.Void) m h = record { at = h.effect.at }
-  arm_effect_kept b have (Some (type.Number kind)) m h = done_kept (arm_kept b have (Some (type.Number kind)) m h)
-  arm_effect_kept b have (Some (type.Pointer size)) m h = done_kept (arm_kept b have (Some (type.Pointer size)) m h)
-  arm_effect_kept b have (Some (type.Array size)) m h = done_kept (arm_kept b have (Some (type.Array size)) m h)
-  arm_effect_kept b have (Some type.Struct) m h = done_kept (arm_kept b have (Some type.Struct) m h)
-  arm_effect_kept b have None m h = done_kept (arm_kept b have None m h)
+  arm_effect_kept b have want m h = done_kept (arm_kept b have want m h)
 
   cast_value : (b : Bool) (want : Option ValueType) (m : Sense) → SenseKept Q I m → SenseKept Q I (valued (handed_value b want m))
   cast_value b want m h = valued_kept (handed_value_kept b want m h)
 
   pub cast_kept : (b : Bool) (want : Option ValueType) (m : Sense) → SenseKept Q I m → SenseKept Q I (cast b want m)
   cast_kept b (Some type.Void) m h = effected_kept h.effect
-  cast_kept b (Some (type.Number kind)) m h = cast_value b (Some (type.Number kind)) m h
-  cast_kept b (Some (type.Pointer size)) m h = cast_value b (Some (type.Pointer size)) m h
-  cast_kept b (Some (type.Array size)) m h = cast_value b (Some (type.Array size)) m h
-  cast_kept b (Some type.Struct) m h = cast_value b (Some type.Struct) m h
-  cast_kept b None m h = cast_value b None m h
+  cast_kept b want m h = cast_value b want m h
 
   pub comma_kept : (n : ℕ) (m rest : Sense) → SenseKept Q I m → SenseKept Q I rest → SenseKept Q I (comma n m rest)
   comma_kept zero m rest h k = h
@@ -149,12 +129,12 @@ module _ {Q : Scalar → Type 0} {Own : ℕ → Type 0} {I : Objects → Type 0}
   one_kept : (o : Unary) (v : Scalar) → Answers Q (applied_to_one o v)
   unfolding applied_to_one
   one_kept unary.Not v = opposite_kept (truth_of v)
-  one_kept unary.Neg Undefined = tt
   one_kept unary.Neg (Number kind value) = promoted_kept kind (fitted kind (neg_ℤ value))
+  one_kept unary.Com (Number kind value) = promoted_kept kind (Ok (complement kind value))
+  one_kept unary.Neg Undefined = tt
   one_kept unary.Neg Null = tt
   one_kept unary.Neg (Place number offset) = tt
   one_kept unary.Com Undefined = tt
-  one_kept unary.Com (Number kind value) = promoted_kept kind (Ok (complement kind value))
   one_kept unary.Com Null = tt
   one_kept unary.Com (Place number offset) = tt
 
@@ -169,10 +149,7 @@ module _ {Q : Scalar → Type 0} {Own : ℕ → Type 0} {I : Objects → Type 0}
   allocate_kept (Number Unsigned cells) =
       changes (λ w. (allocated (unsigned_abs cells) w.objects).0) (λ w. record w { objects = (allocated (unsigned_abs cells) w.objects).1 })
       (λ w a. c.allocates (unsigned_abs cells) w.objects a)
-  allocate_kept (Number Char value) = stuck_kept c
-  allocate_kept (Number Int value) = stuck_kept c
-  allocate_kept (Place number offset) = stuck_kept c
-  allocate_kept Null = stuck_kept c
+  allocate_kept v = stuck_kept c
 
   release_kept : (p : Scalar) → Q p → Keeps I Any (release p)
   release_kept p h =
@@ -182,10 +159,7 @@ module _ {Q : Scalar → Type 0} {Own : ℕ → Type 0} {I : Objects → Type 0}
   exit_kept : (v : Scalar) → Keeps I Any (exit v)
   exit_kept Undefined = stops (Trapped trap.Undefined)
   exit_kept (Number Int status) = stops (Ended status)
-  exit_kept (Number Char value) = stuck_kept c
-  exit_kept (Number Unsigned value) = stuck_kept c
-  exit_kept (Place number offset) = stuck_kept c
-  exit_kept Null = stuck_kept c
+  exit_kept v = stuck_kept c
 
   assert_kept : (b : Bool) → Keeps I Any (assert b)
   assert_kept true = gives tt tt
@@ -196,7 +170,7 @@ module _ {Q : Scalar → Type 0} {Own : ℕ → Type 0} {I : Objects → Type 0}
   defined_by false vs h = stops (Trapped trap.Undefined)
 
   pub all_defined_kept : (vs : List Scalar) → AllByRecursion Q vs → Keeps I (AllByRecursion Q) (all_defined vs)
-  all_defined_kept vs h = defined_by (list_all is_defined vs) (reverse vs) (each_reversed Q vs h)
+  all_defined_kept vs h = defined_by (list_all is_defined_value vs) (reverse vs) (each_reversed Q vs h)
 
   pub print_by_kept : (format : Option Text) (n : ℕ) (arguments : Arguments) → ((types : List ValueType) → Keeps I (AllByRecursion Q) (arguments types))
       → Keeps I Any (print_by format n arguments)

@@ -7,27 +7,19 @@ use Rattle.cbi_base.specs.declared.scalar.Scalar.TheVariants.{Place}
 use Rattle.cbi_base.specs.declared.scalar.Want.{Want}
 use Rattle.cbi_base.specs.declared.scalar.Want.TheVariants as want
 use Rattle.std.specs.List.{AllByRecursion}
-use Rattle.cbi_base.specs.Frames.{filled}
-use Rattle.cbi_base.specs.Objects.{Objects, cleared, stored}
+use Rattle.cbi_base.specs.Words.{char_of, zero_value, filled, Objects, cleared, stored, stored_bytes}
 use Rattle.c_syntax.specs.ExprTree as e
-use Rattle.c_syntax.specs.ExprTree.{ExprTree, ExprList}
+use Rattle.c_syntax.specs.Words.{ExprTree, ExprList, InitialTree, StartTree, ForStartTree, StatementTree, EntryList}
 use Rattle.c_syntax.specs.StatementTree as tree
-use Rattle.c_syntax.specs.StatementTree.{InitialTree, StartTree, ForStartTree, StatementTree, EntryList}
 use Rattle.flow.specs.declared.program.Text.{Text}
 use Rattle.flow.specs.declared.site.Slot.{Slot}
 use Rattle.flow.specs.declared.site.Slot.TheVariants as slot
-use Rattle.flow.specs.Rows.{char_of, spelled, zero_value}
 use Rattle.c_meaning.specs.declared.value_type.ValueType.{ValueType}
 use Rattle.c_meaning.specs.declared.value_type.ValueType.TheVariants as type
-use Rattle.c_meaning.specs.Conversions.{is_null_as}
-use Rattle.c_meaning.specs.Facts.{Setting}
-use Rattle.c_meaning.specs.Initialisers.{all_started, clear, element_set, elements_set, equals_token, initialised, object_of, on_local, on_object, scalar_set}
-use Rattle.c_meaning.specs.Initialisers.{spell, value_set, want_of, zeroed}
-use Rattle.c_meaning.specs.Meaning.{condition, expr, text_of_string}
-use Rattle.c_meaning.specs.Statements.{after_body, after_entry, do_round, exec, exec_all, for_round, for_started, optional_condition, optional_effect}
-use Rattle.c_meaning.specs.Statements.{returned_value, rounds, while_round}
-use Rattle.c_meaning.specs.Trees.{type_of}
-use Rattle.c_meaning.specs.World.{World, Out, Stop, OutDone, Flow, Next, Broken, Continued, Returned, spend}
+use Rattle.c_meaning.specs.Words.{is_null_as, Setting, all_started, clear, element_set, elements_set, equals_token, initialised, object_of, on_local, on_object}
+use Rattle.c_meaning.specs.Words.{scalar_set, spell, value_set, want_of, zeroed, condition, expr, text_of_string, after_body, after_entry, do_round, exec}
+use Rattle.c_meaning.specs.Words.{exec_all, for_round, for_started, optional_condition, optional_effect, returned_value, rounds, while_round, type_of, World}
+use Rattle.c_meaning.specs.Words.{Out, Stop, OutDone, Flow, Next, Broken, Continued, Returned, spend}
 use Rattle.c_meaning_laws.proofs.Kept.{Answers, Any, Closed, Keeps, answers, answers_bind, changes, chosen, done_kept, gives, seq, spends, stops}
 use Rattle.c_meaning_laws.proofs.KeptPlaces.{LocalsOwn, StaticsOwn, assigned_kept, member_kept, store_kept, stuck_kept, variable_kept}
 use Rattle.c_meaning_laws.proofs.KeptSenses.{wanted_value_kept}
@@ -56,17 +48,17 @@ module _ {Q : Scalar → Type 0} {Own : ℕ → Type 0} {I : Objects → Type 0}
       changes (λ w. tt {0}) (λ w. record w { objects = filled number (zero_value wanted) w.objects })
       (λ w a. (tt, c.fills number (zero_value wanted) w.objects own (zero_kept wanted) a))
 
-  spelled_kept : (number offset : ℕ) (bytes : List ℕ) (o : Objects) → Own number → I o → Answers I (spelled number offset bytes o)
+  spelled_kept : (number offset : ℕ) (bytes : List ℕ) (o : Objects) → Own number → I o → Answers I (stored_bytes number offset bytes o)
   spelled_kept number offset [] o own a = a
   spelled_kept number offset (byte ∷ bytes) o own a =
-      answers_bind I I (stored (Place number offset) (char_of byte) o) (spelled number (offset + 1) bytes)
+      answers_bind I I (stored (Place number offset) (char_of byte) o) (stored_bytes number (offset + 1) bytes)
       (c.stores (Place number offset) (char_of byte) o (c.places number offset own) (c.numbers Char _) a) (λ more k.
       spelled_kept number (offset + 1) bytes more own k)
 
   spell_kept : (text : Option Text) (number : ℕ) → Own number → Keeps I Any (spell text number)
   spell_kept None number own = stuck_kept c
   spell_kept (Some text) number own =
-      seq (answers (λ w. spelled number 0 text.bytes w.objects) (λ w a. spelled_kept number 0 text.bytes w.objects own a)) (λ objects a.
+      seq (answers (λ w. stored_bytes number 0 text.bytes w.objects) (λ w a. spelled_kept number 0 text.bytes w.objects own a)) (λ objects a.
       changes (λ w. tt {0}) (λ w. record w { objects = objects }) (λ w _. (tt, a)))
 
   -- loops
@@ -128,11 +120,7 @@ module _ {Q : Scalar → Type 0} {Own : ℕ → Type 0} {I : Objects → Type 0}
     value_kept : (token : ℕ) (of : Option ValueType) (x : ExprTree) → Keeps I Any (value_set s token of x)
     value_kept token (Some (type.Array size)) x =
         seq (local_kept token (zeroed_kept (want_of (s.facts.element_at token)))) (λ _ _. local_kept token (spell_kept (text_of_string s.facts x)))
-    value_kept token (Some (type.Number kind)) x = scalar_kept token x
-    value_kept token (Some (type.Pointer size)) x = scalar_kept token x
-    value_kept token (Some type.Void) x = scalar_kept token x
-    value_kept token (Some type.Struct) x = scalar_kept token x
-    value_kept token None x = scalar_kept token x
+    value_kept token of x = scalar_kept token x
 
     initialised_kept : (token : ℕ) (i : Option InitialTree) → Keeps I Any (initialised s token i)
     initialised_kept token None = gives tt tt

@@ -79,9 +79,7 @@ module _ (k : ℕ) where
       → Matches (bind out f) (bind other g)
   same_bind (Go x w) other f g h next = subst (λ o. Matches (f x w) (bind o g)) (sym h) ((next x).same w)
   same_bind (Stop CutTurns w) other f g h next = extends_bind w other g h (λ x u. (next x).grows u)
-  same_bind (Stop CutOutput w) other f g h next = ap (λ o. bind o g) h
-  same_bind (Stop (Ended status) w) other f g h next = ap (λ o. bind o g) h
-  same_bind (Stop (Trapped t) w) other f g h next = ap (λ o. bind o g) h
+  same_bind out other f g h next = ap (λ o. bind o g) h
 
   -- one part, and then another one
   pub seq : {A B : Type 0} {m more : World → Out A} {f g : A → World → Out B} → Longer m more → ((x : A) → Longer (f x) (g x))
@@ -111,9 +109,7 @@ module _ (k : ℕ) where
 
   stopped : (A : Type 0) (outcome : Outcome) (w : World) → Matches {A = A} (Stop outcome w) (Stop outcome (longer w))
   stopped A CutTurns w = record { output = no_more w.output; seen = no_more w.seen }
-  stopped A CutOutput w = refl
-  stopped A (Ended status) w = refl
-  stopped A (Trapped t) w = refl
+  stopped A outcome w = refl
 
   -- a part that ends the run
   pub stops : (A : Type 0) (outcome : Outcome) → Longer {A = A} (Stop outcome) (Stop outcome)

@@ -8,12 +8,9 @@ use Rattle.c_syntax.specs.ExprTree as e
 use Rattle.c_syntax.specs.ExprTree.{ExprTree, ExprList, LinkList, PostfixList}
 use Rattle.c_types_expressions.specs.ExprWalk.{binary_of}
 use Rattle.c_meaning.specs.declared.value_type.ValueType.{ValueType}
-use Rattle.c_meaning.specs.Conversions.{is_null_as}
-use Rattle.c_meaning.specs.Facts.{Facts, Setting}
-use Rattle.c_meaning.specs.Meaning.{arguments_value, condition, expr, formatted, last_sense, links_value, lone_value, onward, text_of_string, text_place}
-use Rattle.c_meaning.specs.Operation.{operation}
-use Rattle.c_meaning.specs.Trees.{assignment, begins_null, called_as, count, ends_as_place, first_type, is_null_beside, is_place, joint, operand_type, other_types, token_of, type_of}
-use Rattle.c_meaning.specs.World.{Caller}
+use Rattle.c_meaning.specs.Words.{is_null_as, Facts, Setting, arguments_value, condition, expr, formatted, last_sense, links_value, lone_value, onward}
+use Rattle.c_meaning.specs.Words.{text_of_string, text_place, operation, assignment, begins_null, called_as, count, ends_as_place, first_type, is_null_beside}
+use Rattle.c_meaning.specs.Words.{is_place, joint, operand_type, other_types, token_of, type_of, Caller}
 use Rattle.c_meaning_laws.proofs.Longer.{Longer, chosen, gives, seq}
 use Rattle.c_meaning_laws.proofs.LongerPlaces.{decided_longer, member_longer, operate_longer, stepped_behind_longer, stuck_longer, variable_longer}
 use Rattle.c_meaning_laws.proofs.LongerSenses.{SenseLonger, arm_effect_longer, arm_longer, assign_longer, call_longer, cast_longer, comma_longer, conditional_longer, handed_value_longer}

@@ -1,6 +1,8 @@
 -- Values, places, visits and output, where more turns are left: none of them looks at turns.
 use Rattle.std.proofs.Common.{◌≡◌, ℕ, ◌+◌, ◌++◌, ◌-◌, Bool, true, false, pos, negsuc, nat_le, length, take, List, [], ◌∷◌, Option, Some, None, refl, sym, subst, arith}
 use Rattle.std.specs.Prelude.{if◌then◌else◌}
+use Rattle.cbi_base.specs.Words.{Printed, pieces_of, printed_format, string_at, take_values, then_print, these, output_limit, local_at, low_byte, Objects}
+use Rattle.cbi_base.specs.Words.{loaded, moved, stored, converted, truth_of}
 use Rattle.cbi_base.specs.declared.outcome.Outcome.TheVariants.{Trapped, CutOutput}
 use Rattle.cbi_base.specs.declared.scalar.Kind.TheVariants.{Char, Int, Unsigned}
 use Rattle.cbi_base.specs.declared.scalar.Scalar.{Scalar}
@@ -8,25 +10,17 @@ use Rattle.cbi_base.specs.declared.scalar.Scalar.TheVariants.{Number, Place, Nul
 use Rattle.cbi_base.specs.declared.scalar.Want.TheVariants as want
 use Rattle.cbi_base.specs.declared.trap.Trap.{Trap}
 use Rattle.cbi_base.specs.declared.trap.Trap.TheVariants as trap
-use Rattle.cbi_base.specs.Objects.{Objects, loaded, moved, stored}
-use Rattle.cbi_base.specs.Scalars.{converted, truth_of}
 use Rattle.flow.specs.declared.site.Slot.{Slot}
 use Rattle.flow.specs.declared.site.Slot.TheVariants as slot
-use Rattle.flow.specs.Limits.{output_limit}
-use Rattle.flow.specs.Now.{local_at, byte_of}
-use Rattle.flow.specs.Printing.{Printed, pieces_of, printed, string_at, take_values, then_print, these}
 use Rattle.flow.specs.Truths.{looked}
 use Rattle.c_meaning.specs.declared.conversion.Conversion.{Conversion}
 use Rattle.c_meaning.specs.declared.operation.Operation.{Operation}
 use Rattle.c_meaning.specs.declared.value_type.ValueType.{ValueType}
 use Rattle.c_meaning.specs.declared.value_type.ValueType.TheVariants as type
-use Rattle.c_meaning.specs.Conversions.{as_wanted, conversion, converts, defined, handed, load_at}
-use Rattle.c_meaning.specs.Facts.{Setting}
-use Rattle.c_meaning.specs.Operation.{operate, type_given}
-use Rattle.c_meaning.specs.Output.{next_byte, print, put_byte, put_format, put_string, stop_or, written}
-use Rattle.c_meaning.specs.Places.{assigned_at, changed, member_place, object_place, one_beside, step_operation, store_at, stepped_value, stepped_behind, variable}
-use Rattle.c_meaning.specs.Visits.{decided, listed, now_of, observed_value, truth, visited, world_with_seen}
-use Rattle.c_meaning.specs.World.{World, Out, Go, Stop, Caller, answered, bind, choose, nothing, stuck}
+use Rattle.c_meaning.specs.Words.{as_wanted, conversion, converts, defined, handed, load_at, Setting, operate, type_given, next_byte, print, put_byte}
+use Rattle.c_meaning.specs.Words.{put_format, put_string, stop_or, written, assigned_at, changed, member_place, object_place, one_beside, step_operation}
+use Rattle.c_meaning.specs.Words.{store_at, stepped_value, stepped_behind, variable, decided, listed, observed_value, truth, visited, world_with_seen, World}
+use Rattle.c_meaning.specs.Words.{Out, Go, Stop, Caller, answered, bind, choose, nothing, stuck}
 use Rattle.c_meaning_laws.proofs.Longer.{Longer, Matches, answers, changes, chosen, gives, longer, no_more, same_left, seq, stops}
 
 module _ (k : ℕ) where
@@ -45,9 +39,7 @@ module _ (k : ℕ) where
   load_longer (Some (type.Number kind)) p = answers k (λ w. loaded (want.Number kind) p w.objects) (λ w. refl)
   load_longer (Some (type.Pointer size)) p = answers k (λ w. loaded want.Pointer p w.objects) (λ w. refl)
   load_longer (Some (type.Array size)) p = gives k p
-  load_longer (Some type.Void) p = stuck_longer Scalar
-  load_longer (Some type.Struct) p = stuck_longer Scalar
-  load_longer None p = stuck_longer Scalar
+  load_longer of p = stuck_longer Scalar
 
   pub wanted_longer : (c : Conversion) (v : Scalar) → Longer k (as_wanted c v) (as_wanted c v)
   wanted_longer c v = answers k (λ w. converts c v) (λ w. refl)
@@ -55,10 +47,7 @@ module _ (k : ℕ) where
   pub handed_longer : (of : Option ValueType) (v : Scalar) → Longer k (handed of v) (handed of v)
   handed_longer (Some (type.Number kind)) v = answers k (λ w. converted kind v) (λ w. refl)
   handed_longer (Some (type.Pointer size)) v = answers k (λ w. defined v) (λ w. refl)
-  handed_longer (Some (type.Array size)) v = stuck_longer Scalar
-  handed_longer (Some type.Void) v = stuck_longer Scalar
-  handed_longer (Some type.Struct) v = stuck_longer Scalar
-  handed_longer None v = stuck_longer Scalar
+  handed_longer of v = stuck_longer Scalar
 
   pub operate_longer : (o : Operation) (x y : Scalar) → Longer k (λ w. answered (operate o x y w.objects) w) (λ w. answered (operate o x y w.objects) w)
   operate_longer o x y = answers k (λ w. operate o x y w.objects) (λ w. refl)
@@ -124,11 +113,8 @@ module _ (k : ℕ) where
 
   pub put_byte_longer : (v : Scalar) → Longer k (put_byte v) (put_byte v)
   put_byte_longer Undefined = stops k Scalar (Trapped trap.Undefined)
-  put_byte_longer (Number Int value) = seq k (written_longer (byte_of value ∷ [])) (λ _. gives k (Number Int (pos (byte_of value))))
-  put_byte_longer (Number Char value) = stuck_longer Scalar
-  put_byte_longer (Number Unsigned value) = stuck_longer Scalar
-  put_byte_longer (Place number offset) = stuck_longer Scalar
-  put_byte_longer Null = stuck_longer Scalar
+  put_byte_longer (Number Int value) = seq k (written_longer (low_byte value ∷ [])) (λ _. gives k (Number Int (pos (low_byte value))))
+  put_byte_longer v = stuck_longer Scalar
 
   string_longer : (p : Scalar) → Longer k (λ w. bind (print (then_print (string_at p w.objects) (these (10 ∷ []))) w) (λ _. Go (Number Int (pos 0))))
       (λ w. bind (print (then_print (string_at p w.objects) (these (10 ∷ []))) w) (λ _. Go (Number Int (pos 0))))
@@ -145,9 +131,9 @@ module _ (k : ℕ) where
 
   pub put_format_longer : (format : List ℕ) (values : List Scalar) → Longer k (put_format format values) (put_format format values)
   put_format_longer format values =
-      by_state (λ w. w.objects) (λ o. choose (take_values (pieces_of format) values) (print (printed (pieces_of format) values o)) stuck)
-      (λ o. choose (take_values (pieces_of format) values) (print (printed (pieces_of format) values o)) stuck) (λ w. refl)
-      (λ o. chosen k (take_values (pieces_of format) values) (print_longer (printed (pieces_of format) values o)) (stuck_longer (Unit {0})))
+      by_state (λ w. w.objects) (λ o. choose (take_values (pieces_of format) values) (print (printed_format (pieces_of format) values o)) stuck)
+      (λ o. choose (take_values (pieces_of format) values) (print (printed_format (pieces_of format) values o)) stuck) (λ w. refl)
+      (λ o. chosen k (take_values (pieces_of format) values) (print_longer (printed_format (pieces_of format) values o)) (stuck_longer (Unit {0})))
 
   module _ (s : Setting) (call : Caller) where
     abbrev t : Setting
@@ -160,7 +146,7 @@ module _ (k : ℕ) where
 
     observed_longer : (site : ℕ) (v : Scalar) → Longer k (observed_value s site v) (observed_value t site v)
     observed_longer site v =
-        seq k (answers k (λ w. looked (s.sites.site site) (now_of s.locals (v ∷ []) w)) (λ w. refl)) (λ seen.
+        seq k (answers k (λ w. looked (s.sites.site site) (Some v) s.locals w.objects) (λ w. refl)) (λ seen.
         changes k (λ w. v) (λ w. world_with_seen site seen w) (λ w. refl) (λ w. refl)
         (λ w. record { extends = record { output = no_more w.output; seen = (_, refl) }; turns = omega arith }))
 

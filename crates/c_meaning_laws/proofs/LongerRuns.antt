@@ -2,22 +2,16 @@
 use Rattle.std.proofs.Common.{◌≡◌, ℕ, zero, suc, ◌+◌, ◌-◌, ◌≤◌, ◌==◌, Bool, true, false, nat_lt, pos, List, [], ◌++◌, Option, Some, None, refl, ap, sym, ◌∙◌, subst, arith}
 use Rattle.std.specs.Prelude.{if◌then◌else◌, reverse}
 use Rattle.std.specs.List.{list_all}
+use Rattle.cbi_base.specs.Words.{is_defined_value, active_limit, all_killed, all_made, first_cells, Locals, each_made, Object, Objects, no_objects}
 use Rattle.cbi_base.specs.declared.outcome.Outcome.TheVariants.{Ended, Trapped, CutTurns, CutOutput}
 use Rattle.cbi_base.specs.declared.scalar.Kind.TheVariants.{Char, Int, Unsigned}
 use Rattle.cbi_base.specs.declared.scalar.Scalar.{Scalar}
 use Rattle.cbi_base.specs.declared.scalar.Scalar.TheVariants.{Number, Place, Null, Undefined}
 use Rattle.cbi_base.specs.declared.trap.Trap.TheVariants as trap
-use Rattle.cbi_base.specs.Frames.{all_killed, all_made, first_cells}
-use Rattle.cbi_base.specs.Objects.{Object, Objects, no_objects}
 use Rattle.c_syntax.specs.StatementTree.{EntryList}
-use Rattle.flow.specs.Limits.{active_limit}
-use Rattle.flow.specs.Machine.{each_made}
-use Rattle.flow.specs.Now.{Locals, is_defined}
-use Rattle.c_meaning.specs.Calls.{all_defined}
-use Rattle.c_meaning.specs.Facts.{Signature}
-use Rattle.c_meaning.specs.Runs.{Source, behaves, call_at, enter_function, enter_with, first_world, gives_value, inside, left_function, locals_at, locals_of, meaning, run_body, run_from, run_main, setting_of, status, value_left}
-use Rattle.c_meaning.specs.Texts.{source_of}
-use Rattle.c_meaning.specs.World.{World, Out, Go, Stop, Flow, Next, Broken, Continued, Returned, Caller, bind, spend}
+use Rattle.c_meaning.specs.Words.{all_defined, Signature, Source, behaves, call_at, enter_function, enter_with, first_world, gives_value, inside, left_function}
+use Rattle.c_meaning.specs.Words.{locals_at, locals_of, meaning, run_body, run_from, run_main, setting_of, status, value_left, source_of, World, Out, Go, Stop}
+use Rattle.c_meaning.specs.Words.{Flow, Next, Broken, Continued, Returned, Caller, bind, spend}
 use Rattle.c_meaning_laws.specs.Turns.{Begins, CutBegins, CutTextBegins, UncutStays, UncutTextStays}
 use Rattle.c_meaning_laws.proofs.Longer.{Extends, Grows, Longer, Matches, changes, cut, extends_itself, gives, grows_itself, left_in, longer, same_left, seq, spends, stops}
 use Rattle.c_meaning_laws.proofs.LongerPlaces.{by_state, stuck_longer}
@@ -33,11 +27,11 @@ module _ (k : ℕ) where
   value_longer is_main true (Returned None) = gives k Undefined
   value_longer true true Next = gives k (Number Int (pos 0))
   value_longer false true Next = gives k Undefined
+  value_longer is_main false (Returned None) = gives k Undefined
+  value_longer is_main false Next = gives k Undefined
   value_longer is_main true Broken = stuck_longer k Scalar
   value_longer is_main true Continued = stuck_longer k Scalar
-  value_longer is_main false (Returned None) = gives k Undefined
   value_longer is_main false (Returned (Some v)) = stuck_longer k Scalar
-  value_longer is_main false Next = gives k Undefined
   value_longer is_main false Broken = stuck_longer k Scalar
   value_longer is_main false Continued = stuck_longer k Scalar
 
@@ -110,7 +104,7 @@ module _ (k : ℕ) where
       next_longer : (number : ℕ) (vs : List Scalar)
           → Longer k (λ w. spend w.turns w (λ u. bind (all_defined vs u) (λ xs _. passes call n number xs u)))
           (λ w. spend w.turns w (λ u. bind (all_defined vs u) (λ xs _. passes others m number xs u)))
-      next_longer number vs = spends k (given_longer number (reverse vs) (list_all is_defined vs))
+      next_longer number vs = spends k (given_longer number (reverse vs) (list_all is_defined_value vs))
 
     -- a call only adds to what was written and seen: beside calls that are cut at once
     pub call_grows : (m number : ℕ) (vs : List Scalar) (w : World) → Grows w (left_in (call_at src m number vs w))
@@ -152,9 +146,7 @@ module _ (k : ℕ) where
   uncut_same : (out other : Out Scalar) → Matches k out other → ((behaves out).outcome ≡ CutTurns → ⊥) → behaves other ≡ behaves out
   uncut_same (Go v w) other h uncut = ap behaves h ∙ status_same v w
   uncut_same (Stop CutTurns w) other h uncut = absurd (uncut refl)
-  uncut_same (Stop CutOutput w) other h uncut = ap behaves h
-  uncut_same (Stop (Ended v) w) other h uncut = ap behaves h
-  uncut_same (Stop (Trapped trap) w) other h uncut = ap behaves h
+  uncut_same out other h uncut = ap behaves h
 
   onward : {A : Type 0} (other : Out A) (w u : World) → left_in other ≡ longer k u → Extends w u → Extends w (left_in other)
   onward other w u same h = subst (Extends w) (sym same) (record { output = h.output; seen = h.seen })

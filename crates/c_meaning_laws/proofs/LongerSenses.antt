@@ -2,6 +2,7 @@
 use Rattle.std.proofs.Common.{ℕ, zero, suc, ◌==◌, Bool, true, false, pos, length, List, Option, Some, None, refl}
 use Rattle.std.specs.Prelude.{if◌then◌else◌, unsigned_abs, reverse}
 use Rattle.std.specs.List.{list_all}
+use Rattle.cbi_base.specs.Words.{pieces_of, allocated, released, applied_to_one, is_defined_value}
 use Rattle.cbi_base.specs.declared.operators.Unary.{Unary}
 use Rattle.cbi_base.specs.declared.operators.Unary.TheVariants as unary
 use Rattle.cbi_base.specs.declared.outcome.Outcome.TheVariants.{Trapped, Ended}
@@ -9,28 +10,21 @@ use Rattle.cbi_base.specs.declared.scalar.Kind.TheVariants.{Char, Int, Unsigned}
 use Rattle.cbi_base.specs.declared.scalar.Scalar.{Scalar}
 use Rattle.cbi_base.specs.declared.scalar.Scalar.TheVariants.{Number, Place, Null, Undefined}
 use Rattle.cbi_base.specs.declared.trap.Trap.TheVariants as trap
-use Rattle.cbi_base.specs.Objects.{allocated, released}
-use Rattle.cbi_base.specs.Scalars.{applied_to_one}
 use Rattle.c_types_rules.specs.declared.library.Library.{Library}
 use Rattle.c_types_rules.specs.declared.library.Library.TheVariants as library
 use Rattle.c_syntax.specs.declared.expr.PrefixOperator.{PrefixOperator}
 use Rattle.c_syntax.specs.declared.expr.PrefixOperator.TheVariants as prefix
 use Rattle.flow.specs.declared.program.Text.{Text}
-use Rattle.flow.specs.Now.{is_defined}
-use Rattle.flow.specs.Printing.{pieces_of}
 use Rattle.c_meaning.specs.declared.value_type.Called.{Called}
 use Rattle.c_meaning.specs.declared.value_type.Called.TheVariants as called
 use Rattle.c_meaning.specs.declared.value_type.ValueType.{ValueType}
 use Rattle.c_meaning.specs.declared.value_type.ValueType.TheVariants as type
-use Rattle.c_meaning.specs.Calls.{Argument, Arguments, all_defined, allocate, as_type, assert, call_function, call_library, call_sense, exit, print_by, release, returned, types_taken, with_result}
-use Rattle.c_meaning.specs.Conversions.{as_used, conversion}
-use Rattle.c_meaning.specs.Expressions.{Sense, arm_as, arm_effect, arm_value, as_flag, assign, cast, comma, conditional, effected, handed_value, is_other_pointer, is_struct_value, linked, null_or, one_operand, placed, postfixed, prefixed_sense, settled, size_value, spot, valued, wanted_value}
-use Rattle.c_meaning.specs.Facts.{Setting, Signature}
-use Rattle.c_meaning.specs.Operation.{flag_value, operation}
-use Rattle.c_meaning.specs.Places.{pointed_place}
-use Rattle.c_meaning.specs.Trees.{Assignment, Plain, By, Joint, Both, Either, Computes, Unjoined, has_value}
-use Rattle.c_meaning.specs.Visits.{listed}
-use Rattle.c_meaning.specs.World.{World, Out, Go, Stop, OutDone, Caller, bind}
+use Rattle.c_meaning.specs.Words.{Argument, Arguments, all_defined, allocate, as_type, assert, call_function, call_library, call_sense, exit, print_by, release}
+use Rattle.c_meaning.specs.Words.{returned, types_taken, with_result, as_used, conversion, Sense, arm_as, arm_effect, arm_value, as_flag, assign, cast, comma}
+use Rattle.c_meaning.specs.Words.{conditional, effected, handed_value, is_other_pointer, is_struct_value, linked, null_or, one_operand, placed, postfixed}
+use Rattle.c_meaning.specs.Words.{prefixed_sense, settled, size_value, spot, valued, wanted_value, Setting, Signature, flag_value, operation, pointed_place}
+use Rattle.c_meaning.specs.Words.{Assignment, Plain, By, Joint, Both, Either, Computes, Unjoined, has_value, listed, World, Out, Go, Stop, OutDone, Caller}
+use Rattle.c_meaning.specs.Words.{bind}
 use Rattle.c_meaning_laws.proofs.Longer.{Longer, answers, changes, chosen, done_longer, gives, same_left, seq, stops}
 use Rattle.c_meaning_laws.proofs.LongerPlaces.{assigned_longer, changed_longer, decided_longer, handed_longer, load_longer, next_longer, nothing_longer, operate_longer}
 use Rattle.c_meaning_laws.proofs.LongerPlaces.{put_byte_longer, put_format_longer, put_string_longer, stepped_longer, stores, stuck_longer, truth_longer, visited_longer, wanted_longer}
@@ -79,11 +73,7 @@ module _ (k : ℕ) where
   pub arm_effect_longer : (b : Bool) (have want : Option ValueType) (m more : Sense) → SenseLonger m more
       → Longer k (arm_effect b have want m) (arm_effect b have want more)
   arm_effect_longer b have (Some type.Void) m more h = h.effect
-  arm_effect_longer b have (Some (type.Number kind)) m more h = done_longer k (arm_longer b have (Some (type.Number kind)) m more h)
-  arm_effect_longer b have (Some (type.Pointer size)) m more h = done_longer k (arm_longer b have (Some (type.Pointer size)) m more h)
-  arm_effect_longer b have (Some (type.Array size)) m more h = done_longer k (arm_longer b have (Some (type.Array size)) m more h)
-  arm_effect_longer b have (Some type.Struct) m more h = done_longer k (arm_longer b have (Some type.Struct) m more h)
-  arm_effect_longer b have None m more h = done_longer k (arm_longer b have None m more h)
+  arm_effect_longer b have want m more h = done_longer k (arm_longer b have want m more h)
 
   cast_value : (b : Bool) (want : Option ValueType) (m more : Sense) → SenseLonger m more
       → SenseLonger (valued (handed_value b want m)) (valued (handed_value b want more))
@@ -91,11 +81,7 @@ module _ (k : ℕ) where
 
   pub cast_longer : (b : Bool) (want : Option ValueType) (m more : Sense) → SenseLonger m more → SenseLonger (cast b want m) (cast b want more)
   cast_longer b (Some type.Void) m more h = effected_longer h.effect
-  cast_longer b (Some (type.Number kind)) m more h = cast_value b (Some (type.Number kind)) m more h
-  cast_longer b (Some (type.Pointer size)) m more h = cast_value b (Some (type.Pointer size)) m more h
-  cast_longer b (Some (type.Array size)) m more h = cast_value b (Some (type.Array size)) m more h
-  cast_longer b (Some type.Struct) m more h = cast_value b (Some type.Struct) m more h
-  cast_longer b None m more h = cast_value b None m more h
+  cast_longer b want m more h = cast_value b want m more h
 
   pub comma_longer : (n : ℕ) (m more rest others : Sense) → SenseLonger m more → SenseLonger rest others → SenseLonger (comma n m rest) (comma n more others)
   comma_longer zero m more rest others h j = h
@@ -134,10 +120,7 @@ module _ (k : ℕ) where
   allocate_longer (Number Unsigned cells) =
       changes k (λ w. (allocated (unsigned_abs cells) w.objects).0) (λ w. record w { objects = (allocated (unsigned_abs cells) w.objects).1 }) (λ w. refl)
       (λ w. refl) (λ w. same_left w _ refl refl refl)
-  allocate_longer (Number Char value) = stuck_longer k Scalar
-  allocate_longer (Number Int value) = stuck_longer k Scalar
-  allocate_longer (Place number offset) = stuck_longer k Scalar
-  allocate_longer Null = stuck_longer k Scalar
+  allocate_longer v = stuck_longer k Scalar
 
   release_longer : (p : Scalar) → Longer k (release p) (release p)
   release_longer p = seq k (answers k (λ w. released p w.objects) (λ w. refl)) (stores k)
@@ -145,10 +128,7 @@ module _ (k : ℕ) where
   exit_longer : (v : Scalar) → Longer k (exit v) (exit v)
   exit_longer Undefined = stops k (Unit {0}) (Trapped trap.Undefined)
   exit_longer (Number Int status) = stops k (Unit {0}) (Ended status)
-  exit_longer (Number Char value) = stuck_longer k (Unit {0})
-  exit_longer (Number Unsigned value) = stuck_longer k (Unit {0})
-  exit_longer (Place number offset) = stuck_longer k (Unit {0})
-  exit_longer Null = stuck_longer k (Unit {0})
+  exit_longer v = stuck_longer k (Unit {0})
 
   assert_longer : (b : Bool) → Longer k (assert b) (assert b)
   assert_longer true = gives k tt
@@ -160,7 +140,7 @@ module _ (k : ℕ) where
   defined_by false vs = stops k (List Scalar) (Trapped trap.Undefined)
 
   pub all_defined_longer : (vs : List Scalar) → Longer k (all_defined vs) (all_defined vs)
-  all_defined_longer vs = defined_by (list_all is_defined vs) (reverse vs)
+  all_defined_longer vs = defined_by (list_all is_defined_value vs) (reverse vs)
 
   pub print_by_longer : (format : Option Text) (n : ℕ) (arguments others : Arguments) → ((types : List ValueType) → Longer k (arguments types) (others types))
       → Longer k (print_by format n arguments) (print_by format n others)

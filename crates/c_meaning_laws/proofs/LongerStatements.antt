@@ -1,25 +1,19 @@
 -- Declarations and statements, where more turns are left.
 use Rattle.std.proofs.Common.{ℕ, zero, suc, ◌≤◌, Bool, true, List, [], ◌∷◌, Option, Some, None, refl, arith}
+use Rattle.cbi_base.specs.Words.{zero_value, filled, cleared, stored_bytes}
 use Rattle.cbi_base.specs.declared.outcome.Outcome.TheVariants.{CutTurns}
 use Rattle.cbi_base.specs.declared.scalar.Scalar.{Scalar}
 use Rattle.cbi_base.specs.declared.scalar.Want.{Want}
-use Rattle.cbi_base.specs.Frames.{filled}
-use Rattle.cbi_base.specs.Objects.{cleared}
 use Rattle.c_syntax.specs.ExprTree as e
-use Rattle.c_syntax.specs.ExprTree.{ExprTree, ExprList}
+use Rattle.c_syntax.specs.Words.{ExprTree, ExprList, InitialTree, StartTree, DeclarationTree, ForStartTree, StatementTree, EntryList}
 use Rattle.c_syntax.specs.StatementTree as tree
-use Rattle.c_syntax.specs.StatementTree.{InitialTree, StartTree, DeclarationTree, ForStartTree, StatementTree, EntryList}
 use Rattle.flow.specs.declared.program.Text.{Text}
-use Rattle.flow.specs.Rows.{spelled, zero_value}
 use Rattle.c_meaning.specs.declared.value_type.ValueType.{ValueType}
 use Rattle.c_meaning.specs.declared.value_type.ValueType.TheVariants as type
-use Rattle.c_meaning.specs.Conversions.{is_null_as}
-use Rattle.c_meaning.specs.Facts.{Setting}
-use Rattle.c_meaning.specs.Initialisers.{all_started, clear, element_set, elements_set, equals_token, initialised, object_of, on_local, on_object, scalar_set, spell, value_set, want_of, zeroed}
-use Rattle.c_meaning.specs.Meaning.{condition, expr, text_of_string}
-use Rattle.c_meaning.specs.Statements.{after_body, after_entry, do_round, exec, exec_all, for_round, for_started, optional_condition, optional_effect, returned_value, rounds, while_round}
-use Rattle.c_meaning.specs.Trees.{type_of}
-use Rattle.c_meaning.specs.World.{World, Out, Stop, OutDone, Flow, Next, Broken, Continued, Returned, Caller, spend}
+use Rattle.c_meaning.specs.Words.{is_null_as, Setting, all_started, clear, element_set, elements_set, equals_token, initialised, object_of, on_local, on_object}
+use Rattle.c_meaning.specs.Words.{scalar_set, spell, value_set, want_of, zeroed, condition, expr, text_of_string, after_body, after_entry, do_round, exec}
+use Rattle.c_meaning.specs.Words.{exec_all, for_round, for_started, optional_condition, optional_effect, returned_value, rounds, while_round, type_of, World}
+use Rattle.c_meaning.specs.Words.{Out, Stop, OutDone, Flow, Next, Broken, Continued, Returned, Caller, spend}
 use Rattle.c_meaning_laws.proofs.Longer.{Longer, answers, changes, chosen, cut, done_longer, gives, grown_spend, same_left, seq, spends, stops}
 use Rattle.c_meaning_laws.proofs.LongerPlaces.{assigned_longer, member_longer, store_longer, stores, stuck_longer, variable_longer}
 use Rattle.c_meaning_laws.proofs.LongerSenses.{wanted_value_longer}
@@ -41,7 +35,7 @@ module _ (k : ℕ) where
 
   spell_longer : (text : Option Text) (number : ℕ) → Longer k (spell text number) (spell text number)
   spell_longer None number = stuck_longer k (Unit {0})
-  spell_longer (Some text) number = seq k (answers k (λ w. spelled number 0 text.bytes w.objects) (λ w. refl)) (stores k)
+  spell_longer (Some text) number = seq k (answers k (λ w. stored_bytes number 0 text.bytes w.objects) (λ w. refl)) (stores k)
 
   -- loops
   after_body_longer : {again others : World → Out Flow} (flow : Flow) → Longer k again others → Longer k (after_body again flow) (after_body others flow)
@@ -52,9 +46,7 @@ module _ (k : ℕ) where
 
   after_entry_longer : {rest others : World → Out Flow} (flow : Flow) → Longer k rest others → Longer k (after_entry rest flow) (after_entry others flow)
   after_entry_longer Next h = record { grows = h.grows; same = h.same }
-  after_entry_longer Continued h = gives k Continued
-  after_entry_longer Broken h = gives k Broken
-  after_entry_longer (Returned v) h = gives k (Returned v)
+  after_entry_longer flow h = gives k flow
 
   -- a round, whatever comes again, is the same with more turns where what comes again is
   abbrev RoundLonger : ((World → Out Flow) → World → Out Flow) → ((World → Out Flow) → World → Out Flow) → Type 0
@@ -119,11 +111,7 @@ module _ (k : ℕ) where
     value_longer : (token : ℕ) (of : Option ValueType) (x : ExprTree) → Longer k (value_set s token of x) (value_set t token of x)
     value_longer token (Some (type.Array size)) x =
         seq k (local_longer token (zeroed_longer (want_of (s.facts.element_at token)))) (λ _. local_longer token (spell_longer (text_of_string s.facts x)))
-    value_longer token (Some (type.Number kind)) x = scalar_longer token x
-    value_longer token (Some (type.Pointer size)) x = scalar_longer token x
-    value_longer token (Some type.Void) x = scalar_longer token x
-    value_longer token (Some type.Struct) x = scalar_longer token x
-    value_longer token None x = scalar_longer token x
+    value_longer token of x = scalar_longer token x
 
     initialised_longer : (token : ℕ) (i : Option InitialTree) → Longer k (initialised s token i) (initialised t token i)
     initialised_longer token None = gives k tt

@@ -6,18 +6,13 @@ use Rattle.std.specs.Prelude.{IsSome}
 use Rattle.cbi_base.specs.declared.scalar.Kind.{Kind}
 use Rattle.cbi_base.specs.declared.scalar.Scalar.{Scalar}
 use Rattle.cbi_base.specs.declared.scalar.Scalar.TheVariants.{Number, Place, Null, Undefined}
-use Rattle.cbi_base.specs.Arithmetic.{is_zero}
-use Rattle.cbi_base.specs.Objects.{moved}
+use Rattle.cbi_base.specs.Words.{is_zero, moved}
 use Rattle.c_syntax.specs.declared.expr.PrefixOperator.TheVariants as prefix
 use Rattle.c_syntax.specs.ExprTree as e
 use Rattle.c_syntax.specs.ExprTree.{ExprTree, PostfixList}
 use Rattle.flow.specs.declared.site.Slot.{Slot}
-use Rattle.c_meaning.specs.Expressions.{Sense, postfixed, settled, spot}
-use Rattle.c_meaning.specs.Facts.{Setting}
-use Rattle.c_meaning.specs.Meaning.{expr, onward}
-use Rattle.c_meaning.specs.Places.{member_place, pointed_place, unless_zero}
-use Rattle.c_meaning.specs.Trees.{ends_as_place, is_place, postfix_token, token_of, type_of}
-use Rattle.c_meaning.specs.World.{World, Out, answered, bind}
+use Rattle.c_meaning.specs.Words.{Sense, postfixed, settled, spot, Setting, expr, onward, member_place, pointed_place, unless_zero, ends_as_place, is_place}
+use Rattle.c_meaning.specs.Words.{postfix_token, token_of, type_of, World, Out, answered, bind}
 use Rattle.c_meaning_laws.specs.Typed.{Typed, TypedPostfix, variable_named}
 use Rattle.c_meaning_laws.specs.Indexing.{followed, then_more}
 use Rattle.c_meaning_laws.specs.Members.{ArrowIsMember, TypedArrowMeets}
@@ -38,10 +33,8 @@ module _ (rest : Scalar → World → Out Scalar) (offset : ℕ) (w : World) whe
 
   pointer_sought : (q : Scalar) → sought q w ≡ bind (answered (pointed_place q) w) sought
   unfolding moved
-  pointer_sought (Place number place) = refl
-  pointer_sought Null = refl
-  pointer_sought Undefined = refl
   pointer_sought (Number kind n) = number_sought (is_zero n) kind n
+  pointer_sought q = refl
 
 follows : (offset : Option ℕ) (rest : Scalar → World → Out Scalar) (q : Scalar) (w : World) → IsSome offset
     → bind (member_place offset q w) rest ≡ bind (answered (pointed_place q) w) (λ p u. bind (member_place offset p u) rest)

@@ -6,6 +6,9 @@ use Rattle.std.proofs.lemmas.Cmp.{nat_cmp_total}
 use Rattle.std.specs.Cmp.{unsigned_tied}
 use Rattle.std.specs.FinMap.{get, insert, get-insert}
 use Rattle.std.specs.Ordering.{nat_cmp, eq_by_cmp}
+use Rattle.cbi_base.specs.Words.{char_of, Objects, Object, loaded, stored, found_cell, live_or, set_in, moved, moved_by, stored_bytes, moved_in, with_object}
+use Rattle.cbi_base.specs.Words.{is_text, allocated, place_or_null, made_with, released, is_heap_start, killed}
+use Rattle.base_lists.proofs.Numbers.{key_itself}
 use Rattle.cbi_base.specs.declared.trap.Trap.TheVariants as trap
 use Rattle.cbi_base.specs.declared.scalar.Class.TheVariants.{Heap}
 use Rattle.cbi_base.specs.declared.scalar.Kind.{Kind}
@@ -14,13 +17,10 @@ use Rattle.cbi_base.specs.declared.scalar.Want.{Want}
 use Rattle.cbi_base.specs.declared.scalar.Want.TheVariants as want
 use Rattle.cbi_base.specs.declared.scalar.Scalar.{Scalar}
 use Rattle.cbi_base.specs.declared.scalar.Scalar.TheVariants.{Number, Place, Null, Undefined}
-use Rattle.cbi_base.specs.Objects.{Objects, Object, loaded, stored, ◌>>=◌, found_cell, live_or, set_in, moved}
-use Rattle.cbi_base.specs.Objects.{moved_in, with_object, is_text, allocated, place_or_null, made_with, released, is_heap_start, killed}
-use Rattle.flow.specs.Rows.{char_of, moved_by, spelled}
+use Rattle.cbi_base.specs.Objects.{◌>>=◌}
 use Rattle.c_meaning.specs.declared.value_type.ValueType.{ValueType}
 use Rattle.c_meaning.specs.declared.value_type.ValueType.TheVariants as type
-use Rattle.c_meaning.specs.Conversions.{load_at}
-use Rattle.c_meaning.specs.Places.{pointed_place}
+use Rattle.c_meaning.specs.Words.{load_at, pointed_place}
 use Rattle.c_meaning_laws.specs.Rules.{IsNumberType, IsPointing, IsPointer, IsValue}
 use Rattle.c_meaning_laws.proofs.Safe.{Any, Calm, Safe, answers, calm_bind, calm_if, gives}
 use Rattle.c_meaning_laws.proofs.Values.{Fits, IsAt}
@@ -60,9 +60,7 @@ unfolding loaded
 loaded_calm t w (Place a i) o h f =
     calm_bind Any (Fits (Some t)) (live_or (get o.live a)) (λ object. found_cell w (slice_get object.cells i)) (live_calm (get o.live a))
     (λ object _. f (slice_get object.cells i))
-loaded_calm t w (Number k n) o h f = absurd h
-loaded_calm t w Null o h f = absurd h
-loaded_calm t w Undefined o h f = absurd h
+loaded_calm t w p o h f = absurd h
 
 pub load_safe : (t : Option ValueType) (p : Scalar) → IsValue t → IsAt p → Safe (Fits t) (load_at t p) (load_at t p)
 load_safe (Some (type.Number kind)) p h a =
@@ -74,9 +72,7 @@ load_safe (Some (type.Array size)) (Place a i) h k = gives (Place a i) tt
 load_safe (Some (type.Array size)) Undefined h k = absurd k
 load_safe (Some (type.Array size)) Null h k = absurd k
 load_safe (Some (type.Array size)) (Number j n) h k = absurd k
-load_safe (Some type.Void) p h k = absurd h
-load_safe (Some type.Struct) p h k = absurd h
-load_safe None p h k = absurd h
+load_safe t p h k = absurd h
 
 -- the first cell of the object holds a number
 pub record Holds (number : ℕ) (o : Objects) : Type 0 where
@@ -86,11 +82,8 @@ pub record Holds (number : ℕ) (o : Objects) : Type 0 where
   pub lives : get o.live number ≡ Some object
   pub first : slice_get object.cells 0 ≡ Some (Number kind value)
 
-same_number : (n : ℕ) → eq_by_cmp nat_cmp n n ≡ true
-same_number n = unsigned_tied n n ∙ grind (arith, nat_tests)
-
 written : (number : ℕ) (o : Objects) (object : Object) → get (insert o.live number object) number ≡ Some object
-written number o object = get-insert nat_cmp_total o.live number object number ∙ ap (λ b. cond b (Some object) (get o.live number)) (same_number number)
+written number o object = get-insert nat_cmp_total o.live number object number ∙ ap (λ b. cond b (Some object) (get o.live number)) (key_itself number)
 
 set_calm : (number : ℕ) (kind : Kind) (n : ℤ) (o : Objects) (object : Object) (cells : List Scalar)
     → Calm (Holds number) (set_in number 0 (Number kind n) o (record object { cells = cells }))
@@ -131,13 +124,11 @@ stored_calm (Place a i) Undefined o h = tt
 stored_calm (Place a i) (Number k n) o h = set_at a i (Number k n) o
 stored_calm (Place a i) Null o h = set_at a i Null o
 stored_calm (Place a i) (Place b j) o h = set_at a i (Place b j) o
-stored_calm Undefined v o h = absurd h
-stored_calm Null v o h = absurd h
-stored_calm (Number k n) v o h = absurd h
+stored_calm p v o h = absurd h
 
-pub spelled_calm : (number offset : ℕ) (bytes : List ℕ) (o : Objects) → Calm Any (spelled number offset bytes o)
+pub spelled_calm : (number offset : ℕ) (bytes : List ℕ) (o : Objects) → Calm Any (stored_bytes number offset bytes o)
 spelled_calm number offset [] o = tt
-spelled_calm number offset (byte ∷ bytes) o = calm_bind Any Any (stored (Place number offset) (char_of byte) o) (spelled number (offset + 1) bytes)
+spelled_calm number offset (byte ∷ bytes) o = calm_bind Any Any (stored (Place number offset) (char_of byte) o) (stored_bytes number (offset + 1) bytes)
     (stored_calm (Place number offset) (char_of byte) o tt) (λ more _. spelled_calm number (offset + 1) bytes more)
 
 -- pointers that are moved and used
@@ -155,9 +146,7 @@ moved_calm t (Number k n) cells o h f = absurd h
 
 pub moved_at : (p : Scalar) (cells : ℤ) (o : Objects) → IsAt p → Calm IsAt (moved p cells o)
 moved_at (Place a i) cells o h = moved_calm (Some (type.Array 0)) (Place a i) cells o tt tt
-moved_at Undefined cells o h = absurd h
-moved_at Null cells o h = absurd h
-moved_at (Number k n) cells o h = absurd h
+moved_at p cells o h = absurd h
 
 pub moved_by_calm : (size : ℤ) (left right : Option ValueType) (p by : Scalar) (o : Objects) → IsPointing left → IsNumberType right → Fits left p → Fits right by
     → Calm IsAt (moved_by size p by o)
@@ -173,12 +162,10 @@ moved_by_calm size left (Some (type.Number kind)) p by o h q f g = absurd g
 moved_by_calm size left right p by o h q f g = absurd q
 
 pub pointed_calm : (t : Option ValueType) (v : Scalar) → IsPointing t → Fits t v → Calm IsAt (pointed_place v)
-pointed_calm t Undefined h f = tt
-pointed_calm t Null h f = tt
-pointed_calm t (Place a i) h f = tt
 pointed_calm (Some (type.Pointer size)) (Number k n) h f = absurd f
 pointed_calm (Some (type.Array size)) (Number k n) h f = absurd f
 pointed_calm t (Number k n) h f = absurd h
+pointed_calm t v h f = tt
 
 -- `malloc` and `free`
 made_fits : (t : Option ValueType) (number : ℕ) (o : Objects) (made : Option Objects) → IsPointer t → Fits t (place_or_null number o made).0

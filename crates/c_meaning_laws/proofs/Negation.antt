@@ -12,10 +12,7 @@ use Rattle.cbi_base.specs.declared.scalar.Kind.TheVariants.{Char, Int, Unsigned}
 use Rattle.cbi_base.specs.declared.scalar.Scalar.{Scalar}
 use Rattle.cbi_base.specs.declared.scalar.Scalar.TheVariants.{Number, Place, Null, Undefined}
 use Rattle.cbi_base.specs.declared.trap.Trap.{Trap}
-use Rattle.cbi_base.specs.Arithmetic.{flag}
-use Rattle.cbi_base.specs.Kind.{LiesIn, wrapped}
-use Rattle.cbi_base.specs.Objects.{Objects, compared}
-use Rattle.cbi_base.specs.Scalars.{applied, applied_to_one, converted}
+use Rattle.cbi_base.specs.Words.{flag, LiesIn, wrapped, Objects, compared, applied, applied_to_one, converted}
 use Rattle.c_values.proofs.Modulo.{wrapped-inside}
 use Rattle.c_values.proofs.Ranges.{LiesIn-ends, ends-LiesIn}
 use Rattle.c_syntax.specs.ExprTree as e
@@ -23,13 +20,8 @@ use Rattle.c_syntax.specs.ExprTree.{ExprTree}
 use Rattle.c_meaning.specs.declared.operation.Operation.TheVariants.{Numbers, Ordered}
 use Rattle.c_meaning.specs.declared.value_type.ValueType.{ValueType}
 use Rattle.c_meaning.specs.declared.value_type.ValueType.TheVariants as type
-use Rattle.c_meaning.specs.Conversions.{is_null_as, is_null_constant}
-use Rattle.c_meaning.specs.Expressions.{Sense, linked, null_or}
-use Rattle.c_meaning.specs.Facts.{Setting}
-use Rattle.c_meaning.specs.Meaning.{expr}
-use Rattle.c_meaning.specs.Operation.{operate, operation}
-use Rattle.c_meaning.specs.Trees.{Computes, operand_type, type_of}
-use Rattle.c_meaning.specs.World.{World, Out, Go, Stop, answered, bind}
+use Rattle.c_meaning.specs.Words.{is_null_as, is_null_constant, Sense, linked, null_or, Setting, expr, operate, operation, Computes, operand_type, type_of}
+use Rattle.c_meaning.specs.Words.{World, Out, Go, Stop, answered, bind}
 use Rattle.c_meaning_laws.specs.Constants.{zero_at}
 use Rattle.c_meaning_laws.specs.Negation.{IsOf, NotIsEqualsZero}
 use Rattle.c_meaning_laws.proofs.Parts.{bind_go}
@@ -71,10 +63,8 @@ of_number k Null o h = absurd h
 -- pointers
 of_pointer : (v : Scalar) (o : Objects) → IsOf (Some (type.Pointer 0)) v → operate (Ordered order.Eq) Null v o ≡ applied_to_one unary.Not v
 unfolding operate compared applied_to_one
-of_pointer (Place a i) o h = refl
-of_pointer Null o h = refl
-of_pointer Undefined o h = refl
 of_pointer (Number k n) o h = absurd h
+of_pointer v o h = refl
 
 array_pointer : (size : ℕ) (v : Scalar) → IsOf (Some (type.Array size)) v → IsOf (Some (type.Pointer 0)) v
 array_pointer size (Place a i) h = tt
@@ -83,10 +73,8 @@ array_pointer size Undefined h = tt
 array_pointer size (Number k n) h = absurd h
 
 any_pointer : (size : ℕ) (v : Scalar) → IsOf (Some (type.Pointer size)) v → IsOf (Some (type.Pointer 0)) v
-any_pointer size (Place a i) h = tt
-any_pointer size Null h = tt
-any_pointer size Undefined h = tt
 any_pointer size (Number k n) h = absurd h
+any_pointer size v h = tt
 
 module _ (s : Setting) (right : ExprTree) (w : World) where
   -- where it gives a value, that is one of this type
@@ -148,9 +136,7 @@ module _ (s : Setting) (right : ExprTree) (w : World) where
   of_type (Some (type.Array size)) gives =
       pointed_to (is_null_constant right) (Some (type.Array size)) refl (ordered_array (is_null_constant right) size)
       (λ v u h. array_pointer size v (gives v u h))
-  of_type (Some type.Void) gives = ended ((expr s right).value w) _ (λ v u h. absurd (gives v u h))
-  of_type (Some type.Struct) gives = ended ((expr s right).value w) _ (λ v u h. absurd (gives v u h))
-  of_type None gives = ended ((expr s right).value w) _ (λ v u h. absurd (gives v u h))
+  of_type of gives = ended ((expr s right).value w) _ (λ v u h. absurd (gives v u h))
 
 pub not_is_equals_zero : NotIsEqualsZero
 not_is_equals_zero s token level constant equals x right w int gives paren =

@@ -5,6 +5,7 @@ use Rattle.std.proofs.lemmas.Bool.Decides.{nat_tests}
 use Rattle.std.specs.Cmp.{nat_cmp_total, unsigned_tied}
 use Rattle.std.specs.FinMap.{get, gets, insert, remove, get-insert, get-remove}
 use Rattle.std.specs.Ordering.{eq_by_cmp, nat_cmp}
+use Rattle.base_lists.proofs.Numbers.{key_apart, key_itself}
 use Rattle.cbi_base.specs.declared.scalar.Scalar.{Scalar}
 use Rattle.cbi_base.specs.declared.scalar.Scalar.TheVariants.{Place}
 use Rattle.cbi_base.specs.declared.scalar.Want.{Want}
@@ -29,31 +30,17 @@ cell_within z (x ∷ xs) zero h = refl
 cell_within z (x ∷ xs) (suc place) h = cell_within z xs place (omega (arith, h))
 
 pub set_elsewhere : (cells : List Scalar) (i j : ℕ) (v : Scalar) → (i ≡ j → ⊥) → slice_get (slice_set cells i v) j ≡ slice_get cells j
-set_elsewhere [] i j v other = refl
 set_elsewhere (x ∷ xs) zero zero v other = absurd (other refl)
+set_elsewhere (x ∷ xs) (suc i) (suc j) v other = set_elsewhere xs i j v (λ same. other (ap suc same))
+set_elsewhere [] i j v other = refl
 set_elsewhere (x ∷ xs) zero (suc j) v other = refl
 set_elsewhere (x ∷ xs) (suc i) zero v other = refl
-set_elsewhere (x ∷ xs) (suc i) (suc j) v other = set_elsewhere xs i j v (λ same. other (ap suc same))
-
--- what is at another number than the one that is put or removed
-pub same_number : (m n : ℕ) → (m == n) ≡ true → m ≡ n
-same_number m n h = grind (arith, nat_tests, h)
-
-pub not_same : (b : Bool) → (b ≡ true → ⊥) → b ≡ false
-not_same true h = absurd (h refl)
-not_same false h = refl
-
-apart : (m n : ℕ) → (m ≡ n → ⊥) → eq_by_cmp nat_cmp m n ≡ false
-apart m n differ = unsigned_tied m n ∙ not_same (m == n) (λ h. differ (same_number m n h))
 
 pub put_other : (o : Objects) (n m : ℕ) (object : Object) → (m ≡ n → ⊥) → get (insert o.live n object) m ≡ get o.live m
-put_other o n m object differ = get-insert nat_cmp_total o.live n object m ∙ ap (λ b. cond b (Some object) (get o.live m)) (apart m n differ)
+put_other o n m object differ = get-insert nat_cmp_total o.live n object m ∙ ap (λ b. cond b (Some object) (get o.live m)) (key_apart m n differ)
 
 pub removed_other : (o : Objects) (n m : ℕ) → (m ≡ n → ⊥) → get (remove o.live n) m ≡ get o.live m
-removed_other o n m differ = get-remove nat_cmp_total o.live n m ∙ ap (λ b. cond b None (get o.live m)) (apart m n differ)
-
-itself : (n : ℕ) → eq_by_cmp nat_cmp n n ≡ true
-itself n = unsigned_tied n n ∙ grind (arith, nat_tests)
+removed_other o n m differ = get-remove nat_cmp_total o.live n m ∙ ap (λ b. cond b None (get o.live m)) (key_apart m n differ)
 
 pub removed_here : (o : Objects) (n : ℕ) → get (remove o.live n) n ≡ None
-removed_here o n = get-remove nat_cmp_total o.live n n ∙ ap (λ b. cond b None (get o.live n)) (itself n)
+removed_here o n = get-remove nat_cmp_total o.live n n ∙ ap (λ b. cond b None (get o.live n)) (key_itself n)

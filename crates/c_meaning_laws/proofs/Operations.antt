@@ -12,17 +12,13 @@ use Rattle.cbi_base.specs.declared.scalar.Scalar.TheVariants.{Number, Place, Nul
 use Rattle.cbi_base.specs.declared.operators.Binary.{Binary}
 use Rattle.cbi_base.specs.declared.operators.Order.{Order}
 use Rattle.cbi_base.specs.declared.operators.Order.TheVariants.{Lt, Le, Gt, Ge, Eq, Ne}
-use Rattle.cbi_base.specs.Arithmetic.{kind_given}
-use Rattle.cbi_base.specs.Objects.{Objects, ◌>>=◌, compared, difference, elements, in_order, live_or, of_pointers, same_place, within_one}
-use Rattle.cbi_base.specs.Scalars.{applied}
-use Rattle.flow.specs.Rows.{moved_by}
+use Rattle.cbi_base.specs.Words.{kind_given, Objects, compared, difference, elements, in_order, live_or, of_pointers, same_place, within_one, moved_by, applied}
+use Rattle.cbi_base.specs.Objects.{◌>>=◌}
 use Rattle.c_meaning.specs.declared.operation.Operation.{Operation}
 use Rattle.c_meaning.specs.declared.operation.Operation.TheVariants.{Numbers, MoveLeft, MoveRight, Span, Ordered, Wrong}
 use Rattle.c_meaning.specs.declared.value_type.ValueType.{ValueType}
 use Rattle.c_meaning.specs.declared.value_type.ValueType.TheVariants as type
-use Rattle.c_meaning.specs.Conversions.{between, converts}
-use Rattle.c_meaning.specs.Operation.{counted_value, flagged, left_kind, operate, right_kind}
-use Rattle.c_meaning.specs.World.{answered}
+use Rattle.c_meaning.specs.Words.{between, converts, counted_value, flagged, left_kind, operate, right_kind, answered}
 use Rattle.c_meaning_laws.specs.Rules.{IsPointing, IsValue, Moves, Operates}
 use Rattle.c_meaning_laws.proofs.Safe.{Any, Calm, Safe, answers, calm_bind, calm_if, calm_map}
 use Rattle.c_meaning_laws.proofs.Values.{Fits, IsAt, applied_calm, at_fits, between_calm, number_value, pointing_value, takes_converted}
@@ -34,25 +30,23 @@ IsReference (Number kind value) = ⊥
 IsReference v = Unit {0}
 
 pub pointer_reference : (t : Option ValueType) (v : Scalar) → IsPointing t → Fits t v → IsReference v
-pointer_reference t Undefined h f = tt
-pointer_reference t Null h f = tt
-pointer_reference t (Place a i) h f = tt
 pointer_reference (Some (type.Pointer size)) (Number k n) h f = f
 pointer_reference (Some (type.Array size)) (Number k n) h f = f
 pointer_reference t (Number k n) h f = absurd h
+pointer_reference t v h f = tt
 
 pointers_calm : {A : Type 0} (P : A → Type 0) (x y : Scalar) (answer : Result A Trap) → IsReference x → IsReference y → Calm P answer
     → Calm P (of_pointers x y answer)
 pointers_calm P Undefined y answer h k c = tt
 pointers_calm P Null Undefined answer h k c = tt
-pointers_calm P Null Null answer h k c = c
-pointers_calm P Null (Place b j) answer h k c = c
 pointers_calm P (Place a i) Undefined answer h k c = tt
-pointers_calm P (Place a i) Null answer h k c = c
-pointers_calm P (Place a i) (Place b j) answer h k c = c
 pointers_calm P (Number k n) y answer h l c = absurd h
 pointers_calm P Null (Number k n) answer h l c = absurd l
 pointers_calm P (Place a i) (Number k n) answer h l c = absurd l
+pointers_calm P Null Null answer h k c = c
+pointers_calm P Null (Place b j) answer h k c = c
+pointers_calm P (Place a i) Null answer h k c = c
+pointers_calm P (Place a i) (Place b j) answer h k c = c
 
 within_calm : {A : Type 0} (P : A → Type 0) (x y : Scalar) (o : Objects) (use_them : ℕ → ℕ → Result A Trap) → ((i j : ℕ) → Calm P (use_them i j))
     → Calm P (within_one x y o use_them)
@@ -77,10 +71,7 @@ compared_calm : (order : Order) (x y : Scalar) (o : Objects) → IsReference x �
 unfolding compared
 compared_calm Eq x y o h k = pointers_calm Any x y (Ok (same_place x y)) h k tt
 compared_calm Ne x y o h k = pointers_calm Any x y (Ok (not (same_place x y))) h k tt
-compared_calm Lt x y o h k = ordered_calm Lt x y o h k
-compared_calm Le x y o h k = ordered_calm Le x y o h k
-compared_calm Gt x y o h k = ordered_calm Gt x y o h k
-compared_calm Ge x y o h k = ordered_calm Ge x y o h k
+compared_calm order x y o h k = ordered_calm order x y o h k
 
 difference_calm : (x y : Scalar) (size : ℕ) (o : Objects) → IsReference x → IsReference y → Calm Any (difference x y size o)
 unfolding difference
@@ -131,10 +122,7 @@ moves_calm : (o : Operation) (left right : Option ValueType) (x y : Scalar) (obj
 unfolding operate
 moves_calm (MoveLeft size) left right x y objects h f g = moved_by_calm size left right x y objects h.0 h.1 f g
 moves_calm (MoveRight size) left right x y objects h f g = moved_by_calm size right left y x objects h.1 h.0 g f
-moves_calm (Numbers o l r) left right x y objects h f g = absurd h
-moves_calm (Span size) left right x y objects h f g = absurd h
-moves_calm (Ordered o) left right x y objects h f g = absurd h
-moves_calm Wrong left right x y objects h f g = absurd h
+moves_calm o left right x y objects h f g = absurd h
 
 pub moves_safe : (o : Operation) (left right : Option ValueType) (x y : Scalar) → Moves o left right → Fits left x → Fits right y
     → Safe IsAt (λ w. answered (operate o x y w.objects) w) (λ w. answered (operate o x y w.objects) w)
@@ -151,7 +139,5 @@ number_is kind t e = subst IsValue (sym e) tt
 pub operates_value : (o : Operation) (left right t : Option ValueType) → Operates o left right t → IsValue right
 operates_value (Numbers o l r) left right t h = number_is r right h.1
 operates_value (MoveLeft size) left right t h = number_value right h.1
-operates_value (MoveRight size) left right t h = pointing_value right h.1
-operates_value (Span size) left right t h = pointing_value right h.1
-operates_value (Ordered o) left right t h = pointing_value right h.1
 operates_value Wrong left right t h = absurd h
+operates_value o left right t h = pointing_value right h.1

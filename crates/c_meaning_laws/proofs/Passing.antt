@@ -4,52 +4,44 @@ use Rattle.std.proofs.lemmas.Bool.Decides.{nat_tests}
 use Rattle.std.proofs.lemmas.List.{append_assoc, append-nil, reverse-append, reverse-reverse}
 use Rattle.std.specs.Prelude.{◌&&◌, if◌then◌else◌, reverse, Result, Ok, Err}
 use Rattle.std.specs.List.{list_all}
+use Rattle.std.proofs.lemmas.Bool.{and_from}
+use Rattle.cbi_base.specs.Words.{active_limit, all_made, first_cells, Locals, local_at, Objects, stored, converted, is_defined_value}
+use Rattle.base_lists.proofs.Numbers.{number_is}
 use Rattle.cbi_base.specs.declared.observation.Seen.{Seen}
 use Rattle.cbi_base.specs.declared.outcome.Outcome.TheVariants.{Trapped}
 use Rattle.cbi_base.specs.declared.scalar.Scalar.{Scalar}
 use Rattle.cbi_base.specs.declared.scalar.Scalar.TheVariants.{Number, Place, Null, Undefined}
 use Rattle.cbi_base.specs.declared.trap.Trap.{Trap}
 use Rattle.cbi_base.specs.declared.trap.Trap.TheVariants as trap
-use Rattle.cbi_base.specs.Frames.{all_made, first_cells}
-use Rattle.cbi_base.specs.Objects.{Objects, stored}
-use Rattle.cbi_base.specs.Scalars.{converted}
 use Rattle.c_syntax.specs.ExprTree as e
 use Rattle.c_syntax.specs.ExprTree.{ExprTree, ExprList}
 use Rattle.flow.specs.declared.site.Slot.{Slot}
 use Rattle.flow.specs.declared.site.Slot.TheVariants as slot
-use Rattle.flow.specs.Limits.{active_limit}
-use Rattle.flow.specs.Now.{Locals, is_defined, local_at}
 use Rattle.flow.specs.Truths.{looked}
 use Rattle.c_meaning.specs.declared.value_type.ValueType.{ValueType}
 use Rattle.c_meaning.specs.declared.value_type.ValueType.TheVariants as type
-use Rattle.c_meaning.specs.Calls.{call_function, call_sense, with_result}
-use Rattle.c_meaning.specs.Conversions.{handed, is_null_as}
-use Rattle.c_meaning.specs.Expressions.{Sense, handed_value, wanted_value}
-use Rattle.c_meaning.specs.Facts.{Setting, Signature}
-use Rattle.c_meaning.specs.Meaning.{arguments_value, expr, formatted, lone_value}
-use Rattle.c_meaning.specs.Places.{assigned_at, object_place, store_at, variable}
-use Rattle.c_meaning.specs.Runs.{Source, call_at, enter_function, gives_value, left_function, locals_of, setting_of, value_left}
-use Rattle.c_meaning.specs.Trees.{called_as, count, has_value, type_of}
-use Rattle.c_meaning.specs.Visits.{listed, now_of, observed_value, visited, world_with_seen}
-use Rattle.c_meaning.specs.World.{World, Out, Go, Stop, Returned, answered, bind, choose, done, spend, stuck}
+use Rattle.c_meaning.specs.Words.{call_function, call_sense, with_result, handed, is_null_as, Sense, handed_value, wanted_value, Setting, Signature}
+use Rattle.c_meaning.specs.Words.{arguments_value, expr, formatted, lone_value, assigned_at, object_place, store_at, variable, Source, call_at, enter_function}
+use Rattle.c_meaning.specs.Words.{gives_value, left_function, locals_of, setting_of, value_left, called_as, count, has_value, type_of, listed, observed_value}
+use Rattle.c_meaning.specs.Words.{visited, world_with_seen, World, Out, Go, Stop, Returned, answered, bind, choose, done, spend, stuck}
 use Rattle.c_meaning_laws.specs.Passing.{ArePassed, CallPassesArguments, MeansIn, ReturnIsAssigned, argument_as, body_of}
 use Rattle.c_meaning_laws.proofs.Frames.{body_begins_afresh}
 use Rattle.c_meaning_laws.proofs.Parts.{Ends, anything, ends_bind, ends_go}
 
 -- a value that was handed over is defined
 abbrev IsThere : Scalar → World → Type 0
-IsThere v w = is_defined v ≡ true
+IsThere v w = is_defined_value v ≡ true
 
 one_there : (of : ValueType) (v : Scalar) (w : World) → Ends IsThere (handed (Some of) v w)
 unfolding converted
 one_there (type.Number kind) (Number from value) w = refl
+one_there (type.Pointer size) (Number from value) w = refl
+one_there (type.Pointer size) (Place number offset) w = refl
+one_there (type.Pointer size) Null w = refl
 one_there (type.Number kind) Undefined w = tt
 one_there (type.Number kind) (Place number offset) w = tt
 one_there (type.Number kind) Null w = tt
-one_there (type.Pointer size) (Number from value) w = refl
 one_there (type.Pointer size) Undefined w = tt
-one_there (type.Pointer size) (Place number offset) w = refl
-one_there (type.Pointer size) Null w = refl
 one_there (type.Array size) v w = tt
 one_there type.Void v w = tt
 one_there type.Struct v w = tt
@@ -61,11 +53,8 @@ handed_there false of m w = ends_bind (λ _ _. Unit {0}) IsThere (m.value w) (ha
 -- what a cast gives is what is handed over
 cast_hands : (s : Setting) (of : ValueType) (x : ExprTree) (v : Scalar) (w u : World) → (argument_as s of x).value w ≡ Go v u
     → handed_value (is_null_as (Some of) x) (Some of) (expr s x) w ≡ Go v u
-cast_hands s (type.Number kind) x v w u h = h
-cast_hands s (type.Pointer size) x v w u h = h
-cast_hands s (type.Array size) x v w u h = h
-cast_hands s type.Struct x v w u h = h
 cast_hands s type.Void x v w u h = cc
+cast_hands s of x v w u h = h
 
 -- the values, the last one first, before those that are there
 abbrev onto : List Scalar → List Scalar → List Scalar
@@ -78,45 +67,38 @@ onto_reversed (v ∷ vs) before =
     onto_reversed vs (v ∷ before) ∙ sym (append_assoc (reverse vs) (v ∷ []) before)
     ∙ ap (λ xs. xs ++ before) (sym (reverse-append (v ∷ []) vs))
 
-both_hold : (a b : Bool) → a ≡ true → b ≡ true → (a && b) ≡ true
-both_hold true b h k = k
-both_hold false b h k = cc
-
 module _ (s : Setting) where
   passed_value : (types : List ValueType) (passed : ExprList) (vs : List Scalar) (w u : World) (before : List Scalar) → ArePassed s types passed w vs u
       → arguments_value s types passed before w ≡ Go (onto vs before) u
   passed_value [] e.no_exprs [] w u before h = ap (Go before) (sym h)
+  passed_value (of ∷ types) (e.more_exprs x rest) (v ∷ vs) w u before h =
+      ap (λ out. bind out (λ a. arguments_value s types rest (a ∷ before))) (cast_hands s of x v w h.0 h.1)
+      ∙ passed_value types rest vs h.0 u (v ∷ before) h.2
   passed_value [] e.no_exprs (v ∷ vs) w u before h = absurd h
   passed_value [] (e.more_exprs x rest) vs w u before h = absurd h
   passed_value (of ∷ types) e.no_exprs vs w u before h = absurd h
   passed_value (of ∷ types) (e.more_exprs x rest) [] w u before h = absurd h
-  passed_value (of ∷ types) (e.more_exprs x rest) (v ∷ vs) w u before h =
-      ap (λ out. bind out (λ a. arguments_value s types rest (a ∷ before))) (cast_hands s of x v w h.0 h.1)
-      ∙ passed_value types rest vs h.0 u (v ∷ before) h.2
 
   passed_count : (types : List ValueType) (passed : ExprList) (vs : List Scalar) (w u : World) → ArePassed s types passed w vs u
       → count passed ≡ length types
   passed_count [] e.no_exprs vs w u h = refl
+  passed_count (of ∷ types) (e.more_exprs x rest) (v ∷ vs) w u h = ap suc (passed_count types rest vs h.0 u h.2)
   passed_count [] (e.more_exprs x rest) vs w u h = absurd h
   passed_count (of ∷ types) e.no_exprs vs w u h = absurd h
   passed_count (of ∷ types) (e.more_exprs x rest) [] w u h = absurd h
-  passed_count (of ∷ types) (e.more_exprs x rest) (v ∷ vs) w u h = ap suc (passed_count types rest vs h.0 u h.2)
 
   passed_there : (types : List ValueType) (passed : ExprList) (vs : List Scalar) (w u : World) (before : List Scalar) → ArePassed s types passed w vs u
-      → list_all is_defined before ≡ true → list_all is_defined (onto vs before) ≡ true
+      → list_all is_defined_value before ≡ true → list_all is_defined_value (onto vs before) ≡ true
   passed_there [] e.no_exprs [] w u before h k = k
+  passed_there (of ∷ types) (e.more_exprs x rest) (v ∷ vs) w u before h k =
+      let there : is_defined_value v ≡ true =
+      ends_go IsThere (handed_value (is_null_as (Some of) x) (Some of) (expr s x) w) v h.0
+      (handed_there (is_null_as (Some of) x) of (expr s x) w) (cast_hands s of x v w h.0 h.1) in
+      passed_there types rest vs h.0 u (v ∷ before) h.2 (and_from (is_defined_value v) (list_all is_defined_value before) there k)
   passed_there [] e.no_exprs (v ∷ vs) w u before h k = absurd h
   passed_there [] (e.more_exprs x rest) vs w u before h k = absurd h
   passed_there (of ∷ types) e.no_exprs vs w u before h k = absurd h
   passed_there (of ∷ types) (e.more_exprs x rest) [] w u before h k = absurd h
-  passed_there (of ∷ types) (e.more_exprs x rest) (v ∷ vs) w u before h k =
-      let there : is_defined v ≡ true =
-      ends_go IsThere (handed_value (is_null_as (Some of) x) (Some of) (expr s x) w) v h.0
-      (handed_there (is_null_as (Some of) x) of (expr s x) w) (cast_hands s of x v w h.0 h.1) in
-      passed_there types rest vs h.0 u (v ∷ before) h.2 (both_hold (is_defined v) (list_all is_defined before) there k)
-
-same_count : (m n : ℕ) → m ≡ n → (m == n) ≡ true
-same_count m n h = grind (arith, nat_tests, h)
 
 module _ (src : Source) (turns number rest : ℕ) (f : Signature) (arguments : List Scalar) (u : World) (objects : Objects)
     (known : src.facts.signature number ≡ Some f) (more : u.turns ≡ suc rest) (few : u.active < active_limit)
@@ -136,10 +118,10 @@ module _ (src : Source) (turns number rest : ℕ) (f : Signature) (arguments : L
       ∙ ap (λ out. bind out (λ flow y. bind (value_left (number == src.main) (has_value f.result) flow y) (left_function (locals_of (Some f) spent))))
       (body_begins_afresh src (call_at src turns) turns number f arguments spent objects few made).0
 
-  called : (vs : List Scalar) → reverse vs ≡ arguments → list_all is_defined vs ≡ true
+  called : (vs : List Scalar) → reverse vs ≡ arguments → list_all is_defined_value vs ≡ true
       → call_at src (suc turns) number vs u ≡ body_of src turns number f objects spent
   called vs order there =
-      ap (λ n. spend n u (λ z. bind (if list_all is_defined vs then Go (reverse vs) z else Stop (Trapped trap.Undefined) z) (λ xs _.
+      ap (λ n. spend n u (λ z. bind (if list_all is_defined_value vs then Go (reverse vs) z else Stop (Trapped trap.Undefined) z) (λ xs _.
       passes (src.facts.signature number) xs z))) more
       ∙ ap (λ b. bind (if b then Go (reverse vs) spent else Stop (Trapped trap.Undefined) spent) (λ xs _. passes (src.facts.signature number) xs spent)) there
       ∙ ap (λ xs. passes (src.facts.signature number) xs spent) order ∙ entered
@@ -159,7 +141,7 @@ module _ (src : Source) (turns number rest : ℕ) (f : Signature) (arguments : L
     ran h =
         let order : reverse (onto arguments []) ≡ arguments =
         ap reverse (onto_reversed arguments [] ∙ append-nil (reverse arguments)) ∙ reverse-reverse arguments in
-        ap (λ b. choose b run stuck w) (same_count (count passed) (length f.params) (passed_count s f.params passed arguments w u h))
+        ap (λ b. choose b run stuck w) (number_is (count passed) (length f.params) (passed_count s f.params passed arguments w u h))
         ∙ ap (λ out. bind out (s.call number)) (passed_value s f.params passed arguments w u [] h)
         ∙ called (onto arguments []) order (passed_there s f.params passed arguments w u [] h refl)
 
@@ -198,7 +180,7 @@ module _ (s : Setting) (v : Scalar) where
   seen_is site w (Err t) = tt
 
   observed_is : (site : ℕ) (x : Scalar) (w : World) → x ≡ v → Ends IsIt (observed_value s site x w)
-  observed_is site x w h = subst (λ y. Ends IsIt (observed_value s site y w)) (sym h) (seen_is site w (looked (s.sites.site site) (now_of s.locals (v ∷ []) w)))
+  observed_is site x w h = subst (λ y. Ends IsIt (observed_value s site y w)) (sym h) (seen_is site w (looked (s.sites.site site) (Some v) s.locals w.objects))
 
   visited_is : (sites : List ℕ) (x : Scalar) (w : World) → x ≡ v → Ends IsIt (visited s sites x w)
   visited_is [] x w h = h

@@ -8,13 +8,8 @@ use Rattle.c_syntax.specs.ExprTree.{ExprTree, PostfixList}
 use Rattle.flow.specs.declared.site.Slot.{Slot}
 use Rattle.flow.specs.declared.site.Slot.TheVariants as slot
 use Rattle.c_meaning.specs.declared.value_type.ValueType.{ValueType}
-use Rattle.c_meaning.specs.Expressions.{postfixed, settled, spot}
-use Rattle.c_meaning.specs.Facts.{Setting}
-use Rattle.c_meaning.specs.Initialisers.{object_of}
-use Rattle.c_meaning.specs.Meaning.{expr}
-use Rattle.c_meaning.specs.Places.{object_place, variable}
-use Rattle.c_meaning.specs.Trees.{ends_as_place, is_place, type_of}
-use Rattle.c_meaning.specs.World.{World, Out, Go, bind}
+use Rattle.c_meaning.specs.Words.{postfixed, settled, spot, Setting, object_of, expr, object_place, variable, ends_as_place, is_place, type_of, World, Out, Go}
+use Rattle.c_meaning.specs.Words.{bind}
 use Rattle.c_meaning_laws.specs.Typed.{Typed}
 use Rattle.c_meaning_laws.specs.Parentheses.{IsWritten, KeepsType}
 use Rattle.c_meaning_laws.proofs.Parts.{bind_go}

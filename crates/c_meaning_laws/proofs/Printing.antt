@@ -4,24 +4,19 @@ use Rattle.std.proofs.lemmas.Bool.{false≢true, true≢false}
 use Rattle.std.specs.Prelude.{Option, ℤ, pos, nat_le, take, drop, ◌-◌, ◌==◌, ◌||◌, if◌then◌else◌}
 use Rattle.std.specs.Cmp.Derive.{both_true}
 use Rattle.std.specs.FinMap.{get}
+use Rattle.cbi_base.specs.Words.{Byte, Conversion, FormatPiece, Printed, after_bytes, converted_by, joined, nothing_printed, pieces_of, printed_format}
+use Rattle.cbi_base.specs.Words.{printed_or, string_at, string_on, take_values, takes_value, then_print, these, output_limit, is_zero, low_byte, is_conversion}
+use Rattle.cbi_base.specs.Words.{is_percent, Object, Objects, live_or}
 use Rattle.cbi_base.specs.declared.outcome.Outcome.TheVariants.{CutOutput}
 use Rattle.cbi_base.specs.declared.scalar.Kind.{Kind}
 use Rattle.cbi_base.specs.declared.scalar.Kind.TheVariants.{Char, Int, Unsigned}
 use Rattle.cbi_base.specs.declared.scalar.Scalar.{Scalar}
 use Rattle.cbi_base.specs.declared.scalar.Scalar.TheVariants.{Number, Place, Null, Undefined}
 use Rattle.cbi_base.specs.declared.trap.Trap.{Trap}
-use Rattle.cbi_base.specs.Arithmetic.{is_zero}
-use Rattle.cbi_base.specs.Format.{is_conversion, is_percent}
-use Rattle.cbi_base.specs.Objects.{Object, Objects, ◌>>=◌, live_or}
-use Rattle.flow.specs.Limits.{output_limit}
-use Rattle.flow.specs.Now.{byte_of}
-use Rattle.flow.specs.Printing.{Piece, Byte, Conversion, Printed, after_bytes, converted_by, joined, nothing_printed}
-use Rattle.flow.specs.Printing.{pieces_of, printed, printed_or, string_at, string_on, take_values, takes_value, then_print, these}
+use Rattle.cbi_base.specs.Objects.{◌>>=◌}
 use Rattle.c_meaning.specs.declared.value_type.ValueType.{ValueType}
 use Rattle.c_meaning.specs.declared.value_type.ValueType.TheVariants as type
-use Rattle.c_meaning.specs.Calls.{types_taken}
-use Rattle.c_meaning.specs.Output.{print, put_byte, put_format, put_string, stop_or, written}
-use Rattle.c_meaning.specs.World.{World, Out, Go, Stop, bind, choose, stuck}
+use Rattle.c_meaning.specs.Words.{types_taken, print, put_byte, put_format, put_string, stop_or, written, World, Out, Go, Stop, bind, choose, stuck}
 use Rattle.c_meaning_laws.proofs.Safe.{Any, Ending, IsPlain, Safe, chosen_true, gives, plain, seq, unseen}
 use Rattle.c_meaning_laws.proofs.Values.{Fits, Given}
 use Rattle.c_meaning_laws.proofs.Operations.{IsReference}
@@ -66,7 +61,7 @@ zero_or false bytes rest h = h
 string_on_calm : (cells : List Scalar) → CalmStop (string_on cells).stop
 string_on_calm [] = tt
 string_on_calm (Undefined ∷ cells) = tt
-string_on_calm (Number Char value ∷ cells) = zero_or (is_zero value) (byte_of value ∷ []) (string_on cells) (string_on_calm cells)
+string_on_calm (Number Char value ∷ cells) = zero_or (is_zero value) (low_byte value ∷ []) (string_on cells) (string_on_calm cells)
 string_on_calm (Number Int value ∷ cells) = tt
 string_on_calm (Number Unsigned value ∷ cells) = tt
 string_on_calm (Null ∷ cells) = tt
@@ -103,7 +98,7 @@ put_string_safe size (Place a i) f = line_safe (Place a i) tt
 put_string_safe size (Number k n) f = absurd f
 
 put_byte_safe : (k : Kind) (n : ℤ) → k ≡ Int → Safe (Fits (Some (type.Number Int))) (put_byte (Number k n)) (put_byte (Number k n))
-put_byte_safe k n h = rw h (seq (written_safe (byte_of n ∷ [])) (λ _ _. gives (Number Int (pos (byte_of n))) refl))
+put_byte_safe k n h = rw h (seq (written_safe (low_byte n ∷ [])) (λ _ _. gives (Number Int (pos (low_byte n))) refl))
 
 pub put_value_safe : (v : Scalar) → Fits (Some (type.Number Int)) v → Safe (Fits (Some (type.Number Int))) (put_byte v) (put_byte v)
 put_value_safe Undefined f = record { at = λ w. tt; same = λ w. refl }
@@ -118,17 +113,17 @@ AllGiven (t ∷ types) (v ∷ vs) = Given (Some t) v × AllGiven types vs
 AllGiven types vs = ⊥
 
 -- each conversion of a format has a letter that is known
-abbrev AllKnown : List Piece → Type 0
+abbrev AllKnown : List FormatPiece → Type 0
 AllKnown [] = Unit {0}
 AllKnown (Byte byte ∷ pieces) = AllKnown pieces
 AllKnown (Conversion letter ∷ pieces) = (is_conversion letter ≡ true) × AllKnown pieces
 
-known_piece : (letter : ℕ) (b : Bool) (pieces : List Piece) → is_conversion letter ≡ b → AllKnown pieces
+known_piece : (letter : ℕ) (b : Bool) (pieces : List FormatPiece) → is_conversion letter ≡ b → AllKnown pieces
     → AllKnown ((if b then Conversion letter else Byte letter) ∷ pieces)
 known_piece letter true pieces e h = (e, h)
 known_piece letter false pieces e h = h
 
-known_if : (b : Bool) (pieces others : List Piece) → AllKnown pieces → AllKnown others → AllKnown (if b then pieces else others)
+known_if : (b : Bool) (pieces others : List FormatPiece) → AllKnown pieces → AllKnown others → AllKnown (if b then pieces else others)
 known_if true pieces others h k = h
 known_if false pieces others h k = k
 
@@ -152,16 +147,16 @@ takes_letter : (letter : ℕ) (v : Scalar) (p q : Bool) → (letter == 115) ≡ 
 takes_letter letter Undefined p q d e h g = absurd (false≢true g.1)
 takes_letter letter Null true q d e h g = d
 takes_letter letter (Place a i) true q d e h g = d
-takes_letter letter (Number k n) true q d e h g = absurd g.0
 takes_letter letter (Number k n) false true d e h g = subst (λ a. takes_value letter (Number a n) ≡ true) g.0 e
 takes_letter letter (Number k n) false false d e h g =
     subst (λ a. takes_value letter (Number a n) ≡ true) g.0 (letter_left (letter == 100) (letter == 117) (letter == 99) (letter == 115) h d e)
+takes_letter letter (Number k n) true q d e h g = absurd g.0
 takes_letter letter Null false true d e h g = absurd g.0
 takes_letter letter Null false false d e h g = absurd g.0
 takes_letter letter (Place a i) false true d e h g = absurd g.0
 takes_letter letter (Place a i) false false d e h g = absurd g.0
 
-values_taken : (pieces : List Piece) (values : List Scalar) → AllKnown pieces → AllGiven (types_taken pieces) values → take_values pieces values ≡ true
+values_taken : (pieces : List FormatPiece) (values : List Scalar) → AllKnown pieces → AllGiven (types_taken pieces) values → take_values pieces values ≡ true
 values_taken [] [] h g = refl
 values_taken [] (v ∷ vs) h g = absurd g
 values_taken (Byte byte ∷ pieces) values h g = values_taken pieces values h g
@@ -177,17 +172,17 @@ converted_by_calm letter Null o = string_at_calm Null o tt
 converted_by_calm letter (Place a i) o = string_at_calm (Place a i) o tt
 converted_by_calm letter Undefined o = string_at_calm Undefined o tt
 
-printed_calm : (pieces : List Piece) (values : List Scalar) (o : Objects) → AllGiven (types_taken pieces) values → CalmStop (printed pieces values o).stop
+printed_calm : (pieces : List FormatPiece) (values : List Scalar) (o : Objects) → AllGiven (types_taken pieces) values → CalmStop (printed_format pieces values o).stop
 printed_calm [] values o g = tt
 printed_calm (Byte byte ∷ pieces) values o g = printed_calm pieces values o g
 printed_calm (Conversion letter ∷ pieces) [] o g = absurd g
 printed_calm (Conversion letter ∷ pieces) (v ∷ vs) o g =
-    joined_calm (converted_by letter v o) (converted_by letter v o).stop (printed pieces vs o) (converted_by_calm letter v o) (printed_calm pieces vs o g.1)
+    joined_calm (converted_by letter v o) (converted_by letter v o).stop (printed_format pieces vs o) (converted_by_calm letter v o) (printed_calm pieces vs o g.1)
 
 -- `printf`
 pub put_format_safe : (format : List ℕ) (values : List Scalar) → AllGiven (types_taken (pieces_of format)) values
     → Safe Any (put_format format values) (put_format format values)
-put_format_safe format values g = on_objects (λ o. choose (take_values (pieces_of format) values) (print (printed (pieces_of format) values o)) stuck)
-    (λ o. choose (take_values (pieces_of format) values) (print (printed (pieces_of format) values o)) stuck)
+put_format_safe format values g = on_objects (λ o. choose (take_values (pieces_of format) values) (print (printed_format (pieces_of format) values o)) stuck)
+    (λ o. choose (take_values (pieces_of format) values) (print (printed_format (pieces_of format) values o)) stuck)
     (λ o. chosen_true stuck stuck (take_values (pieces_of format) values) (values_taken (pieces_of format) values (pieces_known format) g)
-    (print_safe (printed (pieces_of format) values o) (printed_calm (pieces_of format) values o g)))
+    (print_safe (printed_format (pieces_of format) values o) (printed_calm (pieces_of format) values o g)))

@@ -1,7 +1,7 @@
 -- Objects to which nothing leads stay what they are, whatever is done to others.
 use Rattle.std.proofs.Common.{◌≡◌, ℕ, ◌+◌, ◌<◌, ◌≤◌, ◌==◌, ℤ, pos, ◌+ℤ◌, Bool, true, false, cond, map, replicate, List, [], ◌∷◌, length, Option, Some}
 use Rattle.std.proofs.Common.{None, Ok, Err, slice_get, slice_set, zero, suc, refl, ap, sym, ◌∙◌, subst, arith, inl, inr}
-use Rattle.std.proofs.lemmas.Bool.{false≢true}
+use Rattle.std.proofs.lemmas.Bool.{false≢true, false_from_ne_true}
 use Rattle.std.specs.Prelude.{◌⊎◌, if◌then◌else◌}
 use Rattle.std.specs.Cmp.{nat_cmp_total}
 use Rattle.std.specs.FinMap.{get, insert, get-insert, get-remove}
@@ -13,22 +13,15 @@ use Rattle.cbi_base.specs.declared.scalar.Scalar.{Scalar}
 use Rattle.cbi_base.specs.declared.scalar.Scalar.TheVariants.{Number, Place, Null, Undefined}
 use Rattle.cbi_base.specs.declared.scalar.Want.{Want}
 use Rattle.cbi_base.specs.declared.trap.Trap.TheVariants as trap
-use Rattle.cbi_base.specs.Frames.{filled_in}
-use Rattle.cbi_base.specs.Objects.{Object, Objects, allocated, found_cell, has_room, is_heap_start, is_text, is_wanted, killed, live_or, loaded}
-use Rattle.cbi_base.specs.Objects.{made_with, moved, moved_in, one_object_more, place_or_null, released, set_in, stored, undefined_in, with_object, ◌>>=◌}
+use Rattle.cbi_base.specs.Words.{filled_in, Locals, Object, Objects, allocated, found_cell, has_room, is_heap_start, is_text, is_wanted, killed, live_or}
+use Rattle.cbi_base.specs.Words.{loaded, made_with, moved, moved_in, one_object_more, place_or_null, released, set_in, stored, undefined_in, with_object}
+use Rattle.cbi_base.specs.Objects.{◌>>=◌}
 use Rattle.c_syntax.specs.ExprTree as e
 use Rattle.c_syntax.specs.ExprTree.{ExprList}
-use Rattle.flow.specs.Now.{Locals}
-use Rattle.c_meaning.specs.Calls.{call_function, call_sense, with_result}
-use Rattle.c_meaning.specs.Expressions.{Sense}
-use Rattle.c_meaning.specs.Facts.{Facts, Setting, Signature}
-use Rattle.c_meaning.specs.Meaning.{arguments_value, expr, formatted, lone_value}
-use Rattle.c_meaning.specs.Runs.{Source, call_at, setting_of}
-use Rattle.c_meaning.specs.Trees.{called_as, count, has_value}
-use Rattle.c_meaning.specs.Visits.{listed, visited}
-use Rattle.c_meaning.specs.World.{World, Out, Go, Stop, bind, choose, done, stuck}
+use Rattle.c_meaning.specs.Words.{call_function, call_sense, with_result, Sense, Facts, Setting, Signature, arguments_value, expr, formatted, lone_value}
+use Rattle.c_meaning.specs.Words.{Source, call_at, setting_of, called_as, count, has_value, listed, visited, World, Out, Go, Stop, bind, choose, done, stuck}
 use Rattle.c_meaning_laws.specs.Calls.{AreHidden, AreUnnamed, CallExpressionLeavesHidden, CallLeavesHidden, LeadsElsewhere}
-use Rattle.c_meaning_laws.proofs.Objects.{not_same, put_other, removed_other}
+use Rattle.c_meaning_laws.proofs.Objects.{put_other, removed_other}
 use Rattle.c_meaning_laws.proofs.Parts.{Ends, ends_bind, ends_go}
 use Rattle.c_meaning_laws.proofs.Kept.{Answers, Closed, Made, answers_bind}
 use Rattle.c_meaning_laws.proofs.KeptPlaces.{StaticsOwn, visited_kept}
@@ -121,7 +114,7 @@ module _ (hidden : ℕ → Bool) (first : Objects) where
   }
 
   fresh_own : (n : ℕ) (o : Objects) → Stay o → o.made ≤ n → Own n
-  fresh_own n o h le = not_same (hidden n) (λ k. (let low : n < o.made = h.apart.made n k in absurd (omega (arith, low, le))))
+  fresh_own n o h le = false_from_ne_true (hidden n) (λ k. (let low : n < o.made = h.apart.made n k in absurd (omega (arith, low, le))))
 
   more_stays : (class : Class) (cells : List Scalar) (o : Objects) → AllByRecursion Elsewhere cells → Stay o → Stay (one_object_more class cells o)
   more_stays class cells o h k =
@@ -150,9 +143,7 @@ module _ (hidden : ℕ → Bool) (first : Objects) where
       (λ object. found_cell wanted (slice_get object.cells offset))
       (live_object (get o.live number) (cells_at o number h.apart own)) (λ object k.
       found_elsewhere wanted (slice_get object.cells offset) (cell_of Elsewhere object.cells offset k))
-  loads_elsewhere wanted Undefined o own h = tt
-  loads_elsewhere wanted Null o own h = tt
-  loads_elsewhere wanted (Number kind value) o own h = tt
+  loads_elsewhere wanted p o own h = tt
 
   -- pointers that are moved
   either_place : (b : Bool) (number to : ℕ) → Own number → Answers Elsewhere (if b then Ok (Place number to) else Err trap.Bounds)
@@ -168,9 +159,7 @@ module _ (hidden : ℕ → Bool) (first : Objects) where
   moves_elsewhere (Place number offset) cells o own =
       answers_bind (λ _. Unit {0}) Elsewhere (live_or (get o.live number)) (λ object. moved_in number (pos offset +ℤ cells) object)
       (any_object (get o.live number)) (λ object _. either_place _ number _ own)
-  moves_elsewhere Undefined cells o own = tt
-  moves_elsewhere Null cells o own = tt
-  moves_elsewhere (Number kind value) cells o own = tt
+  moves_elsewhere p cells o own = tt
 
   -- stores
   either_set : (b : Bool) (text : Bool) (o : Objects) → Stay o
@@ -189,10 +178,10 @@ module _ (hidden : ℕ → Bool) (first : Objects) where
 
   stores_stay : (p v : Scalar) (o : Objects) → Elsewhere p → Elsewhere v → Stay o → Answers Stay (stored p v o)
   unfolding stored
-  stores_stay p Undefined o own k h = tt
   stores_stay (Place number offset) (Number kind value) o own k h = set_stays number offset (Number kind value) o own k h
   stores_stay (Place number offset) (Place other at) o own k h = set_stays number offset (Place other at) o own k h
   stores_stay (Place number offset) Null o own k h = set_stays number offset Null o own k h
+  stores_stay p Undefined o own k h = tt
   stores_stay Undefined (Number kind value) o own k h = tt
   stores_stay Undefined (Place other at) o own k h = tt
   stores_stay Undefined Null o own k h = tt

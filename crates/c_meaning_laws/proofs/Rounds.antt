@@ -1,18 +1,13 @@
 -- A loop, its first round, and the loop again.
 use Rattle.std.proofs.Common.{◌≡◌, ℕ, zero, suc, ◌≤◌, Bool, true, false, List, refl, sym, ◌∙◌, subst, arith}
+use Rattle.cbi_base.specs.Frames.{Locals}
 use Rattle.cbi_base.specs.declared.outcome.Outcome.TheVariants.{CutTurns}
 use Rattle.cbi_base.specs.declared.scalar.Scalar.{Scalar}
-use Rattle.c_syntax.specs.ExprTree.{ExprTree}
+use Rattle.c_syntax.specs.Words.{ExprTree, StatementTree, EntryList}
 use Rattle.c_syntax.specs.StatementTree as tree
-use Rattle.c_syntax.specs.StatementTree.{StatementTree, EntryList}
-use Rattle.flow.specs.Now.{Locals}
 use Rattle.c_meaning.specs.declared.value_type.ValueType.{ValueType}
-use Rattle.c_meaning.specs.Facts.{Setting}
-use Rattle.c_meaning.specs.Initialisers.{declares}
-use Rattle.c_meaning.specs.Meaning.{condition}
-use Rattle.c_meaning.specs.Runs.{Source, call_at, setting_of}
-use Rattle.c_meaning.specs.Statements.{after_body, after_entry, do_round, exec, exec_all, rounds, while_round}
-use Rattle.c_meaning.specs.World.{World, Out, Go, Stop, Flow, Next, Broken, Continued, Returned, bind, choose, spend}
+use Rattle.c_meaning.specs.Words.{Setting, declares, condition, Source, call_at, setting_of, after_body, after_entry, do_round, exec, exec_all, rounds}
+use Rattle.c_meaning.specs.Words.{while_round, World, Out, Go, Stop, Flow, Next, Broken, Continued, Returned, bind, choose, spend}
 use Rattle.c_meaning_laws.specs.Rounds.{BlockIsEntries, DoIsFirstRound, WhileIsFirstRound, joined_entries}
 use Rattle.c_meaning_laws.proofs.Longer.{Longer, cut, left_in}
 use Rattle.c_meaning_laws.proofs.LongerExpressions.{condition_longer}
@@ -116,9 +111,7 @@ entry_next (Stop outcome w) rest more = refl
 
 after_alike : (flow : Flow) (m other : World → Out Flow) → ((w : World) → m w ≡ other w) → (w : World) → after_entry m flow w ≡ after_entry other flow w
 after_alike Next m other h w = h w
-after_alike Broken m other h w = refl
-after_alike Continued m other h w = refl
-after_alike (Returned v) m other h w = refl
+after_alike flow m other h w = refl
 
 pub block_is_entries : BlockIsEntries
 block_is_entries s n result token tree.no_entries others w = refl

@@ -1,6 +1,6 @@
 -- What the rules on C's types accept, the rules on values take: one operator after another.
 use Rattle.std.proofs.Common.{◌≡◌, ℕ, refl, ap, subst, sym, ◌∙◌, List, Some, Ok, Err, Bool, true, false}
-use Rattle.std.proofs.lemmas.Bool.{false≢true}
+use Rattle.std.proofs.lemmas.Bool.{false≢true, and_parts}
 use Rattle.std.specs.Prelude.{Option, ◌&&◌, ◌||◌, if◌then◌else◌}
 use Rattle.cbi_base.specs.declared.operators.Binary.{Binary}
 use Rattle.cbi_base.specs.declared.operators.Binary.TheVariants as op
@@ -8,23 +8,17 @@ use Rattle.cbi_base.specs.declared.operators.Order.{Order}
 use Rattle.cbi_base.specs.declared.scalar.Kind.{Kind}
 use Rattle.cbi_base.specs.declared.scalar.Kind.TheVariants as kind
 use Rattle.cbi_base.specs.Arithmetic.{kind_given}
-use Rattle.cbi_base.proofs.NumberLemmas.{both}
 use Rattle.c_types_rules.specs.declared.layout.StructType.{StructType}
 use Rattle.c_types_rules.specs.declared.operand.Operand.{Operand}
 use Rattle.c_types_rules.specs.TypeTree as t
-use Rattle.c_types_rules.specs.TypeTree.{TypeTree, same_type}
-use Rattle.c_types_rules.specs.Assigning.{assignable, pointers_meet}
+use Rattle.c_types_rules.specs.Words.{TypeTree, same_type, assignable, pointers_meet, is_arithmetic, is_pointer, is_scalar, is_void, of_kind, value_of, Looked}
+use Rattle.c_types_rules.specs.Words.{added, both_arithmetic, gives, is_movable, ordered, subtracted, common_kind, promoted_kind}
 use Rattle.c_types_rules.specs.Conversions as rule
-use Rattle.c_types_rules.specs.Conversions.{is_arithmetic, is_pointer, is_scalar, is_void, of_kind, value_of}
-use Rattle.c_types_rules.specs.Faults.{Looked}
-use Rattle.c_types_rules.specs.Operators.{added, both_arithmetic, gives, is_movable, ordered, subtracted}
-use Rattle.c_types_rules.specs.Laws.{common_kind, promoted_kind}
 use Rattle.c_meaning.specs.declared.operation.Operation.TheVariants.{Ordered}
 use Rattle.c_meaning.specs.declared.value_type.ValueType.{ValueType}
 use Rattle.c_meaning.specs.declared.value_type.ValueType.TheVariants as type
 use Rattle.c_meaning.specs.Conversions as mean
-use Rattle.c_meaning.specs.Known.{computed_type, element_cells}
-use Rattle.c_meaning.specs.Operation.{is_step_size, left_kind, on_pointers, operation}
+use Rattle.c_meaning.specs.Words.{computed_type, element_cells, is_step_size, left_kind, on_pointers, operation}
 use Rattle.c_meaning_laws.specs.Rules.{IsNumberType, IsPointing, IsValue, Operates, TakesOrNull, TakesType}
 
 -- what a type of C comes to
@@ -36,28 +30,17 @@ pub arithmetic_number : (structs : List StructType) (of : TypeTree) → is_arith
 arithmetic_number structs t.Char h = tt
 arithmetic_number structs t.Int h = tt
 arithmetic_number structs t.Unsigned h = tt
-arithmetic_number structs t.Void h = absurd (false≢true h)
-arithmetic_number structs (t.Pointer to) h = absurd (false≢true h)
-arithmetic_number structs (t.Array element size) h = absurd (false≢true h)
-arithmetic_number structs (t.Struct tag) h = absurd (false≢true h)
+arithmetic_number structs of h = absurd (false≢true h)
 
 pub pointer_pointing : (structs : List StructType) (of : TypeTree) → is_pointer (rule.decayed of) ≡ true → IsPointing (known structs of)
 pointer_pointing structs (t.Pointer to) h = tt
 pointer_pointing structs (t.Array element size) h = tt
-pointer_pointing structs t.Char h = absurd (false≢true h)
-pointer_pointing structs t.Int h = absurd (false≢true h)
-pointer_pointing structs t.Unsigned h = absurd (false≢true h)
-pointer_pointing structs t.Void h = absurd (false≢true h)
-pointer_pointing structs (t.Struct tag) h = absurd (false≢true h)
+pointer_pointing structs of h = absurd (false≢true h)
 
 pub scalar_usable : (structs : List StructType) (of : TypeTree) → is_scalar (rule.decayed of) ≡ true → IsValue (known structs of)
-scalar_usable structs t.Char h = tt
-scalar_usable structs t.Int h = tt
-scalar_usable structs t.Unsigned h = tt
-scalar_usable structs (t.Pointer to) h = tt
-scalar_usable structs (t.Array element size) h = tt
 scalar_usable structs t.Void h = absurd (false≢true h)
 scalar_usable structs (t.Struct tag) h = absurd (false≢true h)
+scalar_usable structs of h = tt
 
 -- what may be assigned is taken
 pub number_takes : (k : Kind) (u : Option ValueType) → IsNumberType u → TakesType (Some (type.Number k)) u
@@ -74,7 +57,7 @@ only_first true h = refl
 only_first false h = h
 
 meeting : (to : TypeTree) (b : TypeTree) → pointers_meet (t.Pointer to) b ≡ true → is_pointer b ≡ true
-meeting to b h = (both (is_pointer b) (same_type (t.Pointer to) b || is_void to || rule.is_void_pointer b) h).0
+meeting to b h = (and_parts (is_pointer b) (same_type (t.Pointer to) b || is_void to || rule.is_void_pointer b) h).0
 
 pub assignable_taken : (structs : List StructType) (target : TypeTree) (x : Operand) → assignable target x ≡ true
     → TakesOrNull (mean.is_pointer_value (known structs target) && x.null) (known structs target) (known structs x.ctype)
@@ -99,10 +82,7 @@ pub kind_of : (of : TypeTree) → is_arithmetic (rule.decayed of) ≡ true → (
 kind_of t.Char h = (kind.Char, refl)
 kind_of t.Int h = (kind.Int, refl)
 kind_of t.Unsigned h = (kind.Unsigned, refl)
-kind_of t.Void h = absurd (false≢true h)
-kind_of (t.Pointer to) h = absurd (false≢true h)
-kind_of (t.Array element size) h = absurd (false≢true h)
-kind_of (t.Struct tag) h = absurd (false≢true h)
+kind_of of h = absurd (false≢true h)
 
 pub kind_known : (structs : List StructType) (k : Kind) → computed_type structs (of_kind k) ≡ type.Number k
 kind_known structs kind.Char = refl
@@ -167,20 +147,12 @@ HasStep v = Unit {0}
 pub movable_pointing : (structs : List StructType) (of : TypeTree) → is_movable structs (rule.decayed of) ≡ true → IsPointing (known structs of)
 movable_pointing structs (t.Pointer to) h = tt
 movable_pointing structs (t.Array element size) h = tt
-movable_pointing structs t.Char h = absurd (false≢true h)
-movable_pointing structs t.Int h = absurd (false≢true h)
-movable_pointing structs t.Unsigned h = absurd (false≢true h)
-movable_pointing structs t.Void h = absurd (false≢true h)
-movable_pointing structs (t.Struct tag) h = absurd (false≢true h)
+movable_pointing structs of h = absurd (false≢true h)
 
 pub decayed_pointing : (structs : List StructType) (of : TypeTree) → IsPointing (known structs of) → IsPointing (known structs (rule.decayed of))
 decayed_pointing structs (t.Pointer to) h = tt
 decayed_pointing structs (t.Array element size) h = tt
-decayed_pointing structs t.Char h = h
-decayed_pointing structs t.Int h = h
-decayed_pointing structs t.Unsigned h = h
-decayed_pointing structs t.Void h = h
-decayed_pointing structs (t.Struct tag) h = h
+decayed_pointing structs of h = h
 
 -- a pointer and a number
 add_left : (u v z : Option ValueType) → IsPointing u → HasStep u → IsNumberType v → IsPointing z → Operates (operation op.Add u v) u v z
@@ -231,8 +203,8 @@ added_fits structs x y z s r h =
         → Computed structs op.Add x y z
     either true c e f h = given (Computed structs op.Add x y) (value_of (rule.common (rule.decayed x) (rule.decayed y))) z
         (numbers_operate structs op.Add x y (rule.common (rule.decayed x) (rule.decayed y))
-        (both (is_arithmetic (rule.decayed x)) (is_arithmetic (rule.decayed y)) e).0
-        (both (is_arithmetic (rule.decayed x)) (is_arithmetic (rule.decayed y)) e).1
+        (and_parts (is_arithmetic (rule.decayed x)) (is_arithmetic (rule.decayed y)) e).0
+        (and_parts (is_arithmetic (rule.decayed x)) (is_arithmetic (rule.decayed y)) e).1
         (λ k l i j. rw i (rw j (rw (kind_plain k) (rw (kind_plain l) (common_known structs k l)))))) h
     either false true e f h = gives_by (Computed structs op.Add x y) (is_movable structs (rule.decayed x)) (rule.decayed x) z
         (λ m. add_left (known structs x) (known structs y) (known structs (rule.decayed x)) (movable_pointing structs x m) (s m)
@@ -240,7 +212,7 @@ added_fits structs x y z s r h =
         (decayed_pointing structs x (movable_pointing structs x m))) h
     either false false e f h = gives_by (Computed structs op.Add x y) (is_arithmetic (rule.decayed x) && is_movable structs (rule.decayed y))
         (rule.decayed y) z
-        (λ m. let parts : (is_arithmetic (rule.decayed x) ≡ true) × (is_movable structs (rule.decayed y) ≡ true) = both (is_arithmetic (rule.decayed x))
+        (λ m. let parts : (is_arithmetic (rule.decayed x) ≡ true) × (is_movable structs (rule.decayed y) ≡ true) = and_parts (is_arithmetic (rule.decayed x))
         (is_movable structs (rule.decayed y)) m in
         add_right (known structs x) (known structs y) (known structs (rule.decayed y)) (arithmetic_number structs x parts.0)
         (movable_pointing structs y parts.1) (r parts.1)
@@ -249,30 +221,15 @@ added_fits structs x y z s r h =
 -- `-`
 same_pointer : (to : TypeTree) (b : TypeTree) → same_type (t.Pointer to) b ≡ true → is_pointer b ≡ true
 same_pointer to (t.Pointer other) h = refl
-same_pointer to t.Void h = h
-same_pointer to t.Char h = h
-same_pointer to t.Int h = h
-same_pointer to t.Unsigned h = h
-same_pointer to (t.Array element size) h = h
-same_pointer to (t.Struct tag) h = h
+same_pointer to b h = h
 
 pub same_pointers : (a b : TypeTree) → is_pointer a ≡ true → same_type a b ≡ true → is_pointer b ≡ true
 same_pointers (t.Pointer to) b h e = same_pointer to b e
-same_pointers t.Void b h e = absurd (false≢true h)
-same_pointers t.Char b h e = absurd (false≢true h)
-same_pointers t.Int b h e = absurd (false≢true h)
-same_pointers t.Unsigned b h e = absurd (false≢true h)
-same_pointers (t.Array element size) b h e = absurd (false≢true h)
-same_pointers (t.Struct tag) b h e = absurd (false≢true h)
+same_pointers a b h e = absurd (false≢true h)
 
 movable_pointer : (structs : List StructType) (a : TypeTree) → is_movable structs a ≡ true → is_pointer a ≡ true
 movable_pointer structs (t.Pointer to) h = refl
-movable_pointer structs t.Void h = h
-movable_pointer structs t.Char h = h
-movable_pointer structs t.Int h = h
-movable_pointer structs t.Unsigned h = h
-movable_pointer structs (t.Array element size) h = h
-movable_pointer structs (t.Struct tag) h = h
+movable_pointer structs a h = h
 
 pub subtracted_fits : (structs : List StructType) (x y : TypeTree) (z : Operand) → (is_movable structs (rule.decayed x) ≡ true → HasStep (known structs x))
     → Is (subtracted structs (rule.decayed x) (rule.decayed y)) z → Computed structs op.Sub x y z
@@ -286,8 +243,8 @@ subtracted_fits structs x y z s h =
         → Computed structs op.Sub x y z
     either true c e f h = given (Computed structs op.Sub x y) (value_of (rule.common (rule.decayed x) (rule.decayed y))) z
         (numbers_operate structs op.Sub x y (rule.common (rule.decayed x) (rule.decayed y))
-        (both (is_arithmetic (rule.decayed x)) (is_arithmetic (rule.decayed y)) e).0
-        (both (is_arithmetic (rule.decayed x)) (is_arithmetic (rule.decayed y)) e).1
+        (and_parts (is_arithmetic (rule.decayed x)) (is_arithmetic (rule.decayed y)) e).0
+        (and_parts (is_arithmetic (rule.decayed x)) (is_arithmetic (rule.decayed y)) e).1
         (λ k l i j. rw i (rw j (rw (kind_plain k) (rw (kind_plain l) (common_known structs k l)))))) h
     either false true e f h = gives_by (Computed structs op.Sub x y) (is_movable structs (rule.decayed x)) (rule.decayed x) z
         (λ m. sub_left (known structs x) (known structs y) (known structs (rule.decayed x)) (movable_pointing structs x m) (s m)
@@ -296,7 +253,7 @@ subtracted_fits structs x y z s h =
     either false false e f h = gives_by (Computed structs op.Sub x y) (is_movable structs (rule.decayed x) && same_type (rule.decayed x)
         (rule.decayed y)) t.Int z
         (λ m. let parts : (is_movable structs (rule.decayed x) ≡ true) × (same_type (rule.decayed x) (rule.decayed y) ≡ true) =
-        both (is_movable structs (rule.decayed x)) (same_type (rule.decayed x) (rule.decayed y)) m in
+        and_parts (is_movable structs (rule.decayed x)) (same_type (rule.decayed x) (rule.decayed y)) m in
         span (known structs x) (known structs y) (movable_pointing structs x parts.0) (s parts.0)
         (pointer_pointing structs y (same_pointers (rule.decayed x) (rule.decayed y) (movable_pointer structs (rule.decayed x) parts.0) parts.1))) h
 
@@ -330,10 +287,10 @@ ordered_fits structs o r e f x y z h =
         → (b || (is_pointer (rule.decayed x) && same_type (rule.decayed x) (rule.decayed y))) ≡ true
         → Computed structs o x y (value_of t.Int)
     either true b m = numbers_compared o f (known structs x) (known structs y) (arithmetic_number structs x
-        (both (is_arithmetic (rule.decayed x)) (is_arithmetic (rule.decayed y)) b).0)
-        (arithmetic_number structs y (both (is_arithmetic (rule.decayed x)) (is_arithmetic (rule.decayed y)) b).1)
+        (and_parts (is_arithmetic (rule.decayed x)) (is_arithmetic (rule.decayed y)) b).0)
+        (arithmetic_number structs y (and_parts (is_arithmetic (rule.decayed x)) (is_arithmetic (rule.decayed y)) b).1)
     either false b m =
-        let parts : (is_pointer (rule.decayed x) ≡ true) × (same_type (rule.decayed x) (rule.decayed y) ≡ true) = both (is_pointer (rule.decayed x))
+        let parts : (is_pointer (rule.decayed x) ≡ true) × (same_type (rule.decayed x) (rule.decayed y) ≡ true) = and_parts (is_pointer (rule.decayed x))
         (same_type (rule.decayed x) (rule.decayed y)) m in
         pointers_compared o r e (known structs x) (known structs y) (pointer_pointing structs x parts.0)
         (pointer_pointing structs y (same_pointers (rule.decayed x) (rule.decayed y) parts.0 parts.1))

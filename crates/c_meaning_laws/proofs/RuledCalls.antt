@@ -1,28 +1,23 @@
 -- What the rules on calls and formats accept, the rules on values take.
 use Rattle.std.proofs.Common.{◌≡◌, ℕ, suc, refl, sym, ◌∙◌, arith, List, [], ◌∷◌, Some, Ok, Err, Bool, true, false, length}
-use Rattle.std.proofs.lemmas.Bool.{false≢true, true≢false}
+use Rattle.std.proofs.lemmas.Bool.{false≢true, true≢false, and_parts}
 use Rattle.std.proofs.lemmas.Bool.Decides.{nat_tests}
 use Rattle.std.specs.Prelude.{map, ◌==◌, ◌&&◌, if◌then◌else◌}
+use Rattle.cbi_base.specs.Words.{Byte, Conversion, pieces_of, is_conversion, is_percent}
+use Rattle.base_lists.proofs.Numbers.{suc_not_zero}
 use Rattle.cbi_base.specs.declared.scalar.Kind.TheVariants as kind
-use Rattle.cbi_base.specs.Format.{is_conversion, is_percent}
-use Rattle.cbi_base.proofs.NumberLemmas.{both}
 use Rattle.c_types_rules.specs.declared.fault.FaultKind.TheVariants as fault
 use Rattle.c_types_rules.specs.declared.function.FunctionType.{FunctionType}
 use Rattle.c_types_rules.specs.declared.layout.StructType.{StructType}
 use Rattle.c_types_rules.specs.declared.operand.Operand.{Operand}
 use Rattle.c_types_rules.specs.TypeTree as t
-use Rattle.c_types_rules.specs.TypeTree.{TypeTree, same_type}
-use Rattle.c_types_rules.specs.Assigning.{assignable, fits_parameters}
+use Rattle.c_types_rules.specs.Words.{TypeTree, same_type, assignable, fits_parameters, is_arithmetic, is_pointer, value_of, called, after_first, are_none}
+use Rattle.c_types_rules.specs.Words.{first_converts, fits_format, fits_letter}
 use Rattle.c_types_rules.specs.Conversions as rule
-use Rattle.c_types_rules.specs.Conversions.{is_arithmetic, is_pointer, value_of}
-use Rattle.c_types_rules.specs.Functions.{called}
-use Rattle.c_types_rules.specs.Library.{after_first, are_none, first_converts, fits_format, fits_letter}
-use Rattle.flow.specs.Printing.{Byte, Conversion, pieces_of}
 use Rattle.c_meaning.specs.declared.value_type.ValueType.{ValueType}
 use Rattle.c_meaning.specs.declared.value_type.ValueType.TheVariants as type
-use Rattle.c_meaning.specs.Calls.{type_taken, types_taken}
+use Rattle.c_meaning.specs.Words.{type_taken, types_taken, computed_type}
 use Rattle.c_meaning.specs.Conversions as mean
-use Rattle.c_meaning.specs.Known.{computed_type}
 use Rattle.c_meaning_laws.specs.Rules.{TakesOrNull}
 use Rattle.c_meaning_laws.proofs.Ruled.{Is, arithmetic_number, assignable_taken, given, known, number_takes, pointer_pointing, pointer_takes}
 
@@ -33,18 +28,13 @@ AllTaken structs (wanted ∷ types) (x ∷ xs) = TakesOrNull (mean.is_pointer_va
     × AllTaken structs types xs
 AllTaken structs types xs = ⊥
 
-more_than_none : (n : ℕ) → (suc n == 0) ≡ true → ⊥
-more_than_none n h =
-    let none : suc n ≡ 0 = grind (arith, nat_tests, h) in
-    omega (arith, none)
-
 pub parameters_fit : (structs : List StructType) (params : List TypeTree) (xs : List Operand) → fits_parameters params xs ≡ true
     → AllTaken structs (map (computed_type structs) params) xs
 parameters_fit structs [] [] h = tt
-parameters_fit structs [] (x ∷ xs) h = absurd (more_than_none (length xs) h)
+parameters_fit structs [] (x ∷ xs) h = absurd (suc_not_zero (length xs) h)
 parameters_fit structs (p ∷ params) [] h = absurd (false≢true h)
 parameters_fit structs (p ∷ params) (x ∷ xs) h =
-    let parts : (assignable p x ≡ true) × (fits_parameters params xs ≡ true) = both (assignable p x) (fits_parameters params xs) h in
+    let parts : (assignable p x ≡ true) × (fits_parameters params xs ≡ true) = and_parts (assignable p x) (fits_parameters params xs) h in
     (assignable_taken structs p x parts.0, parameters_fit structs params xs parts.1)
 
 called_by : (structs : List StructType) (f : FunctionType) (xs : List Operand) (z : Operand) (b : Bool) → fits_parameters f.params xs ≡ b
@@ -67,12 +57,7 @@ string_takes structs x false h = pointer_takes 1 (known structs x.ctype) (pointe
 
 same_back : (a : TypeTree) → same_type a (t.Pointer t.Char) ≡ true → is_pointer a ≡ true
 same_back (t.Pointer to) h = refl
-same_back t.Void h = h
-same_back t.Char h = h
-same_back t.Int h = h
-same_back t.Unsigned h = h
-same_back (t.Array element size) h = h
-same_back (t.Struct tag) h = h
+same_back a h = h
 
 letter_takes : (structs : List StructType) (x : Operand) (p q : Bool) → (if p then same_type (rule.value_type x) (t.Pointer t.Char) else is_arithmetic
     (rule.value_type x)) ≡ true
@@ -110,7 +95,7 @@ letter_fits structs c rest xs true true e f k h = absurd (true≢false (sym f �
 letter_fits structs c rest xs true false e f k h = k xs h
 letter_fits structs c rest xs false true e f k h =
     let parts : (first_converts c xs ≡ true) × (fits_format rest (after_first xs) ≡ true) =
-    both (first_converts c xs) (fits_format rest (after_first xs)) h in
+    and_parts (first_converts c xs) (fits_format rest (after_first xs)) h in
     one_taken structs c xs (types_taken (pieces_of rest)) parts.0 (k (after_first xs) parts.1)
 letter_fits structs c rest xs false false e f k h = absurd (false≢true h)
 

@@ -1,6 +1,6 @@
 -- What the rules on operators, assignments and casts accept, the rules on values take.
 use Rattle.std.proofs.Common.{◌≡◌, ℕ, refl, ap, subst, sym, ◌∙◌, List, Some, None, Ok, Err, Bool, true, false}
-use Rattle.std.proofs.lemmas.Bool.{false≢true, true≢false}
+use Rattle.std.proofs.lemmas.Bool.{false≢true, true≢false, and_parts, not-true}
 use Rattle.std.specs.Prelude.{Option, ◌&&◌, ◌||◌, not, if◌then◌else◌}
 use Rattle.std.specs.Cmp.Derive.{both_true}
 use Rattle.cbi_base.specs.declared.operators.Binary.{Binary}
@@ -10,25 +10,19 @@ use Rattle.cbi_base.specs.declared.operators.Order.TheVariants as order
 use Rattle.cbi_base.specs.declared.scalar.Kind.{Kind}
 use Rattle.cbi_base.specs.declared.scalar.Kind.TheVariants as kind
 use Rattle.cbi_base.specs.Arithmetic.{kind_given}
-use Rattle.cbi_base.proofs.NumberLemmas.{both}
 use Rattle.c_types_rules.specs.declared.fault.FaultKind.TheVariants as fault
 use Rattle.c_types_rules.specs.declared.layout.StructType.{StructType}
 use Rattle.c_types_rules.specs.declared.operand.Operand.{Operand}
 use Rattle.c_types_rules.specs.TypeTree as t
-use Rattle.c_types_rules.specs.TypeTree.{TypeTree}
-use Rattle.c_types_rules.specs.Assigning.{assignable, assigned, is_left_side, pointers_join, pointers_meet}
+use Rattle.c_types_rules.specs.Words.{TypeTree, assignable, assigned, is_left_side, pointers_join, pointers_meet, is_arithmetic, is_array, is_pointer, of_kind}
+use Rattle.c_types_rules.specs.Words.{value_of, Looked, ◌>>=◌, both_arithmetic, combined, equated, gives, is_movable, common_kind, promoted_kind}
 use Rattle.c_types_rules.specs.Conversions as rule
-use Rattle.c_types_rules.specs.Conversions.{is_arithmetic, is_array, is_pointer, of_kind, value_of}
-use Rattle.c_types_rules.specs.Faults.{Looked, ◌>>=◌}
-use Rattle.c_types_rules.specs.Operators.{both_arithmetic, combined, equated, gives, is_movable}
-use Rattle.c_types_rules.specs.Laws.{common_kind, promoted_kind}
 use Rattle.c_meaning.specs.declared.operation.Operation.{Operation}
 use Rattle.c_meaning.specs.declared.operation.Operation.TheVariants.{Numbers, MoveLeft, MoveRight, Span, Ordered, Wrong}
 use Rattle.c_meaning.specs.declared.value_type.ValueType.{ValueType}
 use Rattle.c_meaning.specs.declared.value_type.ValueType.TheVariants as type
 use Rattle.c_meaning.specs.Conversions as mean
-use Rattle.c_meaning.specs.Operation.{left_kind, on_pointers, operation}
-use Rattle.c_meaning.specs.Trees.{operand_type}
+use Rattle.c_meaning.specs.Words.{left_kind, on_pointers, operation, operand_type}
 use Rattle.c_meaning_laws.specs.Rules.{Changes, IsNumberType, IsPointing, Operates, TakesOrNull, TakesType}
 use Rattle.c_meaning_laws.proofs.Ruled.{Computed, HasStep, Is, added_fits, arithmetic_number, assignable_taken, common_known, given, gives_by}
 use Rattle.c_meaning_laws.proofs.Ruled.{kind_plain, known, numbers_compared, numbers_operate, ordered_fits, pointer_pointing, pointers_compared, promoted_known, subtracted_fits}
@@ -38,17 +32,17 @@ calculated_fits : (structs : List StructType) (o : Binary) → ((k l : Kind) →
     → Is (gives (both_arithmetic (rule.decayed x) (rule.decayed y)) (rule.common (rule.decayed x) (rule.decayed y))) z → Computed structs o x y z
 calculated_fits structs o e x y z h =
     gives_by (Computed structs o x y) (both_arithmetic (rule.decayed x) (rule.decayed y)) (rule.common (rule.decayed x) (rule.decayed y)) z
-    (λ m. numbers_operate structs o x y (rule.common (rule.decayed x) (rule.decayed y)) (both (is_arithmetic (rule.decayed x))
+    (λ m. numbers_operate structs o x y (rule.common (rule.decayed x) (rule.decayed y)) (and_parts (is_arithmetic (rule.decayed x))
     (is_arithmetic (rule.decayed y)) m).0
-    (both (is_arithmetic (rule.decayed x)) (is_arithmetic (rule.decayed y)) m).1
+    (and_parts (is_arithmetic (rule.decayed x)) (is_arithmetic (rule.decayed y)) m).1
     (λ k l i j. rw i (rw j (rw (kind_plain k) (rw (kind_plain l) (common_known structs k l ∙ ap (λ a. type.Number a) (sym (e k l)))))))) h
 
 shifted_fits : (structs : List StructType) (o : Binary) → ((k l : Kind) → kind_given o (left_kind o k l) ≡ promoted_kind k) → (x y : TypeTree) (z : Operand)
     → Is (gives (both_arithmetic (rule.decayed x) (rule.decayed y)) (rule.promoted (rule.decayed x))) z → Computed structs o x y z
 shifted_fits structs o e x y z h =
     gives_by (Computed structs o x y) (both_arithmetic (rule.decayed x) (rule.decayed y)) (rule.promoted (rule.decayed x)) z
-    (λ m. numbers_operate structs o x y (rule.promoted (rule.decayed x)) (both (is_arithmetic (rule.decayed x)) (is_arithmetic (rule.decayed y)) m).0
-    (both (is_arithmetic (rule.decayed x)) (is_arithmetic (rule.decayed y)) m).1
+    (λ m. numbers_operate structs o x y (rule.promoted (rule.decayed x)) (and_parts (is_arithmetic (rule.decayed x)) (is_arithmetic (rule.decayed y)) m).0
+    (and_parts (is_arithmetic (rule.decayed x)) (is_arithmetic (rule.decayed y)) m).1
     (λ k l i j. rw i (rw (kind_plain k) (promoted_known structs k ∙ ap (λ a. type.Number a) (sym (e k l)))))) h
 
 -- no equality
@@ -66,12 +60,6 @@ pub combined_fits : (structs : List StructType) (o : Binary) → IsNoEquality o 
     → Is (combined structs o x y) z → Computed structs o x.ctype y.ctype z
 combined_fits structs op.Add n x y z s r h = added_fits structs x.ctype y.ctype z s r h
 combined_fits structs op.Sub n x y z s r h = subtracted_fits structs x.ctype y.ctype z s h
-combined_fits structs op.Mul n x y z s r h = calculated_fits structs op.Mul (λ k l. refl) x.ctype y.ctype z h
-combined_fits structs op.Div n x y z s r h = calculated_fits structs op.Div (λ k l. refl) x.ctype y.ctype z h
-combined_fits structs op.Rem n x y z s r h = calculated_fits structs op.Rem (λ k l. refl) x.ctype y.ctype z h
-combined_fits structs op.And n x y z s r h = calculated_fits structs op.And (λ k l. refl) x.ctype y.ctype z h
-combined_fits structs op.Or n x y z s r h = calculated_fits structs op.Or (λ k l. refl) x.ctype y.ctype z h
-combined_fits structs op.Xor n x y z s r h = calculated_fits structs op.Xor (λ k l. refl) x.ctype y.ctype z h
 combined_fits structs op.Shl n x y z s r h = shifted_fits structs op.Shl (λ k l. refl) x.ctype y.ctype z h
 combined_fits structs op.Shr n x y z s r h = shifted_fits structs op.Shr (λ k l. refl) x.ctype y.ctype z h
 combined_fits structs op.Lt n x y z s r h = ordered_fits structs op.Lt order.Lt (λ size. refl) (λ k. refl) x.ctype y.ctype z h
@@ -80,6 +68,7 @@ combined_fits structs op.Gt n x y z s r h = ordered_fits structs op.Gt order.Gt 
 combined_fits structs op.Ge n x y z s r h = ordered_fits structs op.Ge order.Ge (λ size. refl) (λ k. refl) x.ctype y.ctype z h
 combined_fits structs op.Eq n x y z s r h = absurd n
 combined_fits structs op.Ne n x y z s r h = absurd n
+combined_fits structs o n x y z s r h = calculated_fits structs o (λ k l. refl) x.ctype y.ctype z h
 
 -- equalities, with null constants
 number_no_pointer : (u : Option ValueType) → IsNumberType u → mean.is_pointer_value u ≡ false
@@ -126,22 +115,22 @@ join_pointing structs x y h =
         → (a || b || c) ≡ true → BothPointing (known structs x.ctype) (known structs y.ctype) x.null y.null
     first true b c e f g h =
         let pointers : ((is_pointer (rule.value_type x) && is_pointer (rule.value_type y)) ≡ true) =
-        (both (is_pointer (rule.value_type x) && is_pointer (rule.value_type y)) _ e).0 in (
-          pointing_anyway _ (known structs x.ctype) (pointer_pointing structs x.ctype (both (is_pointer (rule.value_type x))
+        (and_parts (is_pointer (rule.value_type x) && is_pointer (rule.value_type y)) _ e).0 in (
+          pointing_anyway _ (known structs x.ctype) (pointer_pointing structs x.ctype (and_parts (is_pointer (rule.value_type x))
               (is_pointer (rule.value_type y)) pointers).0),
-          pointing_anyway _ (known structs y.ctype) (pointer_pointing structs y.ctype (both (is_pointer (rule.value_type x))
+          pointing_anyway _ (known structs y.ctype) (pointer_pointing structs y.ctype (and_parts (is_pointer (rule.value_type x))
               (is_pointer (rule.value_type y)) pointers).1),
         )
     first false true c e f g h =
         let l : IsPointing (left_beside (known structs x.ctype) (known structs y.ctype) x.null) =
-        pointing_anyway _ (known structs x.ctype) (pointer_pointing structs x.ctype (both (is_pointer (rule.value_type x)) y.null f).0) in (
+        pointing_anyway _ (known structs x.ctype) (pointer_pointing structs x.ctype (and_parts (is_pointer (rule.value_type x)) y.null f).0) in (
           l,
           pointing_null _ (known structs y.ctype) (both_true (pointing_is (left_beside (known structs x.ctype) (known structs y.ctype) x.null) l)
-              (both (is_pointer (rule.value_type x)) y.null f).1),
+              (and_parts (is_pointer (rule.value_type x)) y.null f).1),
         )
     first false false true e f g h =
-        let r : IsPointing (known structs y.ctype) = pointer_pointing structs y.ctype (both (is_pointer (rule.value_type y)) x.null g).0 in (
-          pointing_null _ (known structs x.ctype) (both_true (pointing_is (known structs y.ctype) r) (both (is_pointer (rule.value_type y)) x.null g).1),
+        let r : IsPointing (known structs y.ctype) = pointer_pointing structs y.ctype (and_parts (is_pointer (rule.value_type y)) x.null g).0 in (
+          pointing_null _ (known structs x.ctype) (both_true (pointing_is (known structs y.ctype) r) (and_parts (is_pointer (rule.value_type y)) x.null g).1),
           pointing_anyway _ (known structs y.ctype) r,
         )
     first false false false e f g h = absurd (false≢true h)
@@ -163,9 +152,9 @@ equated_fits structs o r e f x y z h =
     either : (b : Bool) → both_arithmetic (rule.value_type x) (rule.value_type y) ≡ b → (b || pointers_join x y) ≡ true →
         Equated structs o x y (value_of t.Int)
     either true b m =
-        let i : IsNumberType (known structs x.ctype) = arithmetic_number structs x.ctype (both (is_arithmetic (rule.value_type x))
+        let i : IsNumberType (known structs x.ctype) = arithmetic_number structs x.ctype (and_parts (is_arithmetic (rule.value_type x))
         (is_arithmetic (rule.value_type y)) b).0 in
-        let j : IsNumberType (known structs y.ctype) = arithmetic_number structs y.ctype (both (is_arithmetic (rule.value_type x))
+        let j : IsNumberType (known structs y.ctype) = arithmetic_number structs y.ctype (and_parts (is_arithmetic (rule.value_type x))
         (is_arithmetic (rule.value_type y)) b).1 in
         rw (number_no_pointer (known structs y.ctype) j) (rw (number_no_pointer (known structs x.ctype) i)
         (numbers_compared o f (known structs x.ctype) (known structs y.ctype) i j))
@@ -202,19 +191,10 @@ assigned_is target x z h = assigned_by target x z (assignable (rule.value_type t
 -- a left side is no array, so its value has its own type
 left_type : (of : TypeTree) → is_array of ≡ false → rule.decayed of ≡ of
 left_type (t.Array element size) h = absurd (true≢false h)
-left_type t.Void h = refl
-left_type t.Char h = refl
-left_type t.Int h = refl
-left_type t.Unsigned h = refl
-left_type (t.Pointer to) h = refl
-left_type (t.Struct tag) h = refl
-
-not_true : (b : Bool) → not b ≡ true → b ≡ false
-not_true false h = refl
-not_true true h = absurd (false≢true h)
+left_type of h = refl
 
 pub side_type : (target : Operand) → is_left_side target ≡ true → rule.value_type target ≡ target.ctype
-side_type target h = left_type target.ctype (not_true (is_array target.ctype) (both target.place (not (is_array target.ctype)) h).1)
+side_type target h = left_type target.ctype (not-true (is_array target.ctype) (and_parts target.place (not (is_array target.ctype)) h).1)
 
 -- `=`
 pub assignment_fits : (structs : List StructType) (target x z : Operand) → Is (assigned target x) z
@@ -223,7 +203,7 @@ pub assignment_fits : (structs : List StructType) (target x z : Operand) → Is 
 assignment_fits structs target x z h =
     let a : Assigned target x z = assigned_is target x z h in
     let own : rule.value_type target ≡ target.ctype = side_type target a.side in (
-      (both target.place (not (is_array target.ctype)) a.side).0,
+      (and_parts target.place (not (is_array target.ctype)) a.side).0,
       ap (λ y. y.ctype) a.gives ∙ own,
       subst (λ of. TakesOrNull (mean.is_pointer_value (known structs of) && x.null) (known structs of) (known structs x.ctype)) own
           (assignable_taken structs (rule.value_type target) x a.fits),
@@ -234,14 +214,14 @@ pub changes : (o : Operation) (u v w : Option ValueType) → Operates o u v w �
 changes (Numbers o l r) u v w h k = rw h.0 (tt, (refl, h.1, refl), tt)
 changes (MoveLeft size) (Some (type.Pointer n)) v w h k = (tt, (tt, h.1, tt), tt)
 changes (MoveLeft size) (Some (type.Array n)) v w h k = absurd k
+changes (MoveRight size) (Some (type.Number n)) v (Some (type.Pointer m)) h k = absurd k
+changes (MoveRight size) (Some (type.Number n)) v (Some (type.Array m)) h k = absurd k
+changes (MoveRight size) (Some (type.Number n)) v w h k = absurd h.2
+changes (Span size) u v w h k = absurd (number_pointing u h.0 (subst (TakesType u) h.2 k))
+changes (Ordered o) u v w h k = absurd (number_pointing u h.0 (subst (TakesType u) h.2 k))
+changes Wrong u v w h k = absurd h
 changes (MoveLeft size) (Some (type.Number n)) v w h k = absurd h.0
 changes (MoveLeft size) (Some type.Void) v w h k = absurd h.0
 changes (MoveLeft size) (Some type.Struct) v w h k = absurd h.0
 changes (MoveLeft size) None v w h k = absurd h.0
-changes (MoveRight size) (Some (type.Number n)) v (Some (type.Pointer m)) h k = absurd k
-changes (MoveRight size) (Some (type.Number n)) v (Some (type.Array m)) h k = absurd k
-changes (MoveRight size) (Some (type.Number n)) v w h k = absurd h.2
 changes (MoveRight size) u v w h k = absurd h.0
-changes (Span size) u v w h k = absurd (number_pointing u h.0 (subst (TakesType u) h.2 k))
-changes (Ordered o) u v w h k = absurd (number_pointing u h.0 (subst (TakesType u) h.2 k))
-changes Wrong u v w h k = absurd h

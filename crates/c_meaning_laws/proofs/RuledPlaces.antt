@@ -1,29 +1,25 @@
 -- What the rules on compound assignments, steps, casts, `? :` and places accept, the rules on values take.
 use Rattle.std.proofs.Common.{◌≡◌, ◌⊎◌, inl, inr, refl, subst, sym, ◌∙◌, List, Some, Ok, Err, Bool, true, false}
-use Rattle.std.proofs.lemmas.Bool.{false≢true, true≢false}
+use Rattle.std.proofs.lemmas.Bool.{false≢true, true≢false, and_parts}
 use Rattle.std.specs.Prelude.{Option, ◌&&◌, ◌||◌, not, if◌then◌else◌}
 use Rattle.cbi_base.specs.declared.operators.Binary.{Binary}
 use Rattle.cbi_base.specs.declared.operators.Binary.TheVariants as op
 use Rattle.cbi_base.specs.declared.scalar.Kind.{Kind}
 use Rattle.cbi_base.specs.declared.scalar.Kind.TheVariants as kind
-use Rattle.cbi_base.proofs.NumberLemmas.{both}
 use Rattle.c_types_rules.specs.declared.fault.FaultKind.TheVariants as fault
 use Rattle.c_types_rules.specs.declared.layout.StructType.{StructType}
 use Rattle.c_types_rules.specs.declared.operand.Operand.{Operand}
 use Rattle.c_types_rules.specs.TypeTree as t
-use Rattle.c_types_rules.specs.TypeTree.{TypeTree, same_type}
-use Rattle.c_types_rules.specs.Assigning.{assignable, assigned, is_left_side, pointers_join, pointers_meet}
+use Rattle.c_types_rules.specs.Words.{TypeTree, same_type, assignable, assigned, is_left_side, pointers_join, pointers_meet, is_arithmetic, is_array}
+use Rattle.c_types_rules.specs.Words.{is_pointer, is_void, is_void_pointer, place_of, value_of, added, both_arithmetic, cast_to, combined, compounded, gives}
+use Rattle.c_types_rules.specs.Words.{is_movable, is_scalar_value, signed, stepped, chosen, either, indexed, joined_pointer, pointed, pointed_type}
 use Rattle.c_types_rules.specs.Conversions as rule
-use Rattle.c_types_rules.specs.Conversions.{is_arithmetic, is_array, is_pointer, is_void, is_void_pointer, place_of, value_of}
-use Rattle.c_types_rules.specs.Operators.{added, both_arithmetic, cast_to, combined, compounded, gives, is_movable, is_scalar_value, signed, stepped}
-use Rattle.c_types_rules.specs.Selecting.{chosen, either, indexed, joined_pointer, pointed, pointed_type}
 use Rattle.c_meaning.specs.declared.operation.Operation.{Operation}
 use Rattle.c_meaning.specs.declared.operation.Operation.TheVariants.{Numbers, MoveLeft, MoveRight, Span, Ordered, Wrong}
 use Rattle.c_meaning.specs.declared.value_type.ValueType.{ValueType}
 use Rattle.c_meaning.specs.declared.value_type.ValueType.TheVariants as type
 use Rattle.c_meaning.specs.Conversions as mean
-use Rattle.c_meaning.specs.Operation.{operation}
-use Rattle.c_meaning.specs.Trees.{one_kind, step_of}
+use Rattle.c_meaning.specs.Words.{operation, one_kind, step_of}
 use Rattle.c_meaning_laws.specs.Rules.{Casts, Changes, IsNumberType, IsObject, IsPointer, IsPointing, IsPromoted, IsValue, Moves, Operates, TakesOrNull, TakesType}
 use Rattle.c_meaning_laws.proofs.Ruled.{HasStep, Is, added_fits, arithmetic_number, assignable_taken, given}
 use Rattle.c_meaning_laws.proofs.Ruled.{gives_by, known, number_takes, pointer_pointing, pointer_takes, scalar_usable}
@@ -43,20 +39,7 @@ combined_plain structs op.Add x y z h = one_of_plain (both_arithmetic (rule.valu
     (rule.value_type y)) _ _ _ _ _ z h
 combined_plain structs op.Sub x y z h = one_of_plain (both_arithmetic (rule.value_type x) (rule.value_type y)) (is_arithmetic
     (rule.value_type y)) _ _ _ _ _ z h
-combined_plain structs op.Mul x y z h = given_plain _ _ z h
-combined_plain structs op.Div x y z h = given_plain _ _ z h
-combined_plain structs op.Rem x y z h = given_plain _ _ z h
-combined_plain structs op.Shl x y z h = given_plain _ _ z h
-combined_plain structs op.Shr x y z h = given_plain _ _ z h
-combined_plain structs op.And x y z h = given_plain _ _ z h
-combined_plain structs op.Or x y z h = given_plain _ _ z h
-combined_plain structs op.Xor x y z h = given_plain _ _ z h
-combined_plain structs op.Lt x y z h = given_plain _ _ z h
-combined_plain structs op.Le x y z h = given_plain _ _ z h
-combined_plain structs op.Gt x y z h = given_plain _ _ z h
-combined_plain structs op.Ge x y z h = given_plain _ _ z h
-combined_plain structs op.Eq x y z h = given_plain _ _ z h
-combined_plain structs op.Ne x y z h = given_plain _ _ z h
+combined_plain structs o x y z h = given_plain _ _ z h
 
 taken_plain : (a b : Bool) (u v : Option ValueType) → b ≡ false → TakesOrNull (a && b) u v → TakesType u v
 taken_plain true false u v e h = h
@@ -99,12 +82,7 @@ pointer_steps is_up u h e = absurd h
 
 movable_known : (structs : List StructType) (of : TypeTree) → is_movable structs of ≡ true → IsPointer (known structs of)
 movable_known structs (t.Pointer to) h = tt
-movable_known structs t.Void h = absurd (false≢true h)
-movable_known structs t.Char h = absurd (false≢true h)
-movable_known structs t.Int h = absurd (false≢true h)
-movable_known structs t.Unsigned h = absurd (false≢true h)
-movable_known structs (t.Array element size) h = absurd (false≢true h)
-movable_known structs (t.Struct tag) h = absurd (false≢true h)
+movable_known structs of h = absurd (false≢true h)
 
 abbrev Stepped : List StructType → Bool → Operand → Operand → Type 0
 Stepped structs is_up x z = (x.place ≡ true) × (z.ctype ≡ x.ctype)
@@ -116,10 +94,10 @@ stepped_by : (structs : List StructType) (is_up : Bool) (x z : Operand) → Step
     → Is (if a || b then if c then Ok (value_of (rule.value_type x)) else Err fault.NoPlace else Err fault.Operands) z → Stepped structs is_up x z
 stepped_by structs is_up x z s true b true e f g h =
     given (Stepped structs is_up x) (value_of (rule.value_type x)) z
-    ((both x.place (not (is_array x.ctype)) g).0, side_type x g, number_steps is_up (known structs x.ctype) (arithmetic_number structs x.ctype e)) h
+    ((and_parts x.place (not (is_array x.ctype)) g).0, side_type x g, number_steps is_up (known structs x.ctype) (arithmetic_number structs x.ctype e)) h
 stepped_by structs is_up x z s false true true e f g h =
     given (Stepped structs is_up x) (value_of (rule.value_type x)) z (
-      (both x.place (not (is_array x.ctype)) g).0,
+      (and_parts x.place (not (is_array x.ctype)) g).0,
       side_type x g,
       pointer_steps is_up (known structs x.ctype) (subst (λ of. IsPointer (known structs of)) (side_type x g) (movable_known structs (rule.value_type x) f))
           (s f),
@@ -138,10 +116,7 @@ promoted_known : (structs : List StructType) (of : TypeTree) → is_arithmetic o
 promoted_known structs t.Char h = tt
 promoted_known structs t.Int h = tt
 promoted_known structs t.Unsigned h = tt
-promoted_known structs t.Void h = absurd (false≢true h)
-promoted_known structs (t.Pointer to) h = absurd (false≢true h)
-promoted_known structs (t.Array element size) h = absurd (false≢true h)
-promoted_known structs (t.Struct tag) h = absurd (false≢true h)
+promoted_known structs of h = absurd (false≢true h)
 
 pub signed_fits : (structs : List StructType) (x z : Operand) → Is (signed x) z → IsNumberType (known structs x.ctype) × IsPromoted (known structs z.ctype)
 signed_fits structs x z h =
@@ -153,12 +128,7 @@ signed_fits structs x z h =
 cast_taken : (structs : List StructType) (of : TypeTree) (x : Operand) → (is_void of || assignable of x) ≡ true
     → Casts (mean.is_pointer_value (known structs of) && x.null) (known structs of) (known structs x.ctype)
 cast_taken structs t.Void x h = tt
-cast_taken structs t.Char x h = assignable_taken structs t.Char x h
-cast_taken structs t.Int x h = assignable_taken structs t.Int x h
-cast_taken structs t.Unsigned x h = assignable_taken structs t.Unsigned x h
-cast_taken structs (t.Pointer to) x h = assignable_taken structs (t.Pointer to) x h
-cast_taken structs (t.Array element size) x h = assignable_taken structs (t.Array element size) x h
-cast_taken structs (t.Struct tag) x h = assignable_taken structs (t.Struct tag) x h
+cast_taken structs of x h = assignable_taken structs of x h
 
 pub cast_fits : (structs : List StructType) (of : TypeTree) (x z : Operand) → Is (cast_to of x) z
     → (z.ctype ≡ of) × Casts (mean.is_pointer_value (known structs of) && x.null) (known structs of) (known structs x.ctype)
@@ -170,12 +140,7 @@ cast_fits structs of x z h =
 -- places that pointers lead to
 object_known : (structs : List StructType) (of : TypeTree) → is_void of ≡ false → IsObject (known structs of)
 object_known structs t.Void h = absurd (true≢false h)
-object_known structs t.Char h = tt
-object_known structs t.Int h = tt
-object_known structs t.Unsigned h = tt
-object_known structs (t.Pointer to) h = tt
-object_known structs (t.Array element size) h = tt
-object_known structs (t.Struct tag) h = tt
+object_known structs of h = tt
 
 place_by : (structs : List StructType) (to : TypeTree) (z : Operand) (b : Bool) → is_void to ≡ b → Is (if b then Err fault.Operands else Ok (place_of to)) z
     → (z.place ≡ true) × IsObject (known structs z.ctype)
@@ -187,12 +152,7 @@ pointed_known : (structs : List StructType) (of : TypeTree) (z : Operand) → Is
 pointed_known structs (t.Pointer to) z h =
     let p : (z.place ≡ true) × IsObject (known structs z.ctype) = place_by structs to z (is_void to) refl h in
     (refl, p.0, p.1)
-pointed_known structs t.Void z h = cc
-pointed_known structs t.Char z h = cc
-pointed_known structs t.Int z h = cc
-pointed_known structs t.Unsigned z h = cc
-pointed_known structs (t.Array element size) z h = cc
-pointed_known structs (t.Struct tag) z h = cc
+pointed_known structs of z h = cc
 
 pub pointed_fits : (structs : List StructType) (x z : Operand) → Is (pointed x) z → IsPointing (known structs x.ctype) × (z.place ≡ true)
     × IsObject (known structs z.ctype)
@@ -204,12 +164,10 @@ number_no_place : (u : Option ValueType) (k : Kind) → u ≡ Some (type.Number 
 number_no_place u k e h = subst IsPointing e h
 
 moves_of : (o : Operation) (u v w : Option ValueType) → Operates o u v w → IsPointing w → Moves o u v
-moves_of (Numbers o l r) u v w h p = absurd (number_no_place w _ h.2 p)
 moves_of (MoveLeft size) u v w h p = (h.0, h.1)
 moves_of (MoveRight size) u v w h p = (h.0, h.1)
-moves_of (Span size) u v w h p = absurd (number_no_place w _ h.2 p)
-moves_of (Ordered o) u v w h p = absurd (number_no_place w _ h.2 p)
 moves_of Wrong u v w h p = absurd h
+moves_of o u v w h p = absurd (number_no_place w _ h.2 p)
 
 -- `e[i]`
 pub indexed_fits : (structs : List StructType) (x y z : Operand) → StepsKnown structs x.ctype → StepsKnown structs y.ctype → Is (indexed structs x y) z
@@ -229,12 +187,7 @@ indexed_fits structs x y z s r h =
 -- the arms of `? :`
 pointing_type : (structs : List StructType) (of : TypeTree) → is_pointer of ≡ true → IsPointer (known structs of)
 pointing_type structs (t.Pointer to) h = tt
-pointing_type structs t.Void h = absurd (false≢true h)
-pointing_type structs t.Char h = absurd (false≢true h)
-pointing_type structs t.Int h = absurd (false≢true h)
-pointing_type structs t.Unsigned h = absurd (false≢true h)
-pointing_type structs (t.Array element size) h = absurd (false≢true h)
-pointing_type structs (t.Struct tag) h = absurd (false≢true h)
+pointing_type structs of h = absurd (false≢true h)
 
 pointer_arm : (u v : Option ValueType) (null : Bool) → IsPointer u → (null ≡ false → IsPointing v) → TakesOrNull (mean.is_pointer_value u && null) u v
 pointer_arm (Some (type.Pointer size)) v true h e = tt
@@ -260,7 +213,7 @@ join_parts structs x y false false true false o e f g i k h = absurd (false≢tr
 join_parts structs x y false false false n o e f g i k h = absurd (false≢true h)
 
 meets_both : (a b : TypeTree) → pointers_meet a b ≡ true → (is_pointer a ≡ true) × (is_pointer b ≡ true)
-meets_both a b h = both (is_pointer a) (is_pointer b) (both (is_pointer a && is_pointer b) (same_type a b || is_void_pointer a || is_void_pointer b) h).0
+meets_both a b h = and_parts (is_pointer a) (is_pointer b) (and_parts (is_pointer a && is_pointer b) (same_type a b || is_void_pointer a || is_void_pointer b) h).0
 
 pub join_fits : (structs : List StructType) (x y : Operand) → pointers_join x y ≡ true → IsJoined structs x × IsJoined structs y
 join_fits structs x y h =
@@ -297,12 +250,7 @@ joined_by x y false false false n o v e f k l h = absurd (false≢true h)
 
 void_pointer : (of : TypeTree) → is_void_pointer of ≡ true → is_pointer of ≡ true
 void_pointer (t.Pointer to) h = refl
-void_pointer t.Void h = h
-void_pointer t.Char h = h
-void_pointer t.Int h = h
-void_pointer t.Unsigned h = h
-void_pointer (t.Array element size) h = h
-void_pointer (t.Struct tag) h = h
+void_pointer of h = h
 
 pub joined_pointing : (x y : Operand) → pointers_join x y ≡ true → is_pointer (joined_pointer x y) ≡ true
 joined_pointing x y h =
@@ -328,9 +276,9 @@ either_by : (structs : List StructType) (x y z : Operand) (a v : Bool) → both_
 either_by structs x y z true v e h =
     given (Arms structs x y) (value_of (rule.common (rule.value_type x) (rule.value_type y))) z (
       common_arm structs (rule.is_unsigned (rule.value_type x) || rule.is_unsigned (rule.value_type y)) x
-          (both (is_arithmetic (rule.value_type x)) (is_arithmetic (rule.value_type y)) e).0,
+          (and_parts (is_arithmetic (rule.value_type x)) (is_arithmetic (rule.value_type y)) e).0,
       common_arm structs (rule.is_unsigned (rule.value_type x) || rule.is_unsigned (rule.value_type y)) y
-          (both (is_arithmetic (rule.value_type x)) (is_arithmetic (rule.value_type y)) e).1,
+          (and_parts (is_arithmetic (rule.value_type x)) (is_arithmetic (rule.value_type y)) e).1,
     ) h
 either_by structs x y z false true e h = given (Arms structs x y) (value_of t.Void) z (inl refl, inl refl) h
 either_by structs x y z false false e h =

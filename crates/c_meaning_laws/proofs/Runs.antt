@@ -4,25 +4,20 @@ use Rattle.std.proofs.lemmas.Bool.{false≢true, true≢false}
 use Rattle.std.proofs.lemmas.Bool.Decides.{nat_tests}
 use Rattle.std.specs.Prelude.{Option, ℤ, pos, ◌==◌, nat_lt, reverse, IsSome, if◌then◌else◌}
 use Rattle.std.specs.List.{list_all}
+use Rattle.cbi_base.specs.Words.{is_defined_value, active_limit, all_made, first_cells, Locals, each_made, Object, Objects, no_objects}
+use Rattle.base_lists.proofs.Numbers.{same_number}
 use Rattle.cbi_base.specs.declared.outcome.Outcome.TheVariants.{Trapped}
 use Rattle.cbi_base.specs.declared.scalar.Kind.{Kind}
 use Rattle.cbi_base.specs.declared.scalar.Kind.TheVariants.{Char, Int, Unsigned}
 use Rattle.cbi_base.specs.declared.scalar.Scalar.{Scalar}
 use Rattle.cbi_base.specs.declared.scalar.Scalar.TheVariants.{Number, Place, Null, Undefined}
 use Rattle.cbi_base.specs.declared.trap.Trap.TheVariants as trap
-use Rattle.cbi_base.specs.Frames.{all_made, first_cells}
-use Rattle.cbi_base.specs.Objects.{Object, Objects, no_objects}
 use Rattle.c_syntax.specs.StatementTree.{EntryList}
-use Rattle.flow.specs.Limits.{active_limit}
-use Rattle.flow.specs.Machine.{each_made}
-use Rattle.flow.specs.Now.{Locals, is_defined}
 use Rattle.c_meaning.specs.declared.value_type.ValueType.{ValueType}
 use Rattle.c_meaning.specs.declared.value_type.ValueType.TheVariants as type
-use Rattle.c_meaning.specs.Facts.{Signature}
-use Rattle.c_meaning.specs.Runs.{Source, behaves, call_at, enter_function, enter_with, first_world, inside, left_function}
-use Rattle.c_meaning.specs.Runs.{locals_at, meaning, run_body, run_from, run_main, setting_of, status, value_left}
-use Rattle.c_meaning.specs.Trees.{has_value}
-use Rattle.c_meaning.specs.World.{World, Out, Go, Stop, Caller, Flow, Next, Broken, Continued, Returned, bind}
+use Rattle.c_meaning.specs.Words.{Signature, Source, behaves, call_at, enter_function, enter_with, first_world, inside, left_function, locals_at, meaning}
+use Rattle.c_meaning.specs.Words.{run_body, run_from, run_main, setting_of, status, value_left, has_value, World, Out, Go, Stop, Caller, Flow, Next, Broken}
+use Rattle.c_meaning.specs.Words.{Continued, Returned, bind}
 use Rattle.c_meaning_laws.specs.TypedSource.{GivesInt, SourceFits, TypedBody, without_sites}
 use Rattle.c_meaning_laws.proofs.Safe.{Ending, IsPlainEnd, Safe, gives, plain, seq, spends, unseen}
 use Rattle.c_meaning_laws.proofs.Values.{Fits, Given}
@@ -36,14 +31,14 @@ value_left_safe is_main result true (Returned (Some Undefined)) e i h = record {
 value_left_safe is_main result true (Returned (Some (Number k n))) e i h = gives (Number k n) h.0
 value_left_safe is_main result true (Returned (Some (Place a o))) e i h = gives (Place a o) h.0
 value_left_safe is_main result true (Returned (Some Null)) e i h = gives Null h.0
-value_left_safe is_main result true (Returned None) e i h = gives Undefined tt
 value_left_safe true result true Next e i h = gives (Number Int (pos 0)) (subst (λ t. Fits (Some t) (Number Int (pos 0))) (sym (i refl)) refl)
-value_left_safe false result true Next e i h = gives Undefined tt
-value_left_safe is_main result false (Returned None) e i h = gives Undefined tt
-value_left_safe is_main result false Next e i h = gives Undefined tt
 value_left_safe is_main result false (Returned (Some v)) e i h = absurd (true≢false (sym h.1 ∙ e))
 value_left_safe is_main result b Broken e i h = absurd (false≢true h)
 value_left_safe is_main result b Continued e i h = absurd (false≢true h)
+value_left_safe is_main result true (Returned None) e i h = gives Undefined tt
+value_left_safe false result true Next e i h = gives Undefined tt
+value_left_safe is_main result false (Returned None) e i h = gives Undefined tt
+value_left_safe is_main result false Next e i h = gives Undefined tt
 
 -- `main` ends with a value
 main_left_safe : (flow : Flow) → FlowFits (type.Number Int) false flow → Safe (Given (Some (type.Number Int))) (value_left true true flow)
@@ -59,9 +54,6 @@ main_left_safe Continued h = absurd (false≢true h)
 
 left_safe : (P : Scalar → Type 0) (locals : Locals) (v : Scalar) → P v → Safe P (left_function locals v) (left_function locals v)
 left_safe P locals v h = record { at = λ w. h; same = λ w. refl }
-
-same_number : (n m : ℕ) → (n == m) ≡ true → n ≡ m
-same_number n m h = grind (arith, nat_tests, h)
 
 module _ (src : Source) (fits : SourceFits src) where
   module _ (n : ℕ) (call call0 : Caller) (calls : CallsSafe src.facts call call0) where
@@ -130,9 +122,9 @@ module _ (src : Source) (fits : SourceFits src) where
     by = λ number f e vs.
         spends _ _ record {
           at = λ w. rw e ((defined_end n (call_at src n) (call_at (without_sites src) n) (calls_safe n) number f e (reverse vs) w
-              (list_all is_defined vs)).0);
+              (list_all is_defined_value vs)).0);
           same = λ w. rw e ((defined_end n (call_at src n) (call_at (without_sites src) n) (calls_safe n) number f e (reverse vs) w
-              (list_all is_defined vs)).1);
+              (list_all is_defined_value vs)).1);
         };
   }
 

@@ -2,30 +2,24 @@
 use Rattle.std.proofs.Common.{ℕ, refl, Some, None, Bool, true, false}
 use Rattle.std.proofs.lemmas.Bool.{false≢true}
 use Rattle.std.specs.Prelude.{Option, IsTrue, IsSome, pos}
+use Rattle.cbi_base.specs.Words.{Locals, applied_to_one}
 use Rattle.cbi_base.specs.declared.operators.Unary.{Unary}
 use Rattle.cbi_base.specs.declared.operators.Unary.TheVariants as unary
 use Rattle.cbi_base.specs.declared.scalar.Kind.TheVariants.{Int, Unsigned}
 use Rattle.cbi_base.specs.declared.scalar.Scalar.{Scalar}
 use Rattle.cbi_base.specs.declared.scalar.Scalar.TheVariants.{Number, Null}
-use Rattle.cbi_base.specs.Scalars.{applied_to_one}
 use Rattle.c_syntax.specs.declared.expr.PrefixOperator.{PrefixOperator}
 use Rattle.c_syntax.specs.declared.expr.PrefixOperator.TheVariants as prefix
 use Rattle.c_syntax.specs.ExprTree as e
 use Rattle.c_syntax.specs.ExprTree.{ExprTree}
 use Rattle.flow.specs.declared.site.Slot.{Slot}
-use Rattle.flow.specs.Now.{Locals}
 use Rattle.c_meaning.specs.declared.operation.Operation.{Operation}
 use Rattle.c_meaning.specs.declared.value_type.ValueType.{ValueType}
 use Rattle.c_meaning.specs.declared.value_type.ValueType.TheVariants as type
-use Rattle.c_meaning.specs.Conversions.{is_null_as, load_at}
-use Rattle.c_meaning.specs.Expressions.{Sense, valued, placed, effected, is_struct_value, null_or, arm_value, arm_effect}
-use Rattle.c_meaning.specs.Expressions.{handed_value, cast, as_flag, size_value, one_operand, linked, assign, conditional, prefixed_sense}
-use Rattle.c_meaning.specs.Facts.{Facts, Setting}
-use Rattle.c_meaning.specs.Operation.{flag_value, operation, type_given}
-use Rattle.c_meaning.specs.Places.{changed, pointed_place, stepped_behind, stepped_value}
-use Rattle.c_meaning.specs.Trees.{Assignment, Plain, By, Joint, Both, Either, Computes}
-use Rattle.c_meaning.specs.Trees.{Unjoined, is_place, one_kind, operand_type, step_of, token_of, type_of}
-use Rattle.c_meaning.specs.World.{World, Out, OutDone, Caller, choose, done, nothing}
+use Rattle.c_meaning.specs.Words.{is_null_as, load_at, Sense, valued, placed, effected, is_struct_value, null_or, arm_value, arm_effect, handed_value, cast}
+use Rattle.c_meaning.specs.Words.{as_flag, size_value, one_operand, linked, assign, conditional, prefixed_sense, Facts, Setting, flag_value, operation}
+use Rattle.c_meaning.specs.Words.{type_given, changed, pointed_place, stepped_behind, stepped_value, Assignment, Plain, By, Joint, Both, Either, Computes}
+use Rattle.c_meaning.specs.Words.{Unjoined, is_place, one_kind, operand_type, step_of, token_of, type_of, World, Out, OutDone, Caller, choose, done, nothing}
 use Rattle.c_meaning_laws.specs.Rules.{Arm, Assigns, Casts, Changes, IsNumberType, IsObject, IsPromoted, IsValue, Joins, TakesOrNull}
 use Rattle.c_meaning_laws.specs.Typed.{PairsFit, Prefixes, Steps, variable_named}
 use Rattle.c_meaning_laws.specs.TypedSource.{SitesFit}
@@ -53,11 +47,9 @@ effected_safe t n h = record { value = λ l. absurd (n l); place = λ i. absurd 
 object_effect : (t : Option ValueType) (v : Scalar) → IsObject t → IsAt v
     → Safe Any (choose (is_struct_value t) nothing (λ u. done (load_at t v u))) (choose (is_struct_value t) nothing (λ u. done (load_at t v u)))
 object_effect (Some type.Struct) v h a = record { at = λ w. tt; same = λ w. refl }
-object_effect (Some (type.Number kind)) v h a = done_safe (load_safe (Some (type.Number kind)) v tt a)
-object_effect (Some (type.Pointer size)) v h a = done_safe (load_safe (Some (type.Pointer size)) v tt a)
-object_effect (Some (type.Array size)) v h a = done_safe (load_safe (Some (type.Array size)) v tt a)
 object_effect (Some type.Void) v h a = absurd h
 object_effect None v h a = absurd h
+object_effect t v h a = done_safe (load_safe t v tt a)
 
 pub placed_safe : {locals : Locals} {slot : Option Slot} {p p0 : World → Out Scalar} (t : Option ValueType) → IsObject t → Safe (Spot locals slot) p p0
     → SenseSafe locals t true slot (placed t p) (placed t p0)
@@ -76,11 +68,7 @@ pub cast_safe : (locals : Locals) (known : Bool) (slot other : Option Slot) (is_
     → SenseSafe locals u known slot m m0 → Casts is_null t u
     → SenseSafe locals t false other (cast is_null t m) (cast is_null t m0)
 cast_safe locals known slot other is_null (Some type.Void) u m m0 a h = effected_safe (Some type.Void) (λ v. v) a.effect
-cast_safe locals known slot other is_null (Some (type.Number kind)) u m m0 a h = cast_value locals other is_null (Some (type.Number kind)) u m m0 a.value h
-cast_safe locals known slot other is_null (Some (type.Pointer size)) u m m0 a h = cast_value locals other is_null (Some (type.Pointer size)) u m m0 a.value h
-cast_safe locals known slot other is_null (Some (type.Array size)) u m m0 a h = cast_value locals other is_null (Some (type.Array size)) u m m0 a.value h
-cast_safe locals known slot other is_null (Some type.Struct) u m m0 a h = cast_value locals other is_null (Some type.Struct) u m m0 a.value h
-cast_safe locals known slot other is_null None u m m0 a h = cast_value locals other is_null None u m m0 a.value h
+cast_safe locals known slot other is_null t u m m0 a h = cast_value locals other is_null t u m m0 a.value h
 
 pub null_or_safe : (is_null : Bool) (t : Option ValueType) (m m0 : Sense) → Safe (Fits t) m.value m0.value
     → Safe (Fits (operand_type is_null t)) (null_or is_null m) (null_or is_null m0)
@@ -99,12 +87,7 @@ pub arm_safe : (facts : Facts) (t : Option ValueType) (x : ExprTree) (m m0 : Sen
 arm_safe facts (Some type.Void) x m m0 a h l = absurd l
 arm_safe facts (Some type.Struct) x m m0 a h l = absurd l
 arm_safe facts None x m m0 a h l = absurd l
-arm_safe facts (Some (type.Number kind)) x m m0 a h l = arm_value_safe (is_null_as (Some (type.Number kind)) x) (Some (type.Number kind))
-    (type_of facts x) m m0 h a
-arm_safe facts (Some (type.Pointer size)) x m m0 a h l = arm_value_safe (is_null_as (Some (type.Pointer size)) x) (Some (type.Pointer size))
-    (type_of facts x) m m0 h a
-arm_safe facts (Some (type.Array size)) x m m0 a h l = arm_value_safe (is_null_as (Some (type.Array size)) x) (Some (type.Array size))
-    (type_of facts x) m m0 h a
+arm_safe facts t x m m0 a h l = arm_value_safe (is_null_as t x) t (type_of facts x) m m0 h a
 
 no_arm : (b : Bool) (u : Option ValueType) → TakesOrNull b None u → ⊥
 no_arm true u h = h
@@ -121,9 +104,7 @@ pub arm_effect_safe : (facts : Facts) (t : Option ValueType) (x : ExprTree) (m m
 arm_effect_safe facts (Some type.Void) x m m0 a b h = b
 arm_effect_safe facts (Some type.Struct) x m m0 a b h = absurd (no_struct_arm (is_null_as (Some type.Struct) x) (type_of facts x) h)
 arm_effect_safe facts None x m m0 a b h = absurd (no_arm (is_null_as None x) (type_of facts x) h)
-arm_effect_safe facts (Some (type.Number kind)) x m m0 a b h = done_safe (arm_safe facts (Some (type.Number kind)) x m m0 a h tt)
-arm_effect_safe facts (Some (type.Pointer size)) x m m0 a b h = done_safe (arm_safe facts (Some (type.Pointer size)) x m m0 a h tt)
-arm_effect_safe facts (Some (type.Array size)) x m m0 a b h = done_safe (arm_safe facts (Some (type.Array size)) x m m0 a h tt)
+arm_effect_safe facts t x m m0 a b h = done_safe (arm_safe facts t x m m0 a h tt)
 
 flag_safe : (t : Option ValueType) (m m0 : World → Out Scalar) → Safe (Fits t) m m0 → Safe (Fits (Some (type.Number Int))) (as_flag m) (as_flag m0)
 flag_safe t m m0 h = seq h (λ x f. seq (truth_safe x) (λ b _. gives (flag_value b) refl))
@@ -188,11 +169,7 @@ module _ (s : Setting) (call0 : Caller) (fit : SitesFit s.sites) where
 
   promoted_number : (t : Option ValueType) → IsPromoted t → IsNumberType t
   promoted_number (Some (type.Number kind)) h = tt
-  promoted_number (Some (type.Pointer size)) h = h
-  promoted_number (Some (type.Array size)) h = h
-  promoted_number (Some type.Void) h = h
-  promoted_number (Some type.Struct) h = h
-  promoted_number None h = h
+  promoted_number t h = h
 
   turned_safe : (o : Unary) (t u : Option ValueType) (v : Scalar) → ((x : Scalar) → Fits t x → Calm (Fits t) (applied_to_one o x)) → IsPromoted t → IsNumberType u
       → Fits u v

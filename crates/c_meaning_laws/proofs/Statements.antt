@@ -4,21 +4,15 @@ use Rattle.std.specs.Prelude.{Option, IsTrue}
 use Rattle.cbi_base.specs.declared.outcome.Outcome.TheVariants.{CutTurns}
 use Rattle.c_types_rules.specs.declared.library.Library.TheVariants as library
 use Rattle.c_syntax.specs.ExprTree as e
-use Rattle.c_syntax.specs.ExprTree.{ExprTree, ExprList}
+use Rattle.c_syntax.specs.Words.{ExprTree, ExprList, ForStartTree, StatementTree, EntryList}
 use Rattle.c_syntax.specs.StatementTree as tree
-use Rattle.c_syntax.specs.StatementTree.{ForStartTree, StatementTree, EntryList}
 use Rattle.c_meaning.specs.declared.value_type.Called.{Called}
 use Rattle.c_meaning.specs.declared.value_type.Called.TheVariants as called
 use Rattle.c_meaning.specs.declared.value_type.ValueType.{ValueType}
 use Rattle.c_meaning.specs.declared.value_type.ValueType.TheVariants as type
-use Rattle.c_meaning.specs.Calls.{Argument, Arguments, call_sense}
-use Rattle.c_meaning.specs.Conversions.{is_null_as}
-use Rattle.c_meaning.specs.Facts.{Setting}
-use Rattle.c_meaning.specs.Meaning.{arguments_value, expr, formatted, text_of_string}
-use Rattle.c_meaning.specs.Statements.{after_body, after_entry, do_round, exec, exec_all}
-use Rattle.c_meaning.specs.Statements.{for_round, for_started, optional_condition, optional_effect, rounds, while_round}
-use Rattle.c_meaning.specs.Trees.{count, called_as, has_value, type_of}
-use Rattle.c_meaning.specs.World.{World, Out, Stop, OutDone, Caller, Flow, Next, Broken, Continued, Returned, spend}
+use Rattle.c_meaning.specs.Words.{Argument, Arguments, call_sense, is_null_as, Setting, arguments_value, expr, formatted, text_of_string, after_body}
+use Rattle.c_meaning.specs.Words.{after_entry, do_round, exec, exec_all, for_round, for_started, optional_condition, optional_effect, rounds, while_round}
+use Rattle.c_meaning.specs.Words.{count, called_as, has_value, type_of, World, Out, Stop, OutDone, Caller, Flow, Next, Broken, Continued, Returned, spend}
 use Rattle.c_meaning_laws.specs.Rules.{TakesOrNull}
 use Rattle.c_meaning_laws.specs.Typed.{TypedArguments}
 use Rattle.c_meaning_laws.specs.TypedSource.{SitesFit}
@@ -41,10 +35,7 @@ FlowFits result looping (Returned (Some v)) = Fits (Some result) v × (has_value
 takes_value : (is_null : Bool) (result : ValueType) (t : Option ValueType) → TakesOrNull is_null (Some result) t → has_value result ≡ true
 takes_value true type.Void t h = absurd h
 takes_value false type.Void t h = absurd h
-takes_value b (type.Number kind) t h = refl
-takes_value b (type.Pointer size) t h = refl
-takes_value b (type.Array size) t h = refl
-takes_value b type.Struct t h = refl
+takes_value b result t h = refl
 
 -- rounds of loops
 pub rounds_safe : {P : Flow → Type 0} (n : ℕ) (round round0 : (World → Out Flow) → World → Out Flow)
@@ -83,9 +74,7 @@ module _ (result : ValueType) (looping : Bool) where
   after_entry_safe : (rest rest0 : World → Out Flow) (flow : Flow) → Safe (FlowFits result looping) rest rest0 → FlowFits result looping flow
       → Safe (FlowFits result looping) (after_entry rest flow) (after_entry rest0 flow)
   after_entry_safe rest rest0 Next h f = h
-  after_entry_safe rest rest0 Broken h f = gives Broken f
-  after_entry_safe rest rest0 Continued h f = gives Continued f
-  after_entry_safe rest rest0 (Returned v) h f = gives (Returned v) f
+  after_entry_safe rest rest0 flow h f = gives flow f
 
 module _ (s : Setting) (call0 : Caller) (fit : SitesFit s.sites) (calls : CallsSafe s.facts s.call call0) where
   formatted_safe : (xs : ExprList) → TypedFormat s.facts s.sites s.locals.count xs → Safe Any (formatted s xs) (formatted (bare s call0) xs)

@@ -5,22 +5,16 @@ use Rattle.cbi_base.specs.declared.scalar.Kind.TheVariants.{Char, Int, Unsigned}
 use Rattle.cbi_base.specs.declared.scalar.Scalar.{Scalar}
 use Rattle.cbi_base.specs.declared.scalar.Scalar.TheVariants.{Number}
 use Rattle.cbi_base.specs.declared.trap.Trap.{Trap}
-use Rattle.cbi_base.specs.Objects.{Objects}
-use Rattle.cbi_base.specs.Scalars.{converted}
+use Rattle.cbi_base.specs.Words.{Objects, converted}
 use Rattle.c_syntax.specs.ExprTree as e
 use Rattle.c_syntax.specs.ExprTree.{ExprTree}
 use Rattle.c_meaning.specs.declared.operation.Operation.{Operation}
 use Rattle.c_meaning.specs.declared.operation.Operation.TheVariants.{Numbers}
 use Rattle.c_meaning.specs.declared.value_type.ValueType.{ValueType}
 use Rattle.c_meaning.specs.declared.value_type.ValueType.TheVariants as type
-use Rattle.c_meaning.specs.Conversions.{as_wanted, conversion, load_at}
-use Rattle.c_meaning.specs.Expressions.{Sense, spot, valued}
-use Rattle.c_meaning.specs.Facts.{Setting}
-use Rattle.c_meaning.specs.Meaning.{expr}
-use Rattle.c_meaning.specs.Operation.{operate, operation, type_given}
-use Rattle.c_meaning.specs.Places.{assigned_at, changed, one_beside, step_operation, stepped_behind, stepped_value}
-use Rattle.c_meaning.specs.Trees.{is_place, step_of, type_of}
-use Rattle.c_meaning.specs.World.{World, Out, Go, answered, bind, choose, done, nothing, stuck}
+use Rattle.c_meaning.specs.Words.{as_wanted, conversion, load_at, Sense, spot, valued, Setting, expr, operate, operation, type_given, assigned_at, changed}
+use Rattle.c_meaning.specs.Words.{one_beside, step_operation, stepped_behind, stepped_value, is_place, step_of, type_of, World, Out, Go, answered, bind, choose}
+use Rattle.c_meaning.specs.Words.{done, nothing, stuck}
 use Rattle.c_meaning_laws.specs.Steps.{DecrementIsDifference, IncrementIsSum, StepBehindIsStep}
 use Rattle.c_meaning_laws.proofs.Indices.{followed_sense}
 use Rattle.c_meaning_laws.proofs.Parts.{bind_alike, bind_behind, bind_go}
@@ -50,13 +44,7 @@ module _ (s : Setting) (is_up : Bool) (token : ℕ) where
 
   step_by_int : (of : Option ValueType) (p : Scalar) (w : World) → stepped_value s is_up token of p w ≡ by_int of p w
   step_by_int (Some (type.Number Unsigned)) p w = unsigned_step is_up p w refl
-  step_by_int (Some (type.Number Int)) p w = refl
-  step_by_int (Some (type.Number Char)) p w = refl
-  step_by_int (Some (type.Pointer size)) p w = refl
-  step_by_int (Some (type.Array size)) p w = refl
-  step_by_int (Some type.Void) p w = refl
-  step_by_int (Some type.Struct) p w = refl
-  step_by_int None p w = refl
+  step_by_int of p w = refl
 
   -- a step, and what an assignment by a value of this type does
   steps_sense : (x : ExprTree) (right : Option ValueType) → right ≡ Some (type.Number Int)

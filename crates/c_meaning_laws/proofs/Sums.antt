@@ -6,15 +6,11 @@ use Rattle.cbi_base.specs.declared.scalar.Scalar.TheVariants.{Number, Place, Nul
 use Rattle.cbi_base.specs.declared.operators.Binary.TheVariants as op
 use Rattle.cbi_base.specs.declared.trap.Trap.{Trap}
 use Rattle.cbi_base.specs.declared.trap.Trap.TheVariants as trap
-use Rattle.cbi_base.specs.Objects.{Object, Objects, live_or, moved, moved_in, ◌>>=◌}
-use Rattle.flow.specs.Rows.{moved_by}
+use Rattle.cbi_base.specs.Objects.{Object, Objects, live_or, moved, moved_in, ◌>>=◌, moved_by}
 use Rattle.c_meaning.specs.declared.operation.Operation.TheVariants.{MoveLeft, MoveRight, Wrong}
 use Rattle.c_meaning.specs.declared.value_type.ValueType.{ValueType}
 use Rattle.c_meaning.specs.declared.value_type.ValueType.TheVariants as type
-use Rattle.c_meaning.specs.Conversions.{is_pointer_value}
-use Rattle.c_meaning.specs.Operation.{is_step_size, operation, operate}
-use Rattle.c_meaning.specs.Places.{pointed_place}
-use Rattle.c_meaning.specs.World.{World, Out, Go, Stop, answered, bind}
+use Rattle.c_meaning.specs.Words.{is_pointer_value, is_step_size, operation, operate, pointed_place, World, Out, Go, Stop, answered, bind}
 
 -- a place, or a trap
 abbrev pub GivesPlace : Result Scalar Trap → Type 0
@@ -32,24 +28,22 @@ found_place number to (Some object) = either_place _ _ _
 
 move_place : (p : Scalar) (cells : ℤ) (o : Objects) → GivesPlace (moved p cells o)
 unfolding moved
-move_place Undefined cells o = tt
-move_place (Number kind value) cells o = tt
-move_place Null cells o = tt
 move_place (Place number offset) cells o = found_place number (pos offset +ℤ cells) (get o.live number)
+move_place p cells o = tt
 
 by_place : (size : ℤ) (p n : Scalar) (o : Objects) → GivesPlace (moved_by size p n o)
 unfolding moved_by
+by_place size (Number kind value) (Number other by) o = move_place (Number kind value) (by *ℤ size) o
+by_place size (Place number offset) (Number other by) o = move_place (Place number offset) (by *ℤ size) o
+by_place size Null (Number other by) o = move_place Null (by *ℤ size) o
 by_place size Undefined n o = tt
 by_place size (Number kind value) Undefined o = tt
-by_place size (Number kind value) (Number other by) o = move_place (Number kind value) (by *ℤ size) o
 by_place size (Number kind value) (Place number offset) o = tt
 by_place size (Number kind value) Null o = tt
 by_place size (Place number offset) Undefined o = tt
-by_place size (Place number offset) (Number other by) o = move_place (Place number offset) (by *ℤ size) o
 by_place size (Place number offset) (Place k l) o = tt
 by_place size (Place number offset) Null o = tt
 by_place size Null Undefined o = tt
-by_place size Null (Number other by) o = move_place Null (by *ℤ size) o
 by_place size Null (Place number offset) o = tt
 by_place size Null Null o = tt
 
@@ -66,38 +60,24 @@ right_moves false size p x o = tt
 -- a pointer, and whatever else
 left_place : (size : ℕ) (right : Option ValueType) (p x : Scalar) (o : Objects) → GivesPlace (operate (operation op.Add (Some (type.Pointer size)) right) p x o)
 unfolding operate
-left_place size None p x o = tt
-left_place size (Some type.Void) p x o = tt
 left_place size (Some (type.Number kind)) p x o = left_moves (is_step_size size) size p x o
-left_place size (Some (type.Pointer other)) p x o = tt
-left_place size (Some (type.Array other)) p x o = tt
-left_place size (Some type.Struct) p x o = tt
+left_place size right p x o = tt
 
 -- whatever else, and a pointer
 right_place : (size : ℕ) (left : Option ValueType) (p x : Scalar) (o : Objects) → GivesPlace (operate (operation op.Add left (Some (type.Pointer size))) p x o)
 unfolding operate
-right_place size None p x o = tt
-right_place size (Some type.Void) p x o = tt
 right_place size (Some (type.Number kind)) p x o = right_moves (is_step_size size) size p x o
-right_place size (Some (type.Pointer other)) p x o = tt
-right_place size (Some (type.Array other)) p x o = tt
-right_place size (Some type.Struct) p x o = tt
+right_place size left p x o = tt
 
 by_left : (left right : Option ValueType) → is_pointer_value left ≡ true → (p x : Scalar) (o : Objects) → GivesPlace (operate (operation op.Add left right) p x o)
-by_left None right h p x o = cc
-by_left (Some type.Void) right h p x o = cc
-by_left (Some (type.Number kind)) right h p x o = cc
 by_left (Some (type.Pointer size)) right h p x o = left_place size right p x o
 by_left (Some (type.Array size)) right h p x o = left_place size right p x o
-by_left (Some type.Struct) right h p x o = cc
+by_left left right h p x o = cc
 
 by_right : (left right : Option ValueType) → is_pointer_value right ≡ true → (p x : Scalar) (o : Objects) → GivesPlace (operate (operation op.Add left right) p x o)
-by_right left None h p x o = cc
-by_right left (Some type.Void) h p x o = cc
-by_right left (Some (type.Number kind)) h p x o = cc
 by_right left (Some (type.Pointer size)) h p x o = right_place size left p x o
 by_right left (Some (type.Array size)) h p x o = right_place size left p x o
-by_right left (Some type.Struct) h p x o = cc
+by_right left right h p x o = cc
 
 pub sum_place : (left right : Option ValueType) → (is_pointer_value left ≡ true) ⊎ (is_pointer_value right ≡ true) → (p x : Scalar) (o : Objects)
     → GivesPlace (operate (operation op.Add left right) p x o)
@@ -108,9 +88,7 @@ sum_end : (r : Result Scalar Trap) (w : World) → GivesPlace r
     → bind (answered r w) (λ v. Go v) ≡ bind (bind (answered r w) (λ v. Go v)) (λ v u. answered (pointed_place v) u)
 sum_end (Err t) w h = refl
 sum_end (Ok (Place number offset)) w h = refl
-sum_end (Ok (Number kind value)) w h = absurd h
-sum_end (Ok Null) w h = absurd h
-sum_end (Ok Undefined) w h = absurd h
+sum_end r w h = absurd h
 
 module _ (value : World → Out Scalar) (r : Scalar → Scalar → Objects → Result Scalar Trap) (h : (p x : Scalar) (o : Objects) → GivesPlace (r p x o)) where
   right_end : (p : Scalar) (out : Out Scalar)

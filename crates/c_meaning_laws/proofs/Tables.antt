@@ -1,7 +1,7 @@
 -- The sites of a table by their tokens look as their kinds say, whatever stands in the table.
 use Rattle.std.proofs.Common.{◌≡◌, ℕ, suc, ◌+◌, refl, subst, sym, arith, List, [], ◌∷◌, Some, Bool, true, false}
 use Rattle.std.specs.Prelude.{slice_get, ◌==◌, ◌&&◌, if◌then◌else◌}
-use Rattle.cbi_base.proofs.NumberLemmas.{both}
+use Rattle.std.proofs.lemmas.Bool.{and_parts}
 use Rattle.flow.specs.declared.site.Site.{Site}
 use Rattle.flow.specs.declared.site.SiteKind.{SiteKind}
 use Rattle.c_meaning.specs.Texts.{head_site, is_branch, is_return, sites_from, sites_by_table}
@@ -19,7 +19,7 @@ either : (of_kind : SiteKind → Bool) (token : ℕ) (s : Site) (table : List Si
     → (head_site (sites_from (suc number) of_kind token table) ≡ Some k → Stands of_kind (suc number) table k)
     → head_site (if b then number ∷ sites_from (suc number) of_kind token table else sites_from (suc number) of_kind token table) ≡ Some k
     → Stands of_kind number (s ∷ table) k
-either of_kind token s table number k true e later h = (0, some_number number k h, (both (s.token == token) (of_kind s.kind) e).1)
+either of_kind token s table number k true e later h = (0, some_number number k h, (and_parts (s.token == token) (of_kind s.kind) e).1)
 either of_kind token s table number k false e later h = (suc (later h).0, omega (arith, (later h).1), (later h).2)
 
 first_stands : (of_kind : SiteKind → Bool) (token : ℕ) (table : List Site) (number k : ℕ) → head_site (sites_from number of_kind token table) ≡ Some k

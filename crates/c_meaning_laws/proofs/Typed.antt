@@ -5,20 +5,14 @@ use Rattle.std.proofs.lemmas.Bool.{false≢true}
 use Rattle.cbi_base.specs.declared.scalar.Kind.TheVariants.{Int}
 use Rattle.cbi_base.specs.declared.scalar.Scalar.{Scalar}
 use Rattle.cbi_base.specs.declared.scalar.Scalar.TheVariants.{Number, Place, Null, Undefined}
-use Rattle.cbi_base.specs.Kind.{LiesIn}
-use Rattle.cbi_base.specs.Scalars.{IsInRange}
+use Rattle.cbi_base.specs.Words.{LiesIn, IsInRange}
 use Rattle.c_syntax.specs.declared.expr.PrefixOperator.TheVariants as prefix
 use Rattle.c_syntax.specs.ExprTree as e
 use Rattle.c_syntax.specs.ExprTree.{ExprTree}
 use Rattle.c_meaning.specs.declared.value_type.ValueType.{ValueType}
 use Rattle.c_meaning.specs.declared.value_type.ValueType.TheVariants as type
-use Rattle.c_meaning.specs.Facts.{Setting, Signature}
-use Rattle.c_meaning.specs.Expressions.{placed, postfixed, spot}
-use Rattle.c_meaning.specs.Meaning.{expr, onward}
-use Rattle.c_meaning.specs.Places.{pointed_place}
-use Rattle.c_meaning.specs.Runs.{call_at, setting_of}
-use Rattle.c_meaning.specs.Trees.{is_place, type_of}
-use Rattle.c_meaning.specs.World.{World, Out, Go, Stop, Returned, answered, bind}
+use Rattle.c_meaning.specs.Words.{Setting, Signature, placed, postfixed, spot, expr, onward, pointed_place, call_at, setting_of, is_place, type_of, World, Out}
+use Rattle.c_meaning.specs.Words.{Go, Stop, Returned, answered, bind}
 use Rattle.c_meaning_laws.specs.Rules.{IsValue}
 use Rattle.c_meaning_laws.specs.Typed.{variable_named}
 use Rattle.c_meaning_laws.specs.TypedSource.{GivesInt, TypedBody, without_sites}
@@ -38,20 +32,20 @@ use Rattle.c_meaning_laws.proofs.Places.{typed_keeps}
 -- a value of the kind that is wanted, in its range
 fitting : (t : Option ValueType) (v : Scalar) → IsValue t → Fits t v → IsInRange v → IsOf t v
 fitting (Some (type.Number kind)) (Number other n) h f r = (sym f, subst (λ k. LiesIn k n) (sym f) r)
-fitting (Some (type.Number kind)) Undefined h f r = tt
 fitting (Some (type.Number kind)) (Place number offset) h f r = absurd f
 fitting (Some (type.Number kind)) Null h f r = absurd f
 fitting (Some (type.Pointer size)) (Number other n) h f r = absurd f
-fitting (Some (type.Pointer size)) Undefined h f r = tt
-fitting (Some (type.Pointer size)) (Place number offset) h f r = tt
-fitting (Some (type.Pointer size)) Null h f r = tt
 fitting (Some (type.Array size)) (Number other n) h f r = absurd f
-fitting (Some (type.Array size)) Undefined h f r = tt
-fitting (Some (type.Array size)) (Place number offset) h f r = tt
 fitting (Some (type.Array size)) Null h f r = absurd f
 fitting (Some type.Void) v h f r = absurd h
 fitting (Some type.Struct) v h f r = absurd h
 fitting None v h f r = absurd h
+fitting (Some (type.Number kind)) Undefined h f r = tt
+fitting (Some (type.Pointer size)) Undefined h f r = tt
+fitting (Some (type.Pointer size)) (Place number offset) h f r = tt
+fitting (Some (type.Pointer size)) Null h f r = tt
+fitting (Some (type.Array size)) Undefined h f r = tt
+fitting (Some (type.Array size)) (Place number offset) h f r = tt
 
 pub ending : {A : Type 0} (P : A → Type 0) (out : Out A) (x : A) (u : World) → Ending P out → out ≡ Go x u → P x
 ending P out x u h is = subst (Ending P) is h
@@ -93,9 +87,7 @@ place_sense s x is keeps = absurd (false≢true is)
 -- a place is what `*` goes on with
 at_pointed : (v : Scalar) (w : World) → IsAt v → answered (pointed_place v) w ≡ Go v w
 at_pointed (Place number offset) w h = refl
-at_pointed Undefined w h = absurd h
-at_pointed Null w h = absurd h
-at_pointed (Number kind n) w h = absurd h
+at_pointed v w h = absurd h
 
 followed_place : (P : Scalar → Type 0) (out : Out Scalar) → ((v : Scalar) → P v → IsAt v) → Ending P out → bind out (λ v u. answered (pointed_place v) u) ≡ out
 followed_place P (Go v w) f h = at_pointed v w (f v h)

@@ -14,10 +14,7 @@ use Rattle.cbi_base.specs.Objects.{Object, Objects, found_cell, loaded, undefine
 use Rattle.c_syntax.specs.StatementTree.{InitialTree, StartTree}
 use Rattle.c_meaning.specs.declared.value_type.ValueType.{ValueType}
 use Rattle.c_meaning.specs.declared.value_type.ValueType.TheVariants as type
-use Rattle.c_meaning.specs.Conversions.{load_at}
-use Rattle.c_meaning.specs.Facts.{Setting}
-use Rattle.c_meaning.specs.Initialisers.{all_started, clear, declares, initialised, object_of, on_object, started}
-use Rattle.c_meaning.specs.World.{World, Stop, answered, bind}
+use Rattle.c_meaning.specs.Words.{load_at, Setting, all_started, clear, declares, initialised, object_of, on_object, started, World, Stop, answered, bind}
 use Rattle.c_meaning_laws.specs.Rules.{IsScalar}
 use Rattle.c_meaning_laws.specs.Declared.{AreBare, DeclaredHoldsNothing, HoldsNothing, ReadIsMet}
 use Rattle.c_meaning_laws.proofs.Objects.{cell_within, load_found, load_in, put_found}
@@ -120,10 +117,7 @@ load_met : (of : Option ValueType) (p : Scalar) (w : World) → IsScalar of → 
     → load_at of p w ≡ Stop (Trapped trap.Undefined) w
 load_met (Some (type.Number kind)) p w h met = ap (λ r. answered r w) (met (want.Number kind))
 load_met (Some (type.Pointer size)) p w h met = ap (λ r. answered r w) (met want.Pointer)
-load_met (Some (type.Array size)) p w h met = absurd h
-load_met (Some type.Void) p w h met = absurd h
-load_met (Some type.Struct) p w h met = absurd h
-load_met None p w h met = absurd h
+load_met of p w h met = absurd h
 
 pub read_is_met : ReadIsMet
 read_is_met s at name number object w local scalar live within holds =

@@ -12,17 +12,13 @@ use Rattle.cbi_base.specs.declared.scalar.Scalar.TheVariants.{Number, Place, Nul
 use Rattle.cbi_base.specs.declared.operators.Binary.{Binary}
 use Rattle.cbi_base.specs.declared.operators.Binary.TheVariants as op
 use Rattle.cbi_base.specs.declared.operators.Unary.TheVariants as unary
-use Rattle.cbi_base.specs.Arithmetic.{fitted, left_shift, binary_value, kind_given, is_zero, is_count, two_to}
-use Rattle.cbi_base.specs.Kind.{wrapped, lies_in}
-use Rattle.cbi_base.specs.Scalars.{truth_of, applied, applied_to_one, converted, as_number, takes}
-use Rattle.flow.specs.Now.{is_defined}
+use Rattle.cbi_base.specs.Words.{fitted, left_shift, binary_value, kind_given, is_zero, is_count, two_to, wrapped, lies_in, truth_of, applied, applied_to_one}
+use Rattle.cbi_base.specs.Words.{converted, as_number, takes, is_defined_value}
 use Rattle.c_types_rules.specs.Laws.{common_kind, promoted_kind}
 use Rattle.c_meaning.specs.declared.value_type.ValueType.{ValueType}
 use Rattle.c_meaning.specs.declared.value_type.ValueType.TheVariants as type
-use Rattle.c_meaning.specs.Conversions.{as_wanted, between, conversion, converts, as_used, defined, handed}
-use Rattle.c_meaning.specs.Expressions.{Sense, arm_as, arm_value, handed_value, is_other_pointer, wanted_value}
-use Rattle.c_meaning.specs.Operation.{left_kind, right_kind}
-use Rattle.c_meaning.specs.Visits.{truth}
+use Rattle.c_meaning.specs.Words.{as_wanted, between, conversion, converts, as_used, defined, handed, Sense, arm_as, arm_value, handed_value, is_other_pointer}
+use Rattle.c_meaning.specs.Words.{wanted_value, left_kind, right_kind, truth}
 use Rattle.c_meaning_laws.specs.Rules.{IsNumberType, IsPointer, IsPointing, IsPromoted, IsScalar, IsValue, TakesOrNull, TakesType}
 use Rattle.c_meaning_laws.proofs.Safe.{Any, Calm, Safe, answers, calm_if, gives, seq, weaker}
 
@@ -75,20 +71,16 @@ takes_itself t h = absurd h
 
 -- pointers
 pub pointer_fits : (size : ℕ) (t : Option ValueType) (v : Scalar) → IsPointing t → Fits t v → Fits (Some (type.Pointer size)) v
-pointer_fits size t Undefined h f = tt
-pointer_fits size t Null h f = tt
-pointer_fits size t (Place a i) h f = tt
 pointer_fits size (Some (type.Pointer other)) (Number k n) h f = absurd f
 pointer_fits size (Some (type.Array other)) (Number k n) h f = absurd f
 pointer_fits size t (Number k n) h f = absurd h
+pointer_fits size t v h f = tt
 
 pub at_fits : (t : Option ValueType) (v : Scalar) → IsPointing t → IsAt v → Fits t v
 at_fits (Some (type.Pointer size)) (Place a i) h k = tt
 at_fits (Some (type.Array size)) (Place a i) h k = tt
 at_fits t (Place a i) h k = absurd h
-at_fits t Undefined h k = absurd k
-at_fits t Null h k = absurd k
-at_fits t (Number j n) h k = absurd k
+at_fits t v h k = absurd k
 
 pub null_fits : (t : Option ValueType) → IsPointer t → Fits t Null
 null_fits (Some (type.Pointer size)) h = tt
@@ -96,19 +88,13 @@ null_fits t h = absurd h
 
 pub decayed_fits : (t : Option ValueType) (v : Scalar) → Fits t v → Fits (as_used t) v
 decayed_fits (Some (type.Array size)) v f = pointer_fits size (Some (type.Array size)) v tt f
-decayed_fits (Some (type.Number kind)) v f = f
-decayed_fits (Some (type.Pointer size)) v f = f
-decayed_fits (Some type.Void) v f = f
-decayed_fits (Some type.Struct) v f = f
-decayed_fits None v f = f
+decayed_fits t v f = f
 
 pub decayed_value : (t : Option ValueType) → IsValue (as_used t) → IsValue t
-decayed_value (Some (type.Array size)) h = tt
-decayed_value (Some (type.Number kind)) h = tt
-decayed_value (Some (type.Pointer size)) h = tt
 decayed_value (Some type.Void) h = h
 decayed_value (Some type.Struct) h = h
 decayed_value None h = h
+decayed_value t h = tt
 
 -- conversions
 converted_calm : (have wanted : Kind) (v : Scalar) → Fits (Some (type.Number have)) v → Calm (Fits (Some (type.Number wanted))) (converted wanted v)
@@ -121,14 +107,14 @@ converted_calm have wanted (Place a i) f = absurd f
 pub between_calm : (have wanted : Kind) (v : Scalar) → Fits (Some (type.Number have)) v → Calm (Fits (Some (type.Number wanted)))
     (converts (between have wanted) v)
 between_calm Char Char v f = f
+between_calm Int Int v f = f
+between_calm Unsigned Unsigned v f = f
 between_calm Char Int v f = converted_calm Char Int v f
 between_calm Char Unsigned v f = converted_calm Char Unsigned v f
 between_calm Int Char v f = converted_calm Int Char v f
-between_calm Int Int v f = f
 between_calm Int Unsigned v f = converted_calm Int Unsigned v f
 between_calm Unsigned Char v f = converted_calm Unsigned Char v f
 between_calm Unsigned Int v f = converted_calm Unsigned Int v f
-between_calm Unsigned Unsigned v f = f
 
 taken_calm : (t u : Option ValueType) (v : Scalar) → TakesType t u → Fits u v → Calm (Fits t) (converts (conversion u t) v)
 taken_calm (Some (type.Number kind)) (Some (type.Number other)) v h f = between_calm other kind v f
@@ -142,13 +128,11 @@ wanted_safe t u v h f = answers (λ w. converts (conversion u t) v) (λ w. refl)
 
 -- a value that is handed over is defined
 abbrev pub Given : Option ValueType → Scalar → Type 0
-Given t v = Fits t v × (is_defined v ≡ true)
+Given t v = Fits t v × (is_defined_value v ≡ true)
 
 defined_calm : (t : Option ValueType) (v : Scalar) → Fits t v → Calm (Given t) (defined v)
 defined_calm t Undefined f = tt
-defined_calm t (Number k n) f = (f, refl)
-defined_calm t Null f = (f, refl)
-defined_calm t (Place a i) f = (f, refl)
+defined_calm t v f = (f, refl)
 
 handed_number : (have wanted : Kind) (v : Scalar) → Fits (Some (type.Number have)) v → Calm (Given (Some (type.Number wanted))) (converted wanted v)
 unfolding converted
@@ -219,15 +203,7 @@ binary_calm op.Rem kind x y =
     (calm_if Any (lies_in kind (int_div x y)) (Ok (int_rem x y)) (Err trap.Overflow) tt tt)
 binary_calm op.Shl kind x y = left_shift_calm kind x y
 binary_calm op.Shr kind x y = calm_if Any (is_count y) (Ok (int_div_euclid x (two_to y))) (Err trap.Shift) tt tt
-binary_calm op.And kind x y = tt
-binary_calm op.Or kind x y = tt
-binary_calm op.Xor kind x y = tt
-binary_calm op.Lt kind x y = tt
-binary_calm op.Le kind x y = tt
-binary_calm op.Gt kind x y = tt
-binary_calm op.Ge kind x y = tt
-binary_calm op.Eq kind x y = tt
-binary_calm op.Ne kind x y = tt
+binary_calm o kind x y = tt
 
 number_calm : (kind : Kind) (r : Result ℤ Trap) → Calm Any r → Calm (Fits (Some (type.Number kind))) (as_number kind r)
 number_calm kind (Ok n) h = refl
@@ -256,9 +232,9 @@ applied_calm o k l (Number i m) (Place a j) t f g = absurd g
 of_common : (P : Kind → Type 0) → P Int → P Unsigned → (left right : Kind) → P (common_kind left right)
 of_common P i u Char Char = i
 of_common P i u Char Int = i
-of_common P i u Char Unsigned = u
 of_common P i u Int Char = i
 of_common P i u Int Int = i
+of_common P i u Char Unsigned = u
 of_common P i u Int Unsigned = u
 of_common P i u Unsigned Char = u
 of_common P i u Unsigned Int = u
@@ -271,32 +247,17 @@ of_promoted P i u Unsigned = u
 
 -- an operation takes what its operands were converted to
 pub takes_converted : (o : Binary) (left right : Kind) → takes o (left_kind o left right) (right_kind o left right) ≡ true
-takes_converted op.Add l r = of_common (λ k. takes op.Add k k ≡ true) refl refl l r
-takes_converted op.Sub l r = of_common (λ k. takes op.Sub k k ≡ true) refl refl l r
-takes_converted op.Mul l r = of_common (λ k. takes op.Mul k k ≡ true) refl refl l r
-takes_converted op.Div l r = of_common (λ k. takes op.Div k k ≡ true) refl refl l r
-takes_converted op.Rem l r = of_common (λ k. takes op.Rem k k ≡ true) refl refl l r
 takes_converted op.Shl l r = of_promoted (λ k. takes op.Shl k (promoted_kind r) ≡ true)
     (of_promoted (λ k. takes op.Shl Int k ≡ true) refl refl r) (of_promoted (λ k. takes op.Shl Unsigned k ≡ true) refl refl r) l
 takes_converted op.Shr l r = of_promoted (λ k. takes op.Shr k (promoted_kind r) ≡ true)
     (of_promoted (λ k. takes op.Shr Int k ≡ true) refl refl r) (of_promoted (λ k. takes op.Shr Unsigned k ≡ true) refl refl r) l
-takes_converted op.And l r = of_common (λ k. takes op.And k k ≡ true) refl refl l r
-takes_converted op.Or l r = of_common (λ k. takes op.Or k k ≡ true) refl refl l r
-takes_converted op.Xor l r = of_common (λ k. takes op.Xor k k ≡ true) refl refl l r
-takes_converted op.Lt l r = of_common (λ k. takes op.Lt k k ≡ true) refl refl l r
-takes_converted op.Le l r = of_common (λ k. takes op.Le k k ≡ true) refl refl l r
-takes_converted op.Gt l r = of_common (λ k. takes op.Gt k k ≡ true) refl refl l r
-takes_converted op.Ge l r = of_common (λ k. takes op.Ge k k ≡ true) refl refl l r
-takes_converted op.Eq l r = of_common (λ k. takes op.Eq k k ≡ true) refl refl l r
-takes_converted op.Ne l r = of_common (λ k. takes op.Ne k k ≡ true) refl refl l r
+takes_converted o l r = of_common (λ k. takes o k k ≡ true) refl refl l r
 
 -- unary operators
 pub not_calm : (v : Scalar) → Calm (Fits (Some (type.Number Int))) (applied_to_one unary.Not v)
 unfolding applied_to_one
-not_calm (Number k n) = refl
-not_calm (Place a i) = refl
-not_calm Null = refl
 not_calm Undefined = tt
+not_calm v = refl
 
 neg_of : (k : Kind) (n : ℤ) → IsPromoted (Some (type.Number k)) → Calm (Fits (Some (type.Number k))) (applied_to_one unary.Neg (Number k n))
 unfolding applied_to_one
@@ -310,11 +271,7 @@ neg_calm t Undefined h f = tt
 neg_calm (Some (type.Number k)) (Number j n) h f = subst (λ a. Calm (Fits (Some (type.Number k))) (applied_to_one unary.Neg (Number a n))) f (neg_of k n h)
 neg_calm (Some (type.Number k)) Null h f = absurd f
 neg_calm (Some (type.Number k)) (Place a i) h f = absurd f
-neg_calm (Some (type.Pointer size)) v h f = absurd h
-neg_calm (Some (type.Array size)) v h f = absurd h
-neg_calm (Some type.Void) v h f = absurd h
-neg_calm (Some type.Struct) v h f = absurd h
-neg_calm None v h f = absurd h
+neg_calm t v h f = absurd h
 
 com_of : (k : Kind) (n : ℤ) → IsPromoted (Some (type.Number k)) → Calm (Fits (Some (type.Number k))) (applied_to_one unary.Com (Number k n))
 unfolding applied_to_one
@@ -328,8 +285,4 @@ com_calm t Undefined h f = tt
 com_calm (Some (type.Number k)) (Number j n) h f = subst (λ a. Calm (Fits (Some (type.Number k))) (applied_to_one unary.Com (Number a n))) f (com_of k n h)
 com_calm (Some (type.Number k)) Null h f = absurd f
 com_calm (Some (type.Number k)) (Place a i) h f = absurd f
-com_calm (Some (type.Pointer size)) v h f = absurd h
-com_calm (Some (type.Array size)) v h f = absurd h
-com_calm (Some type.Void) v h f = absurd h
-com_calm (Some type.Struct) v h f = absurd h
-com_calm None v h f = absurd h
+com_calm t v h f = absurd h

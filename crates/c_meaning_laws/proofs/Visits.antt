@@ -5,23 +5,17 @@ use Rattle.cbi_base.specs.declared.observation.Seen.{Seen}
 use Rattle.cbi_base.specs.declared.trap.Trap.{Trap}
 use Rattle.cbi_base.specs.declared.scalar.Scalar.{Scalar}
 use Rattle.cbi_base.specs.declared.scalar.Scalar.TheVariants.{Place}
-use Rattle.cbi_base.specs.Objects.{Objects, stored}
-use Rattle.cbi_base.specs.Scalars.{truth_of}
+use Rattle.cbi_base.specs.Words.{Objects, stored, truth_of, Locals}
 use Rattle.flow.specs.declared.site.Site.{Site}
 use Rattle.flow.specs.declared.site.SiteKind.{SiteKind}
 use Rattle.flow.specs.declared.site.SiteKind.TheVariants.{Branch, Return, Pair}
 use Rattle.flow.specs.declared.site.Slot.{Slot}
-use Rattle.flow.specs.Now.{Locals}
 use Rattle.flow.specs.Truths.{looked, object_at, partner_number, seen_by, seen_pair, seen_truth}
 use Rattle.c_meaning.specs.declared.value_type.ValueType.{ValueType}
-use Rattle.c_meaning.specs.Facts.{Facts, Setting, Signature}
-use Rattle.c_meaning.specs.Globals.{no_sites}
-use Rattle.c_meaning.specs.Places.{assigned_at, store_at}
-use Rattle.c_meaning.specs.Visits.{decided, listed, now_of, truth, visited, world_with_seen}
-use Rattle.c_meaning.specs.World.{World, Out, Go, Caller, bind, answered}
+use Rattle.c_meaning.specs.Words.{Facts, Setting, Signature, no_sites, assigned_at, store_at, decided, listed, truth, visited, world_with_seen, World, Out, Go}
+use Rattle.c_meaning.specs.Words.{Caller, bind, answered, is_branch, is_return}
 use Rattle.c_meaning_laws.specs.Typed.{AllLookAt, IsTarget, LooksAt, PairsFit}
 use Rattle.c_meaning_laws.specs.TypedSource.{OfKind, SitesFit}
-use Rattle.c_meaning.specs.Texts.{is_branch, is_return}
 use Rattle.std.proofs.lemmas.Bool.{false≢true}
 use Rattle.c_meaning_laws.proofs.Safe.{Any, Calm, Ending, Safe, gives, plain, seq, unseen}
 use Rattle.c_meaning_laws.proofs.Values.{Fits, IsAt, truth_calm, truth_safe}
@@ -71,7 +65,7 @@ module _ (s : Setting) (call0 : Caller) where
   truth_end k v w (Err t) e c = rw e (c, refl)
 
   kind_end : (kind : SiteKind) (k : ℕ) (v : Scalar) (w : World) → IsTrue (is_branch kind)
-      → Does {A = Bool} Any (bind (bind (bind (answered (seen_by kind (v ∷ []) (now_of s.locals (v ∷ []) w)) w) (λ seen u. Go v (world_with_seen k seen u)))
+      → Does {A = Bool} Any (bind (bind (bind (answered (seen_by kind (Some v) s.locals w.objects) w) (λ seen u. Go v (world_with_seen k seen u)))
       (visited s [])) truth)
       (truth v (plain w))
   kind_end (Branch word) k v w h = truth_end k v w (truth_of v) refl (truth_calm v)
@@ -79,7 +73,7 @@ module _ (s : Setting) (call0 : Caller) where
   kind_end (Pair target slot partner) k v w h = absurd (false≢true h)
 
   branch_end : (o : Option Site) (k : ℕ) (v : Scalar) (w : World) → OfKind is_branch o
-      → Does {A = Bool} Any (bind (bind (bind (answered (looked o (now_of s.locals (v ∷ []) w)) w) (λ seen u. Go v (world_with_seen k seen u)))
+      → Does {A = Bool} Any (bind (bind (bind (answered (looked o (Some v) s.locals w.objects) w) (λ seen u. Go v (world_with_seen k seen u)))
       (visited s [])) truth) (truth v (plain w))
   unfolding looked
   branch_end None k v w h = absurd h
@@ -100,14 +94,14 @@ module _ (s : Setting) (call0 : Caller) where
 
   -- a returned value with its site
   sign_end : (P : Scalar → Type 0) (kind : SiteKind) (k : ℕ) (v : Scalar) (w : World) → P v → IsTrue (is_return kind)
-      → Does P (bind (bind (answered (seen_by kind (v ∷ []) (now_of s.locals (v ∷ []) w)) w) (λ seen u. Go v (world_with_seen k seen u))) (visited s []))
+      → Does P (bind (bind (answered (seen_by kind (Some v) s.locals w.objects) w) (λ seen u. Go v (world_with_seen k seen u))) (visited s []))
       (Go v (plain w))
   sign_end P (Return callee) k v w p h = (p, refl)
   sign_end P (Branch word) k v w p h = absurd (false≢true h)
   sign_end P (Pair target slot partner) k v w p h = absurd (false≢true h)
 
   return_end : (P : Scalar → Type 0) (o : Option Site) (k : ℕ) (v : Scalar) (w : World) → P v → OfKind is_return o
-      → Does P (bind (bind (answered (looked o (now_of s.locals (v ∷ []) w)) w) (λ seen u. Go v (world_with_seen k seen u))) (visited s [])) (Go v (plain w))
+      → Does P (bind (bind (answered (looked o (Some v) s.locals w.objects) w) (λ seen u. Go v (world_with_seen k seen u))) (visited s [])) (Go v (plain w))
   unfolding looked
   return_end P None k v w p h = absurd h
   return_end P (Some site) k v w p h = sign_end P site.kind k v w p h
@@ -128,15 +122,15 @@ module _ (s : Setting) (call0 : Caller) where
   -- pairs
   pair_seen : (kind : SiteKind) (slot : Slot) (number : ℕ) (v : Scalar) (w : World) → IsTarget slot kind → object_at slot s.locals ≡ Some number
       → Holds number w.objects
-      → Sees (seen_by kind (v ∷ []) (now_of s.locals (v ∷ []) w))
+      → Sees (seen_by kind (Some v) s.locals w.objects)
   pair_seen (Pair name target partner) slot number v w h e f =
-      subst (λ a. Sees (seen_by (Pair name a partner) (v ∷ []) (now_of s.locals (v ∷ []) w))) (sym h)
-      (rw e (rw f.lives (rw f.first (sees_pair f.value (partner_number partner (now_of s.locals (v ∷ []) w))))))
+      subst (λ a. Sees (seen_by (Pair name a partner) (Some v) s.locals w.objects)) (sym h)
+      (rw e (rw f.lives (rw f.first (sees_pair f.value (partner_number partner s.locals w.objects)))))
   pair_seen kind slot number v w h e f = absurd h
 
   looks_seen : (slot : Slot) (number : ℕ) (o : Option Site) (v : Scalar) (w : World) → LooksAt slot o → object_at slot s.locals ≡ Some number
       → Holds number w.objects
-      → Sees (looked o (now_of s.locals (v ∷ []) w))
+      → Sees (looked o (Some v) s.locals w.objects)
   unfolding looked
   looks_seen slot number None v w h e f = absurd h
   looks_seen slot number (Some site) v w h e f = pair_seen site.kind slot number v w h e f
@@ -151,7 +145,7 @@ module _ (s : Setting) (call0 : Caller) where
       → Holds number w.objects → Does P (visited s ks v w) (Go v (plain w))
   pairs_end P slot number [] v w p h e f = (p, refl)
   pairs_end P slot number (k ∷ ks) v w p h e f =
-      pair_end P k v w (visited s ks) (Go v (plain w)) (looked (s.sites.site k) (now_of s.locals (v ∷ []) w))
+      pair_end P k v w (visited s ks) (Go v (plain w)) (looked (s.sites.site k) (Some v) s.locals w.objects)
       (looks_seen slot number (s.sites.site k) v w h.0 e f)
       (λ seen. pairs_end P slot number ks v (world_with_seen k seen w) p h.1 e f)
 

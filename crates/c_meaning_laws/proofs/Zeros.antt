@@ -3,6 +3,7 @@ use Rattle.std.proofs.Common.{◌≡◌, ℕ, suc, ◌+◌, ◌≤◌, ◌<◌, 
 use Rattle.std.proofs.lemmas.Int.{ints}
 use Rattle.std.proofs.lemmas.Option.{slice_get-map}
 use Rattle.std.specs.FinMap.{get}
+use Rattle.cbi_base.specs.Words.{zero_value, filled, filled_in, Object, Objects, found_cell, live_or, loaded, moved, moved_in, set_in, stored, with_object}
 use Rattle.cbi_base.specs.declared.scalar.Kind.TheVariants as kind
 use Rattle.cbi_base.specs.declared.scalar.Scalar.{Scalar}
 use Rattle.cbi_base.specs.declared.scalar.Scalar.TheVariants.{Number, Place, Null, Undefined}
@@ -10,20 +11,12 @@ use Rattle.cbi_base.specs.declared.scalar.Want.{Want}
 use Rattle.cbi_base.specs.declared.scalar.Want.TheVariants as want
 use Rattle.cbi_base.specs.declared.trap.Trap.{Trap}
 use Rattle.cbi_base.specs.declared.trap.Trap.TheVariants as trap
-use Rattle.cbi_base.specs.Frames.{filled, filled_in}
-use Rattle.cbi_base.specs.Objects.{Object, Objects, found_cell, live_or, loaded, moved, moved_in, set_in, stored, with_object, ◌>>=◌}
+use Rattle.cbi_base.specs.Objects.{◌>>=◌}
 use Rattle.c_syntax.specs.ExprTree as e
 use Rattle.c_syntax.specs.ExprTree.{ExprTree, ExprList}
-use Rattle.flow.specs.Rows.{zero_value}
 use Rattle.c_meaning.specs.declared.value_type.ValueType.{ValueType}
-use Rattle.c_meaning.specs.Conversions.{as_wanted, conversion, converts, is_null_as}
-use Rattle.c_meaning.specs.Expressions.{wanted_value}
-use Rattle.c_meaning.specs.Facts.{Setting}
-use Rattle.c_meaning.specs.Initialisers.{element_set, elements_set, object_of, on_object, want_of, zeroed}
-use Rattle.c_meaning.specs.Meaning.{expr}
-use Rattle.c_meaning.specs.Places.{member_place, store_at}
-use Rattle.c_meaning.specs.Trees.{count, type_of}
-use Rattle.c_meaning.specs.World.{World, Out, Go, answered, bind, done}
+use Rattle.c_meaning.specs.Words.{as_wanted, conversion, converts, is_null_as, wanted_value, Setting, element_set, elements_set, object_of, on_object, want_of}
+use Rattle.c_meaning.specs.Words.{zeroed, expr, member_place, store_at, count, type_of, World, Out, Go, answered, bind, done}
 use Rattle.c_meaning_laws.specs.Lists.{ItemsLeave, ListLeavesZero, LoadsAlike}
 use Rattle.c_meaning_laws.proofs.Objects.{cell_within, load_found, load_in, put_found, set_elsewhere}
 use Rattle.c_meaning_laws.proofs.Parts.{Ends, ends_bind, ends_go, ends_known}
@@ -71,10 +64,7 @@ module _ (s : Setting) (token : ℕ) (wanted : Want) (number place : ℕ) where
   store_keeps : (index : ℕ) (v : Scalar) (o : Objects) → (index ≡ place → ⊥) → IsZero o → StoredZero (stored (Place number index) v o)
   unfolding stored
   store_keeps index Undefined o other h = tt
-  store_keeps index (Number kind value) o other h =
-      found_keeps index (Number kind value) o (get o.live number) other (sym (load_found wanted number place o) ∙ h)
-  store_keeps index (Place k l) o other h = found_keeps index (Place k l) o (get o.live number) other (sym (load_found wanted number place o) ∙ h)
-  store_keeps index Null o other h = found_keeps index Null o (get o.live number) other (sym (load_found wanted number place o) ∙ h)
+  store_keeps index v o other h = found_keeps index v o (get o.live number) other (sym (load_found wanted number place o) ∙ h)
 
   answer_keeps : (r : Result Objects Trap) (v : Scalar) (w : World) → StoredZero r
       → Ends Kept (done (bind (answered r w) (λ objects u. Go v (record u { objects = objects }))))

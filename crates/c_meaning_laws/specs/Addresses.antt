@@ -1,16 +1,12 @@
 -- `&a[i]` is `a + i`, `&*p` is `p`, and `*&x` is x (C99 6.5.3.2p3, p4).
 use Rattle.std.specs.Prelude.{◌≡◌, ℕ, true}
+use Rattle.cbi_base.specs.Frames.{Locals}
 use Rattle.cbi_base.specs.declared.scalar.Scalar.TheVariants.{Place}
 use Rattle.c_syntax.specs.declared.expr.PrefixOperator.TheVariants as prefix
 use Rattle.c_syntax.specs.declared.token.Sign.TheVariants as sign
 use Rattle.c_syntax.specs.ExprTree as e
 use Rattle.c_syntax.specs.ExprTree.{ExprTree}
-use Rattle.flow.specs.Now.{Locals}
-use Rattle.c_meaning.specs.Facts.{Setting}
-use Rattle.c_meaning.specs.Meaning.{expr}
-use Rattle.c_meaning.specs.Runs.{Source, call_at, setting_of}
-use Rattle.c_meaning.specs.Trees.{is_place, type_of}
-use Rattle.c_meaning.specs.World.{World, Go}
+use Rattle.c_meaning.specs.Words.{Setting, expr, Source, call_at, setting_of, is_place, type_of, World, Go}
 use Rattle.c_meaning_laws.specs.Typed.{Typed}
 use Rattle.c_meaning_laws.specs.TypedSource.{SourceFits}
 use Rattle.c_meaning_laws.specs.Indexing.{HasPointer, indexed_tree}

@@ -1,14 +1,11 @@
 -- An assignment has the value that its variable has behind it (C99 6.5.16p3).
 use Rattle.std.specs.Prelude.{◌≡◌, ℕ, List}
+use Rattle.cbi_base.specs.Frames.{Locals}
 use Rattle.cbi_base.specs.declared.scalar.Scalar.{Scalar}
 use Rattle.c_syntax.specs.declared.token.Sign.{Sign}
 use Rattle.c_syntax.specs.ExprTree as e
 use Rattle.c_syntax.specs.ExprTree.{ExprTree}
-use Rattle.flow.specs.Now.{Locals}
-use Rattle.c_meaning.specs.Facts.{Setting}
-use Rattle.c_meaning.specs.Meaning.{expr}
-use Rattle.c_meaning.specs.Runs.{Source, call_at, setting_of}
-use Rattle.c_meaning.specs.World.{World, Go}
+use Rattle.c_meaning.specs.Words.{Setting, expr, Source, call_at, setting_of, World, Go}
 use Rattle.c_meaning_laws.specs.Typed.{Typed}
 use Rattle.c_meaning_laws.specs.TypedSource.{SourceFits}
 

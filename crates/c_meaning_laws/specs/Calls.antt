@@ -2,17 +2,13 @@
 use Rattle.std.specs.Prelude.{◌≡◌, ◌⊎◌, ℕ, ◌+◌, ◌<◌, Bool, true, false, List, [], Some}
 use Rattle.std.specs.FinMap.{get}
 use Rattle.std.specs.List.{AllByRecursion}
+use Rattle.cbi_base.specs.Words.{Locals, Object, Objects}
 use Rattle.cbi_base.specs.declared.scalar.Scalar.{Scalar}
 use Rattle.cbi_base.specs.declared.scalar.Scalar.TheVariants.{Place}
-use Rattle.cbi_base.specs.Objects.{Object, Objects}
 use Rattle.c_syntax.specs.ExprTree as e
 use Rattle.c_syntax.specs.ExprTree.{ExprList}
 use Rattle.flow.specs.declared.site.Slot.TheVariants as slot
-use Rattle.flow.specs.Now.{Locals}
-use Rattle.c_meaning.specs.Facts.{Facts, Setting, Signature}
-use Rattle.c_meaning.specs.Meaning.{arguments_value, expr}
-use Rattle.c_meaning.specs.Runs.{Source, call_at, setting_of}
-use Rattle.c_meaning.specs.World.{World, Go}
+use Rattle.c_meaning.specs.Words.{Facts, Setting, Signature, arguments_value, expr, Source, call_at, setting_of, World, Go}
 
 -- a set of objects, by their numbers
 module _ (hidden : ℕ → Bool) where

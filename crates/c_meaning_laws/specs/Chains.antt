@@ -3,8 +3,7 @@ use Rattle.std.specs.Prelude.{◌≡◌, ℕ}
 use Rattle.c_syntax.specs.declared.token.Sign.{Sign}
 use Rattle.c_syntax.specs.ExprTree as e
 use Rattle.c_syntax.specs.ExprTree.{ExprTree, LinkList}
-use Rattle.c_meaning.specs.Facts.{Setting}
-use Rattle.c_meaning.specs.Meaning.{expr}
+use Rattle.c_meaning.specs.Words.{Setting, expr}
 
 -- `a op b ..` means what `(a op b) ..` means, whatever operators of the level stand behind them: the parentheses have the type of what they hold.
 abbrev pub ChainGroupsLeft : Type 0

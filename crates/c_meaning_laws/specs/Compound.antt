@@ -7,11 +7,7 @@ use Rattle.c_syntax.specs.declared.token.Sign.TheVariants as sign
 use Rattle.c_syntax.specs.ExprTree as e
 use Rattle.c_syntax.specs.ExprTree.{ExprTree}
 use Rattle.c_types_expressions.specs.ExprWalk.{binary_of, compound_of}
-use Rattle.c_meaning.specs.Facts.{Setting}
-use Rattle.c_meaning.specs.Meaning.{expr}
-use Rattle.c_meaning.specs.Operation.{operation, type_given}
-use Rattle.c_meaning.specs.Trees.{is_place, type_of}
-use Rattle.c_meaning.specs.World.{World, Out, Go, Stop}
+use Rattle.c_meaning.specs.Words.{Setting, expr, operation, type_given, is_place, type_of, World, Out, Go, Stop}
 use Rattle.c_meaning_laws.specs.Typed.{Typed}
 use Rattle.c_meaning_laws.specs.Parentheses.{IsWritten, KeepsType}
 

@@ -9,10 +9,7 @@ use Rattle.cbi_base.specs.declared.trap.Trap.TheVariants as trap
 use Rattle.cbi_base.specs.Objects.{Object, Objects, loaded}
 use Rattle.c_syntax.specs.ExprTree as e
 use Rattle.c_syntax.specs.StatementTree.{DeclarationTree, StartTree}
-use Rattle.c_meaning.specs.Facts.{Setting}
-use Rattle.c_meaning.specs.Initialisers.{declares, object_of}
-use Rattle.c_meaning.specs.Meaning.{expr}
-use Rattle.c_meaning.specs.World.{World, Go, Stop}
+use Rattle.c_meaning.specs.Words.{Setting, declares, object_of, expr, World, Go, Stop}
 use Rattle.c_meaning_laws.specs.Rules.{IsScalar}
 
 -- an object that holds nothing: no load from it gives a value, and a load from one of its cells meets an undefined one

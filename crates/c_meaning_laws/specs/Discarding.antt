@@ -6,11 +6,7 @@ use Rattle.c_syntax.specs.ExprTree.{ExprTree}
 use Rattle.c_syntax.specs.StatementTree as tree
 use Rattle.c_meaning.specs.declared.value_type.ValueType.{ValueType}
 use Rattle.c_meaning.specs.declared.value_type.ValueType.TheVariants as type
-use Rattle.c_meaning.specs.Facts.{Setting}
-use Rattle.c_meaning.specs.Meaning.{expr}
-use Rattle.c_meaning.specs.Statements.{exec}
-use Rattle.c_meaning.specs.Trees.{type_of}
-use Rattle.c_meaning.specs.World.{World, Go, Next, bind}
+use Rattle.c_meaning.specs.Words.{Setting, expr, exec, type_of, World, Go, Next, bind}
 use Rattle.c_meaning_laws.specs.Rules.{IsValue}
 use Rattle.c_meaning_laws.specs.Typed.{Typed}
 

@@ -2,21 +2,13 @@
 use Rattle.std.specs.Prelude.{◌≡◌, ◌⊎◌, ℕ, true, List, [], Some, None, codes, length}
 use Rattle.cbi_base.specs.declared.scalar.Kind.TheVariants.{Int}
 use Rattle.cbi_base.specs.declared.scalar.Scalar.{Scalar}
-use Rattle.cbi_base.specs.Frames.{all_made, first_cells}
-use Rattle.cbi_base.specs.Objects.{Object, Objects, no_objects}
-use Rattle.cbi_base.specs.Scalars.{IsInRange}
+use Rattle.cbi_base.specs.Words.{all_made, first_cells, Locals, each_made, Object, Objects, no_objects, IsInRange}
 use Rattle.c_syntax.specs.ExprTree as e
-use Rattle.c_syntax.specs.ExprTree.{ExprTree}
+use Rattle.c_syntax.specs.Words.{ExprTree, StatementTree, EntryList}
 use Rattle.c_syntax.specs.StatementTree as tree
-use Rattle.c_syntax.specs.StatementTree.{StatementTree, EntryList}
-use Rattle.flow.specs.Machine.{each_made}
-use Rattle.flow.specs.Now.{Locals}
 use Rattle.c_meaning.specs.declared.value_type.ValueType.TheVariants as type
-use Rattle.c_meaning.specs.Facts.{Facts, Signature}
-use Rattle.c_meaning.specs.Runs.{Behaviour, Source, behaves, call_at, first_world, inside, locals_at, meaning, setting_of, value_left}
-use Rattle.c_meaning.specs.Statements.{exec_all}
-use Rattle.c_meaning.specs.Trees.{type_of}
-use Rattle.c_meaning.specs.World.{World, Out, Go, Flow, Returned, bind}
+use Rattle.c_meaning.specs.Words.{Facts, Signature, Behaviour, Source, behaves, call_at, first_world, inside, locals_at, meaning, setting_of, value_left}
+use Rattle.c_meaning.specs.Words.{exec_all, type_of, World, Out, Go, Flow, Returned, bind}
 use Rattle.c_meaning_laws.specs.Rules.{IsNumberType}
 use Rattle.c_meaning_laws.specs.TypedSource.{SourceFits}
 use Rattle.c_meaning_laws.specs.Negation.{IsOf}

@@ -1,16 +1,11 @@
 -- Each call has variables of its own (C99 6.2.4p5, 6.5.2.2p4, 6.9.1p9, p10).
 use Rattle.std.specs.Prelude.{◌≡◌, ℕ, ◌+◌, ◌-◌, ◌<◌, ◌≤◌, ◌∷◌, List, length, replicate, Some, None, slice_get}
 use Rattle.std.specs.FinMap.{get}
+use Rattle.cbi_base.specs.Words.{active_limit, all_made, first_cells, local_at, Objects}
 use Rattle.cbi_base.specs.declared.scalar.Class.TheVariants.{Local}
 use Rattle.cbi_base.specs.declared.scalar.Scalar.{Scalar}
 use Rattle.cbi_base.specs.declared.scalar.Scalar.TheVariants.{Undefined}
-use Rattle.cbi_base.specs.Frames.{all_made, first_cells}
-use Rattle.cbi_base.specs.Objects.{Objects}
-use Rattle.flow.specs.Limits.{active_limit}
-use Rattle.flow.specs.Now.{local_at}
-use Rattle.c_meaning.specs.Facts.{Signature}
-use Rattle.c_meaning.specs.Runs.{Source, call_at, enter_function, inside, locals_at, run_body}
-use Rattle.c_meaning.specs.World.{World, Caller, Go}
+use Rattle.c_meaning.specs.Words.{Signature, Source, call_at, enter_function, inside, locals_at, run_body, World, Caller, Go}
 
 -- The variables of a function that is entered with these arguments are objects made now, in their order: a parameter holds its argument, and the others
 -- hold nothing. Each object that was made before is what it was.

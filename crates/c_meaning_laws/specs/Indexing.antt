@@ -4,11 +4,7 @@ use Rattle.c_syntax.specs.declared.expr.PrefixOperator.TheVariants as prefix
 use Rattle.c_syntax.specs.declared.token.Sign.TheVariants as sign
 use Rattle.c_syntax.specs.ExprTree as e
 use Rattle.c_syntax.specs.ExprTree.{ExprTree, PostfixList}
-use Rattle.c_meaning.specs.Conversions.{is_pointer_value}
-use Rattle.c_meaning.specs.Facts.{Facts, Setting}
-use Rattle.c_meaning.specs.Meaning.{expr}
-use Rattle.c_meaning.specs.Trees.{type_of}
-use Rattle.c_meaning.specs.World.{World}
+use Rattle.c_meaning.specs.Words.{is_pointer_value, Facts, Setting, expr, type_of, World}
 use Rattle.c_meaning_laws.specs.Typed.{Typed}
 use Rattle.c_meaning_laws.specs.Parentheses.{IsWritten, KeepsType}
 

@@ -2,14 +2,10 @@
 use Rattle.std.specs.Prelude.{◌≡◌, ℕ, List, [], ◌∷◌, ◌++◌, Some, None}
 use Rattle.c_syntax.specs.declared.token.Sign.TheVariants as sign
 use Rattle.c_syntax.specs.ExprTree as e
-use Rattle.c_syntax.specs.ExprTree.{ExprTree}
+use Rattle.c_syntax.specs.Words.{ExprTree, DeclarationTree, EntryList, StartTree, StatementTree}
 use Rattle.c_syntax.specs.StatementTree as tree
-use Rattle.c_syntax.specs.StatementTree.{DeclarationTree, EntryList, StartTree, StatementTree}
 use Rattle.c_meaning.specs.declared.value_type.ValueType.{ValueType}
-use Rattle.c_meaning.specs.Facts.{Setting}
-use Rattle.c_meaning.specs.Initialisers.{equals_token}
-use Rattle.c_meaning.specs.Statements.{exec_all}
-use Rattle.c_meaning.specs.World.{World}
+use Rattle.c_meaning.specs.Words.{Setting, equals_token, exec_all, World}
 use Rattle.c_meaning_laws.specs.Rules.{IsScalar}
 
 -- a declaration of these alone

@@ -4,8 +4,7 @@ use Rattle.c_syntax.specs.declared.token.Sign.TheVariants as sign
 use Rattle.c_syntax.specs.declared.token.Sign.{Sign}
 use Rattle.c_syntax.specs.ExprTree as e
 use Rattle.c_syntax.specs.ExprTree.{ExprTree}
-use Rattle.c_meaning.specs.Facts.{Setting}
-use Rattle.c_meaning.specs.Meaning.{expr}
+use Rattle.c_meaning.specs.Words.{Setting, expr}
 use Rattle.c_meaning_laws.specs.Constants.{IsInt, one_at, zero_at}
 
 -- two operands and the operator between them

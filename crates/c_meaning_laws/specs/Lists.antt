@@ -1,20 +1,14 @@
 -- An array is zero behind the list that initialises it (C99 6.7.8p21).
 use Rattle.std.specs.Prelude.{◌≡◌, ℕ, suc, ◌≤◌, ◌<◌, Bool, length, Some, Ok}
 use Rattle.std.specs.FinMap.{get}
+use Rattle.cbi_base.specs.Words.{zero_value, filled, Object, loaded}
 use Rattle.cbi_base.specs.declared.scalar.Scalar.{Scalar}
 use Rattle.cbi_base.specs.declared.scalar.Scalar.TheVariants.{Place}
 use Rattle.cbi_base.specs.declared.scalar.Want.{Want}
-use Rattle.cbi_base.specs.Frames.{filled}
-use Rattle.cbi_base.specs.Objects.{Object, loaded}
 use Rattle.c_syntax.specs.ExprTree as e
 use Rattle.c_syntax.specs.ExprTree.{ExprTree, ExprList}
 use Rattle.c_syntax.specs.StatementTree as tree
-use Rattle.flow.specs.Rows.{zero_value}
-use Rattle.c_meaning.specs.Facts.{Setting}
-use Rattle.c_meaning.specs.Initialisers.{element_set, initialised, object_of, want_of}
-use Rattle.c_meaning.specs.Meaning.{expr}
-use Rattle.c_meaning.specs.Trees.{count}
-use Rattle.c_meaning.specs.World.{World, Go}
+use Rattle.c_meaning.specs.Words.{Setting, element_set, initialised, object_of, want_of, expr, count, World, Go}
 
 module _ (s : Setting) (token : ℕ) (wanted : Want) (number place : ℕ) where
   -- a load of this cell finds the same in both states

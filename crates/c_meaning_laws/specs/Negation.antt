@@ -1,21 +1,15 @@
 -- `!E` is `0 == E` (C99 6.5.3.3p5).
 use Rattle.std.specs.Prelude.{◌≡◌, ℕ, Option, Some}
+use Rattle.cbi_base.specs.Words.{Locals, LiesIn, IsInRange}
 use Rattle.cbi_base.specs.declared.scalar.Scalar.{Scalar}
 use Rattle.cbi_base.specs.declared.scalar.Scalar.TheVariants.{Number, Place, Null, Undefined}
-use Rattle.cbi_base.specs.Kind.{LiesIn}
-use Rattle.cbi_base.specs.Scalars.{IsInRange}
 use Rattle.c_syntax.specs.declared.expr.PrefixOperator.TheVariants as prefix
 use Rattle.c_syntax.specs.declared.token.Sign.TheVariants as sign
 use Rattle.c_syntax.specs.ExprTree as e
 use Rattle.c_syntax.specs.ExprTree.{ExprTree}
-use Rattle.flow.specs.Now.{Locals}
 use Rattle.c_meaning.specs.declared.value_type.ValueType.{ValueType}
 use Rattle.c_meaning.specs.declared.value_type.ValueType.TheVariants as type
-use Rattle.c_meaning.specs.Facts.{Setting}
-use Rattle.c_meaning.specs.Meaning.{expr}
-use Rattle.c_meaning.specs.Runs.{Source, call_at, setting_of}
-use Rattle.c_meaning.specs.Trees.{type_of}
-use Rattle.c_meaning.specs.World.{World, Go}
+use Rattle.c_meaning.specs.Words.{Setting, expr, Source, call_at, setting_of, type_of, World, Go}
 use Rattle.c_meaning_laws.specs.Rules.{IsValue}
 use Rattle.c_meaning_laws.specs.Typed.{Typed}
 use Rattle.c_meaning_laws.specs.TypedSource.{SourceFits}

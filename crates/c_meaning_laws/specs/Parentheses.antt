@@ -2,8 +2,7 @@
 use Rattle.std.specs.Prelude.{◌≡◌, ◌⊎◌, ℕ}
 use Rattle.c_syntax.specs.ExprTree as e
 use Rattle.c_syntax.specs.ExprTree.{ExprTree}
-use Rattle.c_meaning.specs.Facts.{Facts}
-use Rattle.c_meaning.specs.Trees.{type_of}
+use Rattle.c_meaning.specs.Words.{Facts, type_of}
 
 -- the parentheses around an expression have the type of what they hold
 abbrev pub KeepsType : Facts → ExprTree → Type 0

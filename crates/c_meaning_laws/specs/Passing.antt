@@ -1,24 +1,14 @@
 -- A call hands its arguments over to the parameters, and a function gives what it returns (C99 6.5.2.2p4, p7, p10, 6.9.1p10, 6.8.6.4p3).
 use Rattle.std.specs.Prelude.{◌≡◌, ℕ, suc, ◌<◌, ◌==◌, List, [], ◌∷◌, Some}
+use Rattle.cbi_base.specs.Words.{active_limit, all_made, first_cells, Locals, Objects}
 use Rattle.cbi_base.specs.declared.scalar.Scalar.{Scalar}
-use Rattle.cbi_base.specs.Frames.{all_made, first_cells}
-use Rattle.cbi_base.specs.Objects.{Objects}
 use Rattle.c_syntax.specs.declared.token.Sign.TheVariants as sign
 use Rattle.c_syntax.specs.ExprTree as e
 use Rattle.c_syntax.specs.ExprTree.{ExprTree, ExprList}
 use Rattle.c_syntax.specs.StatementTree as tree
-use Rattle.flow.specs.Limits.{active_limit}
-use Rattle.flow.specs.Now.{Locals}
 use Rattle.c_meaning.specs.declared.value_type.ValueType.{ValueType}
-use Rattle.c_meaning.specs.Calls.{with_result}
-use Rattle.c_meaning.specs.Conversions.{is_null_as}
-use Rattle.c_meaning.specs.Expressions.{Sense, cast}
-use Rattle.c_meaning.specs.Facts.{Setting, Signature}
-use Rattle.c_meaning.specs.Meaning.{expr}
-use Rattle.c_meaning.specs.Runs.{Source, call_at, inside, left_function, locals_at, run_body, setting_of, value_left}
-use Rattle.c_meaning.specs.Statements.{exec}
-use Rattle.c_meaning.specs.Trees.{has_value}
-use Rattle.c_meaning.specs.World.{World, Out, Go, Returned, bind}
+use Rattle.c_meaning.specs.Words.{with_result, is_null_as, Sense, cast, Setting, Signature, expr, Source, call_at, inside, left_function, locals_at, run_body}
+use Rattle.c_meaning.specs.Words.{setting_of, value_left, exec, has_value, World, Out, Go, Returned, bind}
 use Rattle.c_meaning_laws.specs.Frames.{HasOwnVariables}
 
 -- what a cast to the type means of the expression (C99 6.5.4)

@@ -1,16 +1,12 @@
 -- A loop is its first round and the loop again (C99 6.8.5.1, 6.8.5.2), a `for` is its `while` (C99 6.8.5.3), without a condition it goes on for ever
 -- (C99 6.8.5.3p2), and a block is its entries (C99 6.8.2).
 use Rattle.std.specs.Prelude.{◌≡◌, ℕ, ◌≤◌, Option, None, Some}
-use Rattle.c_syntax.specs.ExprTree.{ExprTree}
+use Rattle.cbi_base.specs.Frames.{Locals}
+use Rattle.c_syntax.specs.Words.{ExprTree, ForStartTree, StatementTree, EntryList}
 use Rattle.c_syntax.specs.StatementTree as tree
-use Rattle.c_syntax.specs.StatementTree.{ForStartTree, StatementTree, EntryList}
-use Rattle.flow.specs.Now.{Locals}
 use Rattle.c_meaning.specs.declared.value_type.ValueType.{ValueType}
-use Rattle.c_meaning.specs.Facts.{Setting}
-use Rattle.c_meaning.specs.Meaning.{condition}
-use Rattle.c_meaning.specs.Runs.{Source, call_at, setting_of}
-use Rattle.c_meaning.specs.Statements.{after_body, exec, exec_all}
-use Rattle.c_meaning.specs.World.{World, Out, Go, Flow, Next, Continued, bind, choose, spend}
+use Rattle.c_meaning.specs.Words.{Setting, condition, Source, call_at, setting_of, after_body, exec, exec_all, World, Out, Go, Flow, Next, Continued, bind}
+use Rattle.c_meaning.specs.Words.{choose, spend}
 use Rattle.c_meaning_laws.specs.Constants.{one_at}
 
 -- the loop again, behind the turn that each round but the first one spends

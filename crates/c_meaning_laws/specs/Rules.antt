@@ -8,10 +8,8 @@ use Rattle.c_meaning.specs.declared.operation.Operation.{Operation}
 use Rattle.c_meaning.specs.declared.operation.Operation.TheVariants.{Numbers, MoveLeft, MoveRight, Span, Ordered, Wrong}
 use Rattle.c_meaning.specs.declared.value_type.ValueType.{ValueType}
 use Rattle.c_meaning.specs.declared.value_type.ValueType.TheVariants as type
-use Rattle.c_meaning.specs.Conversions.{is_null_as}
-use Rattle.c_meaning.specs.Facts.{Facts}
-use Rattle.c_meaning.specs.Operation.{left_kind, operation, type_given}
-use Rattle.c_meaning.specs.Trees.{Assignment, Plain, By, Joint, Both, Either, Computes, Unjoined, is_null_beside, operand_type, type_of}
+use Rattle.c_meaning.specs.Words.{is_null_as, Facts, left_kind, operation, type_given, Assignment, Plain, By, Joint, Both, Either, Computes, Unjoined}
+use Rattle.c_meaning.specs.Words.{is_null_beside, operand_type, type_of}
 
 abbrev pub IsNumberType : Option ValueType → Type 0
 IsNumberType (Some (type.Number kind)) = Unit {0}

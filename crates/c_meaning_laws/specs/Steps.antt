@@ -4,10 +4,7 @@ use Rattle.c_syntax.specs.declared.expr.PrefixOperator.TheVariants as prefix
 use Rattle.c_syntax.specs.declared.token.Sign.TheVariants as sign
 use Rattle.c_syntax.specs.ExprTree as e
 use Rattle.c_syntax.specs.ExprTree.{ExprTree}
-use Rattle.c_meaning.specs.Facts.{Setting}
-use Rattle.c_meaning.specs.Meaning.{expr}
-use Rattle.c_meaning.specs.Trees.{is_place}
-use Rattle.c_meaning.specs.World.{World}
+use Rattle.c_meaning.specs.Words.{Setting, expr, is_place, World}
 use Rattle.c_meaning_laws.specs.Constants.{IsInt, one_at}
 use Rattle.c_meaning_laws.specs.Indexing.{followed}
 

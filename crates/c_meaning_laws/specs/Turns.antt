@@ -5,8 +5,7 @@ use Rattle.cbi_base.specs.declared.outcome.Outcome.TheVariants.{CutTurns}
 use Rattle.c_syntax.specs.ItemTree.{SourceTree}
 use Rattle.c_types_expressions.specs.declared.walk.Walk.{Walk}
 use Rattle.flow.specs.declared.site.Site.{Site}
-use Rattle.c_meaning.specs.Runs.{Behaviour, Source, meaning}
-use Rattle.c_meaning.specs.Texts.{text_meaning}
+use Rattle.c_meaning.specs.Words.{Behaviour, Source, meaning, text_meaning}
 
 -- what the first wrote and saw begins what the second wrote and saw
 pub record Begins (first second : Behaviour) : Type 0 where

@@ -19,10 +19,8 @@ use Rattle.c_meaning.specs.declared.value_type.Called.{Called}
 use Rattle.c_meaning.specs.declared.value_type.Called.TheVariants as called
 use Rattle.c_meaning.specs.declared.value_type.ValueType.{ValueType}
 use Rattle.c_meaning.specs.declared.value_type.ValueType.TheVariants as type
-use Rattle.c_meaning.specs.Conversions.{as_used, is_null_as}
-use Rattle.c_meaning.specs.Facts.{Facts, Signature, Sites}
-use Rattle.c_meaning.specs.Operation.{operation}
-use Rattle.c_meaning.specs.Trees.{assignment, begins_null, called_as, is_place, joint, one_kind, operand_type, step_of, token_of, type_of}
+use Rattle.c_meaning.specs.Words.{as_used, is_null_as, Facts, Signature, Sites, operation, assignment, begins_null, called_as, is_place, joint, one_kind}
+use Rattle.c_meaning.specs.Words.{operand_type, step_of, token_of, type_of}
 use Rattle.c_meaning_laws.specs.Rules.{Accepts, Arm, Assigns, Casts, Changes, IsNumberType, OperatorsEnd}
 use Rattle.c_meaning_laws.specs.Rules.{IsObject, IsPointer, IsPointing, IsPromoted, IsValue, Joins, Moves, type_beside}
 

@@ -5,10 +5,7 @@ use Rattle.c_syntax.specs.StatementTree.{EntryList}
 use Rattle.flow.specs.declared.site.Site.{Site}
 use Rattle.flow.specs.declared.site.SiteKind.{SiteKind}
 use Rattle.c_meaning.specs.declared.value_type.ValueType.TheVariants as type
-use Rattle.c_meaning.specs.Facts.{Facts, Signature, Sites}
-use Rattle.c_meaning.specs.Globals.{no_sites}
-use Rattle.c_meaning.specs.Runs.{Source}
-use Rattle.c_meaning.specs.Texts.{is_branch, is_return}
+use Rattle.c_meaning.specs.Words.{Facts, Signature, Sites, no_sites, Source, is_branch, is_return}
 use Rattle.c_meaning_laws.specs.TypedStatements.{TypedEntries}
 
 -- the site is there, and is of this kind

@@ -6,21 +6,15 @@ use Rattle.cbi_base.specs.declared.scalar.Kind.TheVariants.{Char, Int, Unsigned}
 use Rattle.cbi_base.specs.Kind.{lies_in}
 use Rattle.c_syntax.specs.declared.expr.PrefixOperator.TheVariants as prefix
 use Rattle.c_syntax.specs.ExprTree as e
-use Rattle.c_syntax.specs.ExprTree.{ExprTree, ExprList}
-use Rattle.c_syntax.specs.ItemTree.{SourceTree}
+use Rattle.c_syntax.specs.Words.{ExprTree, ExprList, SourceTree, InitialTree, StartTree}
 use Rattle.c_syntax.specs.StatementTree as tree
-use Rattle.c_syntax.specs.StatementTree.{InitialTree, StartTree}
 use Rattle.c_types_rules.specs.TypeTree.{TypeTree}
 use Rattle.c_types_expressions.specs.declared.walk.Walk.{Walk}
 use Rattle.c_types.specs.Answers.{declared_at}
 use Rattle.flow.specs.declared.site.Site.{Site}
 use Rattle.c_meaning.specs.declared.value_type.ValueType.{ValueType}
 use Rattle.c_meaning.specs.declared.value_type.ValueType.TheVariants as type
-use Rattle.c_meaning.specs.Facts.{Facts, Signature}
-use Rattle.c_meaning.specs.Globals.{starts_of}
-use Rattle.c_meaning.specs.Known.{bodies, computed_type, element_type, facts_of}
-use Rattle.c_meaning.specs.Meaning.{text_of_string}
-use Rattle.c_meaning.specs.Texts.{main_of, sites_by_table}
+use Rattle.c_meaning.specs.Words.{Facts, Signature, starts_of, bodies, computed_type, element_type, facts_of, text_of_string, main_of, sites_by_table}
 use Rattle.c_meaning_laws.specs.Rules.{Accepts, IsPointer, IsPointing}
 use Rattle.c_meaning_laws.specs.TypedSource.{GivesInt, TypedBody}
 

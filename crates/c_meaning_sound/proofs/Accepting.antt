@@ -4,38 +4,30 @@ use Rattle.std.specs.Prelude.{Option, replicate, slice_get}
 use Rattle.std.specs.List.{AllByRecursion, flat_map}
 use Rattle.std.proofs.lemmas.List.{length-replicate}
 use Rattle.std.proofs.lemmas.Option.{slice_get_past}
+use Rattle.base_lists.proofs.Lists.{Stays}
+use Rattle.base_lists.proofs.Every.{all_first, all_second}
 use Rattle.c_syntax.specs.declared.token.Sign.TheVariants as sign
 use Rattle.c_syntax.specs.declared.parts.Base.{Base}
 use Rattle.c_syntax.specs.declared.parts.Params.{Params}
-use Rattle.c_syntax.specs.StatementTree.{DeclarationTree, EntryList, StartTree}
+use Rattle.c_syntax.specs.Words.{DeclarationTree, EntryList, StartTree, ItemTree, SourceTree, DeclarationAt, EachAt, ItemAt, ShapedDeclaration, ShapedItem}
+use Rattle.c_syntax.specs.Words.{a_name, a_sign, body_kinds, declaration_kinds, entry_kinds, item_kinds, parenthesized, params_kinds, type_kinds}
 use Rattle.c_syntax.specs.ItemTree as item
-use Rattle.c_syntax.specs.ItemTree.{ItemTree, SourceTree}
-use Rattle.c_syntax.specs.Place.{DeclarationAt, EachAt, ItemAt}
-use Rattle.c_syntax.specs.Shape.{ShapedDeclaration, ShapedItem}
-use Rattle.c_syntax.specs.Spelling.{a_name, a_sign, body_kinds, declaration_kinds, entry_kinds, item_kinds, parenthesized, params_kinds, type_kinds}
 use Rattle.c_types_rules.specs.TypeTree.{TypeTree}
 use Rattle.c_types_rules.specs.declared.function.FunctionType.{FunctionType}
 use Rattle.c_types_expressions.specs.declared.walk.Walk.{Walk}
 use Rattle.c_types.specs.Answers.{noted}
-use Rattle.c_types_expressions.specs.ExprWalk.{with_stars}
-use Rattle.c_types_expressions.specs.Beginning.{beginning}
+use Rattle.c_types_expressions.specs.Words.{with_stars, beginning, found, Done, Fine}
 use Rattle.c_types_walk.specs.ItemWalk.{clashes, known_as, types_of, walk_item, walk_items, with_function}
-use Rattle.c_types_expressions.specs.Names.{found}
 use Rattle.c_types_walk.specs.StatementWalk.{walk_declaration}
-use Rattle.c_types_expressions.specs.Walked.{Done, Fine}
-use Rattle.c_meaning.specs.Facts.{Signature}
-use Rattle.c_meaning.specs.Globals.{starts_of}
-use Rattle.c_meaning.specs.Known.{body_of_item, facts_of, signature_of}
-use Rattle.c_meaning.specs.Literals.{strings_declared, strings_of_item}
+use Rattle.c_meaning.specs.Words.{Signature, starts_of, body_of_item, facts_of, signature_of, strings_declared, strings_of_item}
 use Rattle.c_meaning_laws.specs.TypedSource.{TypedBody}
 use Rattle.c_meaning_laws.specs.TypedText.{TypedGlobals}
 use Rattle.c_meaning_sound.specs.Accepted.{IsNegatable}
 use Rattle.c_meaning_sound.proofs.Defining.{defined_item}
 use Rattle.c_meaning_sound.proofs.Ending.{Follows, Sums, item_follows, items_follow, struct_is}
-use Rattle.c_meaning_sound.proofs.Parting.{all_first, all_second}
 use Rattle.c_meaning_sound.proofs.Items.{BodiesFit, ItemBodyFits, Item, Later, Standing, Tagged, bodiless_item, function_found, known_has, same_function_notes}
 use Rattle.c_meaning_sound.proofs.Items.{same_types_declared, same_variables, standing_function, struct_item, tagged_function}
-use Rattle.c_meaning_sound.proofs.Noting.{Same, Stays, facts, none, same_here, same_then}
+use Rattle.c_meaning_sound.proofs.Noting.{Same, facts, none, same_here, same_then}
 use Rattle.c_meaning_sound.proofs.Reaching.{Defines, Grown, begun_stays, body_defines, comes, declares_is, defines_onward, defines_one, fine_known, function_is}
 use Rattle.c_meaning_sound.proofs.Reaching.{grown_then}
 use Rattle.c_meaning_sound.proofs.Texts.{Spelled}
@@ -158,10 +150,8 @@ module _ (tree : SourceTree) (z : Walk) where
 
     bodies_both : (x : ItemTree) (n m : ℕ) (ys : List EntryList) → m ≡ n + length (body_of_item x) → ItemBodyFits tree z n x → Bodies m ys → Bodies n
         (body_of_item x ++ ys)
-    bodies_both (item.Struct token tag members) n m ys e h k = subst (λ i. Bodies i ys) (e ∙ omega arith) k
-    bodies_both (item.Declaration d) n m ys e h k = subst (λ i. Bodies i ys) (e ∙ omega arith) k
-    bodies_both (item.Function token b stars name ps None) n m ys e h k = subst (λ i. Bodies i ys) (e ∙ omega arith) k
     bodies_both (item.Function token b stars name ps (Some body)) n m ys e h k = one_body body n m ys e h k
+    bodies_both x n m ys e h k = subst (λ i. Bodies i ys) (e ∙ omega arith) k
 
     no_bodies : (n : ℕ) → length z.definitions ≤ n → (number : ℕ) (f : Signature) → signature_of z (slice_get z.definitions (n + number)) ≡ Some f
         → TypedBody (facts tree z) none f (slice_get {X = EntryList} [] number)

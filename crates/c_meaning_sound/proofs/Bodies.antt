@@ -2,18 +2,12 @@
 use Rattle.std.proofs.Common.{◌≡◌, ℕ, ◌≤◌, subst, arith, Some, length}
 use Rattle.std.specs.Prelude.{sum_by, slice_get}
 use Rattle.std.specs.List.{AllByRecursion, flat_map}
-use Rattle.c_syntax.specs.ItemTree.{SourceTree}
-use Rattle.c_syntax.specs.Spelling.{tree_kinds}
-use Rattle.c_syntax.specs.Tokens.{kind_text_len}
-use Rattle.c_syntax.specs.WellFormed.{IsShaped}
+use Rattle.c_syntax.specs.Words.{SourceTree, tree_kinds, kind_text_len, IsShaped}
 use Rattle.c_types_expressions.specs.declared.walk.Walk.{Walk}
-use Rattle.c_types_expressions.specs.Beginning.{beginning}
+use Rattle.c_types_expressions.specs.Words.{beginning, Fine}
 use Rattle.c_types.specs.Fault.{walk_tree}
-use Rattle.c_types_expressions.specs.Walked.{Fine}
 use Rattle.c_types.proofs.NotedItems.{text_notes}
-use Rattle.c_meaning.specs.Facts.{Signature}
-use Rattle.c_meaning.specs.Globals.{starts_of}
-use Rattle.c_meaning.specs.Known.{bodies, facts_of, signature_of}
+use Rattle.c_meaning.specs.Words.{Signature, starts_of, bodies, facts_of, signature_of}
 use Rattle.c_meaning_laws.specs.TypedSource.{TypedBody}
 use Rattle.c_meaning_laws.specs.TypedText.{TypedGlobals}
 use Rattle.c_meaning_sound.specs.Accepted.{IsNegatable}

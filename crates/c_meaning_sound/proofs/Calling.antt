@@ -3,35 +3,31 @@ use Rattle.std.proofs.Common.{◌≡◌, ℕ, ◌<◌, refl, ap, subst, sym, ◌
 use Rattle.std.specs.Prelude.{Option, map, suc, zero, slice_get, if◌then◌else◌}
 use Rattle.std.specs.List.{AllByRecursion}
 use Rattle.std.specs.Option.{option_and_then}
-use Rattle.c_syntax.specs.ItemTree.{SourceTree}
+use Rattle.c_types_expressions.proofs.Giving.{Gives}
+use Rattle.c_types_expressions.proofs.Given.{looks}
+use Rattle.c_types.proofs.Replaced.{noted_same}
+use Rattle.base_lists.proofs.Lists.{Stays}
+use Rattle.c_syntax.specs.Words.{SourceTree, ExprTree, ExprList, Kinds, a_sign, expr_kinds, exprs_kinds, parenthesized}
 use Rattle.c_syntax.specs.ExprTree as e
-use Rattle.c_syntax.specs.ExprTree.{ExprTree, ExprList}
 use Rattle.c_syntax.specs.declared.token.Sign.TheVariants as sign
-use Rattle.c_syntax.specs.Spelling.{Kinds, a_sign, expr_kinds, exprs_kinds, parenthesized}
 use Rattle.c_types_rules.specs.declared.fault.FaultKind.TheVariants as fault
 use Rattle.c_types_rules.specs.declared.library.Library.{Library}
 use Rattle.c_types_rules.specs.declared.operand.Operand.{Operand}
 use Rattle.c_types_rules.specs.TypeTree as t
-use Rattle.c_types_rules.specs.TypeTree.{TypeTree}
+use Rattle.c_types_rules.specs.Words.{TypeTree, is_struct, value_of, library_called, library_named, sequenced, Looked}
 use Rattle.c_types_rules.specs.Conversions as rule
-use Rattle.c_types_rules.specs.Conversions.{is_struct, value_of}
 use Rattle.c_types_rules.specs.Functions as functions
-use Rattle.c_types_rules.specs.Library.{library_called, library_named}
-use Rattle.c_types_rules.specs.Selecting.{sequenced}
 use Rattle.c_types_rules.specs.declared.layout.StructType.{StructType}
-use Rattle.c_types_rules.specs.Faults.{Looked}
 use Rattle.c_types_expressions.specs.declared.names.Meaning.{Meaning}
 use Rattle.c_types_expressions.specs.declared.names.Meaning.TheVariants as meaning
 use Rattle.c_types_expressions.specs.declared.walk.FunctionEntry.{FunctionEntry}
 use Rattle.c_types_expressions.specs.declared.walk.Walk.{Walk}
 use Rattle.c_types.specs.Answers.{function_at, noted}
-use Rattle.c_types_expressions.specs.ExprWalk.{called_name, named, of_function, of_variable, with_call}
-use Rattle.c_types_expressions.specs.Walked.{with_type}
+use Rattle.c_types_expressions.specs.Words.{called_name, named, of_function, of_variable, with_call, with_type}
 use Rattle.c_meaning.specs.declared.value_type.ValueType.{ValueType}
 use Rattle.c_meaning.specs.declared.value_type.Called.TheVariants as callee
 use Rattle.c_meaning.specs.Conversions as mean
-use Rattle.c_meaning.specs.Known.{computed_type}
-use Rattle.c_meaning.specs.Trees.{called_as, library_call, token_of}
+use Rattle.c_meaning.specs.Words.{computed_type, called_as, library_call, token_of}
 use Rattle.c_meaning_laws.specs.Rules.{IsObject}
 use Rattle.c_meaning_laws.specs.Typed.{TypedArguments, TypedCall, TypedLast, TypedLone}
 use Rattle.c_meaning_laws.proofs.Ruled.{Is, given, known}
@@ -39,7 +35,7 @@ use Rattle.c_meaning_laws.proofs.RuledCalls.{AllTaken, called_fits}
 use Rattle.c_meaning_sound.proofs.Forming.{Ended, Formed, Numbered, Plain, last_formed, place_formed}
 use Rattle.c_meaning_sound.proofs.Naming.{Means, call_noted, name_noted, signed}
 use Rattle.c_meaning_sound.proofs.Marking.{marks_typed}
-use Rattle.c_meaning_sound.proofs.Noting.{AllWhole, GivesIn, IsSlot, Part, Ready, Same, Stays, Whole, facts, leftwards, looks, none, noted_same, so, typed_keeps}
+use Rattle.c_meaning_sound.proofs.Noting.{AllWhole, IsSlot, Part, Ready, Same, Whole, facts, leftwards, none, so, typed_keeps}
 use Rattle.c_meaning_sound.proofs.Noting.{typed_same, wider}
 use Rattle.c_meaning_sound.proofs.Operands.{Fits, Good, GoodList, Matched, called_formed, function_calls, library_fits, matched_arguments, typed_as}
 
@@ -70,7 +66,7 @@ module _ (tree : SourceTree) (z : Walk) (ends : Ended tree z) where
   whole_of (u ∷ types) (suc index) of h e = whole_of types index of h.1 e
 
   variable_good : (at token index : ℕ) (name : List ℕ) (w : Walk) (o : Option TypeTree) → slice_get w.declared_types index ≡ o → token ≡ at
-      → Ready tree z at (at + 1) w → IsSlot w.locals (slice_get w.variables index) → GivesIn (Good tree z at (e.Name token name) w)
+      → Ready tree z at (at + 1) w → IsSlot w.locals (slice_get w.variables index) → Gives (Good tree z at (e.Name token name) w)
       (of_variable token index o w)
   variable_good at token index name w None h p r s = tt
   variable_good at token index name w (Some of) h p r s =
@@ -85,12 +81,9 @@ module _ (tree : SourceTree) (z : Walk) (ends : Ended tree z) where
       }
 
   pub name_good : (at token : ℕ) (name : List ℕ) (w : Walk) (m : Option Meaning) → token ≡ at → Ready tree z at (at + 1) w
-      → Means w.locals w.variables name m → GivesIn (Good tree z at (e.Name token name) w) (named token m w)
-  name_good at token name w None p r h = tt
+      → Means w.locals w.variables name m → Gives (Good tree z at (e.Name token name) w) (named token m w)
   name_good at token name w (Some (meaning.Variable index)) p r h = variable_good at token index name w (slice_get w.declared_types index) refl p r h
-  name_good at token name w (Some (meaning.Function index)) p r h = tt
-  name_good at token name w (Some (meaning.Struct index)) p r h = tt
-  name_good at token name w (Some (meaning.Library function)) p r h = tt
+  name_good at token name w m p r h = tt
 
   -- calls
   called_at : (token index : ℕ) (n : Numbered tree z index) → noted z.functions_at token ≡ Some index → function_at z token ≡ Some n.number
@@ -112,7 +105,7 @@ module _ (tree : SourceTree) (z : Walk) (ends : Ended tree z) where
       → slice_get v.functions index ≡ o → token ≡ at
       → length (expr_kinds (e.Call token name arguments)) ≡ 3 + length (exprs_kinds arguments) → token < length v.types → token < length v.functions_at
       → Stays v.functions z.functions → GoodList tree z (at + 2) arguments [] w xs v
-      → GivesIn (Good tree z at (e.Call token name arguments) w) (of_function token index o xs v)
+      → Gives (Good tree z at (e.Call token name arguments) w) (of_function token index o xs v)
   function_good at token index name arguments w v xs None is p long h k f g = tt
   function_good at token index name arguments w v xs (Some y) is p long h k f g =
       (looks token (functions.called y.ctype xs) (with_call token index v) (λ b i.
@@ -154,10 +147,7 @@ module _ (tree : SourceTree) (z : Walk) (ends : Ended tree z) where
   pub call_good : (at token : ℕ) (name : List ℕ) (arguments : ExprList) (w v : Walk) (xs : List Operand) (m : Option Meaning) → token ≡ at
       → length (expr_kinds (e.Call token name arguments)) ≡ 3 + length (exprs_kinds arguments) → token < length v.types → token < length v.functions_at
       → noted v.functions_at token ≡ None → Stays v.functions z.functions → Means v.locals v.variables name m → GoodList tree z (at + 2) arguments [] w xs v
-      → GivesIn (Good tree z at (e.Call token name arguments) w) (called_name token m xs v)
-  call_good at token name arguments w v xs None p long h k n f l g = tt
-  call_good at token name arguments w v xs (Some (meaning.Variable index)) p long h k n f l g = tt
-  call_good at token name arguments w v xs (Some (meaning.Struct index)) p long h k n f l g = tt
+      → Gives (Good tree z at (e.Call token name arguments) w) (called_name token m xs v)
   call_good at token name arguments w v xs (Some (meaning.Function index)) p long h k n f l g =
       function_good at token index name arguments w v xs (slice_get v.functions index) refl p long h k f g
   call_good at token name arguments w v xs (Some (meaning.Library function)) p long h k n f l g =
@@ -176,6 +166,7 @@ module _ (tree : SourceTree) (z : Walk) (ends : Ended tree z) where
         null = sym made.1.1;
         formed = made.0;
       })).by
+  call_good at token name arguments w v xs m p long h k n f l g = tt
 
   -- a comma has the value of its last operand
   abbrev pub Sequence : ExprList → List Operand → Operand → Type 0

@@ -3,47 +3,38 @@ use Rattle.std.proofs.Common.{◌≡◌, ℕ, ◌≤◌, refl, ap, subst, sym, �
 use Rattle.std.specs.Prelude.{Option, IfSome, ◌&&◌, if◌then◌else◌}
 use Rattle.std.specs.List.{AllByRecursion}
 use Rattle.std.specs.Option.{option_map}
-use Rattle.std.proofs.lemmas.Bool.{false≢true}
+use Rattle.std.proofs.lemmas.Bool.{false≢true, and_parts}
 use Rattle.std.proofs.lemmas.List.{append-nil, append_assoc}
-use Rattle.cbi_base.proofs.NumberLemmas.{both}
+use Rattle.c_types_expressions.proofs.Giving.{Gives as GivesIn}
+use Rattle.c_types_expressions.proofs.Given.{Gives, and_then, weaker}
+use Rattle.base_lists.proofs.Every.{all_first, all_second}
 use Rattle.cbi_base.specs.declared.scalar.Kind.TheVariants as kind
-use Rattle.c_syntax.specs.ItemTree.{SourceTree}
+use Rattle.c_syntax.specs.Words.{SourceTree, ExprTree, ExprList, InitialTree, first_token, InitialAt, ShapedInitial, a_sign, comma_kinds, expr_kinds}
+use Rattle.c_syntax.specs.Words.{exprs_kinds, more_exprs_kinds}
 use Rattle.c_syntax.specs.declared.expr.PrefixOperator.TheVariants as prefix
 use Rattle.c_syntax.specs.declared.token.Sign.TheVariants as sign
 use Rattle.c_syntax.specs.ExprTree as e
-use Rattle.c_syntax.specs.ExprTree.{ExprTree, ExprList}
 use Rattle.c_syntax.specs.StatementTree as s
-use Rattle.c_syntax.specs.StatementTree.{InitialTree}
-use Rattle.c_syntax.specs.FirstToken.{first_token}
-use Rattle.c_syntax.specs.Place.{InitialAt}
-use Rattle.c_syntax.specs.Shape.{ShapedInitial}
-use Rattle.c_syntax.specs.Spelling.{a_sign, comma_kinds, expr_kinds, exprs_kinds, more_exprs_kinds}
 use Rattle.c_types_rules.specs.declared.operand.Operand.{Operand}
 use Rattle.c_types_rules.specs.TypeTree as t
-use Rattle.c_types_rules.specs.TypeTree.{TypeTree}
-use Rattle.c_types_rules.specs.Assigning.{assignable}
-use Rattle.c_types_rules.specs.Conversions.{is_scalar}
+use Rattle.c_types_rules.specs.Words.{TypeTree, assignable, is_scalar}
 use Rattle.c_types_expressions.specs.declared.walk.Walk.{Walk}
 use Rattle.c_types.specs.Answers.{declared_at, noted}
-use Rattle.c_types_expressions.specs.ExprWalk.{walk_expr, walk_exprs}
+use Rattle.c_types_expressions.specs.Words.{walk_expr, walk_exprs, Walked, Fine, Faulty}
 use Rattle.c_types_walk.specs.Initialisers.{all_initialise, cells_of_string, initialises, is_constant, listed_type, valued, walk_initial, with_length}
-use Rattle.c_types_expressions.specs.Walked.{Walked, Fine, Faulty}
 use Rattle.c_meaning.specs.declared.value_type.ValueType.{ValueType}
-use Rattle.c_meaning.specs.Known.{computed_type, element_type, facts_of}
-use Rattle.c_meaning.specs.Literals.{strings_in, strings_initial, strings_of_all}
-use Rattle.c_meaning.specs.Trees.{token_of}
+use Rattle.c_meaning.specs.Words.{computed_type, element_type, facts_of, strings_in, strings_initial, strings_of_all, token_of}
 use Rattle.c_meaning_laws.specs.Rules.{Accepts}
 use Rattle.c_meaning_laws.specs.TypedStatements.{TypedElements, TypedValue}
 use Rattle.c_meaning_laws.specs.TypedText.{GlobalInitial, GlobalItems, IsConstant}
 use Rattle.c_meaning_laws.proofs.Ruled.{known}
 use Rattle.c_meaning_sound.specs.Accepted.{IsNegatable}
 use Rattle.c_meaning_sound.proofs.Expressions.{exprs_good, walk_good}
-use Rattle.c_meaning_sound.proofs.Parting.{all_first, all_second}
 use Rattle.c_meaning_sound.proofs.Forming.{Ended}
 use Rattle.c_meaning_sound.proofs.Initialising.{Items, Lengthened, as_it_is, braced_long, completed, elements_typed, equals_kinds, listed_items, listed_length}
 use Rattle.c_meaning_sound.proofs.Initialising.{spelled_lies, value_typed, valued_length}
 use Rattle.c_meaning_sound.proofs.Marking.{Still, still_here, still_then}
-use Rattle.c_meaning_sound.proofs.Noting.{Gives, GivesIn, Part, Ready, and_then, facts, none, nothing_noted, ready_in, so, weaker, wider}
+use Rattle.c_meaning_sound.proofs.Noting.{Part, Ready, facts, none, nothing_noted, ready_in, so, wider}
 use Rattle.c_meaning_sound.proofs.Operands.{Fits, Matched}
 use Rattle.c_meaning_sound.proofs.Texts.{Spelled}
 
@@ -83,7 +74,7 @@ all_constant element e.no_exprs own h = tt
 all_constant element (e.more_exprs x rest) [] h = absurd (false≢true h)
 all_constant element (e.more_exprs x rest) (a ∷ own) h =
     let parts : (initialises true element x a ≡ true) × (all_initialise true element rest own ≡ true) =
-    both (initialises true element x a) (all_initialise true element rest own) h in
+    and_parts (initialises true element x a) (all_initialise true element rest own) h in
     (third_true (is_scalar element) (assignable element a) (is_constant x) parts.0, all_constant element rest own parts.1)
 
 rest_kinds : (rest : ExprList) → AllByRecursion IsNegatable (more_exprs_kinds rest) → AllByRecursion IsNegatable (exprs_kinds rest)
@@ -186,21 +177,11 @@ module _ (tree : SourceTree) (z : Walk) (ends : Ended tree z) where
       let fits : Items tree z ends true element items own size u = listed_items tree z ends true element u size items own h in
       items_global tree z c (known z.structs element) items (k (all_constant element items own fits.all))
       (elements_typed tree z ends true c element (known z.structs element) items own refl m fits.all)
-  listed_outer c n at comma t.Void u items own h m k = cc
-  listed_outer c n at comma t.Char u items own h m k = cc
-  listed_outer c n at comma t.Int u items own h m k = cc
-  listed_outer c n at comma t.Unsigned u items own h m k = cc
-  listed_outer c n at comma (t.Pointer to) u items own h m k = cc
-  listed_outer c n at comma (t.Struct tag) u items own h m k = cc
+  listed_outer c n at comma of u items own h m k = cc
 
   listed_constant : (of u : TypeTree) (items : ExprList) (own : List Operand) → listed_type true items own of ≡ Some u → AllConstant items
   listed_constant (t.Array element size) u items own h = all_constant element items own (listed_items tree z ends true element u size items own h).all
-  listed_constant t.Void u items own h = cc
-  listed_constant t.Char u items own h = cc
-  listed_constant t.Int u items own h = cc
-  listed_constant t.Unsigned u items own h = cc
-  listed_constant (t.Pointer to) u items own h = cc
-  listed_constant (t.Struct tag) u items own h = cc
+  listed_constant of u items own h = cc
 
   pub outer_good : (x : Option InitialTree) (at token : ℕ) (of : TypeTree) (w : Walk) → IfSome x ShapedInitial → IfSome x (InitialAt (at + 1))
       → AllByRecursion (Spelled tree) (strings_initial x) → AllByRecursion IsNegatable (equals_kinds x) → Ready tree z at (at + length (equals_kinds x)) w

@@ -4,17 +4,14 @@ use Rattle.std.proofs.Common.{false, length}
 use Rattle.std.specs.Prelude.{Option, ◌&&◌, ◌==◌, if◌then◌else◌, map, slice_get}
 use Rattle.std.specs.List.{AllByRecursion, flat_map}
 use Rattle.std.specs.Option.{option_and_then, option_map}
-use Rattle.std.proofs.lemmas.Bool.{false≢true}
+use Rattle.std.proofs.lemmas.Bool.{false≢true, and_parts}
 use Rattle.std.proofs.lemmas.Bool.Decides.{nat_tests}
 use Rattle.std.proofs.lemmas.List.{append_assoc}
-use Rattle.cbi_base.proofs.NumberLemmas.{both}
-use Rattle.c_syntax.specs.StatementTree.{EntryList}
+use Rattle.base_lists.proofs.Numbers.{same_number}
+use Rattle.base_lists.proofs.Every.{all_join, all_so}
+use Rattle.c_syntax.specs.Words.{EntryList, ItemTree, SourceTree, EachAt, ItemAt, entry_kinds, item_kinds, params_kinds, type_kinds}
 use Rattle.c_syntax.specs.ItemTree as item
-use Rattle.c_syntax.specs.ItemTree.{ItemTree, SourceTree}
-use Rattle.c_syntax.specs.Place.{EachAt, ItemAt}
-use Rattle.c_syntax.specs.Spelling.{entry_kinds, item_kinds, params_kinds, type_kinds}
-use Rattle.c_types_rules.specs.TypeTree.{TypeTree}
-use Rattle.c_types_rules.specs.Conversions.{is_arithmetic}
+use Rattle.c_types_rules.specs.Words.{TypeTree, is_arithmetic}
 use Rattle.c_types_expressions.specs.declared.walk.Variable.{Variable}
 use Rattle.c_types_expressions.specs.declared.walk.Variable.TheVariants as variable
 use Rattle.c_types_expressions.specs.declared.walk.VariableEntry.{VariableEntry}
@@ -25,18 +22,16 @@ use Rattle.flow.specs.declared.site.Partner.{Partner}
 use Rattle.flow.specs.declared.site.Site.{Site}
 use Rattle.flow.specs.declared.site.SiteKind.TheVariants as kind
 use Rattle.flow.specs.declared.site.Slot.{Slot}
-use Rattle.c_meaning.specs.Facts.{Signature, Sites}
+use Rattle.c_meaning.specs.Words.{Signature, Sites, body_of_item, facts_of, is_pair, sites_from, sites_by_table}
 use Rattle.c_meaning.specs.Known as known
-use Rattle.c_meaning.specs.Known.{body_of_item, facts_of}
-use Rattle.c_meaning.specs.Texts.{is_pair, sites_from, sites_by_table}
 use Rattle.c_meaning_laws.specs.Typed.{IsTarget, LooksAt}
 use Rattle.c_meaning_laws.specs.TypedSource.{TypedBody}
 use Rattle.c_meaning_sound.proofs.Accepting.{body_long}
-use Rattle.c_meaning_sound.proofs.Covering.{Covers, Has, Shows, all_so}
+use Rattle.c_meaning_sound.proofs.Covering.{Covers, Has, Shows}
 use Rattle.c_meaning_sound.proofs.LiftingBodies.{lift_entries}
 use Rattle.c_meaning_sound.proofs.Noting.{facts, none}
 use Rattle.sites.specs.declared.ground.Stand.{Stand}
-use Rattle.sites.specs.declared.schemes.Schemes.{Schemes}
+use Rattle.flow.specs.declared.choice.Schemes.{Schemes}
 use Rattle.sites.specs.declared.spots.Spot.{Spot}
 use Rattle.sites.specs.declared.spots.Spot.TheVariants as spot
 use Rattle.sites.specs.Bodies.{entries_spots}
@@ -48,10 +43,6 @@ use Rattle.sites.specs.Table.{body_with, defined_by, item_sites, items_sites}
 use Rattle.sites.specs.Visible.{slot_of}
 use Rattle.sites.proofs.RisesTable.{rises-item}
 
-all_join : {A : Type 0} (P : A → Type 0) (xs ys : List A) → AllByRecursion P xs → AllByRecursion P ys → AllByRecursion P (xs ++ ys)
-all_join P [] ys h k = k
-all_join P (x ∷ xs) ys h k = (h.0, all_join P xs ys h.1 k)
-
 has_so : (P Q : ℕ → Type 0) (token : ℕ) (xs : List Spot) → ((target : ℕ) → P target → Q target) → Has P token xs → Has Q token xs
 has_so P Q token [] f h = h
 has_so P Q token (spot.Change own target ∷ rest) f h = ⊎_elim (λ x. inl (x.0, f target x.1)) (λ k. inr (has_so P Q token rest f k)) h
@@ -61,9 +52,7 @@ has_so P Q token (spot.Constant value ∷ rest) f h = has_so P Q token rest f h
 
 has_more : (P : ℕ → Type 0) (token : ℕ) (x : Spot) (xs : List Spot) → Has P token xs → Has P token (x ∷ xs)
 has_more P token (spot.Change own target) xs h = inr h
-has_more P token (spot.Branch own word) xs h = h
-has_more P token (spot.Call own name) xs h = h
-has_more P token (spot.Constant value) xs h = h
+has_more P token x xs h = h
 
 -- tokens of sites
 abbrev Between : ℕ → ℕ → Site → Type 0
@@ -76,10 +65,6 @@ rising_between low high (s ∷ rest) r = (
   all_so (Between s.token high) (Between low high) rest (λ t h. (omega (arith, r.0, h.0), h.1)) (rising_between s.token high rest r.2),
 )
 
--- the sites of a kind at a token, by number
-equal_by : (m n : ℕ) → (m == n) ≡ true → m ≡ n
-equal_by m n h = grind (arith, nat_tests, h)
-
 abbrev Found : (Site → Type 0) → List Site → ℕ → Type 0
 Found Q whole n = (s : Site) × (slice_get whole n ≡ Some s) × Q s
 
@@ -87,8 +72,8 @@ one_number : (Q : Site → Type 0) (whole : List Site) (k token : ℕ) (x : Site
     → slice_get whole k ≡ Some x → (x.token ≡ token → is_pair x.kind ≡ true → Q x) → AllByRecursion (Found Q whole) rest
     → AllByRecursion (Found Q whole) (if b then k ∷ rest else rest)
 one_number Q whole k token x rest true e h f r =
-    let parts : ((x.token == token) ≡ true) × (is_pair x.kind ≡ true) = both (x.token == token) (is_pair x.kind) e in
-    ((x, h, f (equal_by x.token token parts.0) parts.1), r)
+    let parts : ((x.token == token) ≡ true) × (is_pair x.kind ≡ true) = and_parts (x.token == token) (is_pair x.kind) e in
+    ((x, h, f (same_number x.token token parts.0) parts.1), r)
 one_number Q whole k token x rest false e h f r = r
 
 numbers_found : (Q : Site → Type 0) (whole suffix : List Site) (k token : ℕ)
@@ -150,10 +135,10 @@ module _ (tree : SourceTree) (z : Walk) where
 
     place_hosted : (st : Stand) (target : ℕ) (xs : List Spot) (o : Option ℕ) (q : Option TypeTree) → place_at z target ≡ o → declared_at z target ≡ q
         → AllByRecursion (Hosted (spot.Change st.token target ∷ xs)) (pairs_on b st o q)
+    place_hosted st target xs (Some place) (Some of) e d = typed_hosted st target place xs of (is_arithmetic of) refl e d
     place_hosted st target xs None None e d = tt
     place_hosted st target xs None (Some of) e d = tt
     place_hosted st target xs (Some place) None e d = tt
-    place_hosted st target xs (Some place) (Some of) e d = typed_hosted st target place xs of (is_arithmetic of) refl e d
 
     change_hosted : (st : Stand) (target : ℕ) (xs : List Spot) → AllByRecursion (Hosted (spot.Change st.token target ∷ xs)) (change_sites b st target)
     change_hosted st target xs = hosted_if b.schemes.pairs (spot.Change st.token target ∷ xs) (named_pairs b st target)
@@ -210,11 +195,9 @@ module _ (tree : SourceTree) (z : Walk) where
     one_lift body ys h k (suc number) f t = k number f t
 
     item_lift : (x : ItemTree) (at : ℕ) (ys : List EntryList) → ItemAt at x → ItemCovers at x → Lifts ys → Lifts (body_of_item x ++ ys)
-    item_lift (item.Struct token tag members) at ys p k h = h
-    item_lift (item.Declaration d) at ys p k h = h
-    item_lift (item.Function token b stars name ps None) at ys p k h = h
     item_lift (item.Function token b stars name ps (Some body)) at ys p k h = one_lift body ys
         (λ f t. lift_entries tree z s (length f.locals) f.result body false (at + length (type_kinds b stars) + 2 + length (params_kinds ps) + 2) p.3 k t) h
+    item_lift x at ys p k h = h
 
     pub items_lift : (xs : List ItemTree) (at : ℕ) → EachAt ItemAt item_kinds 0 at xs → ItemsCover at xs → Lifts (flat_map body_of_item xs)
     items_lift [] at p k = λ number f h. h
@@ -223,10 +206,8 @@ module _ (tree : SourceTree) (z : Walk) where
 
   -- no sites
   item_none : (x : ItemTree) (at : ℕ) → ItemCovers (sites_by_table []) at x
-  item_none (item.Struct token tag members) at = tt
-  item_none (item.Declaration d) at = tt
-  item_none (item.Function token b stars name ps None) at = tt
   item_none (item.Function token b stars name ps (Some body)) at = λ token l h. tt
+  item_none x at = tt
 
   pub items_none : (xs : List ItemTree) (at : ℕ) → ItemsCover (sites_by_table []) at xs
   items_none [] at = tt
@@ -278,15 +259,13 @@ module _ (tree : SourceTree) (z : Walk) where
 
     item_covered : (x : ItemTree) (before rest whole : List Site) (number at : ℕ) → whole ≡ before ++ (item_sites z lines schemes number x ++ rest)
         → AllByRecursion (λ s. s.token < at) before → AllByRecursion (λ s. at + length (item_kinds x) + 0 ≤ s.token) rest → ItemCovers (sites_by_table whole) at x
-    item_covered (item.Struct token tag members) before rest whole number at e l h = tt
-    item_covered (item.Declaration d) before rest whole number at e l h = tt
-    item_covered (item.Function token b stars name ps None) before rest whole number at e l h = tt
     item_covered (item.Function token b stars name ps (Some body)) before rest whole number at e l h =
         let lo : ℕ = at + length (type_kinds b stars) + 2 + length (params_kinds ps) + 2 in
         body_covered before rest whole number at lo (lo + length (entry_kinds body)) (entries_spots body) e l
         (all_so (λ s. at + length (item_kinds (item.Function token b stars name ps (Some body))) + 0 ≤ s.token)
         (λ s. lo + length (entry_kinds body) ≤ s.token) rest
         (λ s k. omega (arith, k, body_long tree z b stars name ps token body)) h) (omega arith)
+    item_covered x before rest whole number at e l h = tt
 
     pub items_covered : (xs : List ItemTree) (before whole : List Site) (number at : ℕ) → whole ≡ before ++ items_sites z lines schemes number xs
         → AllByRecursion (λ s. s.token < at) before → EachAt ItemAt item_kinds 0 at xs → ItemsCover (sites_by_table whole) at xs

@@ -4,24 +4,21 @@ use Rattle.std.specs.Prelude.{Option, if◌then◌else◌}
 use Rattle.std.specs.List.{AllByRecursion}
 use Rattle.std.specs.Option.{option_map}
 use Rattle.std.proofs.lemmas.Bool.{false≢true}
-use Rattle.c_syntax.specs.ItemTree.{SourceTree}
+use Rattle.std.proofs.lemmas.Option.{same_Some}
+use Rattle.c_meaning_laws.proofs.Assigned.{taken_scalar}
+use Rattle.base_lists.proofs.Every.{all_so}
+use Rattle.c_syntax.specs.Words.{SourceTree, ExprTree}
 use Rattle.c_syntax.specs.ExprTree as e
-use Rattle.c_syntax.specs.ExprTree.{ExprTree}
 use Rattle.c_types_rules.proofs.Same.{equal}
 use Rattle.c_types_rules.specs.TypeTree as t
-use Rattle.c_types_rules.specs.TypeTree.{TypeTree}
-use Rattle.c_types_rules.specs.Conversions.{is_arithmetic, is_scalar}
+use Rattle.c_types_rules.specs.Words.{TypeTree, is_arithmetic, is_scalar}
 use Rattle.c_types_expressions.specs.declared.walk.Walk.{Walk}
 use Rattle.c_types.specs.Answers.{declared_at, type_at}
-use Rattle.c_types.proofs.Options.{some_is}
 use Rattle.flow.specs.declared.site.Slot.{Slot}
 use Rattle.flow.specs.declared.site.Slot.TheVariants as slot
 use Rattle.c_meaning.specs.declared.value_type.ValueType.{ValueType}
 use Rattle.c_meaning.specs.declared.value_type.ValueType.TheVariants as type
-use Rattle.c_meaning.specs.Conversions.{is_null_as}
-use Rattle.c_meaning.specs.Facts.{Sites}
-use Rattle.c_meaning.specs.Known.{computed_type, facts_of}
-use Rattle.c_meaning.specs.Trees.{Assignment, Plain, By, type_of}
+use Rattle.c_meaning.specs.Words.{is_null_as, Sites, computed_type, facts_of, Assignment, Plain, By, type_of}
 use Rattle.c_meaning_laws.specs.Rules.{Assigns, IsNumberType, IsScalar, TakesOrNull}
 use Rattle.c_meaning_laws.specs.Typed.{AllLookAt, HasSlot, LooksAt, PairsFit, Typed, variable_named}
 use Rattle.c_meaning_laws.specs.TypedStatements.{IsLocal}
@@ -64,26 +61,6 @@ has_first P token c d xs ys r l h = ⊎_elim (λ a. a) (λ b. absurd (omega (ari
 pub has_second : (P : ℕ → Type 0) (token a b : ℕ) (xs ys : List Spot) → Rises a b xs → b ≤ token → Has P token (xs ++ ys) → Has P token ys
 has_second P token a b xs ys r l h = ⊎_elim (λ k. absurd (omega (arith, l, (has_within P token a b xs r k).1))) (λ k. k) (has_either P token xs ys h)
 
-pub all_so : {A : Type 0} (P Q : A → Type 0) (ns : List A) → ((n : A) → P n → Q n) → AllByRecursion P ns → AllByRecursion Q ns
-all_so P Q [] f h = tt
-all_so P Q (n ∷ ns) f h = (f n h.0, all_so P Q ns f h.1)
-
--- types that can be assigned to
-pub accepts_scalar : (b : Bool) (wanted have : Option ValueType) → TakesOrNull b wanted have → IsScalar wanted
-accepts_scalar b None have h = absurd (no_value b h)
-  where
-    no_value : (b : Bool) → TakesOrNull b None have → ⊥
-    no_value true h = h
-    no_value false h = h
-accepts_scalar b (Some (type.Number kind)) have h = tt
-accepts_scalar b (Some (type.Pointer size)) have h = tt
-accepts_scalar true (Some type.Void) have h = h
-accepts_scalar false (Some type.Void) have h = h
-accepts_scalar true (Some (type.Array size)) have h = h
-accepts_scalar false (Some (type.Array size)) have h = h
-accepts_scalar true (Some type.Struct) have h = h
-accepts_scalar false (Some type.Struct) have h = h
-
 module _ (tree : SourceTree) (z : Walk) (s : Sites) where
   -- the site looks at the variable whose name stands at this token, and which holds a number
   pub record Shows (target number : ℕ) : Type 0 where
@@ -117,7 +94,7 @@ module _ (tree : SourceTree) (z : Walk) (s : Sites) where
   all_look target own token v [] e h = tt
   all_look target own token v (n ∷ ns) e h =
       let k : Shows target n = lone (λ target. Shows target n) own token target h.0 in
-      (subst (λ u. LooksAt u (s.site n)) (some_is k.slot v (sym k.named ∙ e)) k.looks, all_look target own token v ns e h.1)
+      (subst (λ u. LooksAt u (s.site n)) (same_Some k.slot v (sym k.named ∙ e)) k.looks, all_look target own token v ns e h.1)
 
   pub pairs_named : (target own token : ℕ) (of : Option ValueType) (ns : List ℕ)
       → ((u : TypeTree) → declared_at z target ≡ Some u → is_arithmetic u ≡ true → IsNumberType of)
@@ -132,10 +109,7 @@ module _ (tree : SourceTree) (z : Walk) (s : Sites) where
   arithmetic_number t.Char h = tt
   arithmetic_number t.Int h = tt
   arithmetic_number t.Unsigned h = tt
-  arithmetic_number t.Void h = absurd (false≢true h)
-  arithmetic_number (t.Pointer to) h = absurd (false≢true h)
-  arithmetic_number (t.Array element size) h = absurd (false≢true h)
-  arithmetic_number (t.Struct tag) h = absurd (false≢true h)
+  arithmetic_number of h = absurd (false≢true h)
 
   pub declared_number : (target : ℕ) (u : TypeTree) → declared_at z target ≡ Some u → is_arithmetic u ≡ true → IsNumberType ((facts_of tree z).declared_at target)
   declared_number target u e h = subst IsNumberType (sym (ap (option_map (computed_type z.structs)) e)) (arithmetic_number u h)
@@ -181,17 +155,14 @@ module _ (tree : SourceTree) (z : Walk) (s : Sites) where
     of_number : (of u : TypeTree) (own : Option TypeTree) → is_scalar of ≡ true → is_of of own ≡ true → own ≡ Some u → is_arithmetic u ≡ true
         → IsNumberType (Some (computed_type z.structs of))
     of_number of u own k h e a =
-        let same : u ≡ of = some_is u of (sym e ∙ own_by of own (is_scalar of) k h) in
+        let same : u ≡ of = same_Some u of (sym e ∙ own_by of own (is_scalar of) k h) in
         arithmetic_number of (subst (λ x. is_arithmetic x ≡ true) same a)
 
     scalar_by : (of : TypeTree) → IsScalar (Some (computed_type z.structs of)) → is_scalar of ≡ true
-    scalar_by t.Char h = refl
-    scalar_by t.Int h = refl
-    scalar_by t.Unsigned h = refl
-    scalar_by (t.Pointer to) h = refl
     scalar_by t.Void h = absurd h
     scalar_by (t.Array element size) h = absurd h
     scalar_by (t.Struct tag) h = absurd h
+    scalar_by of h = refl
 
     pub name_number : (token : ℕ) (of : Option TypeTree) (v : Option Slot) → IsScalar (option_map (computed_type z.structs) of)
         → HasSlot (facts tree z) none c (slot_named of (declared_at z token) v)
@@ -209,21 +180,8 @@ module _ (tree : SourceTree) (z : Walk) (s : Sites) where
         → PairsFit s (variable_named (facts_of tree z) x) (type_of (facts_of tree z) x) ns
     target_fits (e.Name own name) token ns h k q = pairs_named own token token (type_of (facts_of tree z) (e.Name own name)) ns
         (λ u d a. name_number own (type_at z own) _ k h.1 u d a) q
-    target_fits (e.Comma own operands) token ns h k q = nameless (e.Comma own operands) token ns q
-    target_fits (e.Assign own o target value) token ns h k q = nameless (e.Assign own o target value) token ns q
-    target_fits (e.Conditional own condition first second) token ns h k q = nameless (e.Conditional own condition first second) token ns q
-    target_fits (e.Chain level first links) token ns h k q = nameless (e.Chain level first links) token ns q
-    target_fits (e.Cast own base stars operand) token ns h k q = nameless (e.Cast own base stars operand) token ns q
-    target_fits (e.Prefix own operator operand) token ns h k q = nameless (e.Prefix own operator operand) token ns q
-    target_fits (e.SizeOfType own base stars) token ns h k q = nameless (e.SizeOfType own base stars) token ns q
-    target_fits (e.Postfix primary operators) token ns h k q = nameless (e.Postfix primary operators) token ns q
-    target_fits (e.Call own name arguments) token ns h k q = nameless (e.Call own name arguments) token ns q
-    target_fits (e.Constant own kind value) token ns h k q = nameless (e.Constant own kind value) token ns q
-    target_fits (e.Strings own parts) token ns h k q = nameless (e.Strings own parts) token ns q
-    target_fits (e.Paren own inner) token ns h k q = nameless (e.Paren own inner) token ns q
-    target_fits (e.Null own) token ns h k q = nameless (e.Null own) token ns q
-    target_fits (e.EndOfFile own) token ns h k q = nameless (e.EndOfFile own) token ns q
+    target_fits x token ns h k q = nameless x token ns q
 
     pub assigns_scalar : (a : Assignment) (left : Option ValueType) (x : ExprTree) → Assigns (facts tree z) a left x → IsScalar left
-    assigns_scalar Plain left x h = accepts_scalar (is_null_as left x) left (type_of (facts tree z) x) h
+    assigns_scalar Plain left x h = taken_scalar (is_null_as left x) left (type_of (facts tree z) x) h
     assigns_scalar (By o) left x h = h.0

@@ -4,24 +4,24 @@ use Rattle.std.proofs.Common.{length-append}
 use Rattle.std.specs.Prelude.{Option, slice_get, slice_set, nat_lt, is_some, ◌&&◌, if◌then◌else◌}
 use Rattle.std.specs.List.{AllByRecursion, flat_map}
 use Rattle.std.specs.Option.{option_map, option_and_then}
-use Rattle.std.proofs.lemmas.Bool.{false≢true, true≢false}
+use Rattle.std.proofs.lemmas.Bool.{false≢true, true≢false, and_parts}
 use Rattle.std.proofs.lemmas.List.{length-replicate}
-use Rattle.std.proofs.lemmas.Option.{slice_get_within}
-use Rattle.cbi_base.proofs.NumberLemmas.{both}
-use Rattle.c_syntax.specs.ItemTree.{SourceTree}
-use Rattle.c_syntax.specs.StatementTree.{StartTree, DeclarationTree}
+use Rattle.std.proofs.lemmas.Option.{slice_get_within, same_Some}
+use Rattle.c_types_expressions.proofs.Given.{Gives, and_then, weaker}
+use Rattle.c_types.proofs.Replaced.{noted_other, noted_same, replaced_other, replaced_same}
+use Rattle.sites.proofs.RisesBodies.{declarator-length}
+use Rattle.c_types.proofs.Noted.{length_replaced}
+use Rattle.base_lists.proofs.Lists.{get_last, Stays}
+use Rattle.base_lists.proofs.Every.{all_first, all_second}
+use Rattle.c_syntax.specs.Words.{SourceTree, StartTree, DeclarationTree, DeclarationAt, EachAt, StartAt, ShapedDeclaration, ShapedStart, a_name, a_sign}
+use Rattle.c_syntax.specs.Words.{after_commas, base_kinds, bound_kinds, declaration_kinds, declarator_kinds, star_kinds, start_kinds, with_commas}
 use Rattle.c_syntax.specs.declared.parts.Declarator.{Declarator}
 use Rattle.c_syntax.specs.declared.token.Sign.TheVariants as sign
 use Rattle.c_syntax.specs.declared.token.TokenKind.TheVariants as kind
-use Rattle.c_syntax.specs.Place.{DeclarationAt, EachAt, StartAt}
-use Rattle.c_syntax.specs.Shape.{ShapedDeclaration, ShapedStart}
-use Rattle.c_syntax.specs.Spelling.{a_name, a_sign, after_commas, base_kinds, bound_kinds, declaration_kinds, declarator_kinds, star_kinds, start_kinds}
-use Rattle.c_syntax.specs.Spelling.{with_commas}
 use Rattle.c_types_rules.specs.declared.fault.FaultKind.{FaultKind}
 use Rattle.c_types_rules.specs.declared.fault.FaultKind.TheVariants as fault
 use Rattle.c_types_rules.specs.TypeTree as t
-use Rattle.c_types_rules.specs.TypeTree.{TypeTree}
-use Rattle.c_types_rules.specs.Sizes.{is_complete, is_object}
+use Rattle.c_types_rules.specs.Words.{TypeTree, is_complete, is_object}
 use Rattle.c_types_expressions.specs.declared.names.Meaning.TheVariants as meaning
 use Rattle.c_types_expressions.specs.declared.names.ScopeEntry.{ScopeEntry}
 use Rattle.c_types_expressions.specs.declared.names.ScopeEntry.TheVariants.{Opens, Declares}
@@ -31,23 +31,19 @@ use Rattle.c_types_expressions.specs.declared.walk.VariableEntry.{VariableEntry}
 use Rattle.c_types_expressions.specs.declared.walk.Walk.{Walk}
 use Rattle.c_types.specs.Answers.{declared_at, noted, variable_of}
 use Rattle.c_types_walk.specs.Declarators.{declared_type, is_open}
-use Rattle.c_types_expressions.specs.ExprWalk.{with_stars}
+use Rattle.c_types_expressions.specs.Words.{with_stars, is_name_taken, Walked, Done, Fine, Faulty, ◌>>=◌, replaced, with_variable}
 use Rattle.c_types_walk.specs.Initialisers.{length_of, walk_initial, with_length}
-use Rattle.c_types_expressions.specs.Names.{is_name_taken}
 use Rattle.c_types_walk.specs.StatementWalk.{sized, walk_closed, walk_declaration, walk_open, walk_start, walk_starts, walk_typed, with_declared_type}
-use Rattle.c_types_expressions.specs.Walked.{Walked, Done, Fine, Faulty, ◌>>=◌, replaced, with_variable}
-use Rattle.c_meaning.specs.Known.{slot_of}
-use Rattle.c_meaning.specs.Literals.{strings_declared, strings_initial}
+use Rattle.c_meaning.specs.Words.{slot_of, strings_declared, strings_initial}
 use Rattle.c_meaning_laws.specs.TypedStatements.{IsLocal, TypedInitial, TypedStarts}
 use Rattle.c_meaning_sound.proofs.Expressions.{base_then, stars_deep}
-use Rattle.c_meaning_sound.proofs.Parting.{all_first, all_second}
 use Rattle.c_meaning_sound.proofs.Forming.{Ended}
 use Rattle.c_meaning_sound.proofs.Initialising.{Lengthened, equals_kinds, initial_good, length_back}
 use Rattle.c_meaning_sound.proofs.Marking.{marks_declared, marks_plain, marks_then}
-use Rattle.c_meaning_sound.proofs.Noting.{Agrees, AllSlots, AllWhole, Deep, Gives, IsAmong, IsSlot, NamesSlot, Part, Ready, Same, Stays, Whole, and_then, facts}
-use Rattle.c_meaning_sound.proofs.Noting.{noted_other, noted_same, none, nothing_noted, ready_after, ready_in, replaced_long, replaced_other, replaced_same}
-use Rattle.c_meaning_sound.proofs.Noting.{rightwards, same_then, slot_declared, so, weaker, wider}
-use Rattle.c_meaning_sound.proofs.Sizing.{Open, Sized, core, core_deep, declared_core, object_stays, open_by, some_is, whole_by}
+use Rattle.c_meaning_sound.proofs.Noting.{Agrees, AllSlots, AllWhole, Deep, IsAmong, IsSlot, NamesSlot, Part, Ready, Same, Whole, facts}
+use Rattle.c_meaning_sound.proofs.Noting.{none, nothing_noted, ready_after, ready_in}
+use Rattle.c_meaning_sound.proofs.Noting.{rightwards, same_then, slot_declared, so, wider}
+use Rattle.c_meaning_sound.proofs.Sizing.{Open, Sized, core, core_deep, declared_core, object_stays, open_by, whole_by}
 use Rattle.c_meaning_sound.proofs.Texts.{Spelled}
 
 -- lists that one more item stands behind
@@ -55,10 +51,6 @@ pub get_before : {A : Type 0} (xs : List A) (i : ℕ) (x y : A) → slice_get xs
 get_before [] i x y h = cc
 get_before (a ∷ xs) zero x y h = h
 get_before (a ∷ xs) (suc i) x y h = get_before xs i x y h
-
-pub get_behind : {A : Type 0} (xs : List A) (y : A) → slice_get (xs ++ y ∷ []) (length xs) ≡ Some y
-get_behind [] y = refl
-get_behind (a ∷ xs) y = get_behind xs y
 
 -- names keep their slots where there are more variables and more locals
 among_more : (m n : ℕ) (v : Variable) → m ≤ n → IsAmong m v → IsAmong n v
@@ -71,11 +63,9 @@ slot_more m n index xs ys None e h k l = absurd l
 slot_more m n index xs ys (Some entry) e h k l = rw (k index entry e) (among_more m n entry.variable h l)
 
 name_more : (m n : ℕ) (xs ys : List VariableEntry) (entry : ScopeEntry) → m ≤ n → Stays xs ys → NamesSlot m xs entry → NamesSlot n ys entry
-name_more m n xs ys Opens h k l = tt
 name_more m n xs ys (Declares name (meaning.Variable index)) h k l = slot_more m n index xs ys (slice_get xs index) refl h k l
-name_more m n xs ys (Declares name (meaning.Function index)) h k l = tt
-name_more m n xs ys (Declares name (meaning.Struct index)) h k l = tt
 name_more m n xs ys (Declares name (meaning.Library function)) h k l = l
+name_more m n xs ys entry h k l = tt
 
 pub slots_more : (m n : ℕ) (xs ys : List VariableEntry) (names : List ScopeEntry) → m ≤ n → Stays xs ys → AllSlots m xs names → AllSlots n ys names
 slots_more m n xs ys [] h k l = tt
@@ -94,14 +84,6 @@ sized_by false token w k h = record { by = tt }
 sized_then : {A : Type 0} {Q : A → Walk → Type 0} (token : ℕ) (of : TypeTree) (w : Walk) (k : Done → Walk → Walked A)
     → (is_object w.structs of ≡ true → Gives (k tt w) Q) → Gives (sized false token of w >>= k) Q
 sized_then token of w k h = sized_by (is_object w.structs of) token w k h
-
-pub name_inside : (d : Declarator) → d.stars + 1 ≤ length (declarator_kinds d)
-name_inside d = omega (
-  arith,
-  length-append (star_kinds d.stars ++ a_name d.name) (flat_map bound_kinds d.bounds),
-  length-append (star_kinds d.stars) (a_name d.name),
-  length-replicate d.stars (kind.Punctuator sign.Star),
-)
 
 -- another length leaves the elements as they are
 length_core : (of : TypeTree) (n : ℕ) → core (with_length n of) ≡ core of
@@ -164,7 +146,7 @@ module _ (tree : SourceTree) (z : Walk) where
   variable_noted token name of w h bare long whole = record {
     keeps = record {
       types = refl;
-      variables_at = replaced_long w.variables_at token (Some (length w.variables));
+      variables_at = length_replaced w.variables_at token (Some (length w.variables));
       offsets_at = refl;
       functions_at = refl;
       structs = refl;
@@ -189,7 +171,7 @@ module _ (tree : SourceTree) (z : Walk) where
         let notes : Same (with_variable false token name of w) z token = g.notes token (omega arith) (omega arith) in
         let at : noted z.variables_at token ≡ Some (length w.variables) = notes.variables ∙ noted_same w.variables_at token (length w.variables) h in (
           local_is c (length w.variables) w.locals token name g.locals (notes.types ∙ bare) at
-              (g.variables (length w.variables) (entry_of token name w) (get_behind w.variables (entry_of token name w))),
+              (g.variables (length w.variables) (entry_of token name w) (get_last w.variables (entry_of token name w))),
           at,
           λ m. g.declared (length w.variables) of last m,
         );
@@ -197,10 +179,10 @@ module _ (tree : SourceTree) (z : Walk) where
   }
     where
       last : slice_get (w.declared_types ++ of ∷ []) (length w.variables) ≡ Some of
-      last = subst (λ n. slice_get (w.declared_types ++ of ∷ []) n ≡ Some of) long (get_behind w.declared_types of)
+      last = subst (λ n. slice_get (w.declared_types ++ of ∷ []) n ≡ Some of) long (get_last w.declared_types of)
 
       here : IsSlot (w.locals + 1) (slice_get (w.variables ++ entry_of token name w ∷ []) (length w.variables))
-      here = rw (get_behind w.variables (entry_of token name w)) (omega arith)
+      here = rw (get_last w.variables (entry_of token name w)) (omega arith)
 
       apart : (q : ℕ) → (token ≡ q → ⊥) → Same w (with_variable false token name of w) q
       apart q x = record {
@@ -217,7 +199,7 @@ module _ (tree : SourceTree) (z : Walk) where
   pub apart_of : (types : List TypeTree) (index i : ℕ) (old of : TypeTree) → slice_get types index ≡ Some old → is_complete z.structs old ≡ false
       → slice_get types i ≡ Some of → is_complete z.structs of ≡ true → index ≡ i → ⊥
   apart_of types index i old of h k l m e =
-      let same : old ≡ of = some_is old of (sym h ∙ ap (slice_get types) e ∙ l) in
+      let same : old ≡ of = same_Some old of (sym h ∙ ap (slice_get types) e ∙ l) in
       true≢false (sym m ∙ ap (is_complete z.structs) (sym same) ∙ k)
 
   agrees_retyped : (count lo hi index : ℕ) (old of : TypeTree) (w : Walk) → slice_get w.declared_types index ≡ Some old → is_complete z.structs old ≡ false
@@ -249,7 +231,7 @@ module _ (tree : SourceTree) (z : Walk) where
       locals = a.keeps.locals;
       count = a.keeps.count;
       wholes = λ l. all_whole_replaced v.declared_types index of (a.keeps.wholes l) whole;
-      long = λ l. replaced_long v.declared_types index of ∙ a.keeps.long l;
+      long = λ l. length_replaced v.declared_types index of ∙ a.keeps.long l;
       slots = a.keeps.slots;
     };
     below = λ token l. same_then (a.below token l) (retyped_same index of v token);
@@ -278,7 +260,7 @@ module _ (tree : SourceTree) (z : Walk) (ends : Ended tree z) where
       → Part tree z at (at + length (declarator_kinds x.declarator)) w (with_variable false x.declarator.name_token x.declarator.name of w)
       (IsDeclared tree z x.declarator.name_token (length w.variables) of)
   named_part x at of w p r whole =
-      let inside : x.declarator.stars + 1 ≤ length (declarator_kinds x.declarator) = name_inside x.declarator in
+      let inside : x.declarator.stars + 1 ≤ length (declarator_kinds x.declarator) = declarator-length x.declarator in
       wider {lo = x.declarator.name_token} {hi = x.declarator.name_token + 1}
       (variable_noted tree z x.declarator.name_token x.declarator.name of w
       (omega (arith, p.1.1, inside, r.variables_at, length-append (declarator_kinds x.declarator) (equals_kinds x.initial)))
@@ -325,7 +307,7 @@ module _ (tree : SourceTree) (z : Walk) (ends : Ended tree z) where
       let both_parts = rightwards {lo = at} {mid = at + length (declarator_kinds x.declarator)} first g.part (omega arith) (omega arith) in
       let size : Sized z.structs u = object_stays v.structs z.structs u (rw both_parts.keeps.structs r.grows) (rw both_parts.keeps.structs r.structs) object in
       let here : slice_get v.declared_types (length w.variables) ≡ Some of = g.part.keeps.declared (length w.variables) of
-      (subst (λ n. slice_get (w.declared_types ++ of ∷ []) n ≡ Some of) r.long (get_behind w.declared_types of)) in
+      (subst (λ n. slice_get (w.declared_types ++ of ∷ []) n ≡ Some of) r.long (get_last w.declared_types of)) in
       record {
         by = so (wider {lo = at} {hi = at + length (declarator_kinds x.declarator) + length (equals_kinds x.initial)}
             (retyped tree z at (at + length (declarator_kinds x.declarator) + length (equals_kinds x.initial)) (length w.variables) of u w v both_parts
@@ -347,7 +329,7 @@ module _ (tree : SourceTree) (z : Walk) (ends : Ended tree z) where
       either : (b k : Bool) → (is_some x.initial && is_open w.structs of) ≡ b → is_open w.structs of ≡ k
           → Gives (if b then walk_open false x of w else walk_closed false x of w) (GoodStart at x w)
       either true true h e = open_good x at base of w q p l r (d of refl) e
-      either true false h e = absurd (false≢true (sym e ∙ (both (is_some x.initial) (is_open w.structs of) h).1))
+      either true false h e = absurd (false≢true (sym e ∙ (and_parts (is_some x.initial) (is_open w.structs of) h).1))
       either false k h e = closed_good x at base of w q p l r (d of refl)
 
   pub start_good : (x : StartTree) (at : ℕ) (base : TypeTree) (w : Walk) → ShapedStart x → StartAt at x

@@ -4,30 +4,23 @@ use Rattle.std.specs.Prelude.{Option, map, take, drop, slice_get, unwrap_or}
 use Rattle.std.specs.List.{AllByRecursion}
 use Rattle.std.proofs.lemmas.Bool.{false≢true}
 use Rattle.std.proofs.lemmas.List.{length-drop, length-map, length-take}
+use Rattle.std.proofs.lemmas.Option.{same_Some}
+use Rattle.c_types_expressions.proofs.Giving.{Gives}
+use Rattle.base_lists.proofs.Lists.{next_is, Stays}
 use Rattle.c_syntax.specs.declared.parts.Base.{Base}
 use Rattle.c_syntax.specs.declared.parts.Params.{Params}
-use Rattle.c_syntax.specs.StatementTree.{EntryList}
+use Rattle.c_syntax.specs.Words.{EntryList, ItemTree, SourceTree, EntriesAt, ShapedEntries, entry_kinds}
 use Rattle.c_syntax.specs.ItemTree as item
-use Rattle.c_syntax.specs.ItemTree.{ItemTree, SourceTree}
-use Rattle.c_syntax.specs.Place.{EntriesAt}
-use Rattle.c_syntax.specs.Shape.{ShapedEntries}
-use Rattle.c_syntax.specs.Spelling.{entry_kinds}
 use Rattle.c_types_rules.specs.declared.function.FunctionType.{FunctionType}
 use Rattle.c_types_rules.specs.TypeTree as t
-use Rattle.c_types_rules.specs.TypeTree.{TypeTree}
-use Rattle.c_types_rules.specs.Conversions.{is_scalar}
-use Rattle.c_types_rules.specs.Sizes.{cells_of}
+use Rattle.c_types_rules.specs.Words.{TypeTree, is_scalar, cells_of}
 use Rattle.c_types_expressions.specs.declared.walk.Definition.{Definition}
 use Rattle.c_types_expressions.specs.declared.walk.Parameter.{Parameter}
 use Rattle.c_types_expressions.specs.declared.walk.Walk.{Walk}
 use Rattle.c_types_walk.specs.ItemWalk.{entered, with_definition, with_function, with_param, with_params}
-use Rattle.c_types_expressions.specs.Names.{closed}
+use Rattle.c_types_expressions.specs.Words.{closed, Fine, ended_scopes, opened}
 use Rattle.c_types_walk.specs.StatementWalk.{walk_entries}
-use Rattle.c_types_expressions.specs.Walked.{Fine, ended_scopes, opened}
-use Rattle.c_types.proofs.Options.{some_is}
-use Rattle.c_meaning.specs.Facts.{Signature}
-use Rattle.c_meaning.specs.Known.{computed_type, signature_of, signature_with, sizes_of}
-use Rattle.c_meaning.specs.Literals.{strings_entered}
+use Rattle.c_meaning.specs.Words.{Signature, computed_type, signature_of, signature_with, sizes_of, strings_entered}
 use Rattle.c_meaning_laws.specs.Rules.{IsObject}
 use Rattle.c_meaning_laws.specs.TypedStatements.{TypedEntries}
 use Rattle.c_meaning_laws.proofs.Ruled.{known}
@@ -35,20 +28,17 @@ use Rattle.c_meaning_sound.proofs.Declaring.{slots_more, variable_noted}
 use Rattle.c_meaning_sound.proofs.Ending.{Sums, core_is_deep}
 use Rattle.c_meaning_sound.proofs.Marking.{marks_then}
 use Rattle.c_meaning_sound.proofs.Items.{BodiesFit, Declared, Item, Standing, Tagged, ready_of}
-use Rattle.c_meaning_sound.proofs.Noting.{Agrees, GivesIn, Keeps, Part, Ready, Same, Stays, facts, keeps_then, none, nothing_noted, ready_after, same_then, so}
+use Rattle.c_meaning_sound.proofs.Noting.{Agrees, Keeps, Part, Ready, Same, facts, keeps_then, none, nothing_noted, ready_after, same_then, so}
 use Rattle.c_meaning_sound.proofs.Noting.{wider}
 use Rattle.c_meaning_sound.proofs.Texts.{Spelled}
-use Rattle.c_meaning_sound.proofs.Reaching.{Defines, Grown, IsParam, NamedWithin, begun_long, begun_stays, fine_known, next_is}
+use Rattle.c_meaning_sound.proofs.Reaching.{Defines, Grown, IsParam, NamedWithin, begun_long, begun_stays, fine_known}
 
 module _ (tree : SourceTree) (z : Walk) (sums : Sums z) where
   scalar_object : (of : TypeTree) → is_scalar of ≡ true → IsObject (known z.structs of)
-  scalar_object t.Char h = tt
-  scalar_object t.Int h = tt
-  scalar_object t.Unsigned h = tt
-  scalar_object (t.Pointer to) h = tt
   scalar_object t.Void h = absurd (false≢true h)
   scalar_object (t.Array element size) h = absurd (false≢true h)
   scalar_object (t.Struct tag) h = absurd (false≢true h)
+  scalar_object of h = tt
 
   -- parameters
   abbrev pub Notes : ℕ → ℕ → Walk → Walk → Type 0
@@ -141,7 +131,7 @@ module _ (tree : SourceTree) (z : Walk) (sums : Sums z) where
       → TypedEntries (facts tree z) none (length s.locals) s.result false body
   signature_fits d o f s body e g h k =
       let same : signature_with z d (Some g.own) ≡ Some s = sym (ap (signature_with z d) g.is) ∙ sym (ap (signature_of z) e) ∙ h in
-      let is = some_is (record {
+      let is = same_Some (record {
         params = map (computed_type z.structs) g.own.ctype.params;
         result = computed_type z.structs g.own.ctype.gives;
         locals = sizes_of z d;
@@ -170,7 +160,7 @@ module _ (tree : SourceTree) (z : Walk) (sums : Sums z) where
       record {
         first = with_params ps w;
         params = added.part;
-        part = subst (GivesIn (λ done v. Part tree z at (at + length (entry_kinds body)) (with_params ps w) v
+        part = subst (Gives (λ done v. Part tree z at (at + length (entry_kinds body)) (with_params ps w) v
             (λ c. TypedEntries (facts tree z) none c (computed_type z.structs gives) false body))) e fits.by;
       }
 

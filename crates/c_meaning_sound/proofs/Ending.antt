@@ -2,43 +2,36 @@
 use Rattle.std.proofs.Common.{◌≡◌, ℕ, zero, suc, ◌≤◌, ◌<◌, refl, ap, subst, sym, ◌∙◌, arith, List, [], ◌∷◌, ◌++◌, Some, None, ◌+◌, Bool, true, false, length}
 use Rattle.std.specs.Prelude.{Option, min, nat_le, nat_lt, slice_get, is_some, ◌*◌, sum_by, if◌then◌else◌}
 use Rattle.std.specs.List.{AllByRecursion}
-use Rattle.std.proofs.lemmas.Bool.{false≢true}
+use Rattle.std.proofs.lemmas.Bool.{false≢true, and_parts}
 use Rattle.std.proofs.lemmas.Bool.Decides.{nat_tests}
 use Rattle.std.proofs.lemmas.List.Sums.{sum_by-cons}
 use Rattle.std.specs.Str.{bytes_eq}
-use Rattle.cbi_base.proofs.NumberLemmas.{both}
+use Rattle.std.proofs.lemmas.Option.{same_Some}
+use Rattle.base_lists.proofs.Numbers.{is_less, is_most, product_some}
+use Rattle.base_lists.proofs.Every.{all_at, all_more}
 use Rattle.c_syntax.specs.declared.parts.Declarator.{Declarator}
 use Rattle.c_syntax.specs.declared.parts.Members.{Members}
-use Rattle.c_syntax.specs.StatementTree.{EntryList}
+use Rattle.c_syntax.specs.Words.{EntryList, ItemTree, SourceTree, EachAt, ItemAt, HasOne, ShapedItem, ShapedMembers, item_kinds, params_kinds, type_kinds}
+use Rattle.c_syntax.specs.Words.{IsShaped}
 use Rattle.c_types_walk.specs.StatementWalk.{walk_declaration}
 use Rattle.c_syntax.specs.ItemTree as item
-use Rattle.c_syntax.specs.ItemTree.{ItemTree, SourceTree}
-use Rattle.c_syntax.specs.Place.{EachAt, ItemAt}
-use Rattle.c_syntax.specs.Shape.{HasOne, ShapedItem, ShapedMembers}
-use Rattle.c_syntax.specs.Spelling.{item_kinds, params_kinds, type_kinds}
 use Rattle.c_types_rules.specs.declared.fault.FaultKind.{FaultKind}
 use Rattle.c_types_rules.specs.declared.fault.FaultKind.TheVariants as fault
 use Rattle.c_types_rules.specs.declared.function.FunctionType.{FunctionType}
 use Rattle.c_types_rules.specs.declared.layout.Member.{Member}
 use Rattle.c_types_rules.specs.declared.layout.StructType.{StructType}
 use Rattle.c_types_rules.specs.TypeTree as t
-use Rattle.c_types_rules.specs.TypeTree.{TypeTree}
-use Rattle.c_types_rules.specs.Conversions.{is_struct}
-use Rattle.c_types_rules.specs.Selecting.{member_named}
-use Rattle.c_types_rules.specs.Sizes.{cells_of, empty_struct, is_complete, is_object, most_cells, struct_cells, with_member}
+use Rattle.c_types_rules.specs.Words.{TypeTree, is_struct, member_named, cells_of, empty_struct, is_complete, is_object, most_cells, struct_cells, with_member}
 use Rattle.c_types_expressions.specs.declared.walk.FunctionEntry.{FunctionEntry}
 use Rattle.c_types_expressions.specs.declared.walk.Parameter.{Parameter}
 use Rattle.c_types_expressions.specs.declared.walk.Walk.{Walk}
 use Rattle.c_types.specs.Answers.{noted}
 use Rattle.c_types_walk.specs.Declarators.{declared_type}
-use Rattle.c_types_expressions.specs.ExprWalk.{base_type, with_stars}
-use Rattle.c_types_expressions.specs.Beginning.{beginning}
+use Rattle.c_types_expressions.specs.Words.{base_type, with_stars, beginning, found, is_here, Walked, Fine, Faulty, Done, ◌>>=◌}
 use Rattle.c_types.specs.Fault.{ends_with, first_undefined, has_main, lacks_definition, last_fault, undefined_at, walk_tree}
 use Rattle.c_types_walk.specs.ItemWalk.{clashes, known_as, typed_member, walk_declarators, walk_function, walk_item, walk_items, walk_member, walk_members}
 use Rattle.c_types_walk.specs.ItemWalk.{walk_struct, with_function, with_tag}
 use Rattle.c_types.specs.Laid.{IsKnown, IsSummed, member_cells}
-use Rattle.c_types_expressions.specs.Names.{found, is_here}
-use Rattle.c_types_expressions.specs.Walked.{Walked, Fine, Faulty, Done, ◌>>=◌}
 use Rattle.c_types.proofs.Noted as record_of
 use Rattle.c_types.proofs.Noted.{Step, stage}
 use Rattle.c_types.proofs.FunctionLaws.{functions_numbered}
@@ -46,24 +39,17 @@ use Rattle.c_types.proofs.NotedStatements.{declaration_notes}
 use Rattle.c_types.proofs.Summed.{structs_summed}
 use Rattle.c_types.proofs.NotedItems.{parts_from}
 use Rattle.c_types.specs.Parts.{Part, Begins, declaration_parts, entries_parts}
-use Rattle.c_types.proofs.Options.{some_is}
 use Rattle.c_meaning.specs.Operation.{is_step_size}
-use Rattle.c_syntax.specs.WellFormed.{IsShaped}
 use Rattle.c_meaning_sound.proofs.Forming.{Ended}
 use Rattle.c_meaning_sound.proofs.Noting.{Deep, Small}
 use Rattle.c_meaning_sound.proofs.Reaching.{Flat, Grown, Named, base_gives, begun_here, body_defines, comes, declares_is, declaration_grown, defines_grown}
 use Rattle.c_meaning_sound.proofs.Reaching.{defines_step, fine_known, function_grown, function_is, functions_same, grown_here, grown_then, stars_flat, structs_same}
 use Rattle.c_meaning_sound.proofs.Reaching.{taken}
-use Rattle.c_meaning_sound.proofs.Sizing.{core, declared_core, whole_by}
+use Rattle.c_meaning_sound.proofs.Sizing.{core, declared_core, whole_by, step_by}
 
 flat_core : (of : TypeTree) → Flat of → core of ≡ of
 flat_core (t.Array element size) h = absurd h
-flat_core (t.Pointer to) h = refl
-flat_core t.Void h = refl
-flat_core t.Char h = refl
-flat_core t.Int h = refl
-flat_core t.Unsigned h = refl
-flat_core (t.Struct tag) h = refl
+flat_core of h = refl
 
 pub declared_flat : (d : Declarator) (b of : TypeTree) → Flat (with_stars d.stars b) → declared_type d b ≡ Some of → Flat (core of)
 declared_flat d b of h k = subst Flat (sym (declared_core d b of k ∙ flat_core (with_stars d.stars b) h)) h
@@ -85,30 +71,13 @@ sound_cells [] tag h l = absurd (omega (arith, l))
 sound_cells (s ∷ structs) zero h l = h.0.some
 sound_cells (s ∷ structs) (suc tag) h l = sound_cells structs tag h.1 (omega (arith, l))
 
-less_by : (m n : ℕ) → nat_lt m n ≡ true → m < n
-less_by m n h = grind (arith, nat_tests, h)
-
-most_by : (m n : ℕ) → nat_le m n ≡ true → m ≤ n
-most_by m n h = grind (arith, nat_tests, h)
-
-product_some : (m n : ℕ) → 1 ≤ m → 1 ≤ n → 1 ≤ m * n
-product_some zero n h k = absurd (omega (arith, h))
-product_some (suc m) n h k = let whole : suc m * n ≡ n + m * n = omega arith in omega (arith, k, whole)
-
 cells_some : (structs : List StructType) → AllSound structs → (of : TypeTree) → is_complete structs of ≡ true → 1 ≤ cells_of structs of
 cells_some structs s t.Void h = absurd (false≢true h)
-cells_some structs s t.Char h = omega arith
-cells_some structs s t.Int h = omega arith
-cells_some structs s t.Unsigned h = omega arith
-cells_some structs s (t.Pointer to) h = omega arith
 cells_some structs s (t.Array element size) h =
-    let parts : (nat_lt 0 size ≡ true) × (is_complete structs element ≡ true) = both (nat_lt 0 size) (is_complete structs element) h in
-    product_some size (cells_of structs element) (less_by 0 size parts.0) (cells_some structs s element parts.1)
-cells_some structs s (t.Struct tag) h = sound_cells structs tag s (less_by tag (length structs) h)
-
-all_and : {A : Type 0} (P : A → Type 0) (xs : List A) (x : A) → AllByRecursion P xs → P x → AllByRecursion P (xs ++ x ∷ [])
-all_and P [] x h k = (k, tt)
-all_and P (y ∷ xs) x h k = (h.0, all_and P xs x h.1 k)
+    let parts : (nat_lt 0 size ≡ true) × (is_complete structs element ≡ true) = and_parts (nat_lt 0 size) (is_complete structs element) h in
+    product_some size (cells_of structs element) (is_less 0 size parts.0) (cells_some structs s element parts.1)
+cells_some structs s (t.Struct tag) h = sound_cells structs tag s (is_less tag (length structs) h)
+cells_some structs s of h = omega arith
 
 -- a struct as it is built from some members
 record Built (w : Walk) (s : StructType) (v : Walk) : Type 0 where
@@ -126,8 +95,8 @@ module _ (w : Walk) (sound : AllSound w.structs) where
   object_built b d s of true f e h k = record {
     same = refl;
     some = capped_some s.cells (cells_of w.structs of)
-        (cells_some w.structs sound of (both (is_complete w.structs of) (nat_le (cells_of w.structs of) most_cells) k).0);
-    flat = all_and FlatMember s.members _ h (declared_flat d b of f e);
+        (cells_some w.structs sound of (and_parts (is_complete w.structs of) (nat_le (cells_of w.structs of) most_cells) k).0);
+    flat = all_more FlatMember s.members _ h (declared_flat d b of f e);
   }
   object_built b d s of false f e h k = tt
 
@@ -202,7 +171,7 @@ struct_is token tag members w v a one o s h =
     let d = defined_by (is_here tag w.tags) (nat_le first.value.cells most_cells) token first.value first.known v a first.rest in
     record {
       own = first.value;
-      sound = record { some = k.some; most = most_by first.value.cells 1048576 d.1; flat = k.flat };
+      sound = record { some = k.some; most = is_most first.value.cells 1048576 d.1; flat = k.flat };
       new = d.0;
       is = d.2 ∙ ap (λ (u : Walk). record u { structs = u.structs ++ first.value ∷ [] }) k.same;
     }
@@ -219,7 +188,7 @@ pub record Sums (w : Walk) : Type 0 where
 function_sums : (name : List ℕ) (f : FunctionType) (known : Option ℕ) (w : Walk) → Flat f.gives → is_struct f.gives ≡ false → Sums w
     → Sums (with_function name f known w)
 function_sums name f (Some index) w h k s = s
-function_sums name f None w h k s = record { structs = s.structs; functions = all_and Plainly w.functions _ s.functions (record { flat = h; plain = k }) }
+function_sums name f None w h k s = record { structs = s.structs; functions = all_more Plainly w.functions _ s.functions (record { flat = h; plain = k }) }
 
 typed_sums : (token : ℕ) (f : FunctionType) (name : List ℕ) (ps : List Parameter) (body : Option EntryList) (known : Option ℕ) (w v : Walk) (a : Done)
     → Flat f.gives → walk_function token f name ps body known w ≡ Fine a v → Sums w → Sums v
@@ -259,7 +228,7 @@ item_follows (item.Struct token tag members) at w v a o p s h =
         definitions = begun_here w.definitions;
         variables = begun_here w.variables;
       };
-      sums = record { structs = all_and Sound w.structs k.own s.structs k.sound; functions = s.functions };
+      sums = record { structs = all_more Sound w.structs k.own s.structs k.sound; functions = s.functions };
     })
 item_follows (item.Function token b stars name ps body) at w v a o p s h =
     let k = function_is token b stars name ps body (at + length (type_kinds b stars) + 2)
@@ -311,24 +280,12 @@ flat_deep : (tree : SourceTree) (z : Walk) → ((tag : ℕ) → Small tree z (t.
 flat_deep tree z small (t.Pointer to) h = flat_deep tree z small to h
 flat_deep tree z small (t.Array element size) h = absurd h
 flat_deep tree z small (t.Struct tag) h = small tag
-flat_deep tree z small t.Void h = tt
-flat_deep tree z small t.Char h = tt
-flat_deep tree z small t.Int h = tt
-flat_deep tree z small t.Unsigned h = tt
-
-step_by : (n : ℕ) → 1 ≤ n → n ≤ 1048576 → is_step_size n ≡ true
-step_by n h k = grind (arith, nat_tests, h, k)
+flat_deep tree z small of h = tt
 
 sound_step : (structs : List StructType) (tag : ℕ) → AllSound structs → tag < length structs → is_step_size (struct_cells (slice_get structs tag)) ≡ true
 sound_step [] tag h l = absurd (omega (arith, l))
 sound_step (s ∷ structs) zero h l = step_by s.cells h.0.some h.0.most
 sound_step (s ∷ structs) (suc tag) h l = sound_step structs tag h.1 (omega (arith, l))
-
--- the members of a struct
-pub all_at : {A : Type 0} (P : A → Type 0) (xs : List A) (i : ℕ) (x : A) → AllByRecursion P xs → slice_get xs i ≡ Some x → P x
-all_at P [] i x h e = cc
-all_at P (y ∷ xs) zero x h e = subst P (some_is y x e) h.0
-all_at P (y ∷ xs) (suc i) x h e = all_at P xs i x h.1 e
 
 record Fits_in (structs : List StructType) (most : ℕ) (m : Member) : Type 0 where
   complete : is_complete structs m.ctype ≡ true
@@ -338,7 +295,7 @@ record Fits_in (structs : List StructType) (most : ℕ) (m : Member) : Type 0 wh
 member_one : (structs : List StructType) (x m : Member) (rest : Option Member) (most : ℕ) (b : Bool) → IsKnown structs x → cells_of structs x.ctype ≤ most
     → FlatMember x
     → (rest ≡ Some m → Fits_in structs most m) → (if b then Some x else rest) ≡ Some m → Fits_in structs most m
-member_one structs x m rest most true k l f h e = subst (Fits_in structs most) (some_is x m e) (record { complete = k; few = l; flat = f })
+member_one structs x m rest most true k l f h e = subst (Fits_in structs most) (same_Some x m e) (record { complete = k; few = l; flat = f })
 member_one structs x m rest most false k l f h e = h e
 
 member_fits : (structs : List StructType) (ms : List Member) (name : List ℕ) (m : Member) (most : ℕ) → sum_by (member_cells structs) ms ≤ most
@@ -391,7 +348,7 @@ tree_sums tree z s h = (items_follow tree.items 0 (beginning (length tree.lines)
     (tree_is tree z h).items).sums
 
 pub small_structs : (tree : SourceTree) (z : Walk) → Sums z → (tag : ℕ) → Small tree z (t.Struct tag)
-small_structs tree z s tag h = sound_step z.structs tag s.structs (less_by tag (length z.structs) h)
+small_structs tree z s tag h = sound_step z.structs tag s.structs (is_less tag (length z.structs) h)
 
 pub core_is_deep : (tree : SourceTree) (z : Walk) → Sums z → (of : TypeTree) → Flat of → Deep tree z of
 core_is_deep tree z s of h = flat_deep tree z (small_structs tree z s) of h

@@ -6,6 +6,9 @@ use Rattle.std.specs.List.{AllByRecursion, flat_map}
 use Rattle.std.specs.Option.{option_and_then, option_map}
 use Rattle.std.proofs.lemmas.List.{append-nil, append_assoc}
 use Rattle.std.proofs.lemmas.Bool.{false≢true}
+use Rattle.c_types_expressions.proofs.Given.{Gives, and_then, looks, weaker}
+use Rattle.base_lists.proofs.Lists.{bytes_long, Stays}
+use Rattle.base_lists.proofs.Every.{all_first, all_second}
 use Rattle.cbi_base.specs.declared.operators.Binary.{Binary}
 use Rattle.cbi_base.specs.declared.operators.Binary.TheVariants as op
 use Rattle.c_syntax.specs.declared.token.Sign.{Sign}
@@ -14,40 +17,30 @@ use Rattle.c_syntax.specs.declared.parts.Base.{Base}
 use Rattle.c_syntax.specs.declared.parts.Base.TheVariants as base
 use Rattle.c_syntax.specs.declared.expr.PrefixOperator.{PrefixOperator}
 use Rattle.c_syntax.specs.declared.expr.PrefixOperator.TheVariants as prefix
-use Rattle.c_syntax.specs.ItemTree.{SourceTree}
+use Rattle.c_syntax.specs.Words.{SourceTree, ExprTree, ExprList, LinkList, PostfixList, ExprAt, ExprsAt, LinksAt, PostfixAt, HasLink, HasPostfix, ShapedExpr}
+use Rattle.c_syntax.specs.Words.{ShapedExprs, ShapedLinks, ShapedPostfix, parenthesized, type_kinds, a_sign, expr_kinds, exprs_kinds, link_kinds}
+use Rattle.c_syntax.specs.Words.{more_exprs_kinds, postfix_kinds}
 use Rattle.c_syntax.specs.ExprTree as e
-use Rattle.c_syntax.specs.ExprTree.{ExprTree, ExprList, LinkList, PostfixList}
-use Rattle.c_syntax.specs.Place.{ExprAt, ExprsAt, LinksAt, PostfixAt}
-use Rattle.c_syntax.specs.Shape.{HasLink, HasPostfix, ShapedExpr, ShapedExprs, ShapedLinks, ShapedPostfix}
-use Rattle.c_syntax.specs.Spelling.{parenthesized, type_kinds, a_sign, expr_kinds, exprs_kinds, link_kinds, more_exprs_kinds, postfix_kinds}
 use Rattle.c_types_rules.specs.declared.fault.FaultKind.{FaultKind}
 use Rattle.c_types_rules.specs.declared.layout.Member.{Member}
 use Rattle.c_types_rules.specs.declared.layout.StructType.{StructType}
 use Rattle.c_types_rules.specs.declared.operand.Operand.{Operand}
 use Rattle.c_types_rules.specs.TypeTree as t
-use Rattle.c_types_rules.specs.TypeTree.{TypeTree}
+use Rattle.c_types_rules.specs.Words.{TypeTree, constant_of, enclosed, is_pointer, is_struct, null_of, string_of, value_of, cast_to, measured, stepped, chosen}
+use Rattle.c_types_rules.specs.Words.{indexed, known_member, member_behind, member_in, member_named, member_of, sequenced, is_complete}
 use Rattle.c_types_rules.specs.Conversions as rule
-use Rattle.c_types_rules.specs.Conversions.{constant_of, enclosed, is_pointer, is_struct, null_of, string_of, value_of}
-use Rattle.c_types_rules.specs.Operators.{cast_to, measured, stepped}
-use Rattle.c_types_rules.specs.Selecting.{chosen, indexed, known_member, member_behind, member_in, member_named, member_of, sequenced}
-use Rattle.c_types_rules.specs.Sizes.{is_complete}
 use Rattle.c_types_expressions.specs.declared.names.Meaning.{Meaning}
 use Rattle.c_types_expressions.specs.declared.names.Meaning.TheVariants as meaning
 use Rattle.c_types_expressions.specs.declared.walk.Walk.{Walk}
 use Rattle.c_types.specs.Answers.{noted}
-use Rattle.c_types_expressions.specs.ExprWalk.{assigning, base_type, binary_of, chained, compound_of, looked, prefixed, selected, string_cells, tagged_type, with_stars}
-use Rattle.c_types_expressions.specs.ExprWalk.{walk_expr, walk_exprs, walk_links, walk_postfix}
-use Rattle.c_types_expressions.specs.Names.{found, meaning_of}
-use Rattle.c_types_expressions.specs.Walked.{Walked, ◌>>=◌}
+use Rattle.c_types_expressions.specs.Words.{assigning, base_type, binary_of, chained, compound_of, looked, prefixed, selected, string_cells, tagged_type}
+use Rattle.c_types_expressions.specs.Words.{with_stars, walk_expr, walk_exprs, walk_links, walk_postfix, found, meaning_of, Walked, ◌>>=◌}
 use Rattle.c_meaning.specs.declared.value_type.ValueType.{ValueType}
 use Rattle.c_meaning.specs.declared.value_type.ValueType.TheVariants as type
 use Rattle.c_meaning.specs.Conversions as mean
-use Rattle.c_meaning.specs.Conversions.{is_null_constant}
-use Rattle.c_meaning.specs.Literals.{Literal, strings_behind, strings_in, strings_of_all, strings_of_links}
-use Rattle.c_meaning.specs.Known.{base_named, object_cells, struct_number}
-use Rattle.c_meaning.specs.Operation.{operation}
-use Rattle.c_meaning.specs.Trees.{assigned_by, begins_null, ends_as_place, postfix_token, is_null_beside, joint, is_place, link_token, operand_type, token_of}
-use Rattle.c_meaning.specs.Trees.{type_of}
+use Rattle.c_meaning.specs.Words.{is_null_constant, Literal, strings_behind, strings_in, strings_of_all, strings_of_links, base_named, object_cells}
+use Rattle.c_meaning.specs.Words.{struct_number, operation, assigned_by, begins_null, ends_as_place, postfix_token, is_null_beside, joint, is_place, link_token}
+use Rattle.c_meaning.specs.Words.{operand_type, token_of, type_of}
 use Rattle.c_meaning_laws.specs.Rules.{Accepts, Arm, Assigns, Casts, Changes, OperatorsEnd, IsScalar, Moves, Joins, IsPointing, IsPointer, IsValue}
 use Rattle.c_meaning_laws.specs.Typed.{Steps, TypedLinks, TypedPostfix, variable_named}
 use Rattle.flow.specs.declared.site.Slot.{Slot}
@@ -62,9 +55,9 @@ use Rattle.c_meaning_sound.proofs.Forming.{string_formed, value_formed}
 use Rattle.c_meaning_sound.proofs.Growing.{Grows, combined_grows, compounded_grows, indexed_grows, measured_grows, stepped_grows}
 use Rattle.c_meaning_sound.proofs.Joining.{LinkFits, beside_is, link_fits, no_null_beside, null_beside}
 use Rattle.c_meaning_sound.proofs.Naming.{all_mean, member_noted}
-use Rattle.c_meaning_sound.proofs.Noting.{Deep, Gives, Part, Ready, Stays, Whole, and_then, facts, leftwards, looks, none, nothing_noted, ready_after, ready_in}
-use Rattle.c_meaning_sound.proofs.Noting.{rightwards, so, type_noted, weaker, wider}
-use Rattle.c_meaning_sound.proofs.Parting.{NoEquality, all_first, all_second, bytes_long, infix_long, no_equality, texts_long}
+use Rattle.c_meaning_sound.proofs.Noting.{Deep, Part, Ready, Whole, facts, leftwards, none, nothing_noted, ready_after, ready_in}
+use Rattle.c_meaning_sound.proofs.Noting.{rightwards, so, type_noted, wider}
+use Rattle.c_meaning_sound.proofs.Parting.{NoEquality, infix_long, no_equality, texts_long}
 use Rattle.c_meaning_sound.proofs.Operands.{Fits, Good, GoodList, PrefixGood, accepted, leaf_good, prefix_good, steps_fit, typed_as, unary_good}
 
 abbrev member_or : Member → Result Member FaultKind → Member
@@ -113,12 +106,7 @@ module _ (tree : SourceTree) (z : Walk) (ends : Ended tree z) where
   -- the arms of `? :`
   arm_by : (of : TypeTree) (x : ExprTree) (a : Operand) → Accepts (facts tree z) (known z.structs of) x → Arm (facts tree z) (known z.structs of) x
   arm_by t.Void x a h = tt
-  arm_by t.Char x a h = h
-  arm_by t.Int x a h = h
-  arm_by t.Unsigned x a h = h
-  arm_by (t.Pointer to) x a h = h
-  arm_by (t.Array element size) x a h = h
-  arm_by (t.Struct tag) x a h = h
+  arm_by of x a h = h
 
   arm_fits : (of : TypeTree) (x : ExprTree) (a : Operand) → TakesArm z.structs of a → is_null_constant x ≡ a.null → noted z.types (token_of x) ≡ Some a.ctype
       → Arm (facts tree z) (known z.structs of) x
@@ -190,12 +178,7 @@ module _ (tree : SourceTree) (z : Walk) (ends : Ended tree z) where
   prefixed_grows prefix.Increment w a b g h = stepped_grows w.structs z.structs g a b h
   prefixed_grows prefix.Decrement w a b g h = stepped_grows w.structs z.structs g a b h
   prefixed_grows prefix.SizeOf w a b g h = measured_grows w.structs z.structs g a.ctype b h
-  prefixed_grows prefix.Address w a b g h = h
-  prefixed_grows prefix.Indirection w a b g h = h
-  prefixed_grows prefix.Plus w a b g h = h
-  prefixed_grows prefix.Minus w a b g h = h
-  prefixed_grows prefix.Complement w a b g h = h
-  prefixed_grows prefix.Not w a b g h = h
+  prefixed_grows o w a b g h = h
 
   -- named types
   pub base_then : {A : Type 0} {Q : A → Walk → Type 0} (b : Base) (w : Walk) (k : TypeTree → Walk → Walked A)
@@ -265,19 +248,11 @@ module _ (tree : SourceTree) (z : Walk) (ends : Ended tree z) where
 
   ends_fit : (rest : PostfixList) (a : Operand) → OperatorsEnd a.place (known z.structs a.ctype) → EndsFit rest a
   ends_fit e.no_postfix a h = h
-  ends_fit (e.index token x rest) a h = tt
-  ends_fit (e.member token name rest) a h = tt
-  ends_fit (e.arrow token name rest) a h = tt
-  ends_fit (e.increment token rest) a h = tt
-  ends_fit (e.decrement token rest) a h = tt
+  ends_fit rest a h = tt
 
   some_fit : (rest : PostfixList) (a : Operand) → HasPostfix rest → EndsFit rest a
   some_fit e.no_postfix a h = absurd h
-  some_fit (e.index token x rest) a h = tt
-  some_fit (e.member token name rest) a h = tt
-  some_fit (e.arrow token name rest) a h = tt
-  some_fit (e.increment token rest) a h = tt
-  some_fit (e.decrement token rest) a h = tt
+  some_fit rest a h = tt
 
   -- the walk through the operators behind this operand, whose token is the first
   pub record GoodPostfix (at first : ℕ) (rest : PostfixList) (a : Operand) (w : Walk) (b : Operand) (v : Walk) : Type 0 where
@@ -314,22 +289,12 @@ module _ (tree : SourceTree) (z : Walk) (ends : Ended tree z) where
   member_whole : (w : Walk) (name : List ℕ) (of : TypeTree) (m : Member) → Stays w.structs z.structs → member_of w.structs name of ≡ Ok m
       → Whole tree z m.ctype × (is_struct of ≡ true)
   member_whole w name (t.Struct tag) m g h = (member_named_whole w tag (slice_get w.structs tag) name m g refl h, refl)
-  member_whole w name t.Void m g h = cc
-  member_whole w name t.Char m g h = cc
-  member_whole w name t.Int m g h = cc
-  member_whole w name t.Unsigned m g h = cc
-  member_whole w name (t.Pointer to) m g h = cc
-  member_whole w name (t.Array element size) m g h = cc
+  member_whole w name of m g h = cc
 
   behind_whole : (w : Walk) (name : List ℕ) (of : TypeTree) (m : Member) → Stays w.structs z.structs → member_behind w.structs name of ≡ Ok m
       → Whole tree z m.ctype × (is_pointer of ≡ true)
   behind_whole w name (t.Pointer to) m g h = ((member_whole w name to m g h).0, refl)
-  behind_whole w name t.Void m g h = cc
-  behind_whole w name t.Char m g h = cc
-  behind_whole w name t.Int m g h = cc
-  behind_whole w name t.Unsigned m g h = cc
-  behind_whole w name (t.Struct tag) m g h = cc
-  behind_whole w name (t.Array element size) m g h = cc
+  behind_whole w name of m g h = cc
 
   -- a member of a struct that is a place
   selected_good : (at token : ℕ) (p : Bool) (r : Result Member FaultKind) (P : Type 0) (w : Walk) → token ≡ at →

@@ -2,40 +2,35 @@
 use Rattle.std.proofs.Common.{◌≡◌, ℕ, ◌≤◌, ◌<◌, refl, ap, subst, sym, ◌∙◌, arith, List, [], ◌∷◌, ◌++◌, Some, None, ◌+◌, length, length-append}
 use Rattle.std.specs.Prelude.{Option, false, slice_get, unwrap_or}
 use Rattle.std.specs.List.{AllByRecursion, flat_map}
+use Rattle.c_types_expressions.proofs.Giving.{Gives}
+use Rattle.base_lists.proofs.Lists.{next_is, Stays}
+use Rattle.base_lists.proofs.Every.{all_first, all_second}
 use Rattle.c_syntax.specs.declared.token.Sign.TheVariants as sign
 use Rattle.c_syntax.specs.declared.parts.Base.{Base}
 use Rattle.c_syntax.specs.declared.parts.Params.{Params}
-use Rattle.c_syntax.specs.StatementTree.{EntryList}
+use Rattle.c_syntax.specs.Words.{EntryList, ItemTree, SourceTree, EachAt, ItemAt, ShapedItem, a_name, a_sign, base_kinds, body_kinds, declaration_kinds}
+use Rattle.c_syntax.specs.Words.{entry_kinds, item_kinds, params_kinds, parenthesized, start_kinds, type_kinds, with_commas}
 use Rattle.c_syntax.specs.ItemTree as item
-use Rattle.c_syntax.specs.ItemTree.{ItemTree, SourceTree}
-use Rattle.c_syntax.specs.Place.{EachAt, ItemAt}
-use Rattle.c_syntax.specs.Shape.{ShapedItem}
-use Rattle.c_syntax.specs.Spelling.{a_name, a_sign, base_kinds, body_kinds, declaration_kinds, entry_kinds, item_kinds, params_kinds, parenthesized}
-use Rattle.c_syntax.specs.Spelling.{start_kinds, type_kinds, with_commas}
 use Rattle.c_types_rules.specs.declared.function.FunctionType.{FunctionType}
 use Rattle.c_types_expressions.specs.declared.walk.Definition.{Definition}
 use Rattle.c_types_expressions.specs.declared.walk.Walk.{Walk}
-use Rattle.c_types_expressions.specs.ExprWalk.{with_stars}
+use Rattle.c_types_expressions.specs.Words.{with_stars, found, Done, Fine, opened}
 use Rattle.c_types_walk.specs.ItemWalk.{clashes, known_as, types_of, walk_item, walk_items, with_definition, with_function}
-use Rattle.c_types_expressions.specs.Names.{found}
-use Rattle.c_types_expressions.specs.Walked.{Done, Fine, opened}
 use Rattle.c_meaning.specs.declared.value_type.ValueType.{ValueType}
-use Rattle.c_meaning.specs.Known.{body_of_item, computed_type, facts_of}
-use Rattle.c_meaning.specs.Literals.{strings_of_item}
+use Rattle.c_meaning.specs.Words.{body_of_item, computed_type, facts_of, strings_of_item}
 use Rattle.c_meaning_laws.specs.TypedStatements.{TypedEntries}
 use Rattle.c_meaning_laws.specs.TypedText.{TypedGlobals}
 use Rattle.c_meaning_sound.specs.Accepted.{IsNegatable}
 use Rattle.c_meaning_sound.proofs.Accepting.{GlobalsFit, Whole_item, body_long, item_good}
 use Rattle.c_meaning_sound.proofs.Defining.{Walked_body, walked_body}
 use Rattle.c_meaning_sound.proofs.Ending.{Follows, Sums, item_follows, items_follow, struct_is}
-use Rattle.c_meaning_sound.proofs.Parting.{all_first, all_second}
 use Rattle.c_meaning_sound.proofs.Forming.{Ended}
 use Rattle.c_meaning_sound.proofs.Globals.{Outside, declaration_outside}
 use Rattle.c_meaning_sound.proofs.Items.{BodiesFit, Later, Standing, Tagged, ready_of, same_variables, standing_function}
 use Rattle.c_meaning_sound.proofs.Marking.{IsLocalBelow, Marks, after_scope, marks_then, marks_wider}
-use Rattle.c_meaning_sound.proofs.Noting.{GivesIn, Ready, Same, Stays, StaysWhole, facts, none, same_here, same_then}
+use Rattle.c_meaning_sound.proofs.Noting.{Ready, Same, StaysWhole, facts, none, same_here, same_then}
 use Rattle.c_meaning_sound.proofs.Reaching.{Defines, Grown, begun_stays, body_defines, comes, declaration_grown, declares_is, defines_onward, defines_one}
-use Rattle.c_meaning_sound.proofs.Reaching.{fine_known, function_is, grown_then, next_is}
+use Rattle.c_meaning_sound.proofs.Reaching.{fine_known, function_is, grown_then}
 use Rattle.c_meaning_sound.proofs.Spanning.{Behind, InScope, Spans, Steps, behind_before, behind_here, in_scope, spans_next, steps_body, steps_outer, steps_quiet}
 use Rattle.c_meaning_sound.proofs.Texts.{Spelled}
 
@@ -184,7 +179,7 @@ module _ (tree : SourceTree) (z : Walk) (ends : Ended tree z) (sums : Sums z) (g
       let r : Ready tree z at (at + length (declaration_kinds d)) w =
       ready_of tree z count at (at + length (declaration_kinds d)) w st (grown_then w v z (declaration_grown d w v a e) gr) (omega (arith, h, c)) in
       let x : Outside tree z at (at + length (declaration_kinds d)) w v (TypedGlobals (facts_of tree z) z d.starts) =
-      subst (GivesIn (λ done v. Outside tree z at (at + length (declaration_kinds d)) w v (TypedGlobals (facts_of tree z) z d.starts))) e
+      subst (Gives (λ done v. Outside tree z at (at + length (declaration_kinds d)) w v (TypedGlobals (facts_of tree z) z d.starts))) e
       (declaration_outside tree z ends d at w o p l q r st.slots).by in
       record {
         steps = subst (λ n. Steps at n w v) (sym h)

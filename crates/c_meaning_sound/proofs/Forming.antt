@@ -2,9 +2,8 @@
 use Rattle.std.proofs.Common.{◌≡◌, ℕ, ◌≤◌, refl, subst, sym, ◌∙◌, arith, List, Some, None, ◌+◌, Ok, Err, Bool, true, false}
 use Rattle.std.specs.Prelude.{◌*◌, nat_le, slice_get, ◌&&◌, ◌||◌, if◌then◌else◌}
 use Rattle.std.specs.Option.{option_map}
-use Rattle.std.proofs.lemmas.Bool.{false≢true, true≢false}
+use Rattle.std.proofs.lemmas.Bool.{false≢true, true≢false, and_parts}
 use Rattle.std.proofs.lemmas.Bool.Decides.{nat_tests}
-use Rattle.cbi_base.proofs.NumberLemmas.{both}
 use Rattle.cbi_base.specs.declared.operators.Binary.{Binary}
 use Rattle.cbi_base.specs.declared.operators.Binary.TheVariants as op
 use Rattle.cbi_base.specs.declared.scalar.Kind.{Kind}
@@ -16,20 +15,16 @@ use Rattle.c_types_rules.specs.declared.layout.Member.{Member}
 use Rattle.c_types_rules.specs.declared.layout.StructType.{StructType}
 use Rattle.c_types_rules.specs.declared.operand.Operand.{Operand}
 use Rattle.c_types_rules.specs.TypeTree as t
-use Rattle.c_types_rules.specs.TypeTree.{TypeTree, same_type}
-use Rattle.c_types_rules.specs.Assigning.{assignable, assigned, pointers_join}
+use Rattle.c_types_rules.specs.Words.{TypeTree, same_type, assignable, assigned, pointers_join, common, decayed, enclosed, is_arithmetic, is_pointer, is_struct}
+use Rattle.c_types_rules.specs.Words.{is_unsigned, is_void, is_void_pointer, null_of, of_kind, place_of, promoted, string_of, value_of, added, both_arithmetic}
+use Rattle.c_types_rules.specs.Words.{combined, compounded, gives, is_movable, is_scalar_value, joined_truths, signed, stepped, addressed, chosen, either}
+use Rattle.c_types_rules.specs.Words.{indexed, joined_pointer, member_named, pointed, pointed_type, cells_of, is_complete}
 use Rattle.c_types_rules.specs.Conversions as rule
-use Rattle.c_types_rules.specs.Conversions.{common, decayed, enclosed, is_arithmetic, is_pointer, is_struct, is_unsigned, is_void, is_void_pointer}
-use Rattle.c_types_rules.specs.Conversions.{null_of, of_kind, place_of, promoted, string_of, value_of}
-use Rattle.c_types_rules.specs.Operators.{added, both_arithmetic, combined, compounded, gives, is_movable, is_scalar_value, joined_truths, signed, stepped}
-use Rattle.c_types_rules.specs.Selecting.{addressed, chosen, either, indexed, joined_pointer, member_named, pointed, pointed_type}
-use Rattle.c_types_rules.specs.Sizes.{cells_of, is_complete}
 use Rattle.c_types_expressions.specs.declared.walk.FunctionEntry.{FunctionEntry}
 use Rattle.c_types_expressions.specs.declared.walk.Walk.{Walk}
 use Rattle.c_types.specs.Answers.{noted}
 use Rattle.c_types.specs.Numbers.{function_of}
-use Rattle.c_meaning.specs.Known.{element_cells, object_cells}
-use Rattle.c_meaning.specs.Operation.{is_step_size}
+use Rattle.c_meaning.specs.Words.{element_cells, object_cells, is_step_size}
 use Rattle.c_meaning_laws.specs.Rules.{IsObject, IsValue}
 use Rattle.c_meaning_laws.proofs.Ruled.{Is, given, gives_by, known}
 use Rattle.c_meaning_laws.proofs.RuledOperators.{Assigned, StepsKnown, assigned_is, bind_by}
@@ -55,20 +50,7 @@ combined_plain structs op.Add x y a h = sums_plain (both_arithmetic (rule.value_
 combined_plain structs op.Sub x y a h = sums_plain (both_arithmetic (rule.value_type x) (rule.value_type y)) (is_arithmetic (rule.value_type y))
     (is_movable structs (rule.value_type x)) (is_movable structs (rule.value_type x) && same_type (rule.value_type x) (rule.value_type y))
     (common (rule.value_type x) (rule.value_type y)) (rule.value_type x) t.Int a h
-combined_plain structs op.Mul x y a h = gives_plain _ _ a h
-combined_plain structs op.Div x y a h = gives_plain _ _ a h
-combined_plain structs op.Rem x y a h = gives_plain _ _ a h
-combined_plain structs op.And x y a h = gives_plain _ _ a h
-combined_plain structs op.Or x y a h = gives_plain _ _ a h
-combined_plain structs op.Xor x y a h = gives_plain _ _ a h
-combined_plain structs op.Shl x y a h = gives_plain _ _ a h
-combined_plain structs op.Shr x y a h = gives_plain _ _ a h
-combined_plain structs op.Lt x y a h = gives_plain _ _ a h
-combined_plain structs op.Le x y a h = gives_plain _ _ a h
-combined_plain structs op.Gt x y a h = gives_plain _ _ a h
-combined_plain structs op.Ge x y a h = gives_plain _ _ a h
-combined_plain structs op.Eq x y a h = gives_plain _ _ a h
-combined_plain structs op.Ne x y a h = gives_plain _ _ a h
+combined_plain structs o x y a h = gives_plain _ _ a h
 
 pub assigned_plain : (target x a : Operand) → Is (assigned target x) a → Plain a
 assigned_plain target x a h = subst Plain (sym (assigned_is target x a h).gives) (refl, refl)
@@ -137,12 +119,9 @@ module _ (tree : SourceTree) (z : Walk) where
 
   pub small_of : (of : TypeTree) → Deep tree z of → Small tree z of
   small_of t.Void h e = absurd (false≢true e)
-  small_of t.Char h e = refl
-  small_of t.Int h e = refl
-  small_of t.Unsigned h e = refl
-  small_of (t.Pointer to) h e = refl
   small_of (t.Array element size) h e = h.0 e
   small_of (t.Struct tag) h e = h e
+  small_of of h e = refl
 
   cells_if : (of : TypeTree) (b c : Bool) → b ≡ true → c ≡ true → (if b && c then Some (cells_of z.structs of) else None) ≡ Some (cells_of z.structs of)
   cells_if of true true h k = refl
@@ -152,7 +131,7 @@ module _ (tree : SourceTree) (z : Walk) where
   -- an object of the type has cells
   pub object_is : (of : TypeTree) → Deep tree z of → is_complete z.structs of ≡ true → object_cells z.structs of ≡ Some (cells_of z.structs of)
   object_is of d h = cells_if of (is_complete z.structs of) (nat_le (cells_of z.structs of) 1048576) h
-      (both (nat_le 1 (cells_of z.structs of)) (nat_le (cells_of z.structs of) 1048576) (small_of of d h)).1
+      (and_parts (nat_le 1 (cells_of z.structs of)) (nat_le (cells_of z.structs of) 1048576) (small_of of d h)).1
 
   step_is : (of : TypeTree) → Deep tree z of → is_complete z.structs of ≡ true → is_step_size (element_cells z.structs of) ≡ true
   step_is of d h = rw (object_is of d h) (small_of of d h)
@@ -160,11 +139,7 @@ module _ (tree : SourceTree) (z : Walk) where
   pub steps_known : (of : TypeTree) → Deep tree z of → StepsKnown z.structs of
   steps_known (t.Pointer to) d h = step_is to d h
   steps_known (t.Array element size) d h = step_is element d.1 h
-  steps_known t.Void d h = tt
-  steps_known t.Char d h = tt
-  steps_known t.Int d h = tt
-  steps_known t.Unsigned d h = tt
-  steps_known (t.Struct tag) d h = tt
+  steps_known of d h = tt
 
   -- what an operand is
   pub record Formed (x : Operand) : Type 0 where
@@ -187,30 +162,15 @@ module _ (tree : SourceTree) (z : Walk) where
 
   pub decayed_deep : (of : TypeTree) → Deep tree z of → Deep tree z (decayed of)
   decayed_deep (t.Array element size) h = h.1
-  decayed_deep (t.Pointer to) h = h
-  decayed_deep t.Void h = h
-  decayed_deep t.Char h = h
-  decayed_deep t.Int h = h
-  decayed_deep t.Unsigned h = h
-  decayed_deep (t.Struct tag) h = h
+  decayed_deep of h = h
 
   movable_plain : (of : TypeTree) → is_movable z.structs of ≡ true → is_struct of ≡ false
-  movable_plain (t.Pointer to) h = refl
-  movable_plain t.Void h = refl
-  movable_plain t.Char h = refl
-  movable_plain t.Int h = refl
-  movable_plain t.Unsigned h = refl
-  movable_plain (t.Array element size) h = refl
   movable_plain (t.Struct tag) h = absurd (false≢true h)
+  movable_plain of h = refl
 
   pointer_plain : (of : TypeTree) → is_pointer of ≡ true → is_struct of ≡ false
-  pointer_plain (t.Pointer to) h = refl
-  pointer_plain t.Void h = refl
-  pointer_plain t.Char h = refl
-  pointer_plain t.Int h = refl
-  pointer_plain t.Unsigned h = refl
-  pointer_plain (t.Array element size) h = refl
   pointer_plain (t.Struct tag) h = absurd (false≢true h)
+  pointer_plain of h = refl
 
   pub int_formed : Formed (value_of t.Int)
   int_formed = value_formed t.Int tt refl
@@ -226,10 +186,7 @@ module _ (tree : SourceTree) (z : Walk) where
   promoted_formed t.Char h = int_formed
   promoted_formed t.Int h = int_formed
   promoted_formed t.Unsigned h = value_formed t.Unsigned tt refl
-  promoted_formed t.Void h = absurd (false≢true h)
-  promoted_formed (t.Pointer to) h = absurd (false≢true h)
-  promoted_formed (t.Array element size) h = absurd (false≢true h)
-  promoted_formed (t.Struct tag) h = absurd (false≢true h)
+  promoted_formed of h = absurd (false≢true h)
 
   moved_formed : (of : TypeTree) → Deep tree z of → (m : Bool) → (m ≡ true → is_struct of ≡ false) → (x : Operand) → Is (gives m of) x → Formed x
   moved_formed of d m f x h = gives_by Formed m of x (λ e. value_formed of d (f e)) h
@@ -258,19 +215,13 @@ module _ (tree : SourceTree) (z : Walk) where
   calculated_formed p a b x h = gives_by Formed p (common a b) x (λ e. common_formed a b) h
 
   shifted_formed : (a b : TypeTree) (x : Operand) → Is (gives (both_arithmetic a b) (promoted a)) x → Formed x
-  shifted_formed a b x h = gives_by Formed (both_arithmetic a b) (promoted a) x (λ e. promoted_formed a (both (is_arithmetic a) (is_arithmetic b) e).0) h
+  shifted_formed a b x h = gives_by Formed (both_arithmetic a b) (promoted a) x (λ e. promoted_formed a (and_parts (is_arithmetic a) (is_arithmetic b) e).0) h
 
   pub combined_formed : (o : Binary) (x y a : Operand) → Formed x → Formed y → Is (combined z.structs o x y) a → Formed a
   combined_formed op.Add x y a f g h = added_formed (rule.value_type x) (rule.value_type y) a (decayed_deep x.ctype f.deep) (decayed_deep y.ctype g.deep) h
   combined_formed op.Sub x y a f g h = difference_by (both_arithmetic (rule.value_type x) (rule.value_type y)) (is_arithmetic (rule.value_type y))
       (is_movable z.structs (rule.value_type x)) (same_type (rule.value_type x) (rule.value_type y)) (rule.value_type x) (rule.value_type y) a
       (decayed_deep x.ctype f.deep) (movable_plain (rule.value_type x)) h
-  combined_formed op.Mul x y a f g h = calculated_formed _ (rule.value_type x) (rule.value_type y) a h
-  combined_formed op.Div x y a f g h = calculated_formed _ (rule.value_type x) (rule.value_type y) a h
-  combined_formed op.Rem x y a f g h = calculated_formed _ (rule.value_type x) (rule.value_type y) a h
-  combined_formed op.And x y a f g h = calculated_formed _ (rule.value_type x) (rule.value_type y) a h
-  combined_formed op.Or x y a f g h = calculated_formed _ (rule.value_type x) (rule.value_type y) a h
-  combined_formed op.Xor x y a f g h = calculated_formed _ (rule.value_type x) (rule.value_type y) a h
   combined_formed op.Shl x y a f g h = shifted_formed (rule.value_type x) (rule.value_type y) a h
   combined_formed op.Shr x y a f g h = shifted_formed (rule.value_type x) (rule.value_type y) a h
   combined_formed op.Lt x y a f g h = number_formed _ a h
@@ -279,15 +230,11 @@ module _ (tree : SourceTree) (z : Walk) where
   combined_formed op.Ge x y a f g h = number_formed _ a h
   combined_formed op.Eq x y a f g h = number_formed _ a h
   combined_formed op.Ne x y a f g h = number_formed _ a h
+  combined_formed o x y a f g h = calculated_formed _ (rule.value_type x) (rule.value_type y) a h
 
   assignable_plain : (of : TypeTree) (x : Operand) → assignable of x ≡ true → is_struct of ≡ false
   assignable_plain (t.Struct tag) x h = absurd (false≢true h)
-  assignable_plain (t.Pointer to) x h = refl
-  assignable_plain t.Void x h = refl
-  assignable_plain t.Char x h = refl
-  assignable_plain t.Int x h = refl
-  assignable_plain t.Unsigned x h = refl
-  assignable_plain (t.Array element size) x h = refl
+  assignable_plain of x h = refl
 
   pub assigned_formed : (target x a : Operand) → Formed target → Is (assigned target x) a → Formed a
   assigned_formed target x a f h =
@@ -299,12 +246,7 @@ module _ (tree : SourceTree) (z : Walk) where
 
   scalar_plain : (of : TypeTree) → (is_arithmetic of || is_movable z.structs of) ≡ true → is_struct of ≡ false
   scalar_plain (t.Struct tag) h = absurd (false≢true h)
-  scalar_plain (t.Pointer to) h = refl
-  scalar_plain t.Void h = refl
-  scalar_plain t.Char h = refl
-  scalar_plain t.Int h = refl
-  scalar_plain t.Unsigned h = refl
-  scalar_plain (t.Array element size) h = refl
+  scalar_plain of h = refl
 
   stepped_by : (of : TypeTree) (p q : Bool) (a : Operand) → Deep tree z of → (p ≡ true → is_struct of ≡ false)
       → Is (if p then if q then Ok (value_of of) else Err fault.NoPlace else Err fault.Operands) a → Formed a
@@ -343,12 +285,7 @@ module _ (tree : SourceTree) (z : Walk) where
 
   pointed_deep : (of : TypeTree) (a : Operand) → Deep tree z of → Is (pointed_type of) a → Formed a
   pointed_deep (t.Pointer to) a d h = pointed_by to (is_void to) a d refl h
-  pointed_deep t.Void a d h = cc
-  pointed_deep t.Char a d h = cc
-  pointed_deep t.Int a d h = cc
-  pointed_deep t.Unsigned a d h = cc
-  pointed_deep (t.Array element size) a d h = cc
-  pointed_deep (t.Struct tag) a d h = cc
+  pointed_deep of a d h = cc
 
   pub pointed_formed : (x a : Operand) → Formed x → Is (pointed x) a → Formed a
   pointed_formed x a f h = pointed_deep (rule.value_type x) a (decayed_deep x.ctype f.deep) h
@@ -359,12 +296,7 @@ module _ (tree : SourceTree) (z : Walk) where
 
   cast_plain : (of : TypeTree) (x : Operand) → (is_void of || assignable of x) ≡ true → is_struct of ≡ false
   cast_plain (t.Struct tag) x h = absurd (false≢true h)
-  cast_plain (t.Pointer to) x h = refl
-  cast_plain t.Void x h = refl
-  cast_plain t.Char x h = refl
-  cast_plain t.Int x h = refl
-  cast_plain t.Unsigned x h = refl
-  cast_plain (t.Array element size) x h = refl
+  cast_plain of x h = refl
 
   pub cast_formed : (of : TypeTree) (x a : Operand) → Deep tree z of → Is (gives (is_void of || assignable of x) of) a → Formed a
   cast_formed of x a d h = moved_formed of d (is_void of || assignable of x) (cast_plain of x) a h

@@ -3,47 +3,44 @@ use Rattle.std.proofs.Common.{◌≡◌, ℕ, ◌≤◌, ◌<◌, refl, ap, subs
 use Rattle.std.proofs.Common.{length-append}
 use Rattle.std.specs.Prelude.{Option, nat_le, slice_get, is_some, ◌&&◌, if◌then◌else◌}
 use Rattle.std.specs.List.{AllByRecursion, flat_map}
-use Rattle.std.proofs.lemmas.Bool.{false≢true}
+use Rattle.std.proofs.lemmas.Bool.{false≢true, and_parts}
 use Rattle.std.proofs.lemmas.Option.{slice_get_within}
-use Rattle.cbi_base.proofs.NumberLemmas.{both}
-use Rattle.c_syntax.specs.ItemTree.{SourceTree}
-use Rattle.c_syntax.specs.StatementTree.{StartTree, DeclarationTree}
+use Rattle.c_types_expressions.proofs.Giving.{Gives as GivesIn}
+use Rattle.c_types_expressions.proofs.Given.{Gives, and_then, weaker}
+use Rattle.c_types.proofs.Replaced.{noted_other, noted_same, replaced_other, replaced_same}
+use Rattle.sites.proofs.RisesBodies.{declarator-length}
+use Rattle.base_lists.proofs.Lists.{get_last, Stays}
+use Rattle.base_lists.proofs.Every.{all_first, all_second}
+use Rattle.c_syntax.specs.Words.{SourceTree, StartTree, DeclarationTree, DeclarationAt, EachAt, StartAt, ShapedDeclaration, ShapedStart, a_sign, after_commas}
+use Rattle.c_syntax.specs.Words.{base_kinds, declaration_kinds, declarator_kinds, start_kinds, with_commas}
 use Rattle.c_syntax.specs.declared.token.Sign.TheVariants as sign
-use Rattle.c_syntax.specs.Place.{DeclarationAt, EachAt, StartAt}
-use Rattle.c_syntax.specs.Shape.{ShapedDeclaration, ShapedStart}
-use Rattle.c_syntax.specs.Spelling.{a_sign, after_commas, base_kinds, declaration_kinds, declarator_kinds, start_kinds, with_commas}
 use Rattle.c_types_rules.specs.declared.fault.FaultKind.TheVariants as fault
-use Rattle.c_types_rules.specs.TypeTree.{TypeTree}
-use Rattle.c_types_rules.specs.Sizes.{cells_of, is_complete, is_object}
+use Rattle.c_types_rules.specs.Words.{TypeTree, cells_of, is_complete, is_object}
 use Rattle.c_types_expressions.specs.declared.walk.Variable.TheVariants as variable
 use Rattle.c_types_expressions.specs.declared.walk.VariableEntry.{VariableEntry}
 use Rattle.c_types_expressions.specs.declared.walk.Walk.{Walk}
 use Rattle.c_types.specs.Answers.{declared_at, noted}
 use Rattle.c_types_walk.specs.Declarators.{declared_type, is_open}
-use Rattle.c_types_expressions.specs.ExprWalk.{with_stars}
+use Rattle.c_types_expressions.specs.Words.{with_stars, is_name_taken, Walked, Done, Fine, Faulty, ◌>>=◌, with_variable}
 use Rattle.c_types_walk.specs.Initialisers.{length_of, walk_initial, with_length}
-use Rattle.c_types_expressions.specs.Names.{is_name_taken}
 use Rattle.c_types.specs.Parts.{declaration_parts}
 use Rattle.c_types_walk.specs.StatementWalk.{sized, walk_closed, walk_declaration, walk_open, walk_start, walk_starts, walk_typed, with_declared_type}
-use Rattle.c_types_expressions.specs.Walked.{Walked, Done, Fine, Faulty, ◌>>=◌, with_variable}
-use Rattle.c_types.proofs.Noted.{Step, stage}
+use Rattle.c_types.proofs.Noted.{Step, stage, length_replaced}
 use Rattle.c_types.proofs.NotedStatements.{declaration_notes}
-use Rattle.c_meaning.specs.Known.{facts_of}
-use Rattle.c_meaning.specs.Literals.{strings_declared, strings_initial}
+use Rattle.c_meaning.specs.Words.{facts_of, strings_declared, strings_initial}
 use Rattle.c_meaning_laws.specs.TypedText.{TypedGlobal, TypedGlobals}
 use Rattle.c_meaning_sound.specs.Accepted.{IsNegatable}
 use Rattle.c_meaning_sound.proofs.Accepting.{GlobalGood}
 use Rattle.c_meaning_sound.proofs.Constant.{OuterFits, outer_good}
-use Rattle.c_meaning_sound.proofs.Declaring.{all_whole_more, all_whole_replaced, apart_of, commas_long, declared_is, get_before, get_behind, if_faulty, long_core}
-use Rattle.c_meaning_sound.proofs.Declaring.{name_inside, slots_more}
+use Rattle.c_meaning_sound.proofs.Declaring.{all_whole_more, all_whole_replaced, apart_of, commas_long, declared_is, get_before, if_faulty, long_core}
+use Rattle.c_meaning_sound.proofs.Declaring.{slots_more}
 use Rattle.c_meaning_sound.proofs.Expressions.{base_then, stars_deep}
-use Rattle.c_meaning_sound.proofs.Parting.{all_first, all_second}
 use Rattle.c_meaning_sound.proofs.Forming.{Ended}
 use Rattle.c_meaning_sound.proofs.Initialising.{equals_kinds, length_back}
 use Rattle.c_meaning_sound.proofs.Items.{Standing, ready_of}
 use Rattle.c_meaning_sound.proofs.Marking.{OuterMarks, Still, outer_marks_declared, outer_marks_still, outer_marks_then, outer_marks_wider, still_here}
-use Rattle.c_meaning_sound.proofs.Noting.{AllSlots, AllWhole, Deep, Gives, GivesIn, Part, Ready, Same, Stays, StaysWhole, Whole, and_then, noted_other, noted_same}
-use Rattle.c_meaning_sound.proofs.Noting.{ready_in, replaced_long, replaced_other, replaced_same, same_here, same_then, weaker}
+use Rattle.c_meaning_sound.proofs.Noting.{AllSlots, AllWhole, Deep, Part, Ready, Same, StaysWhole, Whole}
+use Rattle.c_meaning_sound.proofs.Noting.{ready_in, same_here, same_then}
 use Rattle.c_meaning_sound.proofs.Reaching.{Grown, begun_stays, declaration_grown, definitions_same, grown_then, taken}
 use Rattle.c_meaning_sound.proofs.Sizing.{Open, Sized, core, core_deep, declared_core, object_stays, open_by, whole_by}
 use Rattle.c_meaning_sound.proofs.Texts.{Spelled}
@@ -253,7 +250,7 @@ module _ (tree : SourceTree) (z : Walk) where
   global_noted token name of w h long whole = record {
     keeps = record {
       types = refl;
-      variables_at = replaced_long w.variables_at token (Some (length w.variables));
+      variables_at = length_replaced w.variables_at token (Some (length w.variables));
       offsets_at = refl;
       functions_at = refl;
       structs = refl;
@@ -264,7 +261,7 @@ module _ (tree : SourceTree) (z : Walk) where
       wholes = λ k. all_whole_more tree z w.declared_types of k whole;
       long = λ k. omega (arith, k, length-append w.variables (global_entry token name w ∷ []), length-append w.declared_types (of ∷ []));
       slots = λ k. (
-        rw (get_behind w.variables (global_entry token name w)) tt,
+        rw (get_last w.variables (global_entry token name w)) tt,
         slots_more 0 0 w.variables (w.variables ++ global_entry token name w ∷ []) w.names (omega arith)
             (λ i x l. get_before w.variables i x (global_entry token name w) l) k,
       );
@@ -279,7 +276,7 @@ module _ (tree : SourceTree) (z : Walk) where
   }
     where
       last : slice_get (w.declared_types ++ of ∷ []) (length w.variables) ≡ Some of
-      last = subst (λ n. slice_get (w.declared_types ++ of ∷ []) n ≡ Some of) long (get_behind w.declared_types of)
+      last = subst (λ n. slice_get (w.declared_types ++ of ∷ []) n ≡ Some of) long (get_last w.declared_types of)
 
       apart : (q : ℕ) → (token ≡ q → ⊥) → Same w (with_variable true token name of w) q
       apart q x = record {
@@ -306,7 +303,7 @@ module _ (tree : SourceTree) (z : Walk) where
       declared = λ i x l. replaced_other v.declared_types index i of (λ e. omega (arith, e, behind, slice_get_within w.declared_types i x l))
           ∙ a.keeps.declared i x l;
       wholes = λ l. all_whole_replaced tree z v.declared_types index of (a.keeps.wholes l) whole;
-      long = λ l. replaced_long v.declared_types index of ∙ a.keeps.long l;
+      long = λ l. length_replaced v.declared_types index of ∙ a.keeps.long l;
       slots = a.keeps.slots;
     };
     below = λ token l. same_then (a.below token l) (here token);
@@ -346,7 +343,7 @@ module _ (tree : SourceTree) (z : Walk) (ends : Ended tree z) where
       → Outside tree z at (at + length (declarator_kinds x.declarator)) w (with_variable true x.declarator.name_token x.declarator.name of w)
       (IsGlobal tree z x.declarator.name_token (length w.variables) of)
   named_outside x at of w p r whole =
-      let inside : x.declarator.stars + 1 ≤ length (declarator_kinds x.declarator) = name_inside x.declarator in
+      let inside : x.declarator.stars + 1 ≤ length (declarator_kinds x.declarator) = declarator-length x.declarator in
       outer_wider {lo = x.declarator.name_token} {hi = x.declarator.name_token + 1}
       (global_noted tree z x.declarator.name_token x.declarator.name of w
       (omega (arith, p.1.1, inside, r.variables_at, length-append (declarator_kinds x.declarator) (equals_kinds x.initial))) r.long whole)
@@ -399,7 +396,7 @@ module _ (tree : SourceTree) (z : Walk) (ends : Ended tree z) where
       (omega arith) in
       let size : Sized z.structs u = object_stays v.structs z.structs u (rw two.keeps.structs r.grows) (rw two.keeps.structs r.structs) object in
       let here : slice_get v.declared_types (length w.variables) ≡ Some of = g.part.keeps.declared (length w.variables) of
-      (subst (λ n. slice_get (w.declared_types ++ of ∷ []) n ≡ Some of) r.long (get_behind w.declared_types of)) in
+      (subst (λ n. slice_get (w.declared_types ++ of ∷ []) n ≡ Some of) r.long (get_last w.declared_types of)) in
       record {
         by = outer_so (outer_wider {lo = at} {hi = at + length (declarator_kinds x.declarator) + length (equals_kinds x.initial)}
             (outer_retyped tree z at (at + length (declarator_kinds x.declarator) + length (equals_kinds x.initial)) (length w.variables) of u w
@@ -418,7 +415,7 @@ module _ (tree : SourceTree) (z : Walk) (ends : Ended tree z) where
       either : (b k : Bool) → (is_some x.initial && is_open w.structs of) ≡ b → is_open w.structs of ≡ k
           → Gives (if b then walk_open true x of w else walk_closed true x of w) (GoodGlobal at x w)
       either true true h e = open_outside x at of w q p l i r o (d of refl) e
-      either true false h e = absurd (false≢true (sym e ∙ (both (is_some x.initial) (is_open w.structs of) h).1))
+      either true false h e = absurd (false≢true (sym e ∙ (and_parts (is_some x.initial) (is_open w.structs of) h).1))
       either false k h e = closed_outside x at of w q p l i r o (d of refl)
 
   start_outside : (x : StartTree) (at : ℕ) (base : TypeTree) (w : Walk) → ShapedStart x → StartAt at x

@@ -7,13 +7,8 @@ use Rattle.c_types_rules.specs.declared.layout.StructType.{StructType}
 use Rattle.c_types_rules.specs.declared.fault.FaultKind.TheVariants as fault
 use Rattle.c_types_rules.specs.declared.operand.Operand.{Operand}
 use Rattle.c_types_rules.specs.TypeTree as t
-use Rattle.c_types_rules.specs.TypeTree.{TypeTree, same_type}
-use Rattle.c_types_rules.specs.Assigning.{assigned, is_left_side}
-use Rattle.c_types_rules.specs.Conversions.{common, is_arithmetic, value_of, value_type}
-use Rattle.c_types_rules.specs.Faults.{Looked, ◌>>=◌}
-use Rattle.c_types_rules.specs.Operators.{added, both_arithmetic, combined, compounded, gives, is_movable, measured, stepped, subtracted}
-use Rattle.c_types_rules.specs.Selecting.{indexed, pointed}
-use Rattle.c_types_rules.specs.Sizes.{is_complete}
+use Rattle.c_types_rules.specs.Words.{TypeTree, same_type, assigned, is_left_side, common, is_arithmetic, value_of, value_type, Looked, ◌>>=◌, added}
+use Rattle.c_types_rules.specs.Words.{both_arithmetic, combined, compounded, gives, is_movable, measured, stepped, subtracted, indexed, pointed, is_complete}
 use Rattle.c_meaning_laws.proofs.Ruled.{Is}
 
 -- where the first structs are known, types are known whole that are so where the others are
@@ -54,12 +49,7 @@ steps_grow false false n r z f h = cc
 module _ (old new : List StructType) (more : Grows old new) where
   movable_grows : (of : TypeTree) → is_movable old of ≡ true → is_movable new of ≡ true
   movable_grows (t.Pointer to) h = more to h
-  movable_grows t.Void h = h
-  movable_grows t.Char h = h
-  movable_grows t.Int h = h
-  movable_grows t.Unsigned h = h
-  movable_grows (t.Array element size) h = h
-  movable_grows (t.Struct tag) h = h
+  movable_grows of h = h
 
   added_grows : (a b : TypeTree) (z : Operand) → Is (added old a b) z → Is (added new a b) z
   added_grows a b z h = sums_grow (both_arithmetic a b) (is_arithmetic b) (is_movable old a) (is_movable new a) (is_arithmetic a) (is_movable old b)
@@ -72,20 +62,7 @@ module _ (old new : List StructType) (more : Grows old new) where
   pub combined_grows : (o : Binary) (x y z : Operand) → Is (combined old o x y) z → Is (combined new o x y) z
   combined_grows op.Add x y z h = added_grows (value_type x) (value_type y) z h
   combined_grows op.Sub x y z h = subtracted_grows (value_type x) (value_type y) z h
-  combined_grows op.Mul x y z h = h
-  combined_grows op.Div x y z h = h
-  combined_grows op.Rem x y z h = h
-  combined_grows op.And x y z h = h
-  combined_grows op.Or x y z h = h
-  combined_grows op.Xor x y z h = h
-  combined_grows op.Shl x y z h = h
-  combined_grows op.Shr x y z h = h
-  combined_grows op.Lt x y z h = h
-  combined_grows op.Le x y z h = h
-  combined_grows op.Gt x y z h = h
-  combined_grows op.Ge x y z h = h
-  combined_grows op.Eq x y z h = h
-  combined_grows op.Ne x y z h = h
+  combined_grows o x y z h = h
 
   pub compounded_grows : (o : Binary) (x y z : Operand) → Is (compounded old o x y) z → Is (compounded new o x y) z
   compounded_grows o x y z h = bind_grows (combined old o x y) (combined new o x y) (assigned x) z (λ a. combined_grows o x y a) h

@@ -3,41 +3,30 @@ use Rattle.std.proofs.Common.{◌≡◌, ℕ, ◌≤◌, refl, ap, subst, sym, a
 use Rattle.std.specs.Prelude.{Option, IfSome, IsSome, nat_le, not, is_some, ◌==◌, ◌&&◌, ◌||◌, if◌then◌else◌}
 use Rattle.std.specs.List.{AllByRecursion}
 use Rattle.std.specs.Option.{option_map, option_and_then}
-use Rattle.std.proofs.lemmas.Bool.{false≢true, true≢false}
-use Rattle.cbi_base.proofs.NumberLemmas.{both}
-use Rattle.c_syntax.specs.ItemTree.{SourceTree}
+use Rattle.std.proofs.lemmas.Bool.{false≢true, true≢false, and_parts}
+use Rattle.std.proofs.lemmas.Option.{same_Some}
+use Rattle.c_types_expressions.proofs.Given.{Gives, and_then}
+use Rattle.c_syntax.specs.Words.{SourceTree, ExprTree, ExprList, InitialTree, first_token, InitialAt, ShapedInitial, Kinds, a_sign, braced, comma_kinds}
+use Rattle.c_syntax.specs.Words.{expr_kinds, exprs_kinds, initial_kinds, optional}
 use Rattle.c_syntax.specs.ExprTree as e
-use Rattle.c_syntax.specs.ExprTree.{ExprTree, ExprList}
 use Rattle.c_syntax.specs.StatementTree as s
-use Rattle.c_syntax.specs.StatementTree.{InitialTree}
-use Rattle.c_syntax.specs.FirstToken.{first_token}
-use Rattle.c_syntax.specs.Place.{InitialAt}
-use Rattle.c_syntax.specs.Shape.{ShapedInitial}
-use Rattle.c_syntax.specs.Spelling.{Kinds, a_sign, braced, comma_kinds, expr_kinds, exprs_kinds, initial_kinds, optional}
 use Rattle.c_syntax.specs.declared.token.Sign.TheVariants as sign
 use Rattle.c_types_rules.specs.declared.operand.Operand.{Operand}
 use Rattle.c_types_rules.specs.TypeTree as t
-use Rattle.c_types_rules.specs.TypeTree.{TypeTree}
-use Rattle.c_types_rules.specs.Assigning.{assignable}
-use Rattle.c_types_rules.specs.Conversions.{is_scalar}
+use Rattle.c_types_rules.specs.Words.{TypeTree, assignable, is_scalar}
 use Rattle.c_types_expressions.specs.declared.walk.Walk.{Walk}
 use Rattle.c_types.specs.Answers.{declared_at, noted}
 use Rattle.c_types_walk.specs.Initialisers.{all_initialise, cells_of_string, completes, expressed, initialises, is_char, is_char_array, is_constant, length_of, listed_type}
 use Rattle.c_types_walk.specs.Initialisers.{spelled, takes_items, valued, walk_initial, with_length}
 use Rattle.c_meaning.specs.declared.value_type.ValueType.{ValueType}
-use Rattle.c_meaning.specs.Conversions.{is_null_constant}
-use Rattle.c_meaning.specs.Known.{computed_type, element_type}
-use Rattle.c_meaning.specs.Literals.{Literal, strings_in, strings_initial, strings_of_all}
-use Rattle.c_meaning.specs.Meaning.{text_of_string}
-use Rattle.c_meaning.specs.Trees.{token_of}
+use Rattle.c_meaning.specs.Words.{is_null_constant, computed_type, element_type, Literal, strings_in, strings_initial, strings_of_all, text_of_string, token_of}
 use Rattle.c_meaning_laws.specs.Rules.{Accepts, IsScalar}
 use Rattle.c_meaning_laws.specs.TypedStatements.{TypedElements, TypedInitial, TypedValue}
 use Rattle.c_meaning_laws.proofs.Ruled.{assignable_taken, known}
 use Rattle.c_meaning_sound.proofs.Expressions.{Lies, exprs_good, walk_good}
 use Rattle.c_meaning_sound.proofs.Forming.{Ended}
-use Rattle.c_meaning_sound.proofs.Noting.{Gives, Part, Ready, and_then, facts, none, nothing_noted, ready_in, so, wider}
+use Rattle.c_meaning_sound.proofs.Noting.{Part, Ready, facts, none, nothing_noted, ready_in, so, wider}
 use Rattle.c_meaning_sound.proofs.Operands.{Fits, Matched, accepted}
-use Rattle.c_meaning_sound.proofs.Sizing.{some_is}
 use Rattle.c_meaning_sound.proofs.Texts.{Spelled, numbered}
 
 -- what an initialiser completes
@@ -58,11 +47,11 @@ pub as_it_is : (of : TypeTree) → Lengthened of of
 as_it_is of = record { size = length_of of; is = sym (length_back of) }
 
 expressed_by : (b : Bool) (of u : TypeTree) → (if b then Some of else None) ≡ Some u → Lengthened of u
-expressed_by true of u h = subst (Lengthened of) (some_is of u h) (as_it_is of)
+expressed_by true of u h = subst (Lengthened of) (same_Some of u h) (as_it_is of)
 expressed_by false of u h = cc
 
 spelled_by : (b : Bool) (n : ℕ) (of u : TypeTree) → (if b then Some (with_length n of) else None) ≡ Some u → Lengthened of u
-spelled_by true n of u h = record { size = n; is = sym (some_is (with_length n of) u h) }
+spelled_by true n of u h = record { size = n; is = sym (same_Some (with_length n of) u h) }
 spelled_by false n of u h = cc
 
 module _ (global : Bool) where
@@ -141,7 +130,7 @@ module _ (tree : SourceTree) (z : Walk) (ends : Ended tree z) (global : Bool) wh
   elements_typed c element u (e.more_exprs x rest) [] k m h = absurd m
   elements_typed c element u (e.more_exprs x rest) (a ∷ own) k m h =
       let parts : (initialises global element x a ≡ true) × (all_initialise global element rest own ≡ true) =
-      both (initialises global element x a) (all_initialise global element rest own) h in
+      and_parts (initialises global element x a) (all_initialise global element rest own) h in
       let fits : (is_scalar element ≡ true) × (assignable element a ≡ true) = initialised_by (is_scalar element) (assignable element a)
       (not global || is_constant x) parts.0 in (
         m.0,
@@ -150,22 +139,14 @@ module _ (tree : SourceTree) (z : Walk) (ends : Ended tree z) (global : Bool) wh
       )
 
   scalar_known : (of : TypeTree) → is_scalar of ≡ true → IsScalar (known z.structs of)
-  scalar_known t.Char h = tt
-  scalar_known t.Int h = tt
-  scalar_known t.Unsigned h = tt
-  scalar_known (t.Pointer to) h = tt
   scalar_known t.Void h = absurd (false≢true h)
   scalar_known (t.Array element size) h = absurd (false≢true h)
   scalar_known (t.Struct tag) h = absurd (false≢true h)
+  scalar_known of h = tt
 
   char_scalar : (of : TypeTree) → is_char of ≡ true → is_scalar of ≡ true
   char_scalar t.Char h = refl
-  char_scalar t.Int h = absurd (false≢true h)
-  char_scalar t.Unsigned h = absurd (false≢true h)
-  char_scalar (t.Pointer to) h = absurd (false≢true h)
-  char_scalar t.Void h = absurd (false≢true h)
-  char_scalar (t.Array element size) h = absurd (false≢true h)
-  char_scalar (t.Struct tag) h = absurd (false≢true h)
+  char_scalar of h = absurd (false≢true h)
 
   -- what is known of the variable
   declared_as : (token : ℕ) (of : TypeTree) → declared_at z token ≡ Some of → (facts tree z).declared_at token ≡ known z.structs of
@@ -206,17 +187,10 @@ module _ (tree : SourceTree) (z : Walk) (ends : Ended tree z) (global : Bool) wh
         subst IsScalar (sym (elements_as token (t.Array element n) d)) (scalar_known element (char_scalar element is.0)),
         string_text value is.1 l,
       )
-  value_typed c token n t.Char u value a h d f q k l = plain_typed c token t.Char value a refl d f q k
-      (value_fits global (cells_of_string value) t.Char u value a refl h).1
-  value_typed c token n t.Int u value a h d f q k l = plain_typed c token t.Int value a refl d f q k
-      (value_fits global (cells_of_string value) t.Int u value a refl h).1
-  value_typed c token n t.Unsigned u value a h d f q k l =
-      plain_typed c token t.Unsigned value a refl d f q k (value_fits global (cells_of_string value) t.Unsigned u value a refl h).1
-  value_typed c token n (t.Pointer to) u value a h d f q k l =
-      plain_typed c token (t.Pointer to) value a refl d f q k (value_fits global (cells_of_string value) (t.Pointer to) u value a refl h).1
   value_typed c token n t.Void u value a h d f q k l = absurd (false≢true (value_fits global (cells_of_string value) t.Void u value a refl h).0)
   value_typed c token n (t.Struct tag) u value a h d f q k l =
       absurd (false≢true (value_fits global (cells_of_string value) (t.Struct tag) u value a refl h).0)
+  value_typed c token n of u value a h d f q k l = plain_typed c token of value a refl d f q k (value_fits global (cells_of_string value) of u value a refl h).1
 
   -- a braced list
   pub record Items (element : TypeTree) (items : ExprList) (own : List Operand) (size : ℕ) (u : TypeTree) : Type 0 where
@@ -227,7 +201,7 @@ module _ (tree : SourceTree) (z : Walk) (ends : Ended tree z) (global : Bool) wh
   items_by : (p q r : Bool) (n : ℕ) (element : TypeTree) (items : ExprList) (own : List Operand) (size : ℕ) (u : TypeTree) → is_scalar element ≡ p
       → all_initialise global element items own ≡ r → (if p && (q && r) then Some (t.Array element n) else None) ≡ Some u → Items element items own size u
   items_by true true true n element items own size u e f h =
-      record { scalar = e; all = f; long = record { size = n; is = sym (some_is (t.Array element n) u h) } }
+      record { scalar = e; all = f; long = record { size = n; is = sym (same_Some (t.Array element n) u h) } }
   items_by true true false n element items own size u e f h = cc
   items_by true false r n element items own size u e f h = cc
   items_by false q r n element items own size u e f h = cc
@@ -239,12 +213,7 @@ module _ (tree : SourceTree) (z : Walk) (ends : Ended tree z) (global : Bool) wh
 
   pub listed_length : (of u : TypeTree) (items : ExprList) (own : List Operand) → listed_type global items own of ≡ Some u → Lengthened of u
   listed_length (t.Array element size) u items own h = (listed_items element u size items own h).long
-  listed_length t.Void u items own h = cc
-  listed_length t.Char u items own h = cc
-  listed_length t.Int u items own h = cc
-  listed_length t.Unsigned u items own h = cc
-  listed_length (t.Pointer to) u items own h = cc
-  listed_length (t.Struct tag) u items own h = cc
+  listed_length of u items own h = cc
 
   pub listed_typed : (c token n at : ℕ) (comma : Bool) (of u : TypeTree) (items : ExprList) (own : List Operand) → listed_type global items own of ≡ Some u
       → declared_at z token ≡ Some (with_length n of) → Matched tree z c items own
@@ -256,12 +225,7 @@ module _ (tree : SourceTree) (z : Walk) (ends : Ended tree z) (global : Bool) wh
         elements_typed c element
             ((facts tree z).element_at token) items own known_as m fits.all,
       )
-  listed_typed c token n at comma t.Void u items own h d m = cc
-  listed_typed c token n at comma t.Char u items own h d m = cc
-  listed_typed c token n at comma t.Int u items own h d m = cc
-  listed_typed c token n at comma t.Unsigned u items own h d m = cc
-  listed_typed c token n at comma (t.Pointer to) u items own h d m = cc
-  listed_typed c token n at comma (t.Struct tag) u items own h d m = cc
+  listed_typed c token n at comma of u items own h d m = cc
 
   -- an initialiser of the variable whose name stands at the token, which gives it this length
   pub record Initialised (at hi token : ℕ) (x : Option InitialTree) (of : TypeTree) (w : Walk) (u : TypeTree) (v : Walk) : Type 0 where

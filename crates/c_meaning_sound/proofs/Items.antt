@@ -4,18 +4,16 @@ use Rattle.std.proofs.Common.{length-append}
 use Rattle.std.specs.Prelude.{Option, slice_get, unwrap_or, ◌||◌, if◌then◌else◌}
 use Rattle.std.specs.List.{AllByRecursion}
 use Rattle.std.specs.Str.{bytes_eq}
-use Rattle.std.proofs.lemmas.Bool.{false≢true}
+use Rattle.std.proofs.lemmas.Bool.{false≢true, and_parts}
 use Rattle.std.proofs.lemmas.Slice.Eq.{bytes_eq-Decides}
-use Rattle.cbi_base.proofs.NumberLemmas.{both}
+use Rattle.std.proofs.lemmas.Option.{same_Some}
+use Rattle.c_types_expressions.proofs.Given.{Gives}
+use Rattle.base_lists.proofs.Lists.{next_is, Stays}
 use Rattle.c_syntax.specs.declared.parts.Base.{Base}
 use Rattle.c_syntax.specs.declared.parts.Members.{Members}
 use Rattle.c_syntax.specs.declared.parts.Params.{Params}
-use Rattle.c_syntax.specs.StatementTree.{EntryList}
+use Rattle.c_syntax.specs.Words.{EntryList, ItemTree, SourceTree, EntriesAt, ShapedEntries, entry_kinds}
 use Rattle.c_syntax.specs.ItemTree as item
-use Rattle.c_syntax.specs.ItemTree.{ItemTree, SourceTree}
-use Rattle.c_syntax.specs.Place.{EntriesAt}
-use Rattle.c_syntax.specs.Shape.{ShapedEntries}
-use Rattle.c_syntax.specs.Spelling.{entry_kinds}
 use Rattle.c_types_rules.proofs.Same.{equal}
 use Rattle.c_types_rules.specs.declared.function.FunctionType.{FunctionType}
 use Rattle.c_types_rules.specs.TypeTree.{TypeTree, same_type, same_types}
@@ -28,17 +26,14 @@ use Rattle.c_types.specs.Answers.{noted}
 use Rattle.c_types_walk.specs.ItemWalk.{has_type, known_as, with_function}
 use Rattle.c_types_expressions.specs.Names.{found, is_here, or_before}
 use Rattle.c_types_walk.specs.StatementWalk.{walk_entries}
-use Rattle.c_types.proofs.Options.{some_is}
-use Rattle.c_meaning.specs.Facts.{Signature}
-use Rattle.c_meaning.specs.Known.{body_of_item, computed_type, signature_of, struct_number}
-use Rattle.c_meaning.specs.Literals.{strings_entered}
+use Rattle.c_meaning.specs.Words.{Signature, body_of_item, computed_type, signature_of, struct_number, strings_entered}
 use Rattle.c_meaning_laws.specs.TypedStatements.{TypedEntries}
 use Rattle.c_meaning_laws.proofs.Ruled.{known}
 use Rattle.c_meaning_sound.proofs.Declaring.{slots_more}
 use Rattle.c_meaning_sound.proofs.Ending.{Structs}
 use Rattle.c_meaning_sound.proofs.Growing.{Grows}
-use Rattle.c_meaning_sound.proofs.Noting.{AllSlots, AllWhole, Gives, Part, Ready, Same, Stays, StaysWhole, facts, none}
-use Rattle.c_meaning_sound.proofs.Reaching.{Grown, begun_long, begun_stays, longer_grows, next_is}
+use Rattle.c_meaning_sound.proofs.Noting.{AllSlots, AllWhole, Part, Ready, Same, StaysWhole, facts, none}
+use Rattle.c_meaning_sound.proofs.Reaching.{Grown, begun_long, begun_stays, longer_grows}
 use Rattle.c_meaning_sound.proofs.Texts.{Spelled}
 
 module _ (tree : SourceTree) (z : Walk) where
@@ -220,17 +215,14 @@ module _ (tree : SourceTree) (z : Walk) where
     pub gives : own.ctype.gives ≡ f.gives
 
   has_by : (b : Bool) (k index : ℕ) → (if b then Some k else None) ≡ Some index → (b ≡ true) × (k ≡ index)
-  has_by true k index h = (refl, some_is k index h)
+  has_by true k index h = (refl, same_Some k index h)
   has_by false k index h = cc
 
   pub known_has : (f : FunctionType) (m : Option Meaning) (w : Walk) (index : ℕ) → known_as f m w ≡ Some index → has_type f (slice_get w.functions index) ≡ true
-  known_has f None w index h = cc
   known_has f (Some (meaning.Function k)) w index h =
       let q = has_by (has_type f (slice_get w.functions k)) k index h in
       subst (λ n. has_type f (slice_get w.functions n) ≡ true) q.1 q.0
-  known_has f (Some (meaning.Variable k)) w index h = cc
-  known_has f (Some (meaning.Struct k)) w index h = cc
-  known_has f (Some (meaning.Library k)) w index h = cc
+  known_has f m w index h = cc
 
   typed_is : (f : FunctionType) (index : ℕ) (w : Walk) (o : Option FunctionEntry) → slice_get w.functions index ≡ o → has_type f o ≡ true
       → Stays w.functions z.functions → Declared f index
@@ -238,7 +230,7 @@ module _ (tree : SourceTree) (z : Walk) where
   typed_is f index w (Some g) e h s = record {
     own = g;
     is = s index g e;
-    gives = equal g.ctype.gives f.gives (both (same_type g.ctype.gives f.gives) (same_types g.ctype.params f.params) h).0;
+    gives = equal g.ctype.gives f.gives (and_parts (same_type g.ctype.gives f.gives) (same_types g.ctype.params f.params) h).0;
   }
 
   pub function_found : (name : List ℕ) (f : FunctionType) (known : Option ℕ) (w : Walk) →

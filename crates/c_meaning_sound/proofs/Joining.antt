@@ -1,33 +1,29 @@
 -- The operators of chains, and those before and behind operands: what the walk accepts of them fits.
 use Rattle.std.proofs.Common.{◌≡◌, ◌≤◌, refl, ap, subst, sym, ◌∙◌, arith, List, Some, None, Bool, true, false}
 use Rattle.std.specs.Prelude.{Option, ◌&&◌, ◌||◌}
-use Rattle.std.proofs.lemmas.Bool.{false≢true}
-use Rattle.cbi_base.proofs.NumberLemmas.{both}
+use Rattle.std.proofs.lemmas.Bool.{false≢true, and_parts}
+use Rattle.c_meaning_laws.proofs.Values.{number_value, pointing_value}
+use Rattle.base_lists.proofs.Tests.{and_false}
 use Rattle.cbi_base.specs.declared.operators.Binary.{Binary}
 use Rattle.cbi_base.specs.declared.operators.Binary.TheVariants as op
 use Rattle.cbi_base.specs.declared.operators.Order.TheVariants as order
 use Rattle.cbi_base.specs.declared.scalar.Kind.TheVariants as kind
 use Rattle.c_syntax.specs.declared.token.Sign.{Sign}
 use Rattle.c_syntax.specs.declared.token.Sign.TheVariants as sign
-use Rattle.c_syntax.specs.ExprTree.{ExprTree}
-use Rattle.c_syntax.specs.Shape.{level_of}
+use Rattle.c_syntax.specs.Words.{ExprTree, level_of}
 use Rattle.c_types_rules.specs.declared.layout.StructType.{StructType}
 use Rattle.c_types_rules.specs.declared.operand.Operand.{Operand}
 use Rattle.c_types_rules.specs.TypeTree as t
-use Rattle.c_types_rules.specs.TypeTree.{TypeTree}
-use Rattle.c_types_rules.specs.Assigning.{pointers_join, pointers_meet}
+use Rattle.c_types_rules.specs.Words.{TypeTree, pointers_join, pointers_meet, is_arithmetic, is_pointer, is_scalar, value_of, both_arithmetic, gives}
+use Rattle.c_types_rules.specs.Words.{is_scalar_value, joined_truths}
 use Rattle.c_types_rules.specs.Conversions as rule
-use Rattle.c_types_rules.specs.Conversions.{is_arithmetic, is_pointer, is_scalar, value_of}
-use Rattle.c_types_rules.specs.Operators.{both_arithmetic, gives, is_scalar_value, joined_truths}
 use Rattle.c_types_expressions.specs.ExprWalk.{binary_of, chained}
 use Rattle.c_meaning.specs.declared.operation.Operation.{Operation}
 use Rattle.c_meaning.specs.declared.operation.Operation.TheVariants.{Numbers, MoveLeft, MoveRight, Span, Ordered, Wrong}
 use Rattle.c_meaning.specs.declared.value_type.ValueType.{ValueType}
 use Rattle.c_meaning.specs.declared.value_type.ValueType.TheVariants as type
 use Rattle.c_meaning.specs.Conversions as mean
-use Rattle.c_meaning.specs.Conversions.{is_null_constant}
-use Rattle.c_meaning.specs.Operation.{operation}
-use Rattle.c_meaning.specs.Trees.{is_null_beside, joint, operand_type}
+use Rattle.c_meaning.specs.Words.{is_null_constant, operation, is_null_beside, joint, operand_type}
 use Rattle.c_meaning_laws.specs.Rules.{IsNumberType, IsPointing, IsValue, Joins, Operates}
 use Rattle.c_meaning_laws.proofs.Ruled.{Is, arithmetic_number, gives_by, known, pointer_pointing, scalar_usable}
 use Rattle.c_meaning_laws.proofs.RuledOperators.{IsNoEquality, StepsKnown, combined_fits, equated_fits}
@@ -40,55 +36,14 @@ null_beside o other null = false
 
 pub beside_is : (o : Option Binary) (other : Option ValueType) (x : ExprTree) (null : Bool) → is_null_constant x ≡ null
     → is_null_beside o other x ≡ null_beside o other null
-beside_is None other x null h = refl
 beside_is (Some op.Eq) other x null h = ap (λ b. mean.is_pointer_value other && b) h
 beside_is (Some op.Ne) other x null h = ap (λ b. mean.is_pointer_value other && b) h
-beside_is (Some op.Add) other x null h = refl
-beside_is (Some op.Sub) other x null h = refl
-beside_is (Some op.Mul) other x null h = refl
-beside_is (Some op.Div) other x null h = refl
-beside_is (Some op.Rem) other x null h = refl
-beside_is (Some op.And) other x null h = refl
-beside_is (Some op.Or) other x null h = refl
-beside_is (Some op.Xor) other x null h = refl
-beside_is (Some op.Shl) other x null h = refl
-beside_is (Some op.Shr) other x null h = refl
-beside_is (Some op.Lt) other x null h = refl
-beside_is (Some op.Le) other x null h = refl
-beside_is (Some op.Gt) other x null h = refl
-beside_is (Some op.Ge) other x null h = refl
-
-and_false : (b : Bool) → (b && false) ≡ false
-and_false true = refl
-and_false false = refl
+beside_is o other x null h = refl
 
 pub no_null_beside : (o : Option Binary) (other : Option ValueType) → null_beside o other false ≡ false
-no_null_beside None other = refl
 no_null_beside (Some op.Eq) other = and_false (mean.is_pointer_value other)
 no_null_beside (Some op.Ne) other = and_false (mean.is_pointer_value other)
-no_null_beside (Some op.Add) other = refl
-no_null_beside (Some op.Sub) other = refl
-no_null_beside (Some op.Mul) other = refl
-no_null_beside (Some op.Div) other = refl
-no_null_beside (Some op.Rem) other = refl
-no_null_beside (Some op.And) other = refl
-no_null_beside (Some op.Or) other = refl
-no_null_beside (Some op.Xor) other = refl
-no_null_beside (Some op.Shl) other = refl
-no_null_beside (Some op.Shr) other = refl
-no_null_beside (Some op.Lt) other = refl
-no_null_beside (Some op.Le) other = refl
-no_null_beside (Some op.Gt) other = refl
-no_null_beside (Some op.Ge) other = refl
-
-number_value : (u : Option ValueType) → IsNumberType u → IsValue u
-number_value (Some (type.Number k)) h = tt
-number_value u h = absurd h
-
-pointing_value : (u : Option ValueType) → IsPointing u → IsValue u
-pointing_value (Some (type.Pointer size)) h = tt
-pointing_value (Some (type.Array size)) h = tt
-pointing_value u h = absurd h
+no_null_beside o other = refl
 
 equal_value : (u v : Option ValueType) → u ≡ v → IsValue v → IsValue u
 equal_value u v e h = subst IsValue (sym e) h
@@ -127,17 +82,17 @@ module _ (structs : List StructType) (x y : Operand) where
 
   meets_both : rule.is_pointer (rule.value_type x) && rule.is_pointer (rule.value_type y) ≡ true
       → (is_pointer (rule.value_type x) ≡ true) × (is_pointer (rule.value_type y) ≡ true)
-  meets_both h = both (is_pointer (rule.value_type x)) (is_pointer (rule.value_type y)) h
+  meets_both h = and_parts (is_pointer (rule.value_type x)) (is_pointer (rule.value_type y)) h
 
   join_values : NullValue x → NullValue y → pointers_join x y ≡ true → IsValue (known structs x.ctype) × IsValue (known structs y.ctype)
   join_values r s h = joined_values (pointers_meet (rule.value_type x) (rule.value_type y)) (is_pointer (rule.value_type x)) (is_pointer (rule.value_type y))
-      x.null y.null refl refl refl refl (λ e. meets_both (both (is_pointer (rule.value_type x) && is_pointer (rule.value_type y)) _ e).0) r s h
+      x.null y.null refl refl refl refl (λ e. meets_both (and_parts (is_pointer (rule.value_type x) && is_pointer (rule.value_type y)) _ e).0) r s h
 
   equal_values : (b : Bool) → both_arithmetic (rule.value_type x) (rule.value_type y) ≡ b → NullValue x → NullValue y → (b || pointers_join x y) ≡ true
       → IsValue (known structs x.ctype) × IsValue (known structs y.ctype)
   equal_values true e r s h =
       let p : (is_arithmetic (rule.value_type x) ≡ true) × (is_arithmetic (rule.value_type y) ≡ true) =
-      both (is_arithmetic (rule.value_type x)) (is_arithmetic (rule.value_type y)) e in (
+      and_parts (is_arithmetic (rule.value_type x)) (is_arithmetic (rule.value_type y)) e in (
         number_value (known structs x.ctype) (arithmetic_number structs x.ctype p.0),
         number_value (known structs y.ctype)
             (arithmetic_number structs y.ctype p.1),
@@ -173,8 +128,8 @@ module _ (structs : List StructType) (x y a : Operand) (s : StepsKnown structs x
   both_scalar h = gives_by (λ z. IsValue (known structs x.ctype) × IsValue (known structs y.ctype) × (known structs z.ctype ≡ Some (type.Number kind.Int)))
       (is_scalar_value x && is_scalar_value y) t.Int a
       (λ e. (
-        scalar_usable structs x.ctype (both (is_scalar_value x) (is_scalar_value y) e).0,
-        scalar_usable structs y.ctype (both (is_scalar_value x)
+        scalar_usable structs x.ctype (and_parts (is_scalar_value x) (is_scalar_value y) e).0,
+        scalar_usable structs y.ctype (and_parts (is_scalar_value x)
             (is_scalar_value y) e).1,
         refl,
       )) h

@@ -6,18 +6,15 @@ use Rattle.std.proofs.lemmas.List.Sums.{sum_by-cons}
 use Rattle.c_syntax.specs.declared.token.Sign.TheVariants as sign
 use Rattle.c_syntax.specs.declared.token.Word.TheVariants as word
 use Rattle.c_syntax.specs.ExprTree as e
-use Rattle.c_syntax.specs.ExprTree.{ExprTree, ExprList, LinkList, PostfixList}
+use Rattle.c_syntax.specs.Words.{ExprTree, ExprList, LinkList, PostfixList, InitialTree, StartTree, DeclarationTree, ForStartTree, StatementTree, EntryList}
+use Rattle.c_syntax.specs.Words.{ItemTree, SourceTree, Kinds, a_name, a_sign, a_word, after_commas, base_kinds, body_kinds, comma_kinds, declaration_kinds}
+use Rattle.c_syntax.specs.Words.{declarator_kinds, entry_kinds, expr_kinds, exprs_kinds, for_start_kinds, initial_kinds, item_kinds, link_kinds}
+use Rattle.c_syntax.specs.Words.{more_exprs_kinds, optional, params_kinds, parenthesized, postfix_kinds, prefix_kinds, start_kinds, statement_kinds, text_kinds}
+use Rattle.c_syntax.specs.Words.{tree_kinds, type_kinds, with_commas, kind_text_len}
 use Rattle.c_syntax.specs.StatementTree as s
-use Rattle.c_syntax.specs.StatementTree.{InitialTree, StartTree, DeclarationTree, ForStartTree, StatementTree, EntryList}
 use Rattle.c_syntax.specs.ItemTree as item
-use Rattle.c_syntax.specs.ItemTree.{ItemTree, SourceTree}
-use Rattle.c_syntax.specs.Spelling.{Kinds, a_name, a_sign, a_word, after_commas, base_kinds, body_kinds, comma_kinds, declaration_kinds, declarator_kinds}
-use Rattle.c_syntax.specs.Spelling.{entry_kinds, expr_kinds, exprs_kinds, for_start_kinds, initial_kinds, item_kinds, link_kinds, more_exprs_kinds, optional}
-use Rattle.c_syntax.specs.Spelling.{params_kinds, parenthesized, postfix_kinds, prefix_kinds, start_kinds, statement_kinds, text_kinds, tree_kinds, type_kinds}
-use Rattle.c_syntax.specs.Spelling.{with_commas}
-use Rattle.c_syntax.specs.Tokens.{kind_text_len}
-use Rattle.c_meaning.specs.Literals.{Literal, literals, strings_begun, strings_behind, strings_declared, strings_entered, strings_if, strings_in}
-use Rattle.c_meaning.specs.Literals.{strings_initial, strings_of_all, strings_of_body, strings_of_item, strings_of_links, strings_stated}
+use Rattle.c_meaning.specs.Words.{Literal, literals, strings_begun, strings_behind, strings_declared, strings_entered, strings_if, strings_in, strings_initial}
+use Rattle.c_meaning.specs.Words.{strings_of_all, strings_of_body, strings_of_item, strings_of_links, strings_stated}
 
 -- how many bytes the strings among some tokens have
 abbrev heavy : Kinds → ℕ
@@ -76,17 +73,13 @@ mutual
       join (strings_in first) (strings_of_links links) (expr_kinds first) (link_kinds links) (expr_fewer first) (links_fewer links)
   expr_fewer (e.Cast token b stars x) = before (strings_in x) (parenthesized (type_kinds b stars)) (expr_kinds x) (expr_fewer x)
   expr_fewer (e.Prefix token o x) = before (strings_in x) (prefix_kinds o) (expr_kinds x) (expr_fewer x)
-  expr_fewer (e.SizeOfType token b stars) = none_fewer (expr_kinds (e.SizeOfType token b stars))
   expr_fewer (e.Postfix x operators) =
       join (strings_in x) (strings_behind operators) (expr_kinds x) (postfix_kinds operators) (expr_fewer x) (postfix_fewer operators)
-  expr_fewer (e.Name token name) = none_fewer (expr_kinds (e.Name token name))
   expr_fewer (e.Call token name arguments) = before (strings_of_all arguments) (a_name name) (parenthesized (exprs_kinds arguments))
       (enclosed (strings_of_all arguments) (exprs_kinds arguments) (exprs_fewer arguments))
-  expr_fewer (e.Constant token kind value) = none_fewer (expr_kinds (e.Constant token kind value))
   expr_fewer (e.Strings token parts) = omega (arith, parts_heavy parts)
   expr_fewer (e.Paren token x) = enclosed (strings_in x) (expr_kinds x) (expr_fewer x)
-  expr_fewer (e.Null token) = none_fewer (expr_kinds (e.Null token))
-  expr_fewer (e.EndOfFile token) = none_fewer (expr_kinds (e.EndOfFile token))
+  expr_fewer x = none_fewer (expr_kinds x)
 
   exprs_fewer : (xs : ExprList) → Fewer (strings_of_all xs) (exprs_kinds xs)
   exprs_fewer e.no_exprs = omega arith
@@ -160,7 +153,6 @@ mutual
   stated_fewer : (x : StatementTree) → Fewer (strings_stated x) (statement_kinds x)
   stated_fewer (s.Block token entries) =
       within (strings_entered entries) (a_sign sign.LeftBrace) (entry_kinds entries) (a_sign sign.RightBrace) (entered_fewer entries)
-  stated_fewer (s.Empty token) = none_fewer (statement_kinds (s.Empty token))
   stated_fewer (s.Expr token x) = behind (strings_in x) (expr_kinds x) (a_sign sign.Semicolon) (expr_fewer x)
   stated_fewer (s.If token c first) = conditioned (strings_stated first) (a_word word.If) c (statement_kinds first) (stated_fewer first)
   stated_fewer (s.IfElse token c first second) =
@@ -185,8 +177,7 @@ mutual
       (join (strings_begun start) (strings_if c) (for_start_kinds start) (optional expr_kinds c) (begun_fewer start) (if_fewer c))) (if_fewer step))))
       (stated_fewer body)
   stated_fewer (s.Return token value) = within (strings_if value) (a_word word.Return) (optional expr_kinds value) (a_sign sign.Semicolon) (if_fewer value)
-  stated_fewer (s.Break token) = none_fewer (statement_kinds (s.Break token))
-  stated_fewer (s.Continue token) = none_fewer (statement_kinds (s.Continue token))
+  stated_fewer x = none_fewer (statement_kinds x)
 
   entered_fewer : (xs : EntryList) → Fewer (strings_entered xs) (entry_kinds xs)
   entered_fewer s.no_entries = omega arith

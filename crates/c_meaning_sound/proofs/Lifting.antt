@@ -2,16 +2,14 @@
 use Rattle.std.proofs.Common.{⊎_elim, ◌≡◌, ℕ, ◌≤◌, ◌<◌, refl, subst, arith, List, [], ◌∷◌, ◌++◌, Some, None, ◌+◌, Bool, true, false, length, length-append}
 use Rattle.std.specs.Prelude.{Option}
 use Rattle.std.specs.List.{AllByRecursion}
+use Rattle.base_lists.proofs.Every.{all_so}
 use Rattle.c_syntax.specs.declared.token.Sign.{Sign}
 use Rattle.c_syntax.specs.declared.token.Sign.TheVariants as sign
 use Rattle.c_syntax.specs.declared.expr.PrefixOperator.{PrefixOperator}
 use Rattle.c_syntax.specs.declared.expr.PrefixOperator.TheVariants as prefix
-use Rattle.c_syntax.specs.ItemTree.{SourceTree}
+use Rattle.c_syntax.specs.Words.{SourceTree, ExprTree, ExprList, LinkList, PostfixList, ExprAt, ExprsAt, LinksAt, PostfixAt, a_name, a_sign, expr_kinds}
+use Rattle.c_syntax.specs.Words.{exprs_kinds, link_kinds, more_exprs_kinds, parenthesized, postfix_kinds, prefix_kinds, type_kinds}
 use Rattle.c_syntax.specs.ExprTree as e
-use Rattle.c_syntax.specs.ExprTree.{ExprTree, ExprList, LinkList, PostfixList}
-use Rattle.c_syntax.specs.Place.{ExprAt, ExprsAt, LinksAt, PostfixAt}
-use Rattle.c_syntax.specs.Spelling.{a_name, a_sign, expr_kinds, exprs_kinds, link_kinds, more_exprs_kinds, parenthesized, postfix_kinds, prefix_kinds}
-use Rattle.c_syntax.specs.Spelling.{type_kinds}
 use Rattle.c_types_rules.specs.declared.library.Library.TheVariants as library
 use Rattle.c_types_expressions.specs.declared.walk.Walk.{Walk}
 use Rattle.c_types.specs.Answers.{declared_at, type_at}
@@ -21,12 +19,10 @@ use Rattle.flow.specs.declared.site.Slot.{Slot}
 use Rattle.c_meaning.specs.declared.value_type.Called.{Called}
 use Rattle.c_meaning.specs.declared.value_type.Called.TheVariants as called
 use Rattle.c_meaning.specs.declared.value_type.ValueType.{ValueType}
-use Rattle.c_meaning.specs.Facts.{Signature, Sites}
-use Rattle.c_meaning.specs.Known.{facts_of}
-use Rattle.c_meaning.specs.Trees.{assignment, called_as, type_of}
+use Rattle.c_meaning.specs.Words.{Signature, Sites, facts_of, assignment, called_as, type_of}
 use Rattle.c_meaning_laws.specs.Rules.{IsScalar}
 use Rattle.c_meaning_laws.specs.Typed.{CallsFunction, PairsFit, Steps, Typed, TypedArguments, TypedCall, TypedLast, TypedLinks, TypedLone, TypedPostfix, variable_named}
-use Rattle.c_meaning_sound.proofs.Covering.{Covers, Has, Shows, all_so, assigns_scalar, has_either, has_first, has_second, has_slot, has_within, narrow, pairs_none}
+use Rattle.c_meaning_sound.proofs.Covering.{Covers, Has, Shows, assigns_scalar, has_either, has_first, has_second, has_slot, has_within, narrow, pairs_none}
 use Rattle.c_meaning_sound.proofs.Covering.{target_fits}
 use Rattle.c_meaning_sound.proofs.Parting.{infix_long}
 use Rattle.c_meaning_sound.proofs.Noting.{facts, none}
@@ -108,15 +104,10 @@ module _ (tree : SourceTree) (z : Walk) (s : Sites) (c : ℕ) where
       → TypedCall (facts tree z) none c k A O of → TypedCall (facts_of tree z) s c k B Q of
   calls_lift (called.Function number) A B O Q of f g h = function_lift ((facts_of tree z).signature number) A B of f h
   calls_lift (called.Library library.Getchar) A B O Q of f g h = (f [] h.0, h.1)
-  calls_lift (called.Library library.Putchar) A B O Q of f g h = (f _ h.0, h.1)
-  calls_lift (called.Library library.Puts) A B O Q of f g h = (f _ h.0, h.1)
-  calls_lift (called.Library library.Malloc) A B O Q of f g h = (f _ h.0, h.1)
-  calls_lift (called.Library library.Free) A B O Q of f g h = (f _ h.0, h.1)
-  calls_lift (called.Library library.Exit) A B O Q of f g h = (f _ h.0, h.1)
-  calls_lift (called.Library library.Abort) A B O Q of f g h = (f _ h.0, h.1)
   calls_lift (called.Library library.Assert) A B O Q of f g h = (g h.0, h.1)
   calls_lift (called.Library library.Printf) A B O Q of f g h = h
   calls_lift called.Unknown A B O Q of f g h = h
+  calls_lift k A B O Q of f g h = (f _ h.0, h.1)
 
   -- what may stand at the new values of a named variable, if one is named
   abbrev Fits : Option Slot → Option ℕ → Option ValueType → Type 0
@@ -320,14 +311,14 @@ module _ (tree : SourceTree) (z : Walk) (s : Sites) (c : ℕ) where
 
     pub lift_arguments : (types : List ValueType) (xs : ExprList) (at hi : ℕ) → ExprsAt at xs → ExprsEnd at xs hi → Covers tree z s at hi (exprs_spots xs)
         → TypedArguments (facts tree z) none c types xs → TypedArguments (facts_of tree z) s c types xs
-    lift_arguments [] e.no_exprs at hi p b k h = h
-    lift_arguments [] (e.more_exprs x rest) at hi p b k h = h
-    lift_arguments (t ∷ types) e.no_exprs at hi p b k h = h
     lift_arguments (t ∷ types) (e.more_exprs x rest) at hi p b k h = (
       lift x at p.0 (exprs_first x rest at hi p b k) h.0,
       h.1,
       lift_arguments types rest (at + length (expr_kinds x) + 1) hi p.1 b.1 (exprs_rest x rest at hi p k) h.2,
     )
+    lift_arguments [] e.no_exprs at hi p b k h = h
+    lift_arguments [] (e.more_exprs x rest) at hi p b k h = h
+    lift_arguments (t ∷ types) e.no_exprs at hi p b k h = h
 
     lift_lone : (xs : ExprList) (at hi : ℕ) → ExprsAt at xs → ExprsEnd at xs hi → Covers tree z s at hi (exprs_spots xs)
         → TypedLone (facts tree z) none c xs → TypedLone (facts_of tree z) s c xs

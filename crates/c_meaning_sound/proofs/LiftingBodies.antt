@@ -10,16 +10,14 @@ use Rattle.c_syntax.specs.declared.token.Word.TheVariants as word
 use Rattle.c_syntax.specs.declared.parts.Base.{Base}
 use Rattle.c_syntax.specs.declared.parts.Base.TheVariants as base
 use Rattle.c_syntax.specs.declared.parts.Declarator.{Declarator}
-use Rattle.c_syntax.specs.ItemTree.{SourceTree}
+use Rattle.c_syntax.specs.Words.{SourceTree, ExprTree, ExprList, InitialTree, StartTree, DeclarationTree, ForStartTree, StatementTree, EntryList, DeclarationAt}
+use Rattle.c_syntax.specs.Words.{EachAt, EntriesAt, ExprAt, ExprsAt, ForStartAt, InitialAt, StartAt, StatementAt, Kinds, a_name, a_sign, a_word, after_commas}
+use Rattle.c_syntax.specs.Words.{base_kinds, bound_kinds, braced, comma_kinds, declaration_kinds, declarator_kinds, entry_kinds, expr_kinds, exprs_kinds}
+use Rattle.c_syntax.specs.Words.{for_start_kinds, initial_kinds, optional, parenthesized, star_kinds, start_kinds, statement_kinds, with_commas}
 use Rattle.c_syntax.specs.ExprTree as e
-use Rattle.c_syntax.specs.ExprTree.{ExprTree, ExprList}
 use Rattle.c_syntax.specs.StatementTree as t
-use Rattle.c_syntax.specs.StatementTree.{InitialTree, StartTree, DeclarationTree, ForStartTree, StatementTree, EntryList}
-use Rattle.c_syntax.specs.Place.{DeclarationAt, EachAt, EntriesAt, ExprAt, ExprsAt, ForStartAt, InitialAt, StartAt, StatementAt}
-use Rattle.c_syntax.specs.Spelling.{Kinds, a_name, a_sign, a_word, after_commas, base_kinds, bound_kinds, braced, comma_kinds, declaration_kinds}
-use Rattle.c_syntax.specs.Spelling.{declarator_kinds, entry_kinds, expr_kinds, exprs_kinds, for_start_kinds, initial_kinds, optional, parenthesized, star_kinds}
-use Rattle.c_syntax.specs.Spelling.{start_kinds, statement_kinds, with_commas}
 use Rattle.std.specs.List.{flat_map}
+use Rattle.base_lists.proofs.Every.{all_so}
 use Rattle.c_types_rules.specs.declared.library.Library.TheVariants as library
 use Rattle.c_types_expressions.specs.declared.walk.Walk.{Walk}
 use Rattle.c_types.specs.Answers.{declared_at, type_at}
@@ -30,14 +28,11 @@ use Rattle.c_meaning.specs.declared.value_type.Called.{Called}
 use Rattle.c_meaning.specs.declared.value_type.Called.TheVariants as called
 use Rattle.c_meaning.specs.declared.value_type.ValueType.{ValueType}
 use Rattle.c_meaning.specs.declared.value_type.ValueType.TheVariants as type
-use Rattle.c_meaning.specs.Facts.{Sites}
-use Rattle.c_meaning.specs.Known.{facts_of}
-use Rattle.c_meaning.specs.Meaning.{text_of_string}
-use Rattle.c_meaning.specs.Trees.{called_as}
+use Rattle.c_meaning.specs.Words.{Sites, facts_of, text_of_string, called_as}
 use Rattle.c_meaning_laws.specs.Typed.{TypedArguments}
 use Rattle.c_meaning_laws.specs.TypedStatements.{FitsFormat, IsPrint, TypedBeginning, TypedElements, TypedEntries, TypedFormat, TypedInitial, TypedPart, TypedPrint}
 use Rattle.c_meaning_laws.specs.TypedStatements.{TypedStarts, TypedStatement, TypedTest, TypedValue, TypedWhole}
-use Rattle.c_meaning_sound.proofs.Covering.{Covers, Has, Shows, all_so, declared_number, has_first, has_second, is_local, narrow, pairs_named}
+use Rattle.c_meaning_sound.proofs.Covering.{Covers, Has, Shows, declared_number, has_first, has_second, is_local, narrow, pairs_named}
 use Rattle.c_meaning_sound.proofs.Lifting.{ExprsEnd, exprs_end, exprs_first, exprs_rest, lift, lift_arguments}
 use Rattle.c_meaning_sound.proofs.Noting.{facts, none}
 use Rattle.sites.specs.declared.spots.Spot.{Spot}
@@ -45,22 +40,11 @@ use Rattle.sites.specs.declared.spots.Spot.TheVariants as spot
 use Rattle.sites.specs.Spots.{expr_spots, exprs_spots, part_spots}
 use Rattle.sites.specs.Bodies.{declaration_spots, entries_spots, for_spots, for_start_spots, initial_spots, start_spots, starts_spots, statement_spots}
 use Rattle.sites.proofs.Rises.{Rises, join, len3, len4, len5, paren-length, rises-branch, rises-expr, rises-part, wider}
-use Rattle.sites.proofs.RisesBodies.{brace-length, rises-entries}
+use Rattle.sites.proofs.RisesBodies.{brace-length, rises-entries, declarator-length, rises-declaration, rises-for_start}
 
 rises_statement : (at : ℕ) (x : StatementTree) → StatementAt at x → Rises at (at + length (statement_kinds x)) (statement_spots x)
 rises_statement at x p = subst (λ ks. Rises at (at + length ks) (statement_spots x)) (append-nil (statement_kinds x))
     (subst (λ xs. Rises at (at + length (statement_kinds x ++ [])) xs) (append-nil (statement_spots x)) (rises-entries at (t.stated x t.no_entries) (p, tt)))
-
-rises_declaration : (at : ℕ) (d : DeclarationTree) → DeclarationAt at d → Rises at (at + length (declaration_kinds d)) (declaration_spots d)
-rises_declaration at d p = subst (λ ks. Rises at (at + length ks) (declaration_spots d)) (append-nil (declaration_kinds d))
-    (subst (λ xs. Rises at (at + length (declaration_kinds d ++ [])) xs) (append-nil (declaration_spots d))
-    (rises-entries at (t.declared d t.no_entries) (p, tt)))
-
-rises_for_start : (at : ℕ) (x : ForStartTree) → ForStartAt at x → Rises at (at + length (for_start_kinds x)) (for_start_spots x)
-rises_for_start at (t.Declares d) p = rises_declaration at d p
-rises_for_start at (t.Computes x) p = wider at (at + length (optional expr_kinds x)) at (at + length (for_start_kinds (t.Computes x))) (part_spots x)
-    (omega arith)
-    (omega (arith, length-append (optional expr_kinds x) (a_sign sign.Semicolon))) (rises-part at x p)
 
 -- several declared variables, as those of a declaration whose base is one token
 rises_starts : (at : ℕ) (xs : List StartTree) → 1 ≤ at → EachAt StartAt start_kinds 1 at xs → Rises (at - 1) (at + length (with_commas start_kinds xs) + 1)
@@ -72,7 +56,7 @@ rises_starts at xs l p =
     len3 (a_word word.Int) (with_commas start_kinds xs) (a_sign sign.Semicolon) in
     wider (at - 1) (at - 1 + length (declaration_kinds d)) (at - 1) (at + length (with_commas start_kinds xs) + 1) (starts_spots xs) (omega arith)
     (omega (arith, long, l))
-    (rises_declaration (at - 1) d (refl, refl, subst (λ n. EachAt StartAt start_kinds 1 n xs) here p))
+    (rises-declaration (at - 1) d (refl, refl, subst (λ n. EachAt StartAt start_kinds 1 n xs) here p))
 
 rises_start : (at : ℕ) (x : StartTree) → 1 ≤ at → StartAt at x → Rises (at - 1) (at + length (start_kinds x) + 1) (start_spots x)
 rises_start at x l p =
@@ -97,14 +81,6 @@ starts_end at hi (x ∷ xs) h =
     let long : length (with_commas start_kinds (x ∷ xs)) ≡ length (start_kinds x) + length (after_commas start_kinds xs) =
     length-append (start_kinds x) (after_commas start_kinds xs) in
     (omega (arith, h, long), more_starts (at + length (start_kinds x)) hi xs (omega (arith, h, long)))
-
-name_inside : (d : Declarator) → d.stars + 1 ≤ length (declarator_kinds d)
-name_inside d = omega (
-  arith,
-  length-append (star_kinds d.stars ++ a_name d.name) (flat_map bound_kinds d.bounds),
-  length-append (star_kinds d.stars) (a_name d.name),
-  length-replicate d.stars (kind.Punctuator sign.Star),
-)
 
 module _ (tree : SourceTree) (z : Walk) (s : Sites) (c : ℕ) where
   lift_part : (x : Option ExprTree) (at : ℕ) → IfSome x (ExprAt at) → Covers tree z s at (at + length (optional expr_kinds x)) (part_spots x)
@@ -132,16 +108,7 @@ module _ (tree : SourceTree) (z : Walk) (s : Sites) (c : ℕ) where
   prints_lift : (o : Called) (xs : ExprList) (at hi : ℕ) → ExprsAt at xs → ExprsEnd at xs hi → Covers tree z s at hi (exprs_spots xs)
       → TypedPrint (facts tree z) none c o xs → TypedPrint (facts_of tree z) s c o xs
   prints_lift (called.Library library.Printf) xs at hi p b k h = lift_format xs at hi p b k h
-  prints_lift (called.Library library.Getchar) xs at hi p b k h = h
-  prints_lift (called.Library library.Putchar) xs at hi p b k h = h
-  prints_lift (called.Library library.Puts) xs at hi p b k h = h
-  prints_lift (called.Library library.Malloc) xs at hi p b k h = h
-  prints_lift (called.Library library.Free) xs at hi p b k h = h
-  prints_lift (called.Library library.Exit) xs at hi p b k h = h
-  prints_lift (called.Library library.Abort) xs at hi p b k h = h
-  prints_lift (called.Library library.Assert) xs at hi p b k h = h
-  prints_lift (called.Function number) xs at hi p b k h = h
-  prints_lift called.Unknown xs at hi p b k h = h
+  prints_lift o xs at hi p b k h = h
 
   print_lift : (x : ExprTree) (at : ℕ) → ExprAt at x → Covers tree z s at (at + length (expr_kinds x)) (expr_spots x) → IsPrint (facts tree z) none c x
       → IsPrint (facts_of tree z) s c x
@@ -170,16 +137,7 @@ module _ (tree : SourceTree) (z : Walk) (s : Sites) (c : ℕ) where
       → AllByRecursion (λ n. Has (λ target. Shows tree z s target n) (name + 1) (spot.Change (name + 1) name ∷ [])) (s.pairs_at (name + 1))
       → TypedValue (facts tree z) none c name o x → TypedValue (facts_of tree z) s c name o x
   value_lift name from x (Some (type.Array size)) p k q h = h
-  value_lift name from x None p k q h =
-      (lift tree z s c x from p k h.0, h.1, pairs_named tree z s name (name + 1) (name + 1) _ (s.pairs_at (name + 1)) (declared_number tree z s name) q)
-  value_lift name from x (Some type.Void) p k q h =
-      (lift tree z s c x from p k h.0, h.1, pairs_named tree z s name (name + 1) (name + 1) _ (s.pairs_at (name + 1)) (declared_number tree z s name) q)
-  value_lift name from x (Some (type.Number of)) p k q h =
-      (lift tree z s c x from p k h.0, h.1, pairs_named tree z s name (name + 1) (name + 1) _ (s.pairs_at (name + 1)) (declared_number tree z s name) q)
-  value_lift name from x (Some (type.Pointer size)) p k q h =
-      (lift tree z s c x from p k h.0, h.1, pairs_named tree z s name (name + 1) (name + 1) _ (s.pairs_at (name + 1)) (declared_number tree z s name) q)
-  value_lift name from x (Some type.Struct) p k q h =
-      (lift tree z s c x from p k h.0, h.1, pairs_named tree z s name (name + 1) (name + 1) _ (s.pairs_at (name + 1)) (declared_number tree z s name) q)
+  value_lift name from x o p k q h = (lift tree z s c x from p k h.0, h.1, pairs_named tree z s name (name + 1) (name + 1) _ (s.pairs_at (name + 1)) (declared_number tree z s name) q)
 
   lift_initial : (d : Declarator) (o : Option InitialTree) (at : ℕ) → d.name_token ≡ at + d.stars → IfSome o (InitialAt (at + length (declarator_kinds d) + 1))
       → Covers tree z s at (at + length (declarator_kinds d ++ optional (λ y. a_sign sign.Equal ++ initial_kinds y) o)) (initial_spots d.name_token o)
@@ -196,12 +154,12 @@ module _ (tree : SourceTree) (z : Walk) (s : Sites) (c : ℕ) where
       value_lift name from value ((facts_of tree z).declared_at name) p
       (narrow tree z s at hi from (from + length (expr_kinds value)) xs (expr_spots value) k (omega arith) (omega (arith, long))
       (λ P q a b w. has_second P q (name + 1) (name + 1 + 1) (spot.Change (name + 1) name ∷ []) (expr_spots value) (omega arith, omega arith, omega arith)
-      (omega (arith, a, n, name_inside d)) w))
+      (omega (arith, a, n, declarator-length d)) w))
       (all_so (λ m. Has (λ target. Shows tree z s target m) (name + 1) xs)
       (λ m. Has (λ target. Shows tree z s target m) (name + 1) (spot.Change (name + 1) name ∷ []))
       (s.pairs_at (name + 1)) (λ m w. has_first (λ target. Shows tree z s target m) (name + 1) from (from + length (expr_kinds value))
       (spot.Change (name + 1) name ∷ [])
-      (expr_spots value) r (omega (arith, n, name_inside d)) w) (k (name + 1) (omega (arith, n)) (omega (arith, n, long, name_inside d)))) h
+      (expr_spots value) r (omega (arith, n, declarator-length d)) w) (k (name + 1) (omega (arith, n)) (omega (arith, n, long, declarator-length d)))) h
   lift_initial d (Some (t.Braced token items comma)) at n p k h =
       let from : ℕ = at + length (declarator_kinds d) + 1 + 1 in
       let inner : Kinds = exprs_kinds items ++ comma_kinds comma in
@@ -417,7 +375,7 @@ module _ (tree : SourceTree) (z : Walk) (s : Sites) (c : ℕ) where
           let cd : List Spot = part_spots condition in
           let sp : List Spot = part_spots step in
           let rf : Rises token (token + 1) f = for_rises token condition in
-          let rst : Rises (at + 2) second st = rises_for_start (at + 2) start p.1 in
+          let rst : Rises (at + 2) second st = rises-for_start (at + 2) start p.1 in
           let rcd : Rises second (second + length kc) cd = rises-part second condition p.2 in
           let rsp : Rises third (third + length kt) sp = rises-part third step p.3 in
           let r2 : Rises token second (f ++ st) = join token (token + 1) (at + 2) second f st (omega (arith, p.0)) rf rst in
@@ -469,7 +427,7 @@ module _ (tree : SourceTree) (z : Walk) (s : Sites) (c : ℕ) where
                 (omega arith) (rises-entries (at + ld) rest p.1)) h.0,
             lift_entries rest looping (at + ld) p.1
                 (covers_second at hi (at + ld) (at + ld + lr) at (at + ld) (declaration_spots d) (entries_spots rest) k (omega arith)
-                (omega (arith, long)) (omega arith) (rises_declaration at d p.0)) h.1,
+                (omega (arith, long)) (omega arith) (rises-declaration at d p.0)) h.1,
           )
       lift_entries (t.stated x rest) looping at p k h =
           let ld : ℕ = length (statement_kinds x) in

@@ -5,7 +5,11 @@ use Rattle.std.specs.Prelude.{Option, nat_lt, max, slice_get, slice_set, if◌th
 use Rattle.std.proofs.lemmas.Bool.{cases_lt}
 use Rattle.std.proofs.lemmas.Bool.Decides.{nat_tests}
 use Rattle.std.proofs.lemmas.List.{append_assoc}
-use Rattle.std.proofs.lemmas.Option.{slice_get_within}
+use Rattle.std.proofs.lemmas.Option.{slice_get_within, same_Some}
+use Rattle.c_types.proofs.Replaced.{replaced_other, replaced_same}
+use Rattle.c_types.proofs.Noted.{length_replaced}
+use Rattle.base_lists.proofs.Numbers.{less_is}
+use Rattle.base_lists.proofs.Lists.{get_before, set_here, set_long, set_other}
 use Rattle.c_types_rules.specs.TypeTree.{TypeTree}
 use Rattle.c_types_expressions.specs.declared.names.Meaning.TheVariants as meaning
 use Rattle.c_types_expressions.specs.declared.names.ScopeEntry.{ScopeEntry}
@@ -14,8 +18,7 @@ use Rattle.c_types_expressions.specs.declared.walk.Variable.{Variable}
 use Rattle.c_types_expressions.specs.declared.walk.Variable.TheVariants as variable
 use Rattle.c_types_expressions.specs.declared.walk.VariableEntry.{VariableEntry}
 use Rattle.c_types_expressions.specs.declared.walk.Walk.{Walk}
-use Rattle.c_types_expressions.specs.Names.{closed}
-use Rattle.c_types_expressions.specs.Walked.{ended_scopes, opened, replaced, with_type, with_variable}
+use Rattle.c_types_expressions.specs.Words.{closed, ended_scopes, opened, replaced, with_type, with_variable}
 
 -- the names declare variables alone, each with a place from one number on and below another
 abbrev pub AreNew : ℕ → ℕ → List ScopeEntry → Type 0
@@ -188,20 +191,11 @@ pub marks_typed : (token : ℕ) (of : TypeTree) (w : Walk) → Marks token (toke
 marks_typed token of w =
     marks_plain token (token + 1) w (with_type token of w) refl refl refl refl refl (λ n p q. below_both w.latest token n q (omega (arith, p)))
 
--- a variable of the function
-get_old : {A : Type 0} (xs : List A) (y : A) (i : ℕ) → i < length xs → slice_get (xs ++ y ∷ []) i ≡ slice_get xs i
-get_old [] y i h = absurd (omega (arith, h))
-get_old (x ∷ xs) y zero h = refl
-get_old (x ∷ xs) y (suc i) h = get_old xs y i (omega (arith, h))
-
 get_new : {A : Type 0} (xs : List A) (y : A) (i : ℕ) → length xs ≤ i → i < length xs + 1 → slice_get (xs ++ y ∷ []) i ≡ Some y
 get_new [] y zero h k = refl
 get_new [] y (suc i) h k = absurd (omega (arith, k))
 get_new (x ∷ xs) y zero h k = absurd (omega (arith, h))
 get_new (x ∷ xs) y (suc i) h k = get_new xs y i (omega (arith, h)) (omega (arith, k))
-
-some_same : {A : Type 0} (x y : A) → Some x ≡ Some y → x ≡ y
-some_same x y h = cc
 
 abbrev own_entry : ℕ → List ℕ → Walk → VariableEntry
 own_entry token name w = record { name = name; variable = variable.Local w.locals; from = token }
@@ -215,13 +209,13 @@ marks_declared token name of w = record {
   more = omega (arith, more);
   locals = omega arith;
   globals = refl;
-  kept = λ i p. get_old w.variables (own_entry token name w) i p;
+  kept = λ i p. get_before w.variables (own_entry token name w) i p;
   long = λ h. omega (arith, h, more, length-append w.ends (None ∷ []));
-  old = λ h i p. get_old w.ends None i (omega (arith, h, p));
+  old = λ h i p. get_before w.ends None i (omega (arith, h, p));
   ends = λ h n p q i low high. inl (inl (omega (arith, low, high, more)));
   entries = λ i entry low e.
       let inside : i < length (w.variables ++ own_entry token name w ∷ []) = slice_get_within (w.variables ++ own_entry token name w ∷ []) i entry e in
-      let is : own_entry token name w ≡ entry = some_same (own_entry token name w) entry
+      let is : own_entry token name w ≡ entry = same_Some (own_entry token name w) entry
       (sym (get_new w.variables (own_entry token name w) i low (omega (arith, inside, more))) ∙ e) in
       subst (IsOwn token (w.locals + 1)) is (record { from = omega arith; local = omega arith });
 }
@@ -238,43 +232,6 @@ closed_new lo hi (Declares name (meaning.Function place) ∷ rest) names h = abs
 closed_new lo hi (Declares name (meaning.Struct place) ∷ rest) names h = absurd h
 closed_new lo hi (Declares name (meaning.Library function) ∷ rest) names h = absurd h
 
-set_other : {A : Type 0} (xs : List A) (i j : ℕ) (x : A) → (i ≡ j → ⊥) → slice_get (slice_set xs i x) j ≡ slice_get xs j
-set_other [] i j x h = refl
-set_other (y ∷ ys) zero zero x h = absurd (h refl)
-set_other (y ∷ ys) zero (suc j) x h = refl
-set_other (y ∷ ys) (suc i) zero x h = refl
-set_other (y ∷ ys) (suc i) (suc j) x h = set_other ys i j x (λ q. h (ap suc q))
-
-set_here : {A : Type 0} (xs : List A) (i : ℕ) (x : A) → i < length xs → slice_get (slice_set xs i x) i ≡ Some x
-set_here [] i x h = absurd (omega (arith, h))
-set_here (y ∷ ys) zero x h = refl
-set_here (y ∷ ys) (suc i) x h = set_here ys i x (omega (arith, h))
-
-set_long : {A : Type 0} (xs : List A) (i : ℕ) (x : A) → length (slice_set xs i x) ≡ length xs
-set_long [] i x = refl
-set_long (y ∷ ys) zero x = refl
-set_long (y ∷ ys) (suc i) x = ap suc (set_long ys i x)
-
-if_other : {A : Type 0} (b : Bool) (xs ys : List A) (j : ℕ) → slice_get xs j ≡ slice_get ys j → slice_get (if b then xs else ys) j ≡ slice_get ys j
-if_other true xs ys j h = h
-if_other false xs ys j h = refl
-
-if_long : {A : Type 0} (b : Bool) (xs ys : List A) → length xs ≡ length ys → length (if b then xs else ys) ≡ length ys
-if_long true xs ys h = h
-if_long false xs ys h = refl
-
-place_other : {A : Type 0} (xs : List A) (i j : ℕ) (x : A) → (i ≡ j → ⊥) → slice_get (replaced xs i x) j ≡ slice_get xs j
-place_other xs i j x h = if_other (nat_lt i (length xs)) (slice_set xs i x) xs j (set_other xs i j x h)
-
-place_long : {A : Type 0} (xs : List A) (i : ℕ) (x : A) → length (replaced xs i x) ≡ length xs
-place_long xs i x = if_long (nat_lt i (length xs)) (slice_set xs i x) xs (set_long xs i x)
-
-within : (i n : ℕ) → i < n → nat_lt i n ≡ true
-within i n h = grind (arith, nat_tests, h)
-
-place_here : {A : Type 0} (xs : List A) (i : ℕ) (x : A) → i < length xs → slice_get (replaced xs i x) i ≡ Some x
-place_here xs i x h = rw (within i (length xs) h) (set_here xs i x h)
-
 -- what the end of a scope does to the variables before it, and to its own
 ended_old : (lo hi token i : ℕ) (new names : List ScopeEntry) (ends : List (Option ℕ)) → AreNew lo hi new → i < lo
     → slice_get (ended_scopes token (new ++ Opens ∷ names) ends) i ≡ slice_get ends i
@@ -282,7 +239,7 @@ ended_old lo hi token i [] names ends h k = refl
 ended_old lo hi token i (Opens ∷ rest) names ends h k = absurd h
 ended_old lo hi token i (Declares name (meaning.Variable place) ∷ rest) names ends h k =
     ended_old lo hi token i rest names (replaced ends place (Some token)) h.2 k
-    ∙ place_other ends place i (Some token) (λ e. omega (arith, e, k, h.0))
+    ∙ replaced_other ends place i (Some token) (λ e. omega (arith, e, k, h.0))
 ended_old lo hi token i (Declares name (meaning.Function place) ∷ rest) names ends h k = absurd h
 ended_old lo hi token i (Declares name (meaning.Struct place) ∷ rest) names ends h k = absurd h
 ended_old lo hi token i (Declares name (meaning.Library function) ∷ rest) names ends h k = absurd h
@@ -292,7 +249,7 @@ ended_long : (lo hi token : ℕ) (new names : List ScopeEntry) (ends : List (Opt
 ended_long lo hi token [] names ends h = refl
 ended_long lo hi token (Opens ∷ rest) names ends h = absurd h
 ended_long lo hi token (Declares name (meaning.Variable place) ∷ rest) names ends h =
-    ended_long lo hi token rest names (replaced ends place (Some token)) h.2 ∙ place_long ends place (Some token)
+    ended_long lo hi token rest names (replaced ends place (Some token)) h.2 ∙ length_replaced ends place (Some token)
 ended_long lo hi token (Declares name (meaning.Function place) ∷ rest) names ends h = absurd h
 ended_long lo hi token (Declares name (meaning.Struct place) ∷ rest) names ends h = absurd h
 ended_long lo hi token (Declares name (meaning.Library function) ∷ rest) names ends h = absurd h
@@ -301,7 +258,7 @@ ended_long lo hi token (Declares name (meaning.Library function) ∷ rest) names
 end_more : (n place i token : ℕ) (ends : List (Option ℕ)) → token < n → i < length ends → (i ≡ place) ⊎ EndsBefore n (slice_get ends i)
     → EndsBefore n (slice_get (replaced ends place (Some token)) i)
 end_more n place i token ends l inside (inl e) =
-    subst (λ p. EndsBefore n (slice_get (replaced ends p (Some token)) i)) e (rw (place_here ends i (Some token) inside) l)
+    subst (λ p. EndsBefore n (slice_get (replaced ends p (Some token)) i)) e (rw (replaced_same ends i (Some token) inside) l)
 end_more n place i token ends l inside (inr h) = end_by (cases_same place i)
   where
     cases_same : (p q : ℕ) → (p ≡ q) ⊎ (p ≡ q → ⊥)
@@ -315,8 +272,8 @@ end_more n place i token ends l inside (inr h) = end_by (cases_same place i)
         next (inr f) = inr (λ e. f (omega (arith, e)))
 
     end_by : (place ≡ i) ⊎ (place ≡ i → ⊥) → EndsBefore n (slice_get (replaced ends place (Some token)) i)
-    end_by (inl e) = subst (λ p. EndsBefore n (slice_get (replaced ends p (Some token)) i)) (sym e) (rw (place_here ends i (Some token) inside) l)
-    end_by (inr f) = rw (place_other ends place i (Some token) f) h
+    end_by (inl e) = subst (λ p. EndsBefore n (slice_get (replaced ends p (Some token)) i)) (sym e) (rw (replaced_same ends i (Some token) inside) l)
+    end_by (inr f) = rw (replaced_other ends place i (Some token) f) h
 
 ended_new : (lo hi n token i : ℕ) (new names : List ScopeEntry) (ends : List (Option ℕ)) → AreNew lo hi new → token < n → i < length ends
     → either_end n i new (slice_get ends i) → EndsBefore n (slice_get (ended_scopes token (new ++ Opens ∷ names) ends) i)
@@ -324,7 +281,7 @@ ended_new lo hi n token i [] names ends h l inside (inl e) = absurd e
 ended_new lo hi n token i [] names ends h l inside (inr e) = e
 ended_new lo hi n token i (Opens ∷ rest) names ends h l inside e = absurd h
 ended_new lo hi n token i (Declares name (meaning.Variable place) ∷ rest) names ends h l inside e =
-    ended_new lo hi n token i rest names (replaced ends place (Some token)) h.2 l (omega (arith, inside, place_long ends place (Some token))) (either_more e)
+    ended_new lo hi n token i rest names (replaced ends place (Some token)) h.2 l (omega (arith, inside, length_replaced ends place (Some token))) (either_more e)
   where
     either_more : either_end n i (Declares name (meaning.Variable place) ∷ rest) (slice_get ends i)
         → either_end n i rest (slice_get (replaced ends place (Some token)) i)
@@ -335,7 +292,7 @@ ended_new lo hi n token i (Declares name (meaning.Function place) ∷ rest) name
 ended_new lo hi n token i (Declares name (meaning.Struct place) ∷ rest) names ends h l inside e = absurd h
 ended_new lo hi n token i (Declares name (meaning.Library function) ∷ rest) names ends h l inside e = absurd h
 
--- a part within a scope of its own, at whose end its variables' scopes end
+-- a part less_is a scope of its own, at whose end its variables' scopes end
 abbrev pub after_scope : Walk → Walk
 after_scope v = record v { names = closed v.names; ends = ended_scopes v.latest v.names v.ends }
 
@@ -453,12 +410,12 @@ outer_marks_declared token name of w = record {
   latest = λ n p q. q;
   more = omega (arith, more);
   globals = omega arith;
-  kept = λ i p. get_old w.variables (outer_entry token name w) i p;
+  kept = λ i p. get_before w.variables (outer_entry token name w) i p;
   long = λ h. omega (arith, h, more, length-append w.ends (None ∷ []));
-  old = λ h i p. get_old w.ends None i (omega (arith, h, p));
+  old = λ h i p. get_before w.ends None i (omega (arith, h, p));
   entries = λ i entry low e.
       let inside : i < length (w.variables ++ outer_entry token name w ∷ []) = slice_get_within (w.variables ++ outer_entry token name w ∷ []) i entry e in
-      let is : outer_entry token name w ≡ entry = some_same (outer_entry token name w) entry
+      let is : outer_entry token name w ≡ entry = same_Some (outer_entry token name w) entry
       (sym (get_new w.variables (outer_entry token name w) i low (omega (arith, inside, more))) ∙ e) in
       subst (IsOuter token (w.globals + 1)) is (record { from = omega arith; global = omega arith });
 }

@@ -2,6 +2,8 @@
 use Rattle.std.proofs.Common.{◌≡◌, ℕ, zero, suc, ◌+◌, subst, sym, List, [], ◌∷◌, ◌++◌, Some, None, Bool, true, false}
 use Rattle.std.specs.Prelude.{Option, slice_get}
 use Rattle.std.specs.List.{AllByRecursion, flat_map}
+use Rattle.std.proofs.lemmas.Option.{same_Some}
+use Rattle.base_lists.proofs.Every.{all_first, all_join, all_second}
 use Rattle.cbi_base.specs.Name.{IsName}
 use Rattle.c_syntax.specs.declared.token.Sign.TheVariants as sign
 use Rattle.c_syntax.specs.declared.token.Word.TheVariants as word
@@ -11,14 +13,12 @@ use Rattle.c_syntax.specs.declared.parts.ParamName.{ParamName}
 use Rattle.c_syntax.specs.declared.parts.Params.{Params}
 use Rattle.c_syntax.specs.declared.parts.Params.TheVariants as params
 use Rattle.c_syntax.specs.ExprTree as e
-use Rattle.c_syntax.specs.ExprTree.{ExprTree, ExprList, LinkList, PostfixList}
+use Rattle.c_syntax.specs.Words.{ExprTree, ExprList, LinkList, PostfixList, InitialTree, StartTree, DeclarationTree, ForStartTree, StatementTree, EntryList}
+use Rattle.c_syntax.specs.Words.{ItemTree, SourceTree, Kinds, a_name, a_sign, a_word, after_commas, base_kinds, body_kinds, bound_kinds, declaration_kinds}
+use Rattle.c_syntax.specs.Words.{declarator_kinds, entry_kinds, expr_kinds, for_start_kinds, initial_kinds, item_kinds, optional, param_kinds, param_name_kinds}
+use Rattle.c_syntax.specs.Words.{params_kinds, parenthesized, star_kinds, start_kinds, statement_kinds, tree_kinds, type_kinds, with_commas}
 use Rattle.c_syntax.specs.StatementTree as s
-use Rattle.c_syntax.specs.StatementTree.{InitialTree, StartTree, DeclarationTree, ForStartTree, StatementTree, EntryList}
 use Rattle.c_syntax.specs.ItemTree as item
-use Rattle.c_syntax.specs.ItemTree.{ItemTree, SourceTree}
-use Rattle.c_syntax.specs.Spelling.{Kinds, a_name, a_sign, a_word, after_commas, base_kinds, body_kinds, bound_kinds, declaration_kinds, declarator_kinds}
-use Rattle.c_syntax.specs.Spelling.{entry_kinds, expr_kinds, for_start_kinds, initial_kinds, item_kinds, optional, param_kinds, param_name_kinds, params_kinds}
-use Rattle.c_syntax.specs.Spelling.{parenthesized, star_kinds, start_kinds, statement_kinds, tree_kinds, type_kinds, with_commas}
 use Rattle.c_types_expressions.specs.declared.walk.VariableEntry.{VariableEntry}
 use Rattle.c_types_walk.specs.ItemWalk.{listed_params}
 use Rattle.c_types.specs.Numbers.{numbered_from, variables_of}
@@ -26,9 +26,7 @@ use Rattle.c_types.specs.Parts.{Part, Expression, Use, Declared, Begins, declara
 use Rattle.c_types.specs.Parts.{initial_parts, item_parts, items_parts, links_parts, named_parts, optional_parts, params_parts, postfix_parts, starts_parts}
 use Rattle.c_types.specs.Parts.{statement_parts}
 use Rattle.c_meaning_sound.specs.Sited.{IsSitedToken}
-use Rattle.c_meaning_sound.proofs.Parting.{all_first, all_second}
-use Rattle.c_meaning_sound.proofs.Sizing.{some_is}
-use Rattle.c_meaning_sound.proofs.Spotting.{all_two, in_middle, inside}
+use Rattle.c_meaning_sound.proofs.Spotting.{in_middle, inside}
 
 abbrev NamedPart : Part → Type 0
 NamedPart (Declared global token name) = IsName name
@@ -38,7 +36,7 @@ abbrev Named : List Part → Type 0
 Named xs = AllByRecursion NamedPart xs
 
 both_named : (xs ys : List Part) → Named xs → Named ys → Named (xs ++ ys)
-both_named xs ys h k = all_two NamedPart xs ys h k
+both_named xs ys h k = all_join NamedPart xs ys h k
 
 -- expressions declare nothing
 mutual
@@ -54,15 +52,11 @@ mutual
   expr_named (e.Chain level first links) = both_named (expr_parts first) (links_parts links) (expr_named first) (links_named links)
   expr_named (e.Cast token b stars operand) = both_named (expr_parts operand) (Expression token ∷ []) (expr_named operand) (tt, tt)
   expr_named (e.Prefix token o operand) = both_named (expr_parts operand) (Expression token ∷ []) (expr_named operand) (tt, tt)
-  expr_named (e.SizeOfType token b stars) = (tt, tt)
   expr_named (e.Postfix primary operators) = both_named (expr_parts primary) (postfix_parts operators) (expr_named primary) (postfix_named operators)
   expr_named (e.Name token name) = (tt, (tt, tt))
   expr_named (e.Call token name arguments) = both_named (exprs_parts arguments) (Expression token ∷ []) (exprs_named arguments) (tt, tt)
-  expr_named (e.Constant token kind value) = (tt, tt)
-  expr_named (e.Strings token parts) = (tt, tt)
   expr_named (e.Paren token inner) = both_named (expr_parts inner) (Expression token ∷ []) (expr_named inner) (tt, tt)
-  expr_named (e.Null token) = (tt, tt)
-  expr_named (e.EndOfFile token) = (tt, tt)
+  expr_named x = (tt, tt)
 
   exprs_named : (xs : ExprList) → Named (exprs_parts xs)
   exprs_named e.no_exprs = tt
@@ -118,7 +112,6 @@ begun_named (s.Computes x) n = option_named x
 mutual
   statement_named : (x : StatementTree) → AllByRecursion IsSitedToken (statement_kinds x) → Named (statement_parts x)
   statement_named (s.Block token xs) n = entries_named xs (all_first IsSitedToken (entry_kinds xs) (a_sign sign.RightBrace) n.1)
-  statement_named (s.Empty token) n = tt
   statement_named (s.Expr token x) n = expr_named x
   statement_named (s.If token condition first) n =
       both_named (expr_parts condition) (statement_parts first) (expr_named condition)
@@ -149,8 +142,7 @@ mutual
       (both_named (optional_parts step) (statement_parts body) (option_named step)
       (statement_named body (all_second IsSitedToken (parenthesized head) (statement_kinds body) n.1))))
   statement_named (s.Return token value) n = option_named value
-  statement_named (s.Break token) n = tt
-  statement_named (s.Continue token) n = tt
+  statement_named x n = tt
 
   entries_named : (xs : EntryList) → AllByRecursion IsSitedToken (entry_kinds xs) → Named (entries_parts xs)
   entries_named s.no_entries n = tt
@@ -210,7 +202,7 @@ numbered_named globals locals (Begins ∷ ps) h = numbered_named globals 0 ps h.
 
 all_at : (xs : List VariableEntry) (i : ℕ) (x : VariableEntry) → AllByRecursion (λ v. IsName v.name) xs → slice_get xs i ≡ Some x → IsName x.name
 all_at [] i x h e = cc
-all_at (y ∷ ys) zero x h e = subst (λ (v : VariableEntry). IsName v.name) (some_is y x e) h.0
+all_at (y ∷ ys) zero x h e = subst (λ (v : VariableEntry). IsName v.name) (same_Some y x e) h.0
 all_at (y ∷ ys) (suc i) x h e = all_at ys i x h.1 e
 
 -- each variable of a text whose tokens keep names has a name

@@ -5,9 +5,8 @@ use Rattle.std.specs.Option.{option_map, option_and_then}
 use Rattle.std.specs.Str.{bytes_eq}
 use Rattle.c_syntax.specs.ItemTree.{SourceTree}
 use Rattle.c_types_rules.specs.declared.library.Library.{Library}
-use Rattle.c_types_rules.specs.Library.{library_named}
+use Rattle.c_types_rules.specs.Words.{library_named, TypeTree, is_scalar, is_complete}
 use Rattle.c_types_rules.specs.TypeTree as t
-use Rattle.c_types_rules.specs.TypeTree.{TypeTree}
 use Rattle.c_types_expressions.specs.declared.names.Meaning.{Meaning}
 use Rattle.c_types_expressions.specs.declared.names.Meaning.TheVariants as meaning
 use Rattle.c_types_expressions.specs.declared.names.ScopeEntry.{ScopeEntry}
@@ -19,21 +18,19 @@ use Rattle.c_types_expressions.specs.declared.walk.Variable.TheVariants as varia
 use Rattle.c_types_expressions.specs.declared.walk.VariableEntry.{VariableEntry}
 use Rattle.c_types_expressions.specs.declared.walk.Walk.{Walk}
 use Rattle.c_types_rules.proofs.Same.{same_self}
-use Rattle.c_types_rules.specs.Conversions.{is_scalar}
-use Rattle.c_types_rules.specs.Sizes.{is_complete}
 use Rattle.std.proofs.lemmas.Bool.{false≢true}
 use Rattle.c_types.specs.Answers.{declared_at, noted, variable_at, variable_of}
-use Rattle.c_types_expressions.specs.ExprWalk.{with_call, with_offset, with_use}
-use Rattle.c_types_expressions.specs.Names.{declared_as, found, meaning_of, or_before}
-use Rattle.c_types_expressions.specs.Walked.{with_type}
+use Rattle.c_types_expressions.specs.Words.{with_call, with_offset, with_use, declared_as, found, meaning_of, or_before, with_type}
 use Rattle.c_types.specs.Numbers.{function_of}
 use Rattle.flow.specs.declared.site.Slot.{Slot}
-use Rattle.c_meaning.specs.Facts.{Signature}
-use Rattle.c_meaning.specs.Known.{computed_type, signature_of, signature_with, slot_of}
+use Rattle.c_meaning.specs.Words.{Signature, computed_type, signature_of, signature_with, slot_of}
 use Rattle.std.specs.Prelude.{map}
+use Rattle.c_types.proofs.Replaced.{noted_other, noted_same}
+use Rattle.base_lists.proofs.Lists.{Stays}
+use Rattle.c_types.proofs.Noted.{length_replaced}
 use Rattle.c_meaning_laws.specs.Typed.{HasSlot}
 use Rattle.c_meaning_sound.proofs.Marking.{below_both, marks_plain}
-use Rattle.c_meaning_sound.proofs.Noting.{AllSlots, IsAmong, IsSlot, NamesSlot, Part, Same, Stays, facts, is_of, none, noted_other, noted_same, replaced_long}
+use Rattle.c_meaning_sound.proofs.Noting.{AllSlots, IsAmong, IsSlot, NamesSlot, Part, Same, facts, is_of, none}
 use Rattle.c_meaning_sound.proofs.Noting.{slot_named}
 use Rattle.c_meaning_sound.proofs.Forming.{Numbered}
 
@@ -111,13 +108,10 @@ slot_has tree z c n index variables (Some entry) e h le stays = rw (stays index 
 
 -- a scalar is known whole
 scalar_whole : (z : Walk) (of : TypeTree) → is_scalar of ≡ true → is_complete z.structs of ≡ true
-scalar_whole z t.Char h = refl
-scalar_whole z t.Int h = refl
-scalar_whole z t.Unsigned h = refl
-scalar_whole z (t.Pointer to) h = refl
 scalar_whole z t.Void h = absurd (false≢true h)
 scalar_whole z (t.Array element size) h = absurd (false≢true h)
 scalar_whole z (t.Struct tag) h = absurd (false≢true h)
+scalar_whole z of h = refl
 
 -- a variable's type is its own, and that is known to the end where it is one of a scalar
 own_type : (z : Walk) (of : TypeTree) (own : Option TypeTree) (b : Bool) → is_scalar of ≡ b → (is_complete z.structs of ≡ true → own ≡ Some of)
@@ -138,8 +132,8 @@ module _ {tree : SourceTree} {z : Walk} where
       (λ c. (noted z.types token ≡ Some of) × HasSlot (facts tree z) none c ((facts tree z).slot_at token))
   name_noted token index of w h k s d = record {
     keeps = record {
-      types = replaced_long w.types token (Some of);
-      variables_at = replaced_long w.variables_at token (Some index);
+      types = length_replaced w.types token (Some of);
+      variables_at = length_replaced w.variables_at token (Some index);
       offsets_at = refl;
       functions_at = refl;
       structs = refl;
@@ -183,10 +177,10 @@ module _ {tree : SourceTree} {z : Walk} where
       (λ c. (noted z.types token ≡ Some of) × (noted z.functions_at token ≡ Some index))
   call_noted token index of w h k = record {
     keeps = record {
-      types = replaced_long w.types token (Some of);
+      types = length_replaced w.types token (Some of);
       variables_at = refl;
       offsets_at = refl;
-      functions_at = replaced_long w.functions_at token (Some index);
+      functions_at = length_replaced w.functions_at token (Some index);
       structs = refl;
       tags = refl;
       functions = refl;
@@ -221,9 +215,9 @@ module _ {tree : SourceTree} {z : Walk} where
       (λ c. (noted z.types token ≡ Some of) × (noted z.offsets_at token ≡ Some offset))
   member_noted token offset of w h k = record {
     keeps = record {
-      types = replaced_long w.types token (Some of);
+      types = length_replaced w.types token (Some of);
       variables_at = refl;
-      offsets_at = replaced_long w.offsets_at token (Some offset);
+      offsets_at = length_replaced w.offsets_at token (Some offset);
       functions_at = refl;
       structs = refl;
       tags = refl;

@@ -3,27 +3,21 @@ use Rattle.std.proofs.Common.{◌≡◌, arith, ℤ, pos, neg_ℤ, Bool, true, f
 use Rattle.std.specs.Prelude.{int_le}
 use Rattle.std.specs.List.{AllByRecursion}
 use Rattle.std.proofs.lemmas.Int.{ints}
-use Rattle.std.proofs.lemmas.Bool.{false≢true}
-use Rattle.cbi_base.proofs.NumberLemmas.{both}
+use Rattle.std.proofs.lemmas.Bool.{false≢true, and_from, and_parts}
 use Rattle.cbi_base.specs.declared.scalar.Kind.{Kind}
 use Rattle.cbi_base.specs.declared.scalar.Kind.TheVariants as kind
 use Rattle.cbi_base.specs.Kind.{greatest_of, least_of, lies_in}
 use Rattle.c_syntax.specs.declared.token.TokenKind.TheVariants as token
-use Rattle.c_syntax.specs.Spelling.{Kinds}
-use Rattle.c_syntax.specs.Tokens.{AtLeastChar, ConstantFits, IsAtLeastChar, KindFits}
+use Rattle.c_syntax.specs.Words.{Kinds, AtLeastChar, ConstantFits, IsAtLeastChar, KindFits}
 use Rattle.c_meaning_laws.specs.TypedText.{Negates}
 use Rattle.c_meaning_sound.specs.Accepted.{IsNegatable}
 
-joined : (a b : Bool) → a ≡ true → b ≡ true → (a && b) ≡ true
-joined true b h k = k
-joined false b h k = absurd (false≢true h)
-
 int_negates : (value : ℤ) → int_le (neg_ℤ (pos 128)) value ≡ true → int_le value (pos 2147483647) ≡ true → lies_in kind.Int (neg_ℤ value) ≡ true
-int_negates value low high = joined (int_le (least_of kind.Int) (neg_ℤ value)) (int_le (neg_ℤ value) (greatest_of kind.Int)) (grind (arith, ints, low, high))
+int_negates value low high = and_from (int_le (least_of kind.Int) (neg_ℤ value)) (int_le (neg_ℤ value) (greatest_of kind.Int)) (grind (arith, ints, low, high))
     (grind (arith, ints, low, high))
 
 pub constant_negates : (k : Kind) (value : ℤ) → ConstantFits k value → AtLeastChar value → Negates k value
-constant_negates kind.Int value h low = int_negates value low (both (int_le (least_of kind.Int) value) (int_le value (greatest_of kind.Int)) h.1).1
+constant_negates kind.Int value h low = int_negates value low (and_parts (int_le (least_of kind.Int) value) (int_le value (greatest_of kind.Int)) h.1).1
 constant_negates kind.Unsigned value h low = tt
 constant_negates kind.Char value h low = absurd (false≢true h.0)
 

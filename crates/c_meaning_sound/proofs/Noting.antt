@@ -3,13 +3,14 @@ use Rattle.std.proofs.Common.{◌≡◌, ℕ, zero, suc, ◌≤◌, ◌<◌, ref
 use Rattle.std.specs.Prelude.{Option, slice_get, slice_set, nat_lt, if◌then◌else◌}
 use Rattle.std.specs.Option.{option_map, unwrap_or}
 use Rattle.std.proofs.lemmas.Bool.Decides.{nat_tests}
+use Rattle.c_types.proofs.Replaced.{noted_other, noted_same}
+use Rattle.c_types.proofs.Noted.{length_replaced}
+use Rattle.base_lists.proofs.Numbers.{less_is}
+use Rattle.base_lists.proofs.Lists.{set_here, set_long, set_other, Stays}
 use Rattle.c_syntax.specs.ItemTree.{SourceTree}
 use Rattle.c_types_rules.specs.declared.operand.Operand.{Operand}
 use Rattle.c_types_rules.specs.TypeTree as t
-use Rattle.c_types_rules.specs.TypeTree.{TypeTree, same_type}
-use Rattle.c_types_rules.specs.Faults.{Looked}
-use Rattle.c_types_rules.specs.Conversions.{is_scalar}
-use Rattle.c_types_rules.specs.Sizes.{cells_of, is_complete}
+use Rattle.c_types_rules.specs.Words.{TypeTree, same_type, Looked, is_scalar, cells_of, is_complete}
 use Rattle.c_types_expressions.specs.declared.names.Meaning.TheVariants as meaning
 use Rattle.c_types_expressions.specs.declared.names.ScopeEntry.{ScopeEntry}
 use Rattle.c_types_expressions.specs.declared.names.ScopeEntry.TheVariants.{Opens, Declares}
@@ -18,95 +19,13 @@ use Rattle.c_types_expressions.specs.declared.walk.Variable.TheVariants as varia
 use Rattle.c_types_expressions.specs.declared.walk.VariableEntry.{VariableEntry}
 use Rattle.c_types_expressions.specs.declared.walk.Walk.{Walk}
 use Rattle.c_types.specs.Answers.{declared_at, noted, type_at, variable_at}
-use Rattle.c_types_expressions.specs.ExprWalk.{looked}
-use Rattle.c_types_expressions.specs.Names.{closed, found}
-use Rattle.c_types_expressions.specs.Walked.{Walked, Fine, Faulty, ◌>>=◌, replaced, with_type}
+use Rattle.c_types_expressions.specs.Words.{looked, closed, found, Walked, Fine, Faulty, ◌>>=◌, replaced, with_type}
 use Rattle.flow.specs.declared.site.Slot.{Slot}
-use Rattle.c_meaning.specs.Facts.{Facts, Sites}
-use Rattle.c_meaning.specs.Known.{facts_of, slot_of, struct_number}
-use Rattle.c_meaning.specs.Operation.{is_step_size}
-use Rattle.c_meaning.specs.Texts.{sites_by_table}
+use Rattle.c_meaning.specs.Words.{Facts, Sites, facts_of, slot_of, struct_number, is_step_size, sites_by_table}
 use Rattle.c_meaning_laws.specs.Rules.{IsObject}
 use Rattle.c_meaning_laws.proofs.Ruled.{known}
 use Rattle.c_meaning_sound.proofs.Growing.{Grows}
 use Rattle.c_meaning_sound.proofs.Marking.{Marks, marks_here, marks_then, marks_typed, marks_wider}
-
--- of what a part of the walk gives, where it meets no fault
-abbrev pub GivesIn : {A : Type 0} → (A → Walk → Type 0) → Walked A → Type 0
-GivesIn Q (Fine a v) = Q a v
-GivesIn Q (Faulty kind index) = Unit {0}
-
-pub record Gives {A : Type 0} (m : Walked A) (Q : A → Walk → Type 0) : Type 0 where
-  pub by : GivesIn Q m
-
-then_in : {A B : Type 0} (P : A → Walk → Type 0) (Q : B → Walk → Type 0) (m : Walked A) (k : A → Walk → Walked B) → GivesIn P m
-    → ((a : A) (v : Walk) → P a v → Gives (k a v) Q) → GivesIn Q (m >>= k)
-then_in P Q (Fine a v) k h g = (g a v h).by
-then_in P Q (Faulty i j) k h g = tt
-
-pub and_then : {A B : Type 0} {P : A → Walk → Type 0} {Q : B → Walk → Type 0} {m : Walked A} {k : A → Walk → Walked B} → Gives m P
-    → ((a : A) (v : Walk) → P a v → Gives (k a v) Q) → Gives (m >>= k) Q
-and_then {P = P} {Q = Q} {m = m} {k = k} h g = record { by = then_in P Q m k h.by g }
-
-weaker_in : {A : Type 0} (P Q : A → Walk → Type 0) (m : Walked A) → GivesIn P m → ((a : A) (v : Walk) → P a v → Q a v) → GivesIn Q m
-weaker_in P Q (Fine a v) h g = g a v h
-weaker_in P Q (Faulty i j) h g = tt
-
-pub weaker : {A : Type 0} {P Q : A → Walk → Type 0} {m : Walked A} → Gives m P → ((a : A) (v : Walk) → P a v → Q a v) → Gives m Q
-weaker {P = P} {Q = Q} {m = m} h g = record { by = weaker_in P Q m h.by g }
-
-looked_in : (Q : Operand → Walk → Type 0) (token : ℕ) (r : Looked) (w : Walk) → ((x : Operand) → r ≡ Ok x → Q x (with_type token x.ctype w))
-    → GivesIn Q (looked token r w)
-looked_in Q token (Ok x) w h = h x refl
-looked_in Q token (Err kind) w h = tt
-
-pub looks : {Q : Operand → Walk → Type 0} (token : ℕ) (r : Looked) (w : Walk) → ((x : Operand) → r ≡ Ok x → Q x (with_type token x.ctype w))
-    → Gives (looked token r w) Q
-looks {Q = Q} token r w h = record { by = looked_in Q token r w h }
-
--- notes by place
-set_same : {A : Type 0} (xs : List A) (i : ℕ) (x : A) → i < length xs → slice_get (slice_set xs i x) i ≡ Some x
-set_same [] i x h = absurd (omega (arith, h))
-set_same (y ∷ ys) zero x h = refl
-set_same (y ∷ ys) (suc i) x h = set_same ys i x (omega (arith, h))
-
-set_other : {A : Type 0} (xs : List A) (i j : ℕ) (x : A) → (i ≡ j → ⊥) → slice_get (slice_set xs i x) j ≡ slice_get xs j
-set_other [] i j x h = refl
-set_other (y ∷ ys) zero zero x h = absurd (h refl)
-set_other (y ∷ ys) zero (suc j) x h = refl
-set_other (y ∷ ys) (suc i) zero x h = refl
-set_other (y ∷ ys) (suc i) (suc j) x h = set_other ys i j x (λ q. h (ap suc q))
-
-set_long : {A : Type 0} (xs : List A) (i : ℕ) (x : A) → length (slice_set xs i x) ≡ length xs
-set_long [] i x = refl
-set_long (y ∷ ys) zero x = refl
-set_long (y ∷ ys) (suc i) x = ap suc (set_long ys i x)
-
-if_long : {A : Type 0} (b : Bool) (xs ys : List A) → length xs ≡ length ys → length (if b then xs else ys) ≡ length ys
-if_long true xs ys h = h
-if_long false xs ys h = refl
-
-pub replaced_long : {A : Type 0} (xs : List A) (i : ℕ) (x : A) → length (replaced xs i x) ≡ length xs
-replaced_long xs i x = if_long (nat_lt i (length xs)) (slice_set xs i x) xs (set_long xs i x)
-
-if_other : {A : Type 0} (b : Bool) (xs ys : List A) (j : ℕ) → slice_get xs j ≡ slice_get ys j → slice_get (if b then xs else ys) j ≡ slice_get ys j
-if_other true xs ys j h = h
-if_other false xs ys j h = refl
-
-pub replaced_other : {A : Type 0} (xs : List A) (i j : ℕ) (x : A) → (i ≡ j → ⊥) → slice_get (replaced xs i x) j ≡ slice_get xs j
-replaced_other xs i j x h = if_other (nat_lt i (length xs)) (slice_set xs i x) xs j (set_other xs i j x h)
-
-within : (i n : ℕ) → i < n → nat_lt i n ≡ true
-within i n h = grind (arith, nat_tests, h)
-
-pub replaced_same : {A : Type 0} (xs : List A) (i : ℕ) (x : A) → i < length xs → slice_get (replaced xs i x) i ≡ Some x
-replaced_same xs i x h = rw (within i (length xs) h) (set_same xs i x h)
-
-pub noted_other : {A : Type 0} (notes : List (Option A)) (i j : ℕ) (x : Option A) → (i ≡ j → ⊥) → noted (replaced notes i x) j ≡ noted notes j
-noted_other notes i j x h = ap (λ o. unwrap_or o None) (replaced_other notes i j x h)
-
-pub noted_same : {A : Type 0} (notes : List (Option A)) (i : ℕ) (x : A) → i < length notes → noted (replaced notes i (Some x)) i ≡ Some x
-noted_same notes i x h = ap (λ o. unwrap_or o None) (replaced_same notes i (Some x) h)
 
 -- the notes at a token are the same
 pub record Same (w v : Walk) (token : ℕ) : Type 0 where
@@ -125,10 +44,6 @@ same_then a b = record {
   offsets = b.offsets ∙ a.offsets;
   functions = b.functions ∙ a.functions;
 }
-
--- what stands in the first list stands there in the second
-abbrev pub Stays : {A : Type 0} → List A → List A → Type 0
-Stays {A = A} xs ys = (i : ℕ) (x : A) → slice_get xs i ≡ Some x → slice_get ys i ≡ Some x
 
 -- a variable is a global, or one of so many locals
 abbrev pub IsAmong : ℕ → Variable → Type 0
@@ -180,7 +95,7 @@ module _ (tree : SourceTree) (z : Walk) where
   abbrev pub Small : TypeTree → Type 0
   Small of = is_complete z.structs of ≡ true → is_step_size (cells_of z.structs of) ≡ true
 
-  -- so have those of each type within it
+  -- so have those of each type less_is it
   abbrev pub Deep : TypeTree → Type 0
   Deep (t.Pointer to) = Deep to
   Deep (t.Array element size) = Small (t.Array element size) × Deep element
@@ -401,7 +316,7 @@ module _ {tree : SourceTree} {z : Walk} where
 
   pub typed_keeps : (token : ℕ) (of : TypeTree) (w : Walk) → Keeps tree z w (with_type token of w)
   typed_keeps token of w = record {
-    types = replaced_long w.types token (Some of);
+    types = length_replaced w.types token (Some of);
     variables_at = refl;
     offsets_at = refl;
     functions_at = refl;

@@ -5,41 +5,29 @@ use Rattle.std.specs.List.{AllByRecursion}
 use Rattle.std.specs.Option.{option_map, option_and_then}
 use Rattle.std.proofs.lemmas.Bool.{false≢true}
 use Rattle.cbi_base.specs.declared.scalar.Kind.TheVariants as kind
-use Rattle.c_syntax.specs.ItemTree.{SourceTree}
+use Rattle.c_syntax.specs.Words.{SourceTree, ExprTree, ExprList, expr_kinds, exprs_kinds}
 use Rattle.c_syntax.specs.declared.expr.PrefixOperator.{PrefixOperator}
 use Rattle.c_syntax.specs.declared.expr.PrefixOperator.TheVariants as prefix
 use Rattle.c_syntax.specs.ExprTree as e
-use Rattle.c_syntax.specs.ExprTree.{ExprTree, ExprList}
-use Rattle.c_syntax.specs.Spelling.{expr_kinds, exprs_kinds}
 use Rattle.c_types_rules.specs.declared.library.Library.{Library}
 use Rattle.c_types_rules.specs.declared.library.Library.TheVariants as library
 use Rattle.c_types_rules.specs.declared.operand.Operand.{Operand}
 use Rattle.c_types_rules.specs.TypeTree as t
-use Rattle.c_types_rules.specs.TypeTree.{TypeTree}
-use Rattle.c_types_rules.specs.Conversions.{is_struct, value_of}
+use Rattle.c_types_rules.specs.Words.{TypeTree, is_struct, value_of, library_called, one_scalar, fits_parameters, is_complete, is_scalar_value, signed, stepped}
 use Rattle.c_types_rules.specs.Functions as functions
-use Rattle.c_types_rules.specs.Library.{library_called, one_scalar}
-use Rattle.c_types_rules.specs.Assigning.{fits_parameters}
-use Rattle.c_types_rules.specs.Sizes.{is_complete}
 use Rattle.c_types_rules.specs.declared.fault.FaultKind.TheVariants as fault
 use Rattle.c_types_rules.specs.declared.function.FunctionType.{FunctionType}
-use Rattle.c_types_rules.specs.Operators.{is_scalar_value, signed, stepped}
 use Rattle.c_types_expressions.specs.declared.walk.FunctionEntry.{FunctionEntry}
 use Rattle.c_types_expressions.specs.declared.walk.Walk.{Walk}
 use Rattle.c_types.specs.Answers.{noted}
-use Rattle.c_types_expressions.specs.ExprWalk.{prefixed}
-use Rattle.c_types_expressions.specs.Walked.{with_type}
+use Rattle.c_types_expressions.specs.Words.{prefixed, with_type}
 use Rattle.c_meaning.specs.declared.value_type.ValueType.{ValueType}
 use Rattle.c_meaning.specs.declared.value_type.ValueType.TheVariants as type
 use Rattle.c_meaning.specs.Conversions as mean
-use Rattle.c_meaning.specs.Conversions.{is_null_constant}
-use Rattle.c_meaning.specs.Facts.{Signature}
-use Rattle.c_meaning.specs.Known.{computed_type, object_cells}
-use Rattle.c_meaning.specs.Trees.{is_place, one_kind, step_of, token_of, type_of}
+use Rattle.c_meaning.specs.Words.{is_null_constant, Signature, computed_type, object_cells, is_place, one_kind, step_of, token_of, type_of, operation}
 use Rattle.c_meaning_laws.specs.Rules.{Accepts, Changes, IsNumberType, IsObject, IsPointer, IsPointing, IsPromoted, IsValue, TakesOrNull}
 use Rattle.c_meaning_laws.specs.Typed.{CallsFunction, CallsLibrary, Prefixes, Steps, Typed, TypedArguments, TypedLone, variable_named}
 use Rattle.flow.specs.declared.site.Slot.{Slot}
-use Rattle.c_meaning.specs.Operation.{operation}
 use Rattle.c_meaning_laws.proofs.Ruled.{Is, given, gives_by, known, scalar_usable}
 use Rattle.c_meaning_laws.proofs.RuledCalls.{AllTaken, called_fits}
 use Rattle.c_meaning_laws.proofs.RuledPlaces.{pointed_fits, signed_fits, stepped_fits}
@@ -113,10 +101,10 @@ module _ (tree : SourceTree) (z : Walk) where
   matched_arguments c [] e.no_exprs [] m k = tt
   matched_arguments c (t ∷ types) (e.more_exprs x rest) (a ∷ own) m k =
       (m.0, accepted (Some t) x a m.2 m.1 k.0, matched_arguments c types rest own m.3 k.1)
-  matched_arguments c [] e.no_exprs (a ∷ own) m k = absurd m
-  matched_arguments c [] (e.more_exprs x rest) [] m k = absurd m
   matched_arguments c [] (e.more_exprs x rest) (a ∷ own) m k = absurd k
   matched_arguments c (t ∷ types) e.no_exprs [] m k = absurd k
+  matched_arguments c [] e.no_exprs (a ∷ own) m k = absurd m
+  matched_arguments c [] (e.more_exprs x rest) [] m k = absurd m
   matched_arguments c (t ∷ types) e.no_exprs (a ∷ own) m k = absurd m
   matched_arguments c (t ∷ types) (e.more_exprs x rest) [] m k = absurd m
 

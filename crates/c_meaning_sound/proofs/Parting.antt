@@ -6,22 +6,9 @@ use Rattle.std.proofs.lemmas.List.Concat.{length-flat_map}
 use Rattle.cbi_base.specs.declared.operators.Binary.{Binary}
 use Rattle.c_syntax.specs.declared.token.Sign.{Sign}
 use Rattle.c_syntax.specs.declared.token.Sign.TheVariants as sign
-use Rattle.c_syntax.specs.Shape.{HasOne}
-use Rattle.c_syntax.specs.Spelling.{Kinds, a_sign, text_kinds}
+use Rattle.c_syntax.specs.Words.{HasOne, Kinds, a_sign, text_kinds}
 use Rattle.c_types_expressions.specs.ExprWalk.{compound_of}
 use Rattle.c_meaning_laws.proofs.RuledOperators.{IsNoEquality}
-
--- all of the first list, and of the second
-pub all_first : {A : Type 0} (P : A → Type 0) (xs ys : List A) → AllByRecursion P (xs ++ ys) → AllByRecursion P xs
-all_first P [] ys h = tt
-all_first P (x ∷ xs) ys h = (h.0, all_first P xs ys h.1)
-
-pub all_second : {A : Type 0} (P : A → Type 0) (xs ys : List A) → AllByRecursion P (xs ++ ys) → AllByRecursion P ys
-all_second P [] ys h = h
-all_second P (x ∷ xs) ys h = all_second P xs ys h.1
-
-pub bytes_long : (parts : List (List ℕ)) → length (flat_map (λ bytes. bytes) parts) ≡ sum_by length parts
-bytes_long parts = length-flat_map (λ bytes. bytes) parts
 
 pub infix_long : (xs ys : Kinds) (s : Sign) → length (xs ++ a_sign s ++ ys) ≡ length xs + 1 + length ys
 infix_long xs ys s = omega (arith, length-append (xs ++ a_sign s) ys, length-append xs (a_sign s))

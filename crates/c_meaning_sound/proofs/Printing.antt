@@ -3,31 +3,24 @@ use Rattle.std.proofs.Common.{inl, inr, ◌≡◌, ℕ, ◌<◌, refl, ap, subst
 use Rattle.std.specs.Prelude.{Option, if◌then◌else◌}
 use Rattle.std.specs.List.{AllByRecursion, flat_map}
 use Rattle.std.specs.Option.{option_and_then}
-use Rattle.c_syntax.specs.ItemTree.{SourceTree}
+use Rattle.cbi_base.specs.Printing.{pieces_of}
+use Rattle.c_types_expressions.proofs.Given.{Gives, and_then, looks, weaker}
+use Rattle.base_lists.proofs.Lists.{Stays}
+use Rattle.c_syntax.specs.Words.{SourceTree, ExprTree, ExprList, ExprAt, ShapedExpr, expr_kinds, exprs_kinds}
 use Rattle.c_syntax.specs.ExprTree as e
-use Rattle.c_syntax.specs.ExprTree.{ExprTree, ExprList}
-use Rattle.c_syntax.specs.Place.{ExprAt}
-use Rattle.c_syntax.specs.Shape.{ShapedExpr}
-use Rattle.c_syntax.specs.Spelling.{expr_kinds, exprs_kinds}
 use Rattle.c_types_rules.specs.declared.fault.FaultKind.TheVariants as fault
 use Rattle.c_types_rules.specs.declared.library.Library.TheVariants as library
 use Rattle.c_types_rules.specs.declared.operand.Operand.{Operand}
 use Rattle.c_types_rules.specs.TypeTree as t
-use Rattle.c_types_rules.specs.Conversions.{value_of}
-use Rattle.c_types_rules.specs.Library.{fits_format, library_named, printed}
+use Rattle.c_types_rules.specs.Words.{value_of, fits_format, library_named, printed}
 use Rattle.c_types_expressions.specs.declared.names.Meaning.{Meaning}
 use Rattle.c_types_expressions.specs.declared.names.Meaning.TheVariants as meaning
 use Rattle.c_types_expressions.specs.declared.walk.Walk.{Walk}
 use Rattle.c_types.specs.Answers.{noted}
-use Rattle.c_types_expressions.specs.ExprWalk.{called_name, flat, format_of, looked, walk_whole, whole_call}
-use Rattle.c_types_expressions.specs.Names.{meaning_of}
+use Rattle.c_types_expressions.specs.Words.{called_name, flat, format_of, looked, walk_whole, whole_call, meaning_of}
 use Rattle.flow.specs.declared.program.Text.{Text}
-use Rattle.flow.specs.Printing.{pieces_of}
 use Rattle.c_meaning.specs.declared.value_type.ValueType.{ValueType}
-use Rattle.c_meaning.specs.Calls.{types_taken}
-use Rattle.c_meaning.specs.Literals.{strings_in, strings_of_all}
-use Rattle.c_meaning.specs.Meaning.{text_of_string}
-use Rattle.c_meaning.specs.Trees.{called_as, library_call}
+use Rattle.c_meaning.specs.Words.{types_taken, strings_in, strings_of_all, text_of_string, called_as, library_call}
 use Rattle.c_meaning_laws.specs.Typed.{TypedArguments}
 use Rattle.c_meaning_laws.specs.TypedStatements.{FitsFormat, IsPrint, TypedFormat, TypedPrint, TypedWhole}
 use Rattle.c_meaning_laws.proofs.Ruled.{Is}
@@ -37,11 +30,11 @@ use Rattle.c_meaning_sound.proofs.Expressions.{exprs_good, walk_good}
 use Rattle.c_meaning_sound.proofs.Forming.{Ended}
 use Rattle.c_meaning_sound.proofs.Initialising.{spelled_lies}
 use Rattle.c_meaning_sound.proofs.Naming.{Means, all_mean}
-use Rattle.c_meaning_sound.proofs.Noting.{Gives, Part, Ready, Stays, and_then, facts, leftwards, looks, none, ready_in, so, weaker, wider}
+use Rattle.c_meaning_sound.proofs.Noting.{Part, Ready, facts, leftwards, none, ready_in, so, wider}
 use Rattle.c_meaning_sound.proofs.Operands.{Good, GoodList, Matched, matched_arguments}
 use Rattle.c_meaning_sound.proofs.Texts.{Spelled}
 
-flat_same : (parts : List (List ℕ)) → flat parts ≡ flat_map (λ bytes. bytes) parts
+pub flat_same : (parts : List (List ℕ)) → flat parts ≡ flat_map (λ bytes. bytes) parts
 flat_same [] = refl
 flat_same (part ∷ parts) = ap (λ bytes. part ++ bytes) (flat_same parts)
 
@@ -106,20 +99,7 @@ module _ (tree : SourceTree) (z : Walk) (ends : Ended tree z) where
       → Gives (whole_call token m arguments xs v) (GoodWhole at (e.Call token name arguments) w)
   whole_call_good at token name arguments w v xs (Some (meaning.Library library.Printf)) p long h k n f l s g =
       print_good at token name arguments w v xs p long h n l s g
-  whole_call_good at token name arguments w v xs None p long h k n f l s g =
-      call_whole at token name arguments w v xs None (record { by = call_good tree z ends at token name arguments w v xs None p long h k n f l g })
-  whole_call_good at token name arguments w v xs (Some (meaning.Variable index)) p long h k n f l s g =
-      call_whole at token name arguments w v xs (Some (meaning.Variable index))
-      (record { by = call_good tree z ends at token name arguments w v xs (Some (meaning.Variable index)) p long h k n f l g })
-  whole_call_good at token name arguments w v xs (Some (meaning.Struct index)) p long h k n f l s g =
-      call_whole at token name arguments w v xs (Some (meaning.Struct index))
-      (record { by = call_good tree z ends at token name arguments w v xs (Some (meaning.Struct index)) p long h k n f l g })
-  whole_call_good at token name arguments w v xs (Some (meaning.Function index)) p long h k n f l s g =
-      call_whole at token name arguments w v xs (Some (meaning.Function index))
-      (record { by = call_good tree z ends at token name arguments w v xs (Some (meaning.Function index)) p long h k n f l g })
-  whole_call_good at token name arguments w v xs (Some (meaning.Library function)) p long h k n f l s g =
-      call_whole at token name arguments w v xs (Some (meaning.Library function))
-      (record { by = call_good tree z ends at token name arguments w v xs (Some (meaning.Library function)) p long h k n f l g })
+  whole_call_good at token name arguments w v xs m p long h k n f l s g = call_whole at token name arguments w v xs m (record { by = call_good tree z ends at token name arguments w v xs m p long h k n f l g })
 
   pub whole_good : (x : ExprTree) (at : ℕ) (w : Walk) → ShapedExpr x → ExprAt at x → AllByRecursion (Spelled tree) (strings_in x)
       → Ready tree z at (at + length (expr_kinds x)) w → Gives (walk_whole x w) (GoodWhole at x w)

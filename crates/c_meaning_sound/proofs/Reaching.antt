@@ -5,6 +5,8 @@ use Rattle.std.specs.List.{AllByRecursion}
 use Rattle.std.specs.Prelude.{IfSome, Option, nat_lt, slice_get, unwrap_or, is_some, ◌&&◌, ◌||◌, if◌then◌else◌}
 use Rattle.std.proofs.lemmas.Bool.Decides.{nat_tests}
 use Rattle.std.proofs.lemmas.List.{append-nil, append_assoc}
+use Rattle.base_lists.proofs.Lists.{get_left, Stays}
+use Rattle.base_lists.proofs.Every.{all_more}
 use Rattle.c_syntax.specs.declared.parts.Base.{Base}
 use Rattle.c_syntax.specs.declared.parts.Base.TheVariants as base
 use Rattle.c_syntax.specs.declared.parts.Bound.{Bound}
@@ -13,35 +15,29 @@ use Rattle.c_syntax.specs.declared.parts.ParamName.{ParamName}
 use Rattle.c_syntax.specs.declared.parts.Params.{Params}
 use Rattle.c_syntax.specs.declared.parts.Params.TheVariants as params
 use Rattle.c_syntax.specs.declared.token.Sign.TheVariants as sign
-use Rattle.c_syntax.specs.Place.{EachAt, NameAt, ParamAt, ParamsAt}
-use Rattle.c_syntax.specs.Spelling.{a_name, a_sign, after_commas, bound_kinds, optional, param_kinds, param_name_kinds, params_kinds, type_kinds, with_commas}
-use Rattle.c_syntax.specs.StatementTree.{DeclarationTree, EntryList}
+use Rattle.c_syntax.specs.Words.{EachAt, NameAt, ParamAt, ParamsAt, a_name, a_sign, after_commas, bound_kinds, optional, param_kinds, param_name_kinds}
+use Rattle.c_syntax.specs.Words.{params_kinds, type_kinds, with_commas, DeclarationTree, EntryList}
 use Rattle.c_syntax.specs.ItemTree as item
 use Rattle.c_types_rules.specs.declared.fault.FaultKind.{FaultKind}
 use Rattle.c_types_rules.specs.declared.fault.FaultKind.TheVariants as fault
 use Rattle.c_types_rules.specs.declared.function.FunctionType.{FunctionType}
 use Rattle.c_types_rules.specs.declared.layout.StructType.{StructType}
 use Rattle.c_types_rules.specs.TypeTree as t
-use Rattle.c_types_rules.specs.TypeTree.{TypeTree}
-use Rattle.c_types_rules.specs.Conversions.{is_scalar, is_struct}
-use Rattle.c_types_rules.specs.Sizes.{is_complete}
+use Rattle.c_types_rules.specs.Words.{TypeTree, is_scalar, is_struct, is_complete}
 use Rattle.c_types_expressions.specs.declared.names.Meaning.{Meaning}
 use Rattle.c_types_expressions.specs.declared.names.Meaning.TheVariants as meaning
 use Rattle.c_types_expressions.specs.declared.walk.Parameter.{Parameter}
 use Rattle.c_types_expressions.specs.declared.walk.Walk.{Walk}
-use Rattle.c_types_expressions.specs.ExprWalk.{base_type, tagged_type, with_stars}
+use Rattle.c_types_expressions.specs.Words.{base_type, tagged_type, with_stars, found, is_reserved, Walked, Fine, Faulty, Done, ◌>>=◌, closing}
 use Rattle.c_types_walk.specs.ItemWalk.{clashes, declares, entered, has_length, is_among, is_defined, listed_params, looked_param, param_type, typed_function, types_of}
 use Rattle.c_types_walk.specs.ItemWalk.{walk_body, walk_item, walk_param, walk_params, with_definition, with_function}
-use Rattle.c_types_expressions.specs.Names.{found, is_reserved}
 use Rattle.c_types.specs.Parts.{Part, Expression, Use, Declared, Begins, declaration_parts, entries_parts}
 use Rattle.c_types_walk.specs.StatementWalk.{walk_declaration, walk_entries}
-use Rattle.c_types_expressions.specs.Walked.{Walked, Fine, Faulty, Done, ◌>>=◌, closing}
 use Rattle.c_types.proofs.Noted as record_of
 use Rattle.c_types.proofs.Noted.{Functions, Seen, Step, noting, noting_all, seen, stage, structs_stay}
 use Rattle.c_types.proofs.NotedItems.{inner_notes, parts_from}
 use Rattle.c_types.proofs.NotedStatements.{declaration_notes}
 use Rattle.c_meaning_sound.proofs.Growing.{Grows}
-use Rattle.c_meaning_sound.proofs.Noting.{Stays}
 
 -- a step that met no fault, and what came after it
 pub record Comes {A B : Type 0} (m : Walked A) (k : A → Walk → Walked B) (b : B) (z : Walk) : Type 0 where
@@ -78,24 +74,14 @@ begun_same xs ys h = ([], h ∙ sym (append-nil xs))
 pub begun_then : {A : Type 0} (xs ys zs : List A) → Begun xs ys → Begun ys zs → Begun xs zs
 begun_then xs ys zs a b = (a.0 ++ b.0, b.1 ∙ ap (λ l. l ++ b.0) a.1 ∙ append_assoc xs a.0 b.0)
 
-append_stays : {A : Type 0} (xs more : List A) (i : ℕ) (x : A) → slice_get xs i ≡ Some x → slice_get (xs ++ more) i ≡ Some x
-append_stays [] more i x h = cc
-append_stays (y ∷ xs) more zero x h = h
-append_stays (y ∷ xs) more (suc i) x h = append_stays xs more i x h
-
 pub stays_more : {A : Type 0} (xs more : List A) → Stays xs (xs ++ more)
-stays_more xs more = append_stays xs more
+stays_more xs more = get_left xs more
 
 pub begun_stays : {A : Type 0} (xs ys : List A) → Begun xs ys → Stays xs ys
-begun_stays xs ys b i x h = rw b.1 (append_stays xs b.0 i x h)
+begun_stays xs ys b i x h = rw b.1 (get_left xs b.0 i x h)
 
 pub begun_long : {A : Type 0} (xs ys : List A) → Begun xs ys → length xs ≤ length ys
 begun_long xs ys b = rw b.1 (omega (arith, length-append xs b.0))
-
--- the item behind a list
-pub next_is : {A : Type 0} (xs : List A) (x : A) (more : List A) → slice_get (xs ++ x ∷ more) (length xs) ≡ Some x
-next_is [] x more = refl
-next_is (y ∷ xs) x more = next_is xs x more
 
 less_more : (k n m : ℕ) → n ≤ m → nat_lt k n ≡ true → nat_lt k m ≡ true
 less_more k n m h e = grind (arith, nat_tests, h, e)
@@ -106,14 +92,10 @@ and_parts false b c f h = h
 
 -- where more structs are known, more types are known whole
 pub longer_grows : (old new : List StructType) → length old ≤ length new → Grows old new
-longer_grows old new l t.Void h = h
-longer_grows old new l t.Char h = h
-longer_grows old new l t.Int h = h
-longer_grows old new l t.Unsigned h = h
-longer_grows old new l (t.Pointer to) h = h
 longer_grows old new l (t.Array element size) h =
     and_parts (nat_lt 0 size) (is_complete old element) (is_complete new element) (longer_grows old new l element) h
 longer_grows old new l (t.Struct tag) h = less_more tag (length old) (length new) l h
+longer_grows old new l other h = h
 
 -- what an item leaves of what was known before it
 pub record Grown (w v : Walk) : Type 0 where
@@ -184,18 +166,12 @@ abbrev pub Named : Walk → TypeTree → Walk → Type 0
 Named w of v = (v ≡ w) × Flat of
 
 tagged_named : (token : ℕ) (m : Option Meaning) (w : Walk) → record_of.Gives (Named w) (tagged_type token m w)
-tagged_named token None w = tt
 tagged_named token (Some (meaning.Struct index)) w = (refl, tt)
-tagged_named token (Some (meaning.Variable index)) w = tt
-tagged_named token (Some (meaning.Function index)) w = tt
-tagged_named token (Some (meaning.Library function)) w = tt
+tagged_named token m w = tt
 
 pub base_gives : (b : Base) (w : Walk) → record_of.Gives (Named w) (base_type b w)
-base_gives (base.Void token) w = (refl, tt)
-base_gives (base.Char token) w = (refl, tt)
-base_gives (base.Int token) w = (refl, tt)
-base_gives (base.Unsigned token int) w = (refl, tt)
 base_gives (base.Struct token tag) w = tagged_named token (found tag w.tags) w
+base_gives b w = (refl, tt)
 
 pub base_is : (b : Base) (w v : Walk) (of : TypeTree) → base_type b w ≡ Fine of v → (v ≡ w) × ((n : ℕ) → Flat (with_stars n of))
 base_is b w v of h = let k : Named w of v = taken (Named w) (base_type b w) of v (base_gives b w) h in (k.0, λ n. stars_flat n of k.1)
@@ -315,10 +291,6 @@ pub record IsParam (lo hi : ℕ) (p : Parameter) : Type 0 where
 abbrev pub AreParams : ℕ → ℕ → Walk → List Parameter → Walk → Type 0
 AreParams lo hi w xs v = (v ≡ w) × AllByRecursion (IsParam lo hi) xs
 
-all_and : {A : Type 0} (P : A → Type 0) (xs : List A) (x : A) → AllByRecursion P xs → P x → AllByRecursion P (xs ++ x ∷ [])
-all_and P [] x h k = (k, tt)
-all_and P (y ∷ xs) x h k = (h.0, all_and P xs x h.1 k)
-
 -- each of the parameters ends there
 abbrev pub Ends : ℕ → List Param → ℕ → Type 0
 Ends at [] hi = Unit {0}
@@ -385,7 +357,7 @@ module _ (lo hi : ℕ) (w : Walk) where
   params_given body at (x ∷ ps) before p l h k = record_of.gives_then One (AreParams lo hi w) (walk_param body x before w) _
       (param_one body at x before p.0 l h.0)
       (λ y v n. subst (λ u. record_of.Gives (AreParams lo hi w) (walk_params body ps (before ++ y ∷ []) u)) (sym n.0)
-      (params_given body (at + length (param_kinds x) + 1) ps (before ++ y ∷ []) p.1 (omega (arith, l)) h.1 (all_and (IsParam lo hi) before y k n.1)))
+      (params_given body (at + length (param_kinds x) + 1) ps (before ++ y ∷ []) p.1 (omega (arith, l)) h.1 (all_more (IsParam lo hi) before y k n.1)))
 
 pub listed_given : (lo hi : ℕ) (w : Walk) (body : Bool) (ps : Params) → ParamsAt lo ps → lo + length (params_kinds ps) ≤ hi
     → record_of.Gives (AreParams lo hi w) (walk_params body (listed_params ps) [] w)

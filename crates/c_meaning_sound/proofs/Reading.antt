@@ -4,10 +4,8 @@ use Rattle.std.specs.Prelude.{Option, slice_get, ◌==◌, if◌then◌else◌}
 use Rattle.std.specs.List.{AllByRecursion}
 use Rattle.std.specs.Option.{option_and_then}
 use Rattle.std.proofs.lemmas.Bool.Decides.{nat_tests}
-use Rattle.c_syntax.specs.ItemTree.{SourceTree}
-use Rattle.c_syntax.specs.Place.{EachAt, ItemAt}
-use Rattle.c_syntax.specs.Shape.{ShapedItem}
-use Rattle.c_syntax.specs.Spelling.{item_kinds}
+use Rattle.base_lists.proofs.Numbers.{number_itself}
+use Rattle.c_syntax.specs.Words.{SourceTree, EachAt, ItemAt, ShapedItem, item_kinds}
 use Rattle.flow.specs.declared.program.Text.{Text}
 use Rattle.c_meaning.specs.Literals.{Literal, literals, number_from, texts_of}
 use Rattle.c_meaning_sound.proofs.Rising.{Rise, items_rise}
@@ -21,9 +19,6 @@ from_on : {P Q : Literal → Type 0} (lo hi : ℕ) (xs : List Literal) → Rise 
     → AllByRecursion Q xs
 from_on lo hi [] r h k = tt
 from_on lo hi (x ∷ xs) r h k = (k x r.0 h.0, from_on (x.token + 1) hi xs r.1 h.1 (λ y l p. k y (omega (arith, l, r.0)) p))
-
-same_token : (n : ℕ) → (n == n) ≡ true
-same_token n = grind (arith, nat_tests)
 
 other_token : (m n : ℕ) → m + 1 ≤ n → (m == n) ≡ false
 other_token m n h = grind (arith, nat_tests, h)
@@ -42,7 +37,7 @@ all_read : (xs : List Literal) (n lo hi : ℕ) (f : ℕ → Option Text) → Ris
     → AllByRecursion (Reads f n xs) xs
 all_read [] n lo hi f r h = tt
 all_read (x ∷ xs) n lo hi f r h = (
-  first_read (x.token == x.token) f n (number_from (suc n) x.token xs) x (same_token x.token)
+  first_read (x.token == x.token) f n (number_from (suc n) x.token xs) x (number_itself x.token)
       (subst (λ m. f m ≡ Some (record { bytes = x.bytes })) (omega arith) (h 0)),
   from_on (x.token + 1) hi xs r.1
       (all_read xs (suc n) (x.token + 1) hi f r.1 (λ k. subst (λ m. f m ≡ slice_get (texts_of xs) k) (omega arith) (h (suc k))))

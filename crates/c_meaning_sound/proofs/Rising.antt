@@ -2,27 +2,25 @@
 use Rattle.std.proofs.Common.{ℕ, ◌≤◌, arith, List, [], ◌∷◌, ◌++◌, Some, None, ◌+◌, length, length-append}
 use Rattle.std.specs.Prelude.{Option, IfSome}
 use Rattle.std.specs.List.{AllByRecursion, flat_map}
+use Rattle.sites.proofs.RisesBodies.{brace-length}
 use Rattle.c_syntax.specs.declared.token.Sign.TheVariants as sign
 use Rattle.c_syntax.specs.declared.token.Word.TheVariants as word
 use Rattle.c_syntax.specs.ExprTree as e
-use Rattle.c_syntax.specs.ExprTree.{ExprTree, ExprList, LinkList, PostfixList}
+use Rattle.c_syntax.specs.Words.{ExprTree, ExprList, LinkList, PostfixList, InitialTree, StartTree, DeclarationTree, ForStartTree, StatementTree, EntryList}
+use Rattle.c_syntax.specs.Words.{ItemTree, SourceTree, DeclarationAt, EachAt, EntriesAt, ExprAt, ExprsAt, ForStartAt, InitialAt, ItemAt, LinksAt, PostfixAt}
+use Rattle.c_syntax.specs.Words.{StartAt, StatementAt, ShapedDeclaration, ShapedEntries, ShapedExpr, ShapedExprs, ShapedForStart, ShapedInitial, ShapedItem}
+use Rattle.c_syntax.specs.Words.{ShapedLinks, ShapedPostfix, ShapedStart, ShapedStatement, a_name, a_sign, a_word, base_kinds, braced, declaration_kinds}
+use Rattle.c_syntax.specs.Words.{declarator_kinds, entry_kinds, expr_kinds, exprs_kinds, for_start_kinds, item_kinds, link_kinds, more_exprs_kinds, optional}
+use Rattle.c_syntax.specs.Words.{params_kinds, parenthesized, postfix_kinds, start_kinds, statement_kinds, type_kinds, with_commas}
 use Rattle.c_syntax.specs.StatementTree as s
-use Rattle.c_syntax.specs.StatementTree.{InitialTree, StartTree, DeclarationTree, ForStartTree, StatementTree, EntryList}
 use Rattle.c_syntax.specs.ItemTree as i
-use Rattle.c_syntax.specs.ItemTree.{ItemTree, SourceTree}
-use Rattle.c_syntax.specs.Place.{DeclarationAt, EachAt, EntriesAt, ExprAt, ExprsAt, ForStartAt, InitialAt, ItemAt, LinksAt, PostfixAt, StartAt, StatementAt}
-use Rattle.c_syntax.specs.Shape.{ShapedDeclaration, ShapedEntries, ShapedExpr, ShapedExprs, ShapedForStart, ShapedInitial, ShapedItem, ShapedLinks}
-use Rattle.c_syntax.specs.Shape.{ShapedPostfix, ShapedStart, ShapedStatement}
-use Rattle.c_syntax.specs.Spelling.{a_name, a_sign, a_word, base_kinds, braced, declaration_kinds, declarator_kinds, entry_kinds, expr_kinds, exprs_kinds}
-use Rattle.c_syntax.specs.Spelling.{for_start_kinds, item_kinds, link_kinds, more_exprs_kinds, optional, params_kinds, parenthesized, postfix_kinds}
-use Rattle.c_syntax.specs.Spelling.{start_kinds, statement_kinds, type_kinds, with_commas}
-use Rattle.c_meaning.specs.Literals.{Literal, strings_begun, strings_behind, strings_declared, strings_entered, strings_if, strings_in, strings_initial}
-use Rattle.c_meaning.specs.Literals.{strings_of_all, strings_of_item, strings_of_links, strings_stated}
+use Rattle.c_meaning.specs.Words.{Literal, strings_begun, strings_behind, strings_declared, strings_entered, strings_if, strings_in, strings_initial}
+use Rattle.c_meaning.specs.Words.{strings_of_all, strings_of_item, strings_of_links, strings_stated}
 use Rattle.c_meaning_sound.proofs.Calling.{around}
 use Rattle.c_meaning_sound.proofs.Declaring.{commas_long}
 use Rattle.c_meaning_sound.proofs.Parting.{infix_long, texts_long}
 use Rattle.c_meaning_sound.proofs.Initialising.{braced_long, equals_kinds}
-use Rattle.c_meaning_sound.proofs.Stating.{for_long, in_braces}
+use Rattle.c_meaning_sound.proofs.Stating.{for_long}
 
 -- the strings stand behind one another, from the first of these tokens on and before the second
 abbrev pub Rise : ℕ → ℕ → List Literal → Type 0
@@ -76,21 +74,17 @@ mutual
       (omega (arith, long, around (type_kinds b stars)))
   expr_rises (e.Prefix token o operand) at q p =
       broad at (at + length (expr_kinds (e.Prefix token o operand))) (expr_rises operand (at + 1) q.1 p.1) (omega arith) (omega arith)
-  expr_rises (e.SizeOfType token b stars) at q p = nothing at (at + length (expr_kinds (e.SizeOfType token b stars))) (omega arith)
   expr_rises (e.Postfix primary operators) at q p =
       let long = length-append (expr_kinds primary) (postfix_kinds operators) in
       two at (at + length (expr_kinds (e.Postfix primary operators))) (expr_rises primary at q.1 p.0)
       (postfix_rise operators (at + length (expr_kinds primary)) q.3 p.1) (omega arith) (omega arith) (omega (arith, long))
-  expr_rises (e.Name token name) at q p = nothing at (at + length (expr_kinds (e.Name token name))) (omega arith)
   expr_rises (e.Call token name arguments) at q p =
       broad at (at + length (expr_kinds (e.Call token name arguments))) (exprs_rise arguments (at + 2) q p.1) (omega arith)
       (omega (arith, around (exprs_kinds arguments)))
-  expr_rises (e.Constant token k value) at q p = nothing at (at + length (expr_kinds (e.Constant token k value))) (omega arith)
   expr_rises (e.Strings token parts) at q p = record { by = (omega (arith, p), omega (arith, p, texts_long parts q)) }
   expr_rises (e.Paren token inner) at q p =
       broad at (at + length (expr_kinds (e.Paren token inner))) (expr_rises inner (at + 1) q p.1) (omega arith) (omega (arith, around (expr_kinds inner)))
-  expr_rises (e.Null token) at q p = nothing at (at + length (expr_kinds (e.Null token))) (omega arith)
-  expr_rises (e.EndOfFile token) at q p = nothing at (at + length (expr_kinds (e.EndOfFile token))) (omega arith)
+  expr_rises x at q p = nothing at (at + length (expr_kinds x)) (omega arith)
 
   pub exprs_rise : (xs : ExprList) (at : ℕ) → ShapedExprs xs → ExprsAt at xs → Rises at (at + length (exprs_kinds xs)) (strings_of_all xs)
   exprs_rise e.no_exprs at q p = nothing at (at + length (exprs_kinds e.no_exprs)) (omega arith)
@@ -174,8 +168,7 @@ mutual
   statement_rises : (x : StatementTree) (at : ℕ) → ShapedStatement x → StatementAt at x → Rises at (at + length (statement_kinds x)) (strings_stated x)
   statement_rises (s.Block token entries) at q p =
       broad at (at + length (statement_kinds (s.Block token entries))) (entries_rise entries (at + 1) q p.1) (omega arith)
-      (omega (arith, in_braces (entry_kinds entries)))
-  statement_rises (s.Empty token) at q p = nothing at (at + length (statement_kinds (s.Empty token))) (omega arith)
+      (omega (arith, brace-length (entry_kinds entries)))
   statement_rises (s.Expr token x) at q p =
       broad at (at + length (statement_kinds (s.Expr token x))) (expr_rises x at q p.1) (omega arith)
       (omega (arith, length-append (expr_kinds x) (a_sign sign.Semicolon)))
@@ -216,8 +209,7 @@ mutual
   statement_rises (s.Return token value) at q p =
       let long = length-append (optional expr_kinds value) (a_sign sign.Semicolon) in
       broad at (at + length (statement_kinds (s.Return token value))) (option_rises value (at + 1) q p.1) (omega arith) (omega (arith, long))
-  statement_rises (s.Break token) at q p = nothing at (at + length (statement_kinds (s.Break token))) (omega arith)
-  statement_rises (s.Continue token) at q p = nothing at (at + length (statement_kinds (s.Continue token))) (omega arith)
+  statement_rises x at q p = nothing at (at + length (statement_kinds x)) (omega arith)
 
   entries_rise : (xs : EntryList) (at : ℕ) → ShapedEntries xs → EntriesAt at xs → Rises at (at + length (entry_kinds xs)) (strings_entered xs)
   entries_rise s.no_entries at q p = nothing at (at + length (entry_kinds s.no_entries)) (omega arith)
@@ -240,7 +232,7 @@ item_rises (i.Function token b stars name ps (Some body)) at q p =
     let w = length-append (type_kinds b stars) (a_name name) in
     broad at (at + length (item_kinds (i.Function token b stars name ps (Some body))))
     (entries_rise body (at + length (type_kinds b stars) + 2 + length (params_kinds ps) + 2) q.1 p.3) (omega arith)
-    (omega (arith, u, v, w, in_braces (entry_kinds body), around (params_kinds ps)))
+    (omega (arith, u, v, w, brace-length (entry_kinds body), around (params_kinds ps)))
 item_rises (i.Declaration declaration) at q p = declaration_rises declaration at q p
 
 pub items_rise : (xs : List ItemTree) (at : ℕ) → AllByRecursion ShapedItem xs → EachAt ItemAt item_kinds 0 at xs

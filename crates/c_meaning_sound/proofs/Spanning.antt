@@ -1,10 +1,10 @@
 -- Which variables are in scope at the tokens of a function: globals, and the function's own.
 use Rattle.std.proofs.Common.{◌⊎◌, inl, inr, ◌≡◌, ℕ, ◌≤◌, ◌<◌, refl, ap, subst, sym, ◌∙◌, arith, Some, None, true, length}
 use Rattle.std.specs.Prelude.{Option, IsTrue, nat_lt, nat_le, slice_get}
-use Rattle.std.proofs.lemmas.Bool.{cases_lt, false≢true}
+use Rattle.std.proofs.lemmas.Bool.{cases_lt, false≢true, and_parts}
 use Rattle.std.proofs.lemmas.Bool.Decides.{nat_tests}
 use Rattle.std.proofs.lemmas.Option.{slice_get_within}
-use Rattle.cbi_base.proofs.NumberLemmas.{both}
+use Rattle.base_lists.proofs.Numbers.{is_less, is_most, less_is}
 use Rattle.c_types_expressions.specs.declared.walk.Variable.{Variable}
 use Rattle.c_types_expressions.specs.declared.walk.Variable.TheVariants as variable
 use Rattle.c_types_expressions.specs.declared.walk.VariableEntry.{VariableEntry}
@@ -129,34 +129,24 @@ behind_before at hi w v z s k l b = record {
     either i entry low e (inl less) = (k.news s.long (s.latest hi (omega (arith, l)) (omega (arith, l))) i entry low (sym (b.kept i less) ∙ e)).0
     either i entry low e (inr more) = omega (arith, l, b.news i entry more e)
 
--- which variables are in scope
-less_by : (m n : ℕ) → nat_lt m n ≡ true → m < n
-less_by m n h = grind (arith, nat_tests, h)
-
-lt_by : (m n : ℕ) → m < n → nat_lt m n ≡ true
-lt_by m n h = grind (arith, nat_tests, h)
-
-most_by : (m n : ℕ) → nat_le m n ≡ true → m ≤ n
-most_by m n h = grind (arith, nat_tests, h)
-
 begins_before : (token : ℕ) (entry : VariableEntry) (o : Option (Option ℕ)) → span_holds token (Some entry) o ≡ true → entry.from < token
 begins_before token entry None h = absurd (false≢true h)
-begins_before token entry (Some end) h = less_by entry.from token (both (nat_lt entry.from token) (ends_behind token end) h).0
+begins_before token entry (Some end) h = is_less entry.from token (and_parts (nat_lt entry.from token) (ends_behind token end) h).0
 
 has_ended : (token at : ℕ) (entry : VariableEntry) (o : Option (Option ℕ)) → EndsBefore at o → at ≤ token → span_holds token (Some entry) o ≡ true → ⊥
 has_ended token at entry None g l h = g
 has_ended token at entry (Some None) g l h = g
 has_ended token at entry (Some (Some last)) g l h =
-    let behind : token ≤ last = most_by token last (both (nat_lt entry.from token) (nat_le token last) h).1 in
+    let behind : token ≤ last = is_most token last (and_parts (nat_lt entry.from token) (nat_le token last) h).1 in
     omega (arith, behind, g, l)
 
 global_fits : (count m n : ℕ) (v : Variable) → m ≤ n → IsGlobalBelow m v → IsTrue (slot_fits count n (slot_of v))
-global_fits count m n (variable.Global index) h k = lt_by index n (omega (arith, h, k))
+global_fits count m n (variable.Global index) h k = less_is index n (omega (arith, h, k))
 global_fits count m n (variable.Local index) h k = absurd k
 
 local_fits : (count n : ℕ) (v : Variable) → IsLocalBelow count v → IsTrue (slot_fits count n (slot_of v))
 local_fits count n (variable.Global index) h = absurd h
-local_fits count n (variable.Local index) h = lt_by index count h
+local_fits count n (variable.Local index) h = less_is index count h
 
 -- at these tokens a variable that is in scope is one of the globals, or of so many locals
 abbrev pub InScope : ℕ → ℕ → ℕ → Walk → Type 0

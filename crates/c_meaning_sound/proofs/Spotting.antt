@@ -2,14 +2,14 @@
 use Rattle.std.proofs.Common.{ℕ, List, [], ◌∷◌, ◌++◌, Some, None, Bool, true, false}
 use Rattle.std.specs.Prelude.{Option, IsTrue, if◌then◌else◌}
 use Rattle.std.specs.List.{AllByRecursion}
+use Rattle.base_lists.proofs.Every.{all_first, all_join, all_second}
 use Rattle.cbi_base.specs.Name.{IsName}
 use Rattle.c_syntax.specs.declared.token.Sign.TheVariants as sign
 use Rattle.c_syntax.specs.declared.expr.PrefixOperator.{PrefixOperator}
 use Rattle.c_syntax.specs.declared.expr.PrefixOperator.TheVariants as prefix
 use Rattle.c_syntax.specs.ExprTree as e
-use Rattle.c_syntax.specs.ExprTree.{ExprTree, ExprList, LinkList, PostfixList}
-use Rattle.c_syntax.specs.Spelling.{Kinds, a_sign, expr_kinds, exprs_kinds, link_kinds, more_exprs_kinds, parenthesized, postfix_kinds, prefix_kinds}
-use Rattle.c_syntax.specs.Spelling.{type_kinds}
+use Rattle.c_syntax.specs.Words.{ExprTree, ExprList, LinkList, PostfixList, Kinds, a_sign, expr_kinds, exprs_kinds, link_kinds, more_exprs_kinds, parenthesized}
+use Rattle.c_syntax.specs.Words.{postfix_kinds, prefix_kinds, type_kinds}
 use Rattle.c_types_rules.specs.declared.library.Library.TheVariants as library
 use Rattle.flow.specs.declared.site.BranchWord.{BranchWord}
 use Rattle.flow.specs.declared.site.BranchWord.TheVariants.{Question}
@@ -18,19 +18,13 @@ use Rattle.flow.specs.Sites.{is_constant}
 use Rattle.c_meaning.specs.declared.value_type.Called.{Called}
 use Rattle.c_meaning.specs.declared.value_type.Called.TheVariants as callee
 use Rattle.c_meaning.specs.declared.value_type.ValueType.{ValueType}
-use Rattle.c_meaning.specs.Facts.{Facts, Signature, Sites}
-use Rattle.c_meaning.specs.Trees.{called_as}
+use Rattle.c_meaning.specs.Words.{Facts, Signature, Sites, called_as}
 use Rattle.sites.specs.declared.spots.Spot.{Spot}
 use Rattle.sites.specs.declared.spots.Spot.TheVariants as spot
 use Rattle.sites.specs.Spots.{branched, changed, expr_spots, exprs_spots, is_sizeof, joined_spots, joining, links_spots, named_token, postfix_spots, stepped_spots}
 use Rattle.c_meaning_laws.specs.Typed.{CallsFunction, HasSlot, Typed, TypedArguments, TypedCall, TypedLast, TypedLinks, TypedLone, TypedPostfix}
 use Rattle.c_meaning_laws.specs.TypedStatements.{TypedElements}
 use Rattle.c_meaning_sound.specs.Sited.{IsSitedToken}
-use Rattle.c_meaning_sound.proofs.Parting.{all_first, all_second}
-
-pub all_two : {A : Type 0} (P : A → Type 0) (xs ys : List A) → AllByRecursion P xs → AllByRecursion P ys → AllByRecursion P (xs ++ ys)
-all_two P [] ys h k = k
-all_two P (x ∷ xs) ys h k = (h.0, all_two P xs ys h.1 k)
 
 -- what all of three parts keep
 pub in_middle : (xs ys zs : Kinds) → AllByRecursion IsSitedToken (xs ++ ys ++ zs) → AllByRecursion IsSitedToken ys
@@ -61,7 +55,7 @@ module _ (facts : Facts) (sites : Sites) (count : ℕ) where
   TargetFits (Some target) = Slotted target
 
   pub two_spots : (xs ys : List Spot) → SpotsFit xs → SpotsFit ys → SpotsFit (xs ++ ys)
-  two_spots xs ys h k = all_two SpotFits xs ys h k
+  two_spots xs ys h k = all_join SpotFits xs ys h k
 
   changed_fit : (token : ℕ) (target : Option ℕ) → TargetFits target → SpotsFit (changed token target)
   changed_fit token None h = tt
@@ -110,28 +104,17 @@ module _ (facts : Facts) (sites : Sites) (count : ℕ) where
 
   pub called_all : (c : Called) (xs : ExprList) (t : Option ValueType) → CalledWith c xs t → AllTyped xs
   called_all (callee.Function number) xs t h = function_all (facts.signature number) xs t h
-  called_all (callee.Library library.Getchar) xs t h = arguments_all _ xs h.0
-  called_all (callee.Library library.Putchar) xs t h = arguments_all _ xs h.0
-  called_all (callee.Library library.Puts) xs t h = arguments_all _ xs h.0
-  called_all (callee.Library library.Malloc) xs t h = arguments_all _ xs h.0
-  called_all (callee.Library library.Free) xs t h = arguments_all _ xs h.0
-  called_all (callee.Library library.Exit) xs t h = arguments_all _ xs h.0
-  called_all (callee.Library library.Abort) xs t h = arguments_all _ xs h.0
   called_all (callee.Library library.Assert) xs t h = lone_all xs h.0
   called_all (callee.Library library.Printf) xs t h = absurd h
   called_all callee.Unknown xs t h = absurd h
+  called_all c xs t h = arguments_all _ xs h.0
 
   stepped_fit : (o : PrefixOperator) (token : ℕ) (target : Option ℕ) (xs : List Spot) → TargetFits target → SpotsFit xs
       → SpotsFit (if is_sizeof o then [] else stepped_spots o token target ++ xs)
   stepped_fit prefix.Increment token target xs h k = two_spots (changed token target) xs (changed_fit token target h) k
   stepped_fit prefix.Decrement token target xs h k = two_spots (changed token target) xs (changed_fit token target h) k
   stepped_fit prefix.SizeOf token target xs h k = tt
-  stepped_fit prefix.Address token target xs h k = k
-  stepped_fit prefix.Indirection token target xs h k = k
-  stepped_fit prefix.Plus token target xs h k = k
-  stepped_fit prefix.Minus token target xs h k = k
-  stepped_fit prefix.Complement token target xs h k = k
-  stepped_fit prefix.Not token target xs h k = k
+  stepped_fit o token target xs h k = k
 
   mutual
     pub expr_fit : (x : ExprTree) → Typed facts sites count x → AllByRecursion IsSitedToken (expr_kinds x) → SpotsFit (expr_spots x)

@@ -3,15 +3,15 @@ use Rattle.std.proofs.Common.{inl, inr, ℕ, List, [], ◌∷◌, ◌++◌, Some
 use Rattle.std.specs.Prelude.{Option, IsSome}
 use Rattle.std.specs.List.{AllByRecursion}
 use Rattle.std.proofs.lemmas.Bool.{false≢true}
+use Rattle.base_lists.proofs.Every.{all_first, all_second}
 use Rattle.c_syntax.specs.declared.token.Sign.TheVariants as sign
 use Rattle.c_syntax.specs.declared.token.Word.TheVariants as word
 use Rattle.c_syntax.specs.ExprTree as e
-use Rattle.c_syntax.specs.ExprTree.{ExprTree, ExprList, LinkList, PostfixList}
+use Rattle.c_syntax.specs.Words.{ExprTree, ExprList, LinkList, PostfixList, InitialTree, StartTree, DeclarationTree, ForStartTree, StatementTree, EntryList}
+use Rattle.c_syntax.specs.Words.{Kinds, a_sign, a_word, after_commas, base_kinds, comma_kinds, declaration_kinds, declarator_kinds, entry_kinds, expr_kinds}
+use Rattle.c_syntax.specs.Words.{exprs_kinds, for_start_kinds, initial_kinds, more_exprs_kinds, optional, parenthesized, start_kinds, statement_kinds}
+use Rattle.c_syntax.specs.Words.{with_commas}
 use Rattle.c_syntax.specs.StatementTree as s
-use Rattle.c_syntax.specs.StatementTree.{InitialTree, StartTree, DeclarationTree, ForStartTree, StatementTree, EntryList}
-use Rattle.c_syntax.specs.Spelling.{Kinds, a_sign, a_word, after_commas, base_kinds, comma_kinds, declaration_kinds, declarator_kinds, entry_kinds, expr_kinds}
-use Rattle.c_syntax.specs.Spelling.{exprs_kinds, for_start_kinds, initial_kinds, more_exprs_kinds, optional, parenthesized, start_kinds, statement_kinds}
-use Rattle.c_syntax.specs.Spelling.{with_commas}
 use Rattle.c_types_rules.specs.declared.library.Library.TheVariants as library
 use Rattle.flow.specs.declared.site.Slot.{Slot}
 use Rattle.flow.specs.declared.site.Slot.TheVariants as slot
@@ -20,16 +20,13 @@ use Rattle.c_meaning.specs.declared.value_type.Called.{Called}
 use Rattle.c_meaning.specs.declared.value_type.Called.TheVariants as callee
 use Rattle.c_meaning.specs.declared.value_type.ValueType.{ValueType}
 use Rattle.c_meaning.specs.declared.value_type.ValueType.TheVariants as type
-use Rattle.c_meaning.specs.Facts.{Facts, Sites}
-use Rattle.c_meaning.specs.Meaning.{text_of_string}
-use Rattle.c_meaning.specs.Trees.{called_as}
+use Rattle.c_meaning.specs.Words.{Facts, Sites, text_of_string, called_as}
 use Rattle.sites.specs.Bodies.{declaration_spots, entries_spots, for_spots, for_start_spots, initial_spots, start_spots, starts_spots, statement_spots}
 use Rattle.sites.specs.Spots.{expr_spots, exprs_spots, part_spots}
 use Rattle.c_meaning_laws.specs.Typed.{HasSlot, TypedArguments}
 use Rattle.c_meaning_laws.specs.TypedStatements.{FitsFormat, IsLocal, IsPrint, TypedBeginning, TypedEntries, TypedFormat, TypedInitial, TypedPart, TypedPrint, TypedStarts}
 use Rattle.c_meaning_laws.specs.TypedStatements.{TypedStatement, TypedTest, TypedValue, TypedWhole}
 use Rattle.c_meaning_sound.specs.Sited.{IsSitedToken}
-use Rattle.c_meaning_sound.proofs.Parting.{all_first, all_second}
 use Rattle.c_meaning_sound.proofs.Spotting.{AllTyped, SpotsFit, arguments_all, elements_all, expr_fit, exprs_fit, in_middle, inside, rest_kept, two_spots}
 
 module _ (facts : Facts) (sites : Sites) (count : ℕ) where
@@ -44,12 +41,8 @@ module _ (facts : Facts) (sites : Sites) (count : ℕ) where
 
   value_fit : (token : ℕ) (o : Option ValueType) (x : ExprTree) → TypedValue facts sites count token o x → AllByRecursion IsSitedToken (expr_kinds x)
       → SpotsFit facts sites count (expr_spots x)
-  value_fit token None x h n = expr_fit facts sites count x h.0 n
-  value_fit token (Some type.Void) x h n = expr_fit facts sites count x h.0 n
-  value_fit token (Some (type.Number k)) x h n = expr_fit facts sites count x h.0 n
-  value_fit token (Some (type.Pointer size)) x h n = expr_fit facts sites count x h.0 n
   value_fit token (Some (type.Array size)) x h n = string_fit x h.1
-  value_fit token (Some type.Struct) x h n = expr_fit facts sites count x h.0 n
+  value_fit token o x h n = expr_fit facts sites count x h.0 n
 
   initial_fit : (token : ℕ) (x : Option InitialTree) → IsLocal facts sites count (facts.slot_at token) → TypedInitial facts sites count token x
       → AllByRecursion IsSitedToken (optional (λ y. a_sign sign.Equal ++ initial_kinds y) x) → SpotsFit facts sites count (initial_spots token x)

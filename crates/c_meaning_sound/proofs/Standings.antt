@@ -7,27 +7,24 @@ use Rattle.std.specs.Option.{option_and_then}
 use Rattle.std.proofs.lemmas.Bool.Decides.{nat_tests}
 use Rattle.std.proofs.lemmas.List.Elements.{All-append, All-map, All-nil, All-cons, All-weaker}
 use Rattle.std.proofs.lemmas.Option.{slice_get_within}
-use Rattle.cbi_base.proofs.NumberLemmas.{both}
+use Rattle.std.proofs.lemmas.Bool.{and_parts}
+use Rattle.base_lists.proofs.Numbers.{less_is}
+use Rattle.base_lists.proofs.Lists.{get_map}
+use Rattle.base_lists.proofs.Every.{all_first, all_second}
 use Rattle.cbi_base.specs.Name.{IsName}
 use Rattle.c_syntax.specs.declared.token.Sign.TheVariants as sign
-use Rattle.c_syntax.specs.StatementTree.{EntryList}
+use Rattle.c_syntax.specs.Words.{EntryList, ItemTree, SourceTree, EachAt, EntriesAt, ItemAt, a_name, a_sign, body_kinds, entry_kinds, item_kinds, params_kinds}
+use Rattle.c_syntax.specs.Words.{parenthesized, tree_kinds, type_kinds, kind_text_len, IsShaped}
 use Rattle.c_syntax.specs.ItemTree as item
-use Rattle.c_syntax.specs.ItemTree.{ItemTree, SourceTree}
-use Rattle.c_syntax.specs.Place.{EachAt, EntriesAt, ItemAt}
-use Rattle.c_syntax.specs.Spelling.{a_name, a_sign, body_kinds, entry_kinds, item_kinds, params_kinds, parenthesized, tree_kinds, type_kinds}
-use Rattle.c_syntax.specs.Tokens.{kind_text_len}
-use Rattle.c_syntax.specs.WellFormed.{IsShaped}
-use Rattle.c_types_rules.specs.Conversions.{is_arithmetic}
-use Rattle.c_types_rules.specs.TypeTree.{TypeTree}
+use Rattle.c_types_rules.specs.Words.{is_arithmetic, TypeTree}
 use Rattle.c_types_expressions.specs.declared.walk.Definition.{Definition}
 use Rattle.c_types_expressions.specs.declared.walk.Variable.{Variable}
 use Rattle.c_types_expressions.specs.declared.walk.Variable.TheVariants as variable
 use Rattle.c_types_expressions.specs.declared.walk.VariableEntry.{VariableEntry}
 use Rattle.c_types_expressions.specs.declared.walk.Walk.{Walk}
 use Rattle.c_types.specs.Answers.{declared_at, place_at, scope_holds, type_at, variable_at, variable_of}
-use Rattle.c_types_expressions.specs.Beginning.{beginning}
+use Rattle.c_types_expressions.specs.Words.{beginning, Fine}
 use Rattle.c_types.specs.Fault.{walk_tree}
-use Rattle.c_types_expressions.specs.Walked.{Fine}
 use Rattle.c_types.proofs.NotedItems.{text_notes}
 use Rattle.c_types.proofs.NumberLaws.{variables_are}
 use Rattle.c_meaning.specs.Known.{body_of_item}
@@ -39,7 +36,7 @@ use Rattle.flow.specs.declared.site.SiteKind.{SiteKind}
 use Rattle.flow.specs.declared.site.SiteKind.TheVariants as kind
 use Rattle.flow.specs.declared.site.Slot.{Slot}
 use Rattle.flow.specs.Sites.{IsSite, KindFits, PartnerFits, is_constant, slot_fits}
-use Rattle.sites.specs.declared.schemes.Schemes.{Schemes}
+use Rattle.flow.specs.declared.choice.Schemes.{Schemes}
 use Rattle.sites.specs.declared.spots.Spot.{Spot}
 use Rattle.sites.specs.declared.spots.Spot.TheVariants as spot
 use Rattle.sites.specs.Bodies.{entries_spots}
@@ -55,7 +52,6 @@ use Rattle.c_meaning_sound.specs.Accepted.{IsAcceptedTree, IsNegatable}
 use Rattle.c_meaning_sound.specs.Sited.{IsLine, IsSited, IsSitedToken, count_of, local_counts}
 use Rattle.c_meaning_sound.proofs.Accepting.{begins_standing, begins_tagged, body_long}
 use Rattle.c_meaning_sound.proofs.Ending.{Sums, tree_ended, tree_is, tree_sums}
-use Rattle.c_meaning_sound.proofs.Parting.{all_first, all_second}
 use Rattle.c_meaning_sound.proofs.Extents.{AllExtend, Extended, Extends, Stands, items_extent}
 use Rattle.c_meaning_sound.proofs.Forming.{Ended}
 use Rattle.c_meaning_sound.proofs.Globals.{global_good}
@@ -68,11 +64,6 @@ use Rattle.c_meaning_sound.proofs.Spotting.{Slotted, SpotsFit}
 use Rattle.c_meaning_sound.proofs.SpottingBodies.{entries_fit}
 use Rattle.c_meaning_sound.proofs.Stating.{body_good}
 
-get_map : {A B : Type 0} (f : A → B) (xs : List A) (i : ℕ) (x : A) → slice_get xs i ≡ Some x → slice_get (map f xs) i ≡ Some (f x)
-get_map f [] i x h = cc
-get_map f (y ∷ ys) zero x h = ap (option_map f) h
-get_map f (y ∷ ys) (suc i) x h = get_map f ys i x h
-
 line_at : (lines : List ℕ) (token line : ℕ) → AllByRecursion IsLine lines → slice_get lines token ≡ Some line → IsLine line
 line_at [] token line h e = cc
 line_at (l ∷ lines) zero line h e = subst IsLine (is l line e) h.0
@@ -80,9 +71,6 @@ line_at (l ∷ lines) zero line h e = subst IsLine (is l line e) h.0
     is : (a b : ℕ) → Some a ≡ Some b → a ≡ b
     is a b q = cc
 line_at (l ∷ lines) (suc token) line h e = line_at lines token line h.1 e
-
-lt_by : (m n : ℕ) → m < n → nat_lt m n ≡ true
-lt_by m n h = grind (arith, nat_tests, h)
 
 -- the constants of a body
 if_all : {A : Type 0} (P : A → Type 0) (b : Bool) (xs ys : List A) → All P xs → All P ys → All P (if b then xs else ys)
@@ -114,8 +102,8 @@ module _ (tree : SourceTree) (z : Walk) (locals : ℕ) where
 
   slot_is : (v : Variable) → ((index : ℕ) → v ≡ variable.Global index → index < z.globals) → HasSlot (facts tree z) none locals (Some (mean.slot_of v))
       → IsTrue (slot_fits locals z.globals (slot_of v))
-  slot_is (variable.Global index) g h = lt_by index z.globals (g index refl)
-  slot_is (variable.Local index) g h = lt_by index locals h
+  slot_is (variable.Global index) g h = less_is index z.globals (g index refl)
+  slot_is (variable.Local index) g h = less_is index locals h
 
   target_fits : (last target place : ℕ) (entry : VariableEntry) → Spans last z → Slotted (facts tree z) none locals target → place_at z target ≡ Some place
       → slice_get z.variables place ≡ Some entry → IsTrue (slot_fits locals z.globals (slot_of entry.variable))
@@ -157,8 +145,8 @@ module _ (tree : SourceTree) (z : Walk) (lines : List ℕ) (schemes : Schemes) (
   is_visible_in : (token target place : ℕ) (of : TypeTree) (v : VariableEntry) (later : List VariableEntry) → is_partner z token target of place v later ≡ true
       → scope_holds z place token ≡ true
   is_visible_in token target place of v later h =
-      (both (scope_holds z place token) (not (is_hidden z token v.name (suc place) later))
-      (both (not (place == target) && is_type of (declared_at z v.from)) (is_visible z token place v later) h).1).0
+      (and_parts (scope_holds z place token) (not (is_hidden z token v.name (suc place) later))
+      (and_parts (not (place == target) && is_type of (declared_at z v.from)) (is_visible z token place v later) h).1).0
 
   beside_by : (b : Bool) (v : VariableEntry) (rest : List Partner) → (b ≡ true → Beside (partner.Variable v.name (slot_of v.variable))) → All Beside rest
       → All Beside (if b then partner.Variable v.name (slot_of v.variable) ∷ rest else rest)
@@ -198,12 +186,12 @@ module _ (tree : SourceTree) (z : Walk) (lines : List ℕ) (schemes : Schemes) (
 
   named_by : (token line target : ℕ) (p : Option ℕ) (o : Option TypeTree) → place_at z target ≡ p → slice_get lines token ≡ Some line → at ≤ token → token < hi
       → Slotted (facts tree z) none own.count target → All P (pairs_on own_body (stand_on n token line) p o)
-  named_by token line target None None i l low high h = All-nil P
-  named_by token line target None (Some of) i l low high h = All-nil P
-  named_by token line target (Some place) None i l low high h = All-nil P
   named_by token line target (Some place) (Some of) i l low high h =
       either P (is_arithmetic of) (pairs_of own_body (stand_on n token line) place of (slice_get z.variables place))
       (pairs_by token line place target of (slice_get z.variables place) refl l low high i h)
+  named_by token line target None None i l low high h = All-nil P
+  named_by token line target None (Some of) i l low high h = All-nil P
+  named_by token line target (Some place) None i l low high h = All-nil P
 
   single : (x : Site) → P x → All P (x ∷ [])
   single x h = All-cons P x [] h (All-nil P)
@@ -256,15 +244,13 @@ module _ (tree : SourceTree) (z : Walk) (ends : Ended tree z) (sums : Sums z) (s
 
   item_stands : (x : ItemTree) (n at : ℕ) → Own n at (at + length (item_kinds x) + 0) x → ItemAt at x → AllByRecursion IsSitedToken (item_kinds x)
       → Every (item_sites z tree.lines schemes n x)
-  item_stands (item.Struct token tag members) n at k p q = All-nil (IsSite (map count_of z.definitions) z.globals)
-  item_stands (item.Function token b stars name ps None) n at k p q = All-nil (IsSite (map count_of z.definitions) z.globals)
   item_stands (item.Function token b stars name ps (Some body)) n at k p q =
       let behind = all_second IsSitedToken (type_kinds b stars ++ a_name name ++ parenthesized (params_kinds ps)) (body_kinds (Some body)) q in
       body_stands n at (at + length (item_kinds (item.Function token b stars name ps (Some body))) + 0)
       (at + length (type_kinds b stars) + 2 + length (params_kinds ps) + 2) body k (omega arith)
       (omega (arith, body_long tree z b stars name ps token body)) p.3
       (all_first IsSitedToken (entry_kinds body) (a_sign sign.RightBrace) behind.1)
-  item_stands (item.Declaration d) n at k p q = All-nil (IsSite (map count_of z.definitions) z.globals)
+  item_stands x n at k p q = All-nil (IsSite (map count_of z.definitions) z.globals)
 
   same_count : (x : ItemTree) → length (defined_by x) ≡ length (body_of_item x)
   same_count (item.Struct token tag members) = refl

@@ -2,62 +2,46 @@
 use Rattle.std.proofs.Common.{◌≡◌, ℕ, refl, ap, subst, sym, arith, ◌++◌, Some, None, ◌+◌, Bool, true, false, length, length-append}
 use Rattle.std.specs.Prelude.{Option, IfSome, not, ◌||◌}
 use Rattle.std.specs.List.{AllByRecursion}
-use Rattle.std.proofs.lemmas.Bool.{false≢true, true≢false}
-use Rattle.c_syntax.specs.ItemTree.{SourceTree}
-use Rattle.c_syntax.specs.ExprTree.{ExprTree}
+use Rattle.std.proofs.lemmas.Bool.{false≢true, true≢false, not-false}
+use Rattle.c_types_expressions.proofs.Given.{Gives, and_then, weaker}
+use Rattle.sites.proofs.RisesBodies.{brace-length}
+use Rattle.base_lists.proofs.Every.{all_first, all_second}
+use Rattle.c_syntax.specs.Words.{SourceTree, ExprTree, DeclarationTree, ForStartTree, StatementTree, EntryList, EntriesAt, ExprAt, ForStartAt, StatementAt}
+use Rattle.c_syntax.specs.Words.{ShapedEntries, ShapedExpr, ShapedForStart, ShapedStatement, Kinds, a_sign, a_word, braced, declaration_kinds, entry_kinds}
+use Rattle.c_syntax.specs.Words.{expr_kinds, for_start_kinds, optional, parenthesized, statement_kinds}
 use Rattle.c_syntax.specs.StatementTree as s
-use Rattle.c_syntax.specs.StatementTree.{DeclarationTree, ForStartTree, StatementTree, EntryList}
 use Rattle.c_syntax.specs.declared.token.Sign.TheVariants as sign
 use Rattle.c_syntax.specs.declared.token.Word.TheVariants as word
-use Rattle.c_syntax.specs.Place.{EntriesAt, ExprAt, ForStartAt, StatementAt}
-use Rattle.c_syntax.specs.Shape.{ShapedEntries, ShapedExpr, ShapedForStart, ShapedStatement}
-use Rattle.c_syntax.specs.Spelling.{Kinds, a_sign, a_word, braced, declaration_kinds, entry_kinds, expr_kinds, for_start_kinds, optional, parenthesized}
-use Rattle.c_syntax.specs.Spelling.{statement_kinds}
 use Rattle.c_types_rules.specs.declared.fault.FaultKind.TheVariants as fault
 use Rattle.c_types_rules.specs.declared.operand.Operand.{Operand}
 use Rattle.c_types_rules.specs.TypeTree as t
-use Rattle.c_types_rules.specs.TypeTree.{TypeTree}
-use Rattle.c_types_rules.specs.Assigning.{assignable}
-use Rattle.c_types_rules.specs.Conversions.{is_struct, is_void}
-use Rattle.c_types_rules.specs.Operators.{is_scalar_value}
+use Rattle.c_types_rules.specs.Words.{TypeTree, assignable, is_struct, is_void, is_scalar_value}
 use Rattle.c_types_expressions.specs.declared.walk.Walk.{Walk}
 use Rattle.c_types.specs.Answers.{noted}
-use Rattle.c_types_expressions.specs.ExprWalk.{walk_expr}
-use Rattle.c_types_expressions.specs.Names.{closed}
+use Rattle.c_types_expressions.specs.Words.{walk_expr, closed, Walked, Done, Fine, ◌>>=◌, closing, opened, unless}
 use Rattle.c_types_walk.specs.StatementWalk.{conditioned, is_condition_part, is_struct_part, looped, returned, walk_entries, walk_for_start, walk_optional}
 use Rattle.c_types_walk.specs.StatementWalk.{walk_statement}
-use Rattle.c_types_expressions.specs.Walked.{Walked, Done, Fine, ◌>>=◌, closing, opened, unless}
-use Rattle.c_meaning.specs.Known.{computed_type}
-use Rattle.c_meaning.specs.Literals.{strings_begun, strings_declared, strings_entered, strings_if, strings_in, strings_stated}
-use Rattle.c_meaning.specs.Trees.{has_value, token_of}
+use Rattle.c_meaning.specs.Words.{computed_type, strings_begun, strings_declared, strings_entered, strings_if, strings_in, strings_stated, has_value, token_of}
 use Rattle.c_meaning_laws.specs.Rules.{IsValue}
 use Rattle.c_meaning_laws.specs.TypedStatements.{TypedBeginning, TypedCondition, TypedEntries, TypedPart, TypedStatement, TypedTest}
 use Rattle.c_meaning_laws.proofs.Ruled.{assignable_taken, known, scalar_usable}
 use Rattle.c_meaning_sound.proofs.Calling.{around}
 use Rattle.c_meaning_sound.proofs.Declaring.{declaration_good, if_faulty, slots_more}
 use Rattle.c_meaning_sound.proofs.Expressions.{walk_good}
-use Rattle.c_meaning_sound.proofs.Parting.{all_first, all_second}
 use Rattle.c_meaning_sound.proofs.Forming.{Ended}
 use Rattle.c_meaning_sound.proofs.Initialising.{spelled_lies}
 use Rattle.c_meaning_sound.proofs.Marking.{after_scope, marks_scoped}
-use Rattle.c_meaning_sound.proofs.Noting.{AllSlots, Gives, Part, Ready, Same, and_then, facts, none, nothing_noted, ready_after, ready_in, rightwards, so, weaker}
+use Rattle.c_meaning_sound.proofs.Noting.{AllSlots, Part, Ready, Same, facts, none, nothing_noted, ready_after, ready_in, rightwards, so}
 use Rattle.c_meaning_sound.proofs.Noting.{wider}
 use Rattle.c_meaning_sound.proofs.Operands.{Fits, Good, accepted, typed_as}
 use Rattle.c_meaning_sound.proofs.Printing.{whole_good}
 use Rattle.c_meaning_sound.proofs.Texts.{Spelled}
-
-not_false : (b : Bool) → not b ≡ false → b ≡ true
-not_false true h = refl
-not_false false h = absurd (true≢false h)
 
 -- parts of a `for` that aren't refused
 middle_false : (a b c : Bool) → (a || not b || c) ≡ false → b ≡ true
 middle_false true b c h = absurd (true≢false h)
 middle_false false true c h = refl
 middle_false false false c h = absurd (true≢false h)
-
-pub in_braces : (xs : Kinds) → length (braced xs) ≡ length xs + 2
-in_braces xs = omega (arith, length-append xs (a_sign sign.RightBrace))
 
 pub for_long : (start condition step body : Kinds)
     → length (parenthesized (start ++ condition ++ a_sign sign.Semicolon ++ step) ++ body) ≡ length start + length condition + length step + 3 + length body
@@ -73,12 +57,7 @@ for_long start condition step body = omega (
 -- a function without a result
 no_value : (of : TypeTree) (w : Walk) → is_void of ≡ true → has_value (computed_type w.structs of) ≡ false
 no_value t.Void w h = refl
-no_value t.Char w h = absurd (false≢true h)
-no_value t.Int w h = absurd (false≢true h)
-no_value t.Unsigned w h = absurd (false≢true h)
-no_value (t.Pointer to) w h = absurd (false≢true h)
-no_value (t.Array element size) w h = absurd (false≢true h)
-no_value (t.Struct tag) w h = absurd (false≢true h)
+no_value of w h = absurd (false≢true h)
 
 scoped_same : {w v : Walk} {token : ℕ} → Same (opened w) v token → Same w (after_scope v) token
 scoped_same s = record { types = s.types; variables = s.variables; offsets = s.offsets; functions = s.functions }
@@ -150,7 +129,7 @@ module _ (tree : SourceTree) (z : Walk) (ends : Ended tree z) where
 
   conditioned_good : {Q : Done → Walk → Type 0} (token : ℕ) (a : Operand) (w : Walk) → (is_scalar_value a ≡ true → Q tt w) → Gives (conditioned token a w) Q
   conditioned_good token a w h =
-      if_faulty (not (is_scalar_value a)) (Fine tt w) fault.Operands token (λ b. record { by = h (not_false (is_scalar_value a) b) })
+      if_faulty (not (is_scalar_value a)) (Fine tt w) fault.Operands token (λ b. record { by = h (not-false (is_scalar_value a) b) })
 
   -- parts that may be left out
   record GoodOption (at hi : ℕ) (x : Option ExprTree) (w : Walk) (o : Option Operand) (v : Walk) : Type 0 where
@@ -179,7 +158,7 @@ module _ (tree : SourceTree) (z : Walk) (ends : Ended tree z) where
       → Gives (returned token gives a w) Q
   returned_good token gives a w h =
       if_faulty (is_void gives) (unless (not (assignable gives a)) fault.Operands token w) fault.Jump token (λ b.
-      if_faulty (not (assignable gives a)) (Fine tt w) fault.Operands token (λ k. record { by = h (not_false (assignable gives a) k) }))
+      if_faulty (not (assignable gives a)) (Fine tt w) fault.Operands token (λ k. record { by = h (not-false (assignable gives a) k) }))
 
   unless_then : {A : Type 0} {Q : A → Walk → Type 0} (b : Bool) (token : ℕ) (w : Walk) (k : Done → Walk → Walked A) → (b ≡ false → Gives (k tt w) Q)
       → Gives (unless b fault.Operands token w >>= k) Q
@@ -202,7 +181,7 @@ module _ (tree : SourceTree) (z : Walk) (ends : Ended tree z) where
         → AllByRecursion (Spelled tree) (strings_stated x) → Ready tree z at (at + length (statement_kinds x)) w
         → Gives (walk_statement gives looping x w) (GoodPart at (at + length (statement_kinds x)) (Stated gives looping x) w)
     statement_good (s.Block token xs) at gives looping w q p l r =
-        let long : length (statement_kinds (s.Block token xs)) ≡ length (entry_kinds xs) + 2 = in_braces (entry_kinds xs) in
+        let long : length (statement_kinds (s.Block token xs)) ≡ length (entry_kinds xs) + 2 = brace-length (entry_kinds xs) in
         and_then (entries_good xs (at + 1) gives looping (opened w) q p.1 l
         (opened_ready (ready_in r (at + 1) (at + 1 + length (entry_kinds xs)) (omega arith) (omega (arith, long))))) (λ done v g. record {
           by = wider {lo = at + 1} {hi = at + 1 + length (entry_kinds xs)} (scoped g) (omega arith) (omega (arith, long));
@@ -327,7 +306,7 @@ module _ (tree : SourceTree) (z : Walk) (ends : Ended tree z) where
         })))))
     statement_good (s.Return token None) at gives looping w q p l r =
         if_faulty (not (is_void gives)) (Fine tt w) fault.Jump token (λ h. record {
-          by = nothing_noted at (at + length (statement_kinds (s.Return token None))) w (λ c. no_value gives z (not_false (is_void gives) h));
+          by = nothing_noted at (at + length (statement_kinds (s.Return token None))) w (λ c. no_value gives z (not-false (is_void gives) h));
         })
     statement_good (s.Return token (Some x)) at gives looping w q p l r =
         let long : length (statement_kinds (s.Return token (Some x))) ≡ 1 + length (expr_kinds x) + 1 =
@@ -338,11 +317,11 @@ module _ (tree : SourceTree) (z : Walk) (ends : Ended tree z) where
         (λ c n. (n.0, accepted tree z (known z.structs gives) x a g.null n.1 (assignable_taken z.structs gives a h)))))
     statement_good (s.Break token) at gives looping w q p l r =
         if_faulty (not looping) (Fine tt w) fault.Jump token (λ h. record {
-          by = nothing_noted at (at + length (statement_kinds (s.Break token))) w (λ c. not_false looping h);
+          by = nothing_noted at (at + length (statement_kinds (s.Break token))) w (λ c. not-false looping h);
         })
     statement_good (s.Continue token) at gives looping w q p l r =
         if_faulty (not looping) (Fine tt w) fault.Jump token (λ h. record {
-          by = nothing_noted at (at + length (statement_kinds (s.Continue token))) w (λ c. not_false looping h);
+          by = nothing_noted at (at + length (statement_kinds (s.Continue token))) w (λ c. not-false looping h);
         })
 
     pub entries_good : (xs : EntryList) (at : ℕ) (gives : TypeTree) (looping : Bool) (w : Walk) → ShapedEntries xs → EntriesAt at xs

@@ -9,7 +9,7 @@ use Rattle.c_meaning_sound.specs.Accepted.{IsAcceptedTree}
 use Rattle.c_meaning_sound.proofs.Bodies.{Accepted, tree_accepted}
 use Rattle.c_meaning_sound.proofs.Covered.{ItemsCover, items_lift, items_none, table_covers}
 use Rattle.c_meaning_sound.proofs.Mains.{main_int}
-use Rattle.sites.specs.declared.schemes.Schemes.{Schemes}
+use Rattle.flow.specs.declared.choice.Schemes.{Schemes}
 use Rattle.sites.specs.Table as table
 
 covered_fits : (tree : SourceTree) (walk : Walk) (sites : List Site) → IsAcceptedTree tree walk → ItemsCover tree walk (sites_by_table sites) 0 tree.items

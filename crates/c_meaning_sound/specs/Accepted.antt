@@ -3,10 +3,7 @@ use Rattle.std.specs.Prelude.{◌≡◌, ◌≤◌, sum_by}
 use Rattle.std.specs.List.{AllByRecursion}
 use Rattle.c_syntax.specs.declared.token.TokenKind.{TokenKind}
 use Rattle.c_syntax.specs.declared.token.TokenKind.TheVariants.{Constant}
-use Rattle.c_syntax.specs.ItemTree.{SourceTree}
-use Rattle.c_syntax.specs.Spelling.{tree_kinds}
-use Rattle.c_syntax.specs.Tokens.{kind_text_len}
-use Rattle.c_syntax.specs.WellFormed.{IsWellFormed}
+use Rattle.c_syntax.specs.Words.{SourceTree, tree_kinds, kind_text_len, IsWellFormed}
 use Rattle.c_types_expressions.specs.declared.walk.Walk.{Walk}
 use Rattle.c_types.specs.Fault.{walk_tree}
 use Rattle.c_types_expressions.specs.Walked.{Fine}

@@ -4,12 +4,10 @@ use Rattle.std.specs.List.{AllByRecursion}
 use Rattle.cbi_base.specs.Name.{IsName}
 use Rattle.c_syntax.specs.declared.token.TokenKind.{TokenKind}
 use Rattle.c_syntax.specs.declared.token.TokenKind.TheVariants.{Name, Constant}
-use Rattle.c_syntax.specs.ItemTree.{SourceTree}
-use Rattle.c_syntax.specs.Spelling.{tree_kinds}
+use Rattle.c_syntax.specs.Words.{SourceTree, tree_kinds}
 use Rattle.c_types_expressions.specs.declared.walk.Definition.{Definition}
 use Rattle.c_types_expressions.specs.declared.walk.Walk.{Walk}
-use Rattle.flow.specs.Limits.{line_limit, token_limit}
-use Rattle.flow.specs.Sites.{is_constant}
+use Rattle.flow.specs.Words.{line_limit, token_limit, is_constant}
 
 -- a name is one, and a constant is one that a partner can be
 abbrev pub IsSitedToken : TokenKind → Type 0

@@ -6,7 +6,7 @@ ghost use Rattle.c_types_expressions.specs.declared.walk.Walk.{Walk};
 ghost use Rattle.c_meaning.specs.Texts.{text_meaning};
 ghost use Rattle.std.specs.List.{All};
 ghost use Rattle.flow.specs.Sites.{IsSite};
-ghost use Rattle.sites.specs.declared.schemes.Schemes.{Schemes};
+ghost use Rattle.flow.specs.declared.choice.Schemes.{Schemes};
 ghost use Rattle.sites.specs.Table.{sites_of};
 ghost use Rattle.c_meaning_laws.specs.TypedText.{TypedText};
 ghost use Rattle.c_meaning_sound.specs.Accepted.{IsAcceptedTree};

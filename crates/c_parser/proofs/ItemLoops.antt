@@ -5,9 +5,7 @@ use Rattle.std.proofs.lemmas.List.{map-append}
 use Rattle.std.specs.Global.{Global}
 use Rattle.c_syntax.specs.declared.token.Token.{Token}
 use Rattle.c_syntax.specs.declared.tree.Item.{Item}
-use Rattle.c_syntax.specs.ItemTree.{ItemTree}
-use Rattle.c_syntax.specs.Plain.{plain_item}
-use Rattle.c_syntax.specs.Shape.{HasOne}
+use Rattle.c_syntax.specs.Words.{ItemTree, plain_item, HasOne}
 use Rattle.c_parser.specs.declared.error.ParseError.{ParseError}
 use Rattle.c_parser.specs.declared.error.ParseError.TheVariants as error
 use Rattle.c_parser_expressions.specs.Reading.{Cursor, Found, Fails, Read, Outcome}

@@ -8,12 +8,8 @@ use Rattle.std.proofs.lemmas.List.Sums.{sum_by-cons}
 use Rattle.c_syntax.specs.declared.token.Token.{Token}
 use Rattle.c_syntax.specs.declared.token.TokenKind.{TokenKind}
 use Rattle.c_syntax.specs.declared.tree.Tree.{Tree}
-use Rattle.c_syntax.specs.ItemTree.{SourceTree}
-use Rattle.c_syntax.specs.Kept.{IsKeptTree, IsLineOfText}
-use Rattle.c_syntax.specs.Limits.{most_bytes}
-use Rattle.c_syntax.specs.Plain.{plain_tree}
-use Rattle.c_syntax.specs.Spelling.{tree_kinds}
-use Rattle.c_syntax.specs.Tokens.{IsAtLeastChar, IsOfBytes, IsTokens, KindFits, NameFits, kind_text_len, kinds_of, lines_of, text_len}
+use Rattle.c_syntax.specs.Words.{SourceTree, IsKeptTree, IsLineOfText, most_bytes, plain_tree, tree_kinds, IsAtLeastChar, IsOfBytes, IsTokens, KindFits}
+use Rattle.c_syntax.specs.Words.{NameFits, kind_text_len, kinds_of, lines_of, text_len}
 use Rattle.c_parser.specs.declared.error.ParseError.{ParseError}
 use Rattle.c_parser.specs.Parsed.{IsParsed, IsTreeOf}
 

@@ -3,11 +3,7 @@ use Rattle.std.proofs.Common.{◌≡◌, ℕ, ◌+◌, ◌≤◌, max, List, [],
 use Rattle.std.proofs.lemmas.List.{append-nil}
 use Rattle.c_syntax.specs.declared.token.Token.{Token}
 use Rattle.c_syntax.specs.declared.tree.Tree.{Tree}
-use Rattle.c_syntax.specs.ItemTree.{ItemTree, SourceTree}
-use Rattle.c_syntax.specs.Spelling.{Kinds, tree_kinds}
-use Rattle.c_syntax.specs.Nesting.{tree_nesting}
-use Rattle.c_syntax.specs.WellFormed.{IsShaped}
-use Rattle.c_syntax.specs.Plain.{plain_tree}
+use Rattle.c_syntax.specs.Words.{ItemTree, SourceTree, Kinds, tree_kinds, tree_nesting, IsShaped, plain_tree}
 use Rattle.c_parser.specs.declared.error.ParseError.{ParseError}
 use Rattle.c_parser.specs.declared.error.ParseError.TheVariants as error
 use Rattle.c_parser_expressions.specs.Reading.{Cursor, Same, Read, Outcome}

@@ -5,11 +5,7 @@ use Rattle.std.proofs.lemmas.List.{append-nil, length-map, length-take-le, take-
 use Rattle.std.proofs.Math.Seq.{take-append_seam}
 use Rattle.c_syntax.specs.declared.token.Token.{Token}
 use Rattle.c_syntax.specs.declared.token.TokenKind.{TokenKind}
-use Rattle.c_syntax.specs.ItemTree.{ItemTree, SourceTree}
-use Rattle.c_syntax.specs.Spelling.{Kinds, tree_kinds}
-use Rattle.c_syntax.specs.Shape.{HasOne}
-use Rattle.c_syntax.specs.Tokens.{kinds_of, lines_of}
-use Rattle.c_syntax.specs.WellFormed.{IsWellFormed}
+use Rattle.c_syntax.specs.Words.{ItemTree, SourceTree, Kinds, tree_kinds, HasOne, kinds_of, lines_of, IsWellFormed}
 use Rattle.c_parser_expressions.specs.Reading.{Cursor, Same, Found, Fails}
 use Rattle.c_parser_items.specs.Items.{item, AreItems, items}
 use Rattle.c_parser.specs.Parsed.{IsTreeOf, FirstHaveTree, IsDead, Refuses}

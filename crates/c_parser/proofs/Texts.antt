@@ -7,9 +7,7 @@ use Rattle.c_syntax.specs.declared.token.TokenKind.{TokenKind}
 use Rattle.c_syntax.specs.declared.parts.Base.{Base}
 use Rattle.c_syntax.specs.declared.parts.Base.TheVariants as base_is
 use Rattle.c_syntax.specs.ItemTree as i
-use Rattle.c_syntax.specs.ItemTree.{ItemTree}
-use Rattle.c_syntax.specs.Spelling.{Kinds, item_kinds, base_kinds}
-use Rattle.c_syntax.specs.Place.{EachAt, ItemAt}
+use Rattle.c_syntax.specs.Words.{ItemTree, Kinds, item_kinds, base_kinds, EachAt, ItemAt}
 use Rattle.c_parser_expressions.specs.Reading.{Cursor, Same, Found, Fails}
 use Rattle.c_parser_items.specs.Items.{IsItem, item, AreItems, IsEnd, items}
 use Rattle.c_parser_expressions.proofs.Laws.{same-all, Leads, leads-found, leads-fails, leads-trans, leads-wrap, found-takes}

@@ -4,11 +4,7 @@ use Rattle.std.specs.Global.{Global}
 use Rattle.c_syntax.specs.declared.token.Token.{Token}
 use Rattle.c_syntax.specs.declared.tree.Item.{Item}
 use Rattle.c_syntax.specs.declared.tree.Tree.{Tree}
-use Rattle.c_syntax.specs.ItemTree.{SourceTree}
-use Rattle.c_syntax.specs.Spelling.{Kinds, tree_kinds}
-use Rattle.c_syntax.specs.Tokens.{kinds_of, lines_of}
-use Rattle.c_syntax.specs.WellFormed.{IsWellFormed}
-use Rattle.c_syntax.specs.Plain.{plain_item, plain_tree}
+use Rattle.c_syntax.specs.Words.{SourceTree, Kinds, tree_kinds, kinds_of, lines_of, IsWellFormed, plain_item, plain_tree}
 use Rattle.c_parser.specs.declared.error.ParseError.{ParseError}
 use Rattle.c_parser.specs.declared.error.ParseError.TheVariants as error
 

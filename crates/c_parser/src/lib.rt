@@ -2,11 +2,7 @@
 #![tactic(auto)]
 
 ghost use Rattle.std.specs.Prelude.{◌≡◌, ℕ, Err, IfOk};
-ghost use Rattle.c_syntax.specs.ItemTree.{SourceTree};
-ghost use Rattle.c_syntax.specs.Kept.{IsKeptTree};
-ghost use Rattle.c_syntax.specs.Plain.{plain_tree};
-ghost use Rattle.c_syntax.specs.Spelling.{tree_kinds};
-ghost use Rattle.c_syntax.specs.WellFormed.{IsShaped};
+ghost use Rattle.c_syntax.specs.Words.{SourceTree, IsKeptTree, plain_tree, tree_kinds, IsShaped};
 ghost use Rattle.c_parser.specs.Parsed.{IsTreeOf, Refuses, IsReadAs, IsRefused};
 
 mod error;

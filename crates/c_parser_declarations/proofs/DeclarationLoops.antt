@@ -1,9 +1,10 @@
 -- What the loops over parts of declarations keep.
 use Rattle.std.proofs.Common.{◌≡◌, ℕ, zero, suc, ◌-◌, ◌≤◌, ◌<◌, true, List, [], ◌∷◌, ◌++◌, Bool, Ok, Err, refl, sym, ap, ◌∙◌, subst, append_assoc, arith}
+use Rattle.c_parser_expressions.proofs.Many.{front_more}
+use Rattle.base_lists.proofs.Numbers.{suc_zero_test}
 use Rattle.c_syntax.specs.declared.token.Sign.TheVariants as sign_is
 use Rattle.c_syntax.specs.declared.parts.Bound.{Bound}
-use Rattle.c_syntax.specs.ExprTree.{ExprTree}
-use Rattle.c_syntax.specs.Plain.{expr_list}
+use Rattle.c_syntax.specs.Words.{ExprTree, expr_list}
 use Rattle.c_syntax.specs.StatementTree as s
 use Rattle.c_parser_expressions.specs.declared.stop.Stop.TheVariants as stop
 use Rattle.c_parser_expressions.specs.Reading.{Cursor, Read, after}
@@ -12,7 +13,6 @@ use Rattle.c_parser_expressions.specs.Steps.{◌>>=◌, with_front, all_of, Adva
 use Rattle.c_parser_expressions.specs.ExpressionParser.{deeper_than, assignment_by}
 use Rattle.c_parser_declarations.specs.Declarations.{items_end, start_rule, starts_end}
 use Rattle.c_parser_declarations.specs.DeclarationParser.{the_bound, the_bounds, item_step, end_of_list, braced_by, start_by, start_step}
-use Rattle.c_parser_expressions.proofs.Heads.{not-zero}
 use Rattle.c_parser_expressions.proofs.Depths.{deeper_assignment}
 use Rattle.c_parser_expressions.proofs.WholeParses.{parses, deep}
 use Rattle.c_parser_declarations.proofs.Lists.{closing-advances, commas-closing}
@@ -24,10 +24,6 @@ use Rattle.c_parser_declarations.proofs.Declaring.{start-parses}
 -- what the loop has read, before what is still to be read, is all that there is
 pub record Bounds (left : ℕ) (now : Cursor) (xs : List Bound) (whole : Read (List Bound)) : Type 0 where
   pub all : with_front xs (the_bounds left now) ≡ whole
-
-with-more : {A : Type 0} (xs : List A) (x : A) (r : Read (List A)) → with_front (xs ++ x ∷ []) r ≡ with_front xs (with_front (x ∷ []) r)
-with-more {A} xs x (Ok p) = ap {B = Read (List A)} (λ (v : List A). Ok (v, p.1)) (append_assoc xs (x ∷ []) p.0)
-with-more xs x (Err i) = refl
 
 bound-front : (x : Bound) (r : Read (List Bound)) → ◌≡◌ {A = Read (List Bound)}
     (◌>>=◌ {A = List Bound × Cursor} {B = List Bound × Cursor} r (λ q. Ok (x ∷ q.0, q.1))) (with_front (x ∷ []) r)
@@ -50,7 +46,7 @@ bounds_more (suc n) c to xs ys x whole b some t h pushed =
     let step : the_bounds (suc n) c ≡ with_front (x ∷ []) (the_bounds n to) = rw t (one-bound (the_bound (after c)) (the_bounds n) x to h) in
     record {
       all = ap (λ (m : ℕ). with_front ys (the_bounds m to)) (sym e) ∙ ap (λ (v : List Bound). with_front v (the_bounds n to)) pushed
-          ∙ with-more xs x (the_bounds n to) ∙ ap (with_front xs) (sym step) ∙ b.all;
+          ∙ front_more xs x (the_bounds n to) ∙ ap (with_front xs) (sym step) ∙ b.all;
     }
 
 -- each turn takes a token
@@ -82,4 +78,4 @@ braced_reads (suc n) c to next end x xs comma ne h more ends =
     let one : (deeper_than (suc n)).assignment (after c) ≡ Ok (x, to) = subst (λ (f : Cursor → Read ExprTree). f (after c) ≡ Ok (x, to)) (sym is) h in
     let all : with_front (x ∷ []) (all_of (item_step (deeper_than (suc n)).assignment) to) ≡ Ok (xs, next) =
     subst (λ (f : Cursor → Read ExprTree). with_front (x ∷ []) (all_of (item_step f) to) ≡ Ok (xs, next)) (sym is) more in
-    rw (not-zero n, one, all, ends) refl
+    rw (suc_zero_test n, one, all, ends) refl

@@ -2,6 +2,7 @@
 use Rattle.std.proofs.Common.{◌≡◌, ℕ, zero, suc, ◌+◌, ◌-◌, ◌≤◌, inl, inr, List, [], ◌∷◌, ◌++◌, length, Option, Some, None, Ok, refl, sym, ap, ◌∙◌, subst, append_assoc, arith}
 use Rattle.std.proofs.lemmas.Bool.{cases_Bool}
 use Rattle.std.specs.Prelude.{flat_map}
+use Rattle.c_parser_expressions.proofs.Primary.{first-head}
 use Rattle.cbi_base.specs.declared.scalar.Kind.{Kind}
 use Rattle.c_syntax.specs.declared.token.Sign.TheVariants as sign_is
 use Rattle.c_syntax.specs.declared.token.TokenKind.{TokenKind}
@@ -21,10 +22,6 @@ use Rattle.c_parser_expressions.proofs.Heads.{sign-head, same-sign, sign-same, s
 use Rattle.c_parser_expressions.proofs.Laws.{Leads, leads-here, leads-trans, leads-wrap, seq-leads, part, finish}
 use Rattle.c_parser_expressions.proofs.Tokens.{sign-parses, name-parses}
 use Rattle.c_parser_expressions.proofs.TypeNames.{stars-found}
-
-first-is : (k : Kinds) (t : TokenKind) → first k ≡ Some t → k ≡ t ∷ behind k
-first-is [] t h = cc
-first-is (x ∷ k) t h = let s : x ≡ t = cc in ap (λ (v : TokenKind). v ∷ k) s
 
 -- behind a bracket
 
@@ -47,7 +44,7 @@ no-constant last at (y ∷ ks) k (Some x) h same =
 constant-leads : (c : Cursor) (m : Kind) (v : _) → first c.rest ≡ Some (kind.Constant m v)
     → Leads bound_end (sign sign_is.RightBracket) c (after c) (λ u. record { length = Some (record { kind = m; value = v }) })
 constant-leads c m v h =
-    let whole : c.rest ≡ kind.Constant m v ∷ behind c.rest = first-is c.rest (kind.Constant m v) h in
+    let whole : c.rest ≡ kind.Constant m v ∷ behind c.rest = first-head c.rest (kind.Constant m v) h in
     record {
       front = kind.Constant m v ∷ [];
       whole = whole;

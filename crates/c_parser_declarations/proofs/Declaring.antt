@@ -5,11 +5,9 @@ use Rattle.std.specs.List.{AllByRecursion}
 use Rattle.c_syntax.specs.declared.token.Sign.TheVariants as sign_is
 use Rattle.c_syntax.specs.declared.parts.Base.{Base}
 use Rattle.c_syntax.specs.declared.parts.Declarator.{Declarator}
-use Rattle.c_syntax.specs.StatementTree.{InitialTree, StartTree, DeclarationTree}
-use Rattle.c_syntax.specs.Spelling.{Kinds, a_sign, a_name, base_kinds, bound_kinds, star_kinds, declarator_kinds, start_kinds, with_commas, after_commas}
-use Rattle.c_syntax.specs.Nesting.{deep, deepest, initial_nesting, start_nesting}
-use Rattle.c_syntax.specs.Shape.{ShapedInitial, ShapedStart}
-use Rattle.c_syntax.specs.Place.{EachAt, InitialAt, StartAt}
+use Rattle.c_syntax.specs.Words.{InitialTree, StartTree, DeclarationTree, Kinds, a_sign, a_name, base_kinds, bound_kinds, star_kinds, declarator_kinds}
+use Rattle.c_syntax.specs.Words.{start_kinds, with_commas, after_commas, deep, deepest, initial_nesting, start_nesting, ShapedInitial, ShapedStart, EachAt}
+use Rattle.c_syntax.specs.Words.{InitialAt, StartAt}
 use Rattle.c_parser_expressions.specs.Reading.{Cursor, Outcome, seq}
 use Rattle.c_parser_expressions.specs.Steps.{◌>>=◌, with_front, all_of, the_sign}
 use Rattle.c_parser_declarations.specs.Lists.{Separates, comma, closed, EachBehindComma}

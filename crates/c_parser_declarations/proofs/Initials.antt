@@ -1,16 +1,14 @@
 -- Initialisers.
 use Rattle.std.proofs.Common.{◌≡◌, ℕ, ◌+◌, ◌≤◌, ◌==◌, Bool, true, false, not, ◌&&◌, cond, inl, inr, List, [], ◌∷◌, ◌++◌, length, Option, Some, None, Ok, Err, refl, sym, ap, ◌∙◌, subst, append_assoc, arith}
 use Rattle.std.proofs.lemmas.Bool.{cases_Bool}
+use Rattle.c_parser_expressions.proofs.Primary.{behind-shorter}
 use Rattle.c_syntax.specs.declared.token.Sign.{Sign}
 use Rattle.c_syntax.specs.declared.token.Sign.TheVariants as sign_is
 use Rattle.c_syntax.specs.declared.token.TokenKind.{TokenKind}
 use Rattle.c_syntax.specs.declared.token.TokenKind.TheVariants as kind
 use Rattle.c_syntax.specs.ExprTree as e
-use Rattle.c_syntax.specs.ExprTree.{ExprTree, ExprList}
+use Rattle.c_syntax.specs.Words.{ExprTree, ExprList, InitialTree, expr_list, Kinds, a_sign, expr_kinds, more_exprs_kinds, comma_kinds, initial_kinds}
 use Rattle.c_syntax.specs.StatementTree as s
-use Rattle.c_syntax.specs.StatementTree.{InitialTree}
-use Rattle.c_syntax.specs.Plain.{expr_list}
-use Rattle.c_syntax.specs.Spelling.{Kinds, a_sign, expr_kinds, more_exprs_kinds, comma_kinds, initial_kinds}
 use Rattle.c_parser_expressions.specs.Reading.{Cursor, Same, Found, Read, Outcome, seq, sign, after, behind, sign_at}
 use Rattle.c_parser_expressions.specs.Marks.{stands}
 use Rattle.c_parser_expressions.specs.Steps.{◌>>=◌, with_front, all_of, the_sign}
@@ -24,7 +22,7 @@ use Rattle.c_parser_expressions.proofs.Laws.{Leads, leads-here, part, finish}
 use Rattle.c_parser_expressions.proofs.Many.{put}
 use Rattle.c_parser_expressions.proofs.Tokens.{sign-parses, fails-here}
 use Rattle.c_parser_expressions.proofs.Starts.{starts-expr, starts-same, starts-more}
-use Rattle.c_parser_declarations.proofs.Lists.{ClosingIs, Closing, close-item, list-behind, behind-shorter}
+use Rattle.c_parser_declarations.proofs.Lists.{ClosingIs, Closing, close-item, list-behind}
 
 -- what is known of expressions
 abbrev pub ReadsAssignments : Type 0

@@ -2,6 +2,7 @@
 use Rattle.std.proofs.Common.{◌≡◌, ℕ, zero, suc, ◌+◌, ◌<◌, ◌≤◌, cond, inl, inr, List, [], ◌∷◌, ◌++◌, length, Some, None, Ok, Err, refl, sym, ap, ◌∙◌, subst, append_assoc, arith}
 use Rattle.std.proofs.lemmas.Bool.{cases_Bool}
 use Rattle.std.specs.Prelude.{flat_map}
+use Rattle.c_parser_expressions.proofs.Primary.{behind-shorter}
 use Rattle.c_syntax.specs.declared.token.Sign.{Sign}
 use Rattle.c_syntax.specs.declared.token.Sign.TheVariants as sign_is
 use Rattle.c_syntax.specs.declared.token.TokenKind.TheVariants as kind
@@ -14,10 +15,6 @@ use Rattle.c_parser_expressions.proofs.Heads.{sign-head, same-sign, stands-sign,
 use Rattle.c_parser_expressions.proofs.Laws.{Leads, leads-here, leads-found, leads-fails, leads-trans, seq-leads, seq-fails, finish, found-shorter, found-takes}
 use Rattle.c_parser_expressions.proofs.Many.{put}
 use Rattle.c_parser_expressions.proofs.Tokens.{sign-parses}
-
-pub behind-shorter : (k : Kinds) (s : Sign) → sign_at k ≡ Some s → length (behind k) < length k
-behind-shorter [] s h = cc
-behind-shorter (x ∷ k) s h = omega arith
 
 -- What a step does to a list of the rule: it goes on to the end, refuses, or leads on behind a token at least.
 abbrev pub ClosingIs : {A L : Type 0} → Rule L → (A → L → L) → (Cursor → Read L) → Cursor → Step A → Type 0

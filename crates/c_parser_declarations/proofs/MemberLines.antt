@@ -6,10 +6,8 @@ use Rattle.c_syntax.specs.declared.token.Sign.TheVariants as sign_is
 use Rattle.c_syntax.specs.declared.parts.Base.{Base}
 use Rattle.c_syntax.specs.declared.parts.Declarator.{Declarator}
 use Rattle.c_syntax.specs.declared.parts.Members.{Members}
-use Rattle.c_syntax.specs.Spelling.{Kinds, a_sign, bound_kinds, base_kinds, declarator_kinds, members_kinds, with_commas, after_commas}
-use Rattle.c_syntax.specs.Nesting.{deepest, declarator_nesting, members_nesting}
-use Rattle.c_syntax.specs.Shape.{ShapedMembers}
-use Rattle.c_syntax.specs.Place.{EachAt, DeclaratorAt, MembersAt}
+use Rattle.c_syntax.specs.Words.{Kinds, a_sign, bound_kinds, base_kinds, declarator_kinds, members_kinds, with_commas, after_commas, deepest}
+use Rattle.c_syntax.specs.Words.{declarator_nesting, members_nesting, ShapedMembers, EachAt, DeclaratorAt, MembersAt}
 use Rattle.c_parser_expressions.specs.Reading.{Cursor, Same, Rule, Outcome, seq, sign_at}
 use Rattle.c_parser_expressions.specs.Steps.{◌>>=◌, with_front, all_of, the_sign}
 use Rattle.c_parser_declarations.specs.Lists.{EachBehindComma, EachInTurn, runs}

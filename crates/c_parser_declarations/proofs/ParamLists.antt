@@ -1,6 +1,6 @@
 -- What stands between the parentheses of a function.
 use Rattle.std.proofs.Common.{◌≡◌, ℕ, zero, suc, ◌+◌, ◌-◌, ◌<◌, ◌≤◌, ◌==◌, Bool, true, false, ◌&&◌, inl, inr, List, [], ◌∷◌, ◌++◌, length, Option, Some, Ok, Err, refl, sym, ap, ◌∙◌, subst, append_assoc, length-append, arith}
-use Rattle.std.proofs.lemmas.Bool.{cases_Bool}
+use Rattle.std.proofs.lemmas.Bool.{cases_Bool, and_parts}
 use Rattle.std.specs.List.{AllByRecursion}
 use Rattle.c_syntax.specs.declared.token.Sign.TheVariants as sign_is
 use Rattle.c_syntax.specs.declared.token.Word.{Word}
@@ -12,10 +12,8 @@ use Rattle.c_syntax.specs.declared.parts.Param.{Param}
 use Rattle.c_syntax.specs.declared.parts.ParamName.{ParamName}
 use Rattle.c_syntax.specs.declared.parts.Params.{Params}
 use Rattle.c_syntax.specs.declared.parts.Params.TheVariants as params_is
-use Rattle.c_syntax.specs.Spelling.{Kinds, a_sign, a_word, base_kinds, star_kinds, type_kinds, param_kinds, after_commas}
-use Rattle.c_syntax.specs.Nesting.{deepest, param_nesting}
-use Rattle.c_syntax.specs.Shape.{ShapedParamOf, ShapedParam}
-use Rattle.c_syntax.specs.Place.{EachAt, ParamAt}
+use Rattle.c_syntax.specs.Words.{Kinds, a_sign, a_word, base_kinds, star_kinds, type_kinds, param_kinds, after_commas, deepest, param_nesting, ShapedParamOf}
+use Rattle.c_syntax.specs.Words.{ShapedParam, EachAt, ParamAt}
 use Rattle.c_parser_expressions.specs.Reading.{Cursor, Same, Rule, Found, Fails, Read, Outcome, seq, after, behind, sign_at, word_at}
 use Rattle.c_parser_expressions.specs.Marks.{stands}
 use Rattle.c_parser_expressions.specs.Steps.{◌>>=◌, with_front, all_of, the_sign}
@@ -270,10 +268,7 @@ void-stars last at (t ∷ ks) k (base_is.Void u) zero h less shaped same = cc
 void-stars last at (t ∷ ks) k (base_is.Void u) (suc n) h less shaped same =
     let e : sign_at ks ≡ Some sign_is.Star = same-sign last (at + 1) ks _ sign_is.Star (same.1 less) in let f : Some sign_is.Star ≡ Some sign_is.RightParen =
     sym e ∙ h.1 in cc
-void-stars last at (t ∷ ks) k (base_is.Char u) n h less shaped same = let e = same.0 in let w = h.0 in cc
-void-stars last at (t ∷ ks) k (base_is.Int u) n h less shaped same = let e = same.0 in let w = h.0 in cc
-void-stars last at (t ∷ ks) k (base_is.Unsigned u i) n h less shaped same = let e = same.0 in let w = h.0 in cc
-void-stars last at (t ∷ ks) k (base_is.Struct u x) n h less shaped same = let e = same.0 in let w = h.0 in cc
+void-stars last at (t ∷ ks) k b n h less shaped same = let e = same.0 in let w = h.0 in cc
 
 shape-test : (b : Base) (n : ℕ) → ShapedParamOf b n → (is_void_base b && (n == 0)) ≡ false
 shape-test b n shaped = elim (cases_Bool (is_void_base b && (n == 0))) [ inl t ↦ absurd (unshaped-type b n t shaped) | inr f ↦ f ]
@@ -300,10 +295,6 @@ void-word : (o : Option Word) → is_void_word o ≡ true → o ≡ Some word_is
 void-word (Some word_is.Void) h = refl
 void-word _ h = cc
 
-both : (a b : Bool) → (a && b) ≡ true → (a ≡ true) × (b ≡ true)
-both true b h = (refl, h)
-both false b h = cc
-
 pub params-parses : (d : ℕ) (c : Cursor) → Outcome (params d) c (params_by d c)
 unfolding params_by
 params-parses d c = elim (cases_Bool (stands sign_is.RightParen c.rest)) [
@@ -315,7 +306,7 @@ params-parses d c = elim (cases_Bool (stands sign_is.RightParen c.rest)) [
   | inr f ↦
       rw f (elim (cases_Bool (only_void c.rest)) [
         | inl t ↦
-            (let tests = both (is_void_word (word_at c.rest)) (stands sign_is.RightParen (behind c.rest)) t in
+            (let tests = and_parts (is_void_word (word_at c.rest)) (stands sign_is.RightParen (behind c.rest)) t in
             rw t (void-found d c (void-word (word_at c.rest) tests.0, stands-sign sign_is.RightParen (behind c.rest) (omega arith) tests.1)))
         | inr g ↦
             rw g (list-parses d c (λ h. let t = sign-stands sign_is.RightParen c.rest h in cc)

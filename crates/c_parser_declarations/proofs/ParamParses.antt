@@ -13,10 +13,7 @@ use Rattle.c_syntax.specs.declared.parts.Base.TheVariants as base_is
 use Rattle.c_syntax.specs.declared.parts.Bound.{Bound}
 use Rattle.c_syntax.specs.declared.parts.Param.{Param}
 use Rattle.c_syntax.specs.declared.parts.ParamName.{ParamName}
-use Rattle.c_syntax.specs.Spelling.{Kinds, a_sign, a_name, optional, bound_kinds, param_name_kinds}
-use Rattle.c_syntax.specs.Nesting.{deep, name_nesting}
-use Rattle.c_syntax.specs.Shape.{ShapedParamOf}
-use Rattle.c_syntax.specs.Place.{NameAt}
+use Rattle.c_syntax.specs.Words.{Kinds, a_sign, a_name, optional, bound_kinds, param_name_kinds, deep, name_nesting, ShapedParamOf, NameAt}
 use Rattle.c_parser_expressions.specs.Reading.{Cursor, Same, Found, Outcome, seq, after, behind, sign_at, word_at, name_at}
 use Rattle.c_parser_expressions.specs.Marks.{stands}
 use Rattle.c_parser_declarations.specs.Lists.{Separates, comma, closed}
@@ -196,17 +193,11 @@ type-follow d t (Some x) k ends = record { no_star = record { not = λ e. cc }; 
 
 pub shaped-type : (b : Base) (n : ℕ) → (is_void_base b && (n == 0)) ≡ false → ShapedParamOf b n
 shaped-type (base_is.Void t) n h = let e : (n == 0) ≡ false = h in grind arith
-shaped-type (base_is.Char t) n h = tt
-shaped-type (base_is.Int t) n h = tt
-shaped-type (base_is.Unsigned t i) n h = tt
-shaped-type (base_is.Struct t x) n h = tt
+shaped-type b n h = tt
 
 pub unshaped-type : (b : Base) (n : ℕ) → (is_void_base b && (n == 0)) ≡ true → ShapedParamOf b n → ⊥
 unshaped-type (base_is.Void t) n h shaped = let e : (n == 0) ≡ true = h in grind arith
-unshaped-type (base_is.Char t) n h shaped = cc
-unshaped-type (base_is.Int t) n h shaped = cc
-unshaped-type (base_is.Unsigned t i) n h shaped = cc
-unshaped-type (base_is.Struct t x) n h shaped = cc
+unshaped-type b n h shaped = cc
 
 pub shaped-leads : (d : ℕ) (t : Base × ℕ) (c : Cursor) → ShapedParamOf t.0 t.1 → Leads (shaped_name d t) (param_name (d - t.1)) c c (λ o. o)
 shaped-leads d t c shaped = leads-here (shaped_name d t) (param_name (d - t.1)) c (λ o. o) (λ o is. (shaped, is)) (λ o. refl)

@@ -4,13 +4,10 @@ use Rattle.std.specs.List.{AllByRecursion}
 use Rattle.c_syntax.specs.declared.token.Sign.TheVariants as sign
 use Rattle.c_syntax.specs.declared.parts.Bound.{Bound}
 use Rattle.c_syntax.specs.declared.parts.Declarator.{Declarator}
-use Rattle.c_syntax.specs.ExprTree.{ExprList}
-use Rattle.c_syntax.specs.StatementTree.{InitialTree, StartTree, DeclarationTree}
-use Rattle.c_syntax.specs.Spelling.{Kinds, a_sign, optional, with_commas, constant_kinds, bound_kinds, declarator_kinds, more_exprs_kinds, comma_kinds}
-use Rattle.c_syntax.specs.Spelling.{initial_kinds, start_kinds, declaration_kinds}
-use Rattle.c_syntax.specs.Nesting.{deepest, declarator_nesting, arguments_nesting, initial_nesting, start_nesting, declaration_nesting}
-use Rattle.c_syntax.specs.Shape.{HasOne, ShapedExprs, ShapedInitial, ShapedStart, ShapedDeclaration}
-use Rattle.c_syntax.specs.Place.{EachAt, DeclaratorAt, ExprsAt, InitialAt, StartAt, DeclarationAt}
+use Rattle.c_syntax.specs.Words.{ExprList, InitialTree, StartTree, DeclarationTree, Kinds, a_sign, optional, with_commas, constant_kinds, bound_kinds}
+use Rattle.c_syntax.specs.Words.{declarator_kinds, more_exprs_kinds, comma_kinds, initial_kinds, start_kinds, declaration_kinds, deepest, declarator_nesting}
+use Rattle.c_syntax.specs.Words.{arguments_nesting, initial_nesting, start_nesting, declaration_nesting, HasOne, ShapedExprs, ShapedInitial, ShapedStart}
+use Rattle.c_syntax.specs.Words.{ShapedDeclaration, EachAt, DeclaratorAt, ExprsAt, InitialAt, StartAt, DeclarationAt}
 use Rattle.c_parser_expressions.specs.Reading.{Rule, Any, sign_at}
 use Rattle.c_parser_declarations.specs.Lists.{Separates, commas}
 

@@ -9,10 +9,9 @@ use Rattle.c_syntax.specs.declared.parts.Members.{Members}
 use Rattle.c_syntax.specs.declared.parts.Param.{Param}
 use Rattle.c_syntax.specs.declared.parts.ParamName.{ParamName}
 use Rattle.c_syntax.specs.declared.parts.Params.{Params}
-use Rattle.c_syntax.specs.Spelling.{a_sign, optional, bound_kinds, members_kinds, param_name_kinds, param_kinds, params_kinds}
-use Rattle.c_syntax.specs.Nesting.{deepest, deep, members_nesting, name_nesting, param_nesting, params_nesting}
-use Rattle.c_syntax.specs.Shape.{HasOne, ShapedParamOf, ShapedParam, ShapedParams, ShapedMembers}
-use Rattle.c_syntax.specs.Place.{EachAt, MembersAt, NameAt, ParamAt, ParamsAt}
+use Rattle.c_syntax.specs.Words.{a_sign, optional, bound_kinds, members_kinds, param_name_kinds, param_kinds, params_kinds, deepest, deep, members_nesting}
+use Rattle.c_syntax.specs.Words.{name_nesting, param_nesting, params_nesting, HasOne, ShapedParamOf, ShapedParam, ShapedParams, ShapedMembers, EachAt}
+use Rattle.c_syntax.specs.Words.{MembersAt, NameAt, ParamAt, ParamsAt}
 use Rattle.c_parser_expressions.specs.Reading.{Rule, Any}
 use Rattle.c_parser_declarations.specs.Lists.{Separates, commas}
 use Rattle.c_parser_declarations.specs.Declarations.{NoBracket, declarator}

@@ -2,19 +2,17 @@
 use Rattle.std.proofs.Common.{◌≡◌, ℕ, zero, suc, ◌+◌, ◌≤◌, nat_lt, if◌then◌else◌, IsTrue, inl, inr, true, false}
 use Rattle.std.proofs.Common.{◌∷◌, ◌++◌, length, Option, Some, None, Ok, refl, sym, ap, ◌∙◌, subst, append_assoc, length-append, arith}
 use Rattle.std.proofs.lemmas.Bool.{cases_lt, cases_Bool}
+use Rattle.base_lists.proofs.Numbers.{suc_zero_test}
 use Rattle.c_syntax.specs.declared.token.Sign.{Sign}
 use Rattle.c_syntax.specs.declared.token.Sign.TheVariants as sign_is
 use Rattle.c_syntax.specs.declared.token.TokenKind.TheVariants as kind
 use Rattle.c_syntax.specs.ExprTree as e
-use Rattle.c_syntax.specs.ExprTree.{ExprTree}
-use Rattle.c_syntax.specs.Spelling.{Kinds, a_sign, expr_kinds}
-use Rattle.c_syntax.specs.Shape.{rank, is_assignment}
-use Rattle.c_syntax.specs.Place.{ExprAt}
+use Rattle.c_syntax.specs.Words.{ExprTree, Kinds, a_sign, expr_kinds, rank, is_assignment, ExprAt}
 use Rattle.c_parser_expressions.specs.Reading.{Cursor, Same, Found, Fails, Outcome, after, behind, sign_at}
 use Rattle.c_parser_expressions.specs.Expressions.{expression, IsExpr, inner, IsInner, EndsAt, sign_binds}
 use Rattle.c_parser_expressions.specs.ExpressionParser.{Parsers, conditional_by, assignment_sign_of, assignment_sign, assigning_by, assigned_of, assigned_by}
 use Rattle.c_parser_expressions.specs.ExpressionParser.{assignment_by}
-use Rattle.c_parser_expressions.proofs.Heads.{sign-head, same-sign, not-zero}
+use Rattle.c_parser_expressions.proofs.Heads.{sign-head, same-sign}
 use Rattle.c_parser_expressions.proofs.Laws.{Leads, bind, finish}
 use Rattle.c_parser_expressions.proofs.Primary.{ends-more}
 use Rattle.c_parser_expressions.proofs.Choices.{after-same, ended-by}
@@ -165,7 +163,7 @@ pub assigns-some : (d : ℕ) (x : ExprTree) (k : Kinds) (s : Sign) → assignmen
 unfolding assignment_sign
 assigns-some zero x k s h = cc
 assigns-some (suc n) x k s h =
-    let e : if◌then◌else◌ (nat_lt (rank x) 14) None (assignment_sign_of (sign_at k)) ≡ Some s = rw (not-zero n) at h in
+    let e : if◌then◌else◌ (nat_lt (rank x) 14) None (assignment_sign_of (sign_at k)) ≡ Some s = rw (suc_zero_test n) at h in
     elim (cases_lt (rank x) 14) [
       | inl low ↦ (let t : nat_lt (rank x) 14 ≡ true = grind arith in let none : None ≡ Some s = rw t at e in cc)
       | inr high ↦ (let f : nat_lt (rank x) 14 ≡ false = grind arith in let some : assignment_sign_of (sign_at k) ≡ Some s = rw f at e in
@@ -177,7 +175,7 @@ assigns-none : (d : ℕ) (x : ExprTree) (k : Kinds) (s : Sign) → assignment_si
 unfolding assignment_sign
 assigns-none zero x k s h at_s assigns unary = refl
 assigns-none (suc n) x k s h at_s assigns unary =
-    let e : if◌then◌else◌ (nat_lt (rank x) 14) None (assignment_sign_of (sign_at k)) ≡ None = rw (not-zero n) at h in
+    let e : if◌then◌else◌ (nat_lt (rank x) 14) None (assignment_sign_of (sign_at k)) ≡ None = rw (suc_zero_test n) at h in
     let f : nat_lt (rank x) 14 ≡ false = grind arith in
     let none : assignment_sign_of (sign_at k) ≡ None = rw f at e in
     absurd (sign-not (sign_at k) s at_s assigns none)

@@ -2,20 +2,18 @@
 use Rattle.std.proofs.Common.{◌≡◌, ℕ, zero, suc, ◌+◌, ◌≤◌, ◌<◌, ◌==◌, if◌then◌else◌, inl, inr, true, false, [], ◌∷◌, ◌++◌, length}
 use Rattle.std.proofs.Common.{Some, Ok, Err, refl, sym, ap, ◌∙◌, subst, append_assoc, length-append, arith}
 use Rattle.std.proofs.lemmas.Bool.{cases_Bool, cases_lt}
+use Rattle.base_lists.proofs.Numbers.{suc_zero_test}
 use Rattle.c_syntax.specs.declared.token.Sign.TheVariants as sign_is
 use Rattle.c_syntax.specs.declared.token.TokenKind.TheVariants as kind
 use Rattle.c_syntax.specs.declared.parts.Base.{Base}
 use Rattle.c_syntax.specs.ExprTree as e
-use Rattle.c_syntax.specs.ExprTree.{ExprTree}
-use Rattle.c_syntax.specs.Spelling.{Kinds, a_sign, expr_kinds, type_kinds, base_kinds, star_kinds}
-use Rattle.c_syntax.specs.Nesting.{expr_nesting}
-use Rattle.c_syntax.specs.Place.{ExprAt}
+use Rattle.c_syntax.specs.Words.{ExprTree, Kinds, a_sign, expr_kinds, type_kinds, base_kinds, star_kinds, expr_nesting, ExprAt}
 use Rattle.c_parser_expressions.specs.Reading.{Cursor, Same, Rule, Found, Fails, Read, Outcome, behind, after, sign_at, seq, before}
 use Rattle.c_parser_expressions.specs.Marks.{stands}
 use Rattle.c_parser_expressions.specs.Steps.{◌>>=◌}
 use Rattle.c_parser_expressions.specs.Expressions.{IsExpr, expression, inner, type_name}
 use Rattle.c_parser_expressions.specs.ExpressionParser.{Parsers, begins_type, opens_type, closed_type, unary_by, casting_by, cast_by}
-use Rattle.c_parser_expressions.proofs.Heads.{sign-head, same-sign, stands-sign, sign-stands, not-zero}
+use Rattle.c_parser_expressions.proofs.Heads.{sign-head, same-sign, stands-sign, sign-stands}
 use Rattle.c_parser_expressions.proofs.Laws.{same-all, Leads, leads-here, leads-outcome, part, finish}
 use Rattle.c_parser_expressions.proofs.Tokens.{fails-here}
 use Rattle.c_parser_expressions.proofs.TypeNames.{base-begins, closed-type-parses}
@@ -174,7 +172,7 @@ unary-instead d c r shut o = elim (cases_Bool (stands sign_is.LeftParen c.rest))
 cast-here : (d : ℕ) (deeper : Parsers) → ((c : Cursor) → Outcome (inner 13 d) c (deeper.cast c)) → (c : Cursor) → opens_type c.rest ≡ true
     → Outcome (expression 13 d) c (if◌then◌else◌ (d == 0) (Err c.at) (casting_by d deeper c))
 cast-here zero deeper o c t = fails-here (expression 13 0) c (λ x k is ends same. flat-paren c x k c.at (opens-both c.rest t).0 is same)
-cast-here (suc n) deeper o c t = rw (not-zero n) (let both = opens-both c.rest t in casting-parses (suc n) deeper o c both.0 both.1)
+cast-here (suc n) deeper o c t = rw (suc_zero_test n) (let both = opens-both c.rest t in casting-parses (suc n) deeper o c both.0 both.1)
 
 pub cast-parses : (d : ℕ) (deeper : Parsers) → ((c : Cursor) → Outcome (inner 13 d) c (deeper.cast c))
     → ((c : Cursor) → Outcome (expression 14 d) c (unary_by d deeper c)) → (c : Cursor) → Outcome (expression 13 d) c (cast_by d deeper c)

@@ -8,10 +8,7 @@ use Rattle.c_syntax.specs.declared.token.Sign.TheVariants as sign_is
 use Rattle.c_syntax.specs.declared.token.TokenKind.{TokenKind}
 use Rattle.c_syntax.specs.declared.token.TokenKind.TheVariants as kind
 use Rattle.c_syntax.specs.ExprTree as e
-use Rattle.c_syntax.specs.ExprTree.{ExprTree, LinkList}
-use Rattle.c_syntax.specs.Spelling.{Kinds, a_sign, expr_kinds, link_kinds}
-use Rattle.c_syntax.specs.Shape.{level_of}
-use Rattle.c_syntax.specs.Plain.{link_list}
+use Rattle.c_syntax.specs.Words.{ExprTree, LinkList, Kinds, a_sign, expr_kinds, link_kinds, level_of, link_list}
 use Rattle.c_parser_expressions.specs.Reading.{Cursor, Same, Found, Read, Outcome, after, behind, sign_at, seq}
 use Rattle.c_parser_expressions.specs.Expressions.{expression, IsExpr, EndsAt, AreLinks, chain_links, kind_binds, sign_binds}
 use Rattle.c_parser_expressions.specs.ExpressionParser.{step_of, if_some, level_sign_of, level_sign, link_by, link_step, links_by, linked_by, level_by, chain_by}

@@ -2,19 +2,18 @@
 use Rattle.std.proofs.Common.{◌≡◌, ℕ, zero, suc, ◌+◌, ◌≤◌, ◌<◌, inl, inr, true, false, []}
 use Rattle.std.proofs.Common.{◌∷◌, ◌++◌, length, Some, Ok, refl, sym, ap, ◌∙◌, subst, append_assoc, length-append, arith}
 use Rattle.std.proofs.lemmas.Bool.{cases_Bool}
+use Rattle.base_lists.proofs.Numbers.{suc_zero_test}
 use Rattle.c_syntax.specs.declared.token.Sign.{Sign}
 use Rattle.c_syntax.specs.declared.token.Sign.TheVariants as sign_is
 use Rattle.c_syntax.specs.declared.token.TokenKind.TheVariants as kind
 use Rattle.c_syntax.specs.ExprTree as e
-use Rattle.c_syntax.specs.ExprTree.{ExprTree, ExprList}
-use Rattle.c_syntax.specs.Spelling.{Kinds, a_sign, expr_kinds}
-use Rattle.c_syntax.specs.Place.{ExprAt}
+use Rattle.c_syntax.specs.Words.{ExprTree, ExprList, Kinds, a_sign, expr_kinds, ExprAt}
 use Rattle.c_parser_expressions.specs.Reading.{Cursor, Same, Rule, Found, Fails, Outcome, after, behind, sign_at, seq, before}
 use Rattle.c_parser_expressions.specs.Marks.{stands}
 use Rattle.c_parser_expressions.specs.Steps.{◌>>=◌}
 use Rattle.c_parser_expressions.specs.Expressions.{expression, IsExpr, inner, EndsAt, kind_binds, sign_binds}
 use Rattle.c_parser_expressions.specs.ExpressionParser.{Parsers, closed_by, choices_by, choosing_by, chooses, chosen_by, conditional_by, chain_by, cast_by}
-use Rattle.c_parser_expressions.proofs.Heads.{sign-head, same-sign, stands-sign, sign-stands, not-zero}
+use Rattle.c_parser_expressions.proofs.Heads.{sign-head, same-sign, stands-sign, sign-stands}
 use Rattle.c_parser_expressions.proofs.Laws.{same-rest, Leads, leads-none, bind, part, finish}
 use Rattle.c_parser_expressions.proofs.Tokens.{before-parses}
 use Rattle.c_parser_expressions.proofs.Primary.{ends-more, closes}
@@ -179,11 +178,11 @@ choices-parse d deeper whole conditional c mid x f h =
 
 pub chooses-both : (d : ℕ) (k : Kinds) → chooses d k ≡ true → stands sign_is.Question k ≡ true
 chooses-both zero k h = cc
-chooses-both (suc n) k h = let e : chooses (suc n) k ≡ stands sign_is.Question k = rw (not-zero n) refl in sym e ∙ h
+chooses-both (suc n) k h = let e : chooses (suc n) k ≡ stands sign_is.Question k = rw (suc_zero_test n) refl in sym e ∙ h
 
 chooses-not : (d : ℕ) (k : Kinds) → chooses d k ≡ false → stands sign_is.Question k ≡ true → d ≡ 0
 chooses-not zero k h s = refl
-chooses-not (suc n) k h s = let e : chooses (suc n) k ≡ stands sign_is.Question k = rw (not-zero n) refl in let both : false ≡ true = sym h ∙ e ∙ s in cc
+chooses-not (suc n) k h s = let e : chooses (suc n) k ≡ stands sign_is.Question k = rw (suc_zero_test n) refl in let both : false ≡ true = sym h ∙ e ∙ s in cc
 
 chosen-parses : (d : ℕ) (deeper : Parsers) → ((c : Cursor) → Outcome (inner 0 d) c (deeper.whole c))
     → ((c : Cursor) → Outcome (inner 2 d) c (deeper.conditional c)) → (c mid : Cursor) (x : ExprTree) → Found (expression 3 d) c x mid

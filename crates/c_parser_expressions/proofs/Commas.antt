@@ -5,9 +5,7 @@ use Rattle.std.proofs.lemmas.List.{append-nil}
 use Rattle.std.proofs.lemmas.Bool.{cases_Bool}
 use Rattle.c_syntax.specs.declared.token.Sign.TheVariants as sign_is
 use Rattle.c_syntax.specs.ExprTree as e
-use Rattle.c_syntax.specs.ExprTree.{ExprTree, ExprList}
-use Rattle.c_syntax.specs.Plain.{expr_list}
-use Rattle.c_syntax.specs.Spelling.{expr_kinds, more_exprs_kinds}
+use Rattle.c_syntax.specs.Words.{ExprTree, ExprList, expr_list, expr_kinds, more_exprs_kinds}
 use Rattle.c_parser_expressions.specs.Reading.{Cursor, Rule, Found, Read, Outcome, seq, after}
 use Rattle.c_parser_expressions.specs.Marks.{stands}
 use Rattle.c_parser_expressions.specs.Steps.{◌>>=◌, with_front, all_of}

@@ -5,8 +5,7 @@ use Rattle.std.specs.Option.{IsSome}
 use Rattle.c_syntax.specs.declared.token.Sign.{Sign}
 use Rattle.c_syntax.specs.declared.token.Sign.TheVariants as sign
 use Rattle.c_syntax.specs.declared.expr.PrefixOperator.{PrefixOperator}
-use Rattle.c_syntax.specs.Spelling.{Kinds}
-use Rattle.c_syntax.specs.ExprTree.{ExprTree}
+use Rattle.c_syntax.specs.Words.{Kinds, ExprTree}
 use Rattle.c_parser_expressions.specs.Reading.{Cursor, Read, first, after, sign_at}
 use Rattle.c_parser_expressions.specs.Marks.{stands}
 use Rattle.c_parser_expressions.specs.ExpressionParser.{Parsers, the_stars, layer, no_parsers, deeper_than, unary_by, cast_by, level_by, chain_by, conditional_by}

@@ -125,13 +125,6 @@ pub says_some : (w : Word) (k : Kinds) → 1 ≤ word_mark w → says w k ≡ tr
 says_some w [] h e = let n : ◌≡◌ {A = Option Word} None (Some w) = says-word w [] h e in cc
 says_some w (x ∷ k) h e = refl
 
--- a number that isn't 0 is told so
-not-zero-of : (d : ℕ) → (d ≡ 0 → ⊥) → (d == 0) ≡ false
-not-zero-of d h = grind arith
-
-pub not-zero : (n : ℕ) → (suc n == 0) ≡ false
-not-zero n = not-zero-of (suc n) (λ h. omega arith)
-
 -- where a sign or a word stands there is a token
 pub sign_first : (k : Kinds) (s : Sign) → sign_at k ≡ Some s → IsSome (first k)
 sign_first [] s h = cc

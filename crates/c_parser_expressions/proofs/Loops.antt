@@ -6,8 +6,7 @@ use Rattle.c_syntax.specs.declared.token.Sign.TheVariants as sign_is
 use Rattle.c_syntax.specs.declared.expr.Expr.{Expr}
 use Rattle.c_syntax.specs.declared.expr.Link.{Link}
 use Rattle.c_syntax.specs.ExprTree as e
-use Rattle.c_syntax.specs.ExprTree.{ExprTree, LinkList, PostfixList}
-use Rattle.c_syntax.specs.Plain.{plain_expr, plain_link}
+use Rattle.c_syntax.specs.Words.{ExprTree, LinkList, PostfixList, plain_expr, plain_link}
 use Rattle.c_syntax.proofs.PlainExprs.{plain_link_is}
 use Rattle.c_parser_expressions.specs.Reading.{Cursor, Read, after}
 use Rattle.c_parser_expressions.specs.Marks.{stands}
@@ -87,16 +86,7 @@ pub comma_push : (item : Cursor → Read ExprTree) (whole : Read (List ExprTree)
 comma_push item whole c to vs ws x adv inv h read pushed =
     front_push plain_expr (comma_step item) whole c to vs ws x adv inv (comma_goes item c to (plain_expr x) h read) pushed
 
-pub comma_none : (item : Cursor → Read ExprTree) (c : Cursor) → stands sign_is.Comma c.rest ≡ false → comma_step item c ≡ None
-comma_none item c h = commas.step-none item c h
-
-pub link_none : (operand : Cursor → Read ExprTree) (level : ℕ) (c : Cursor) → level_sign level c.rest ≡ None → link_step operand level c ≡ None
-link_none operand level c h = chains.step-none operand level c h
-
 -- operators behind their operand
 pub operator_goes : (depth : ℕ) (deeper : Parsers) (c : Cursor) (s : Sign) (r : Read (PostfixList → PostfixList)) → postfix_sign depth c.rest ≡ Some s
     → operator_by deeper s c ≡ r → postfix_step depth deeper c ≡ Some r
 operator_goes depth deeper c s r h read = postfix.step-some depth deeper c s h ∙ ap (λ (q : Read (PostfixList → PostfixList)). Some q) read
-
-pub operator_none : (depth : ℕ) (deeper : Parsers) (c : Cursor) → postfix_sign depth c.rest ≡ None → postfix_step depth deeper c ≡ None
-operator_none depth deeper c h = postfix.step-none depth deeper c h

@@ -48,7 +48,7 @@ all_err step c i h =
     let one : length c.rest + 1 ≡ suc (length c.rest) = omega arith in
     ap (λ (n : ℕ). many n step c) one ∙ ap (turn (many (length c.rest) step) c) h
 
-front_more : {A : Type 0} (xs : List A) (x : A) (r : Read (List A)) → with_front (xs ++ x ∷ []) r ≡ with_front xs (with_front (x ∷ []) r)
+pub front_more : {A : Type 0} (xs : List A) (x : A) (r : Read (List A)) → with_front (xs ++ x ∷ []) r ≡ with_front xs (with_front (x ∷ []) r)
 front_more {A} xs x (Ok p) = ap {B = Read (List A)} (λ (v : List A). Ok (v, p.1)) (append_assoc xs (x ∷ []) p.0)
 front_more xs x (Err i) = refl
 

@@ -2,21 +2,19 @@
 use Rattle.std.proofs.Common.{◌≡◌, ℕ, zero, suc, ◌+◌, ◌≤◌, List, [], ◌∷◌, ◌++◌, length, Option, Some, None}
 use Rattle.std.proofs.Common.{Ok, refl, sym, ap, ◌∙◌, subst, length-append, arith}
 use Rattle.std.proofs.lemmas.List.{append-nil}
+use Rattle.base_lists.proofs.Numbers.{suc_zero_test}
 use Rattle.c_syntax.specs.declared.token.Sign.{Sign}
 use Rattle.c_syntax.specs.declared.token.Sign.TheVariants as sign_is
 use Rattle.c_syntax.specs.declared.token.TokenKind.{TokenKind}
 use Rattle.c_syntax.specs.declared.token.TokenKind.TheVariants as kind
 use Rattle.c_syntax.specs.ExprTree as e
-use Rattle.c_syntax.specs.ExprTree.{ExprTree, PostfixList}
-use Rattle.c_syntax.specs.Plain.{postfix_list}
-use Rattle.c_syntax.specs.Spelling.{Kinds, a_sign, a_name, expr_kinds, postfix_kinds}
-use Rattle.c_syntax.specs.Place.{PostfixAt}
+use Rattle.c_syntax.specs.Words.{ExprTree, PostfixList, postfix_list, Kinds, a_sign, a_name, expr_kinds, postfix_kinds, PostfixAt}
 use Rattle.c_parser_expressions.specs.Reading.{Cursor, Same, Found, Outcome, behind, after, sign_at, kind_sign, seq, before, name}
 use Rattle.c_parser_expressions.specs.Steps.{the_name}
 use Rattle.c_parser_expressions.specs.Expressions.{kind_binds, EndsAt, IsExpr, expression, inner, ArePostfix, postfix_operators}
 use Rattle.c_parser_expressions.specs.ExpressionParser.{Parsers, closed_by, primary_by, postfix_sign_of, postfix_sign, index_by, member_by, operator_by}
 use Rattle.c_parser_expressions.specs.ExpressionParser.{step_of, postfix_step, operators_by, if_some, operated_by, postfix_by}
-use Rattle.c_parser_expressions.proofs.Heads.{sign-head, not-zero}
+use Rattle.c_parser_expressions.proofs.Heads.{sign-head}
 use Rattle.c_parser_expressions.proofs.Laws.{Leads, leads-here, part}
 use Rattle.c_parser_expressions.proofs.Tokens.{name-parses, before-parses}
 use Rattle.c_parser_expressions.proofs.Many.{Listing, StepIs, put, link-part, list-parses, list-none}
@@ -111,7 +109,7 @@ none-of d c e.no_postfix k last h are same = refl
 none-of zero c (e.index t x rest) k last h are same = let nests = are.nests in absurd (omega arith)
 none-of (suc n) c (e.index t x rest) k last h are same =
     let s : sign_at c.rest ≡ Some sign_is.LeftBracket = operator-same last c.at c.rest k (e.index t x rest) sign_is.LeftBracket refl same in
-    let b : postfix_sign_of (suc n) (Some sign_is.LeftBracket) ≡ Some sign_is.LeftBracket = rw (not-zero n) refl in
+    let b : postfix_sign_of (suc n) (Some sign_is.LeftBracket) ≡ Some sign_is.LeftBracket = rw (suc_zero_test n) refl in
     let u : postfix_sign_of (suc n) (sign_at c.rest) ≡ Some sign_is.LeftBracket = ap (postfix_sign_of (suc n)) s ∙ b in cc
 none-of d c (e.member t x rest) k last h are same =
     let u : postfix_sign_of d (sign_at c.rest) ≡ Some sign_is.Dot =
@@ -330,7 +328,7 @@ bracket-of : (d : ℕ) (deeper : Parsers) → ((c : Cursor) → Outcome (inner 0
     → StepIs (postfix_operators d) (λ f. f) e.no_postfix c (step_of (λ s. operator_by deeper s c) (postfix_sign_of d (Some sign_is.LeftBracket)))
 unfolding operator_by
 bracket-of zero deeper o c h = operators-none zero c (ap (postfix_sign_of 0) h)
-bracket-of (suc n) deeper o c h = rw (not-zero n) (index-parses (suc n) deeper o c h)
+bracket-of (suc n) deeper o c h = rw (suc_zero_test n) (index-parses (suc n) deeper o c h)
 
 step-of : (d : ℕ) (deeper : Parsers) → ((c : Cursor) → Outcome (inner 0 d) c (deeper.whole c)) → (c : Cursor) (o : Option Sign) → sign_at c.rest ≡ o
     → StepIs (postfix_operators d) (λ f. f) e.no_postfix c (step_of (λ s. operator_by deeper s c) (postfix_sign_of d o))

@@ -2,6 +2,7 @@
 use Rattle.std.proofs.Common.{◌≡◌, ℕ, zero, suc, ◌+◌, ◌≤◌, ◌<◌, ℤ, inl, inr, Bool, true, false, List, [], ◌∷◌, ◌++◌, length, Option, Some}
 use Rattle.std.proofs.Common.{None, Ok, Err, refl, sym, ap, ◌∙◌, subst, arith}
 use Rattle.std.proofs.lemmas.Bool.{cases_Bool}
+use Rattle.base_lists.proofs.Numbers.{suc_zero_test}
 use Rattle.cbi_base.specs.declared.scalar.Kind.{Kind}
 use Rattle.c_syntax.specs.declared.token.Sign.{Sign}
 use Rattle.c_syntax.specs.declared.token.Sign.TheVariants as sign_is
@@ -9,12 +10,8 @@ use Rattle.c_syntax.specs.declared.token.Word.TheVariants as word_is
 use Rattle.c_syntax.specs.declared.token.TokenKind.{TokenKind}
 use Rattle.c_syntax.specs.declared.token.TokenKind.TheVariants as kind
 use Rattle.c_syntax.specs.ExprTree as e
-use Rattle.c_syntax.specs.ExprTree.{ExprTree, ExprList, PostfixList}
-use Rattle.c_syntax.specs.Plain.{expr_list}
-use Rattle.c_syntax.specs.Spelling.{Kinds, a_sign, expr_kinds, exprs_kinds, more_exprs_kinds, text_kinds}
-use Rattle.c_syntax.specs.Shape.{rank, HasExpr, ShapedExpr, ShapedExprs}
-use Rattle.c_syntax.specs.Nesting.{exprs_nesting, arguments_nesting}
-use Rattle.c_syntax.specs.Place.{ExprAt, ExprsAt}
+use Rattle.c_syntax.specs.Words.{ExprTree, ExprList, PostfixList, expr_list, Kinds, a_sign, expr_kinds, exprs_kinds, more_exprs_kinds, text_kinds, rank}
+use Rattle.c_syntax.specs.Words.{HasExpr, ShapedExpr, ShapedExprs, exprs_nesting, arguments_nesting, ExprAt, ExprsAt}
 use Rattle.c_parser_expressions.specs.Reading.{Cursor, Same, Rule, Found, Fails, Read, Outcome, first, behind, after, sign_at, name_at, text_at, seq, before}
 use Rattle.c_parser_expressions.specs.Marks.{stands}
 use Rattle.c_parser_expressions.specs.Steps.{◌>>=◌, with_front, all_of, the_sign, the_name}
@@ -22,7 +19,7 @@ use Rattle.c_parser_expressions.specs.Expressions.{kind_binds, EndsAt, IsExpr, e
 use Rattle.c_parser_expressions.specs.Expressions.{AreArguments, arguments, texts}
 use Rattle.c_parser_expressions.specs.ExpressionParser.{Parsers, closed_by, paren_by, comma_step, more_by, list_by, closed_list, arguments_by, call_by, named_at}
 use Rattle.c_parser_expressions.specs.ExpressionParser.{named_by, text_read, text_step, strings_by, primary_of, primary_by}
-use Rattle.c_parser_expressions.proofs.Heads.{sign-head, name-head, same-sign, stands-sign, sign-stands, not-zero}
+use Rattle.c_parser_expressions.proofs.Heads.{sign-head, name-head, same-sign, stands-sign, sign-stands}
 use Rattle.c_parser_expressions.proofs.Laws.{Leads, leads-here, leads-found, leads-fails, leads-trans, leads-outcome, seq-leads, seq-fails}
 use Rattle.c_parser_expressions.proofs.Laws.{finish}
 use Rattle.c_parser_expressions.proofs.Tokens.{token-found, fails-here, before-parses}
@@ -33,7 +30,7 @@ use Rattle.c_parser_expressions.proofs.Starts.{primary-begins}
 pub ends-more : (r s : ℕ) (k : Kinds) → r ≤ s → EndsAt r k → EndsAt s k
 ends-more r s k le ends = let by = ends.by in record { by = omega arith }
 
-first-head : (k : Kinds) (t : TokenKind) → first k ≡ Some t → k ≡ t ∷ behind k
+pub first-head : (k : Kinds) (t : TokenKind) → first k ≡ Some t → k ≡ t ∷ behind k
 first-head [] t h = cc
 first-head (x ∷ k) t h = let s : x ≡ t = cc in ap (λ (v : TokenKind). v ∷ k) s
 
@@ -114,7 +111,7 @@ paren-parses : (d : ℕ) (deeper : Parsers) → ((c : Cursor) → Outcome (inner
 unfolding paren_by
 paren-parses zero deeper o c at_s h = paren-flat c h
 paren-parses (suc n) deeper o c at_s h =
-    rw (not-zero n) (finish (expression 16 (suc n)) (before (inner 0 (suc n)) sign_is.RightParen) c (after c) (e.Paren c.at)
+    rw (suc_zero_test n) (finish (expression 16 (suc n)) (before (inner 0 (suc n)) sign_is.RightParen) c (after c) (e.Paren c.at)
     (closed_by deeper.whole sign_is.RightParen (after c)) (paren-leads (suc n) c at_s h)
     (closed-parses (inner 0 (suc n)) deeper.whole (λ v k. closes sign_is.RightParen k refl) o (after c)))
 

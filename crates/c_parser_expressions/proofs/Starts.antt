@@ -8,9 +8,8 @@ use Rattle.c_syntax.specs.declared.token.TokenKind.TheVariants as kind
 use Rattle.c_syntax.specs.declared.expr.PrefixOperator.{PrefixOperator}
 use Rattle.c_syntax.specs.declared.expr.PrefixOperator.TheVariants as prefix
 use Rattle.c_syntax.specs.ExprTree as e
-use Rattle.c_syntax.specs.ExprTree.{ExprTree, ExprList, LinkList, PostfixList}
-use Rattle.c_syntax.specs.Spelling.{Kinds, expr_kinds, postfix_kinds, prefix_kinds, prefix_kind, prefix_of}
-use Rattle.c_syntax.specs.Shape.{rank, ShapedExpr}
+use Rattle.c_syntax.specs.Words.{ExprTree, ExprList, LinkList, PostfixList, Kinds, expr_kinds, postfix_kinds, prefix_kinds, prefix_kind, prefix_of, rank}
+use Rattle.c_syntax.specs.Words.{ShapedExpr}
 use Rattle.c_parser_expressions.specs.Reading.{Same, behind}
 use Rattle.c_parser_expressions.specs.ExpressionParser.{prefix_at}
 
@@ -55,13 +54,10 @@ starts-expr (e.Comma token (e.more_exprs x rest)) h = starts-more (expr_kinds x)
 starts-expr (e.Assign token s x y) h = starts-more _ _ (starts-more (expr_kinds x) _ (starts-expr x h.2))
 starts-expr (e.Conditional token x y z) h = starts-more _ _ (starts-more _ _ (starts-more _ _ (starts-more (expr_kinds x) _ (starts-expr x h.1))))
 starts-expr (e.Chain level x links) h = starts-more (expr_kinds x) _ (starts-expr x h.3)
-starts-expr (e.Cast token b stars x) h = refl
 starts-expr (e.Prefix token o x) h = starts-more (prefix_kinds o) (expr_kinds x) (starts-prefix o)
-starts-expr (e.SizeOfType token b stars) h = refl
 starts-expr (e.Postfix x operators) h = starts-more (expr_kinds x) _ (starts-expr x h.1)
 starts-expr (e.Strings token []) h = absurd h
-starts-expr (e.Strings token (p ∷ ps)) h = refl
-starts-expr _ h = refl
+starts-expr x h = refl
 
 -- the first token of an expression that no operator joins
 abbrev pub first_of : ExprTree → Option TokenKind

@@ -9,8 +9,7 @@ use Rattle.c_syntax.specs.declared.token.TokenKind.{TokenKind}
 use Rattle.c_syntax.specs.declared.token.TokenKind.TheVariants as kind
 use Rattle.c_syntax.specs.declared.parts.Base.{Base}
 use Rattle.c_syntax.specs.declared.parts.Base.TheVariants as base_is
-use Rattle.c_syntax.specs.Spelling.{Kinds, a_sign, a_word, base_kinds, star_kinds}
-use Rattle.c_syntax.specs.Place.{BaseAt}
+use Rattle.c_syntax.specs.Words.{Kinds, a_sign, a_word, base_kinds, star_kinds, BaseAt}
 use Rattle.c_parser_expressions.specs.Reading.{Cursor, Same, Found, Outcome, behind, after, sign_at, word_at, kind_word, seq, before, name}
 use Rattle.c_parser_expressions.specs.Marks.{stands, says}
 use Rattle.c_parser_expressions.specs.Steps.{the_name}

@@ -2,6 +2,7 @@
 use Rattle.std.proofs.Common.{◌≡◌, ℕ, zero, suc, ◌+◌, ◌≤◌, ◌<◌, nat_lt, if◌then◌else◌, inl, inr, Bool, true, false, [], ◌∷◌, ◌++◌}
 use Rattle.std.proofs.Common.{length, Option, Some, None, Ok, Err, refl, sym, ap, ◌∙◌, subst, append_assoc, arith}
 use Rattle.std.proofs.lemmas.Bool.{cases_Bool, cases_lt}
+use Rattle.base_lists.proofs.Numbers.{suc_zero_test}
 use Rattle.c_syntax.specs.declared.token.Sign.{Sign}
 use Rattle.c_syntax.specs.declared.token.Sign.TheVariants as sign_is
 use Rattle.c_syntax.specs.declared.token.Word.{Word}
@@ -12,18 +13,14 @@ use Rattle.c_syntax.specs.declared.parts.Base.{Base}
 use Rattle.c_syntax.specs.declared.expr.PrefixOperator.{PrefixOperator}
 use Rattle.c_syntax.specs.declared.expr.PrefixOperator.TheVariants as prefix
 use Rattle.c_syntax.specs.ExprTree as e
-use Rattle.c_syntax.specs.ExprTree.{ExprTree, PostfixList}
-use Rattle.c_syntax.specs.Spelling.{Kinds, a_sign, expr_kinds, postfix_kinds, base_kinds, star_kinds, prefix_kind, prefix_kinds}
-use Rattle.c_syntax.specs.Spelling.{prefix_of}
-use Rattle.c_syntax.specs.Shape.{rank, operand_rank, ShapedExpr}
-use Rattle.c_syntax.specs.Nesting.{expr_nesting}
-use Rattle.c_syntax.specs.Place.{BaseAt}
+use Rattle.c_syntax.specs.Words.{ExprTree, PostfixList, Kinds, a_sign, expr_kinds, postfix_kinds, base_kinds, star_kinds, prefix_kind, prefix_kinds, prefix_of}
+use Rattle.c_syntax.specs.Words.{rank, operand_rank, ShapedExpr, expr_nesting, BaseAt}
 use Rattle.c_parser_expressions.specs.Reading.{Cursor, Same, Rule, Found, Fails, Read, Outcome, behind, after, sign_at, before}
 use Rattle.c_parser_expressions.specs.Marks.{stands}
 use Rattle.c_parser_expressions.specs.Expressions.{sign_binds, binds, kind_binds, EndsAt, IsExpr, expression, IsInner, inner, type_name}
 use Rattle.c_parser_expressions.specs.ExpressionParser.{Parsers, is_base_word, begins_type, opens_type, closed_type, size_of_operand, size_of_type, size_of_paren}
 use Rattle.c_parser_expressions.specs.ExpressionParser.{size_of_by, prefix_by, prefix_at, operand_by, unary_of, unary_by, postfix_by}
-use Rattle.c_parser_expressions.proofs.Heads.{sign-head, same-sign, stands-sign, sign-stands, not-zero}
+use Rattle.c_parser_expressions.proofs.Heads.{sign-head, same-sign, stands-sign, sign-stands}
 use Rattle.c_parser_expressions.proofs.Laws.{Leads, leads-here, leads-outcome, finish}
 use Rattle.c_parser_expressions.proofs.Tokens.{fails-here}
 use Rattle.c_parser_expressions.proofs.TypeNames.{base-begins, closed-type-parses}
@@ -221,7 +218,7 @@ prefix-parses : (d : ℕ) (o : PrefixOperator) (r : ℕ) (f : Cursor → Read Ex
 unfolding prefix_by
 prefix-parses zero o r f ranked large small other parses c h = prefix-flat c o other h
 prefix-parses (suc n) o r f ranked large small other parses c h =
-    rw (not-zero n) (finish (expression 14 (suc n)) (inner r (suc n)) c (after c) (e.Prefix c.at o) (f (after c))
+    rw (suc_zero_test n) (finish (expression 14 (suc n)) (inner r (suc n)) c (after c) (e.Prefix c.at o) (f (after c))
     (prefix-leads (suc n) c o r ranked large small other h) (parses (after c)))
 
 prefix-same-at : (last at : ℕ) (ks k : Kinds) (o : PrefixOperator) → Same last at ks (prefix_kinds o ++ k) → prefix_at ks ≡ Some o

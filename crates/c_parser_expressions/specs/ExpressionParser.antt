@@ -12,10 +12,7 @@ use Rattle.c_syntax.specs.declared.parts.Base.TheVariants as base
 use Rattle.c_syntax.specs.declared.expr.PrefixOperator.{PrefixOperator}
 use Rattle.c_syntax.specs.declared.expr.PrefixOperator.TheVariants as prefix
 use Rattle.c_syntax.specs.ExprTree as e
-use Rattle.c_syntax.specs.ExprTree.{ExprTree, ExprList, LinkList, PostfixList}
-use Rattle.c_syntax.specs.Spelling.{Kinds, prefix_of}
-use Rattle.c_syntax.specs.Plain.{expr_list, link_list, postfix_list}
-use Rattle.c_syntax.specs.Shape.{level_of, is_assignment, rank}
+use Rattle.c_syntax.specs.Words.{ExprTree, ExprList, LinkList, PostfixList, Kinds, prefix_of, expr_list, link_list, postfix_list, level_of, is_assignment, rank}
 use Rattle.c_parser_expressions.specs.Reading.{Cursor, Read, first, behind, after, sign_at, word_at, text_at, kind_word}
 use Rattle.c_parser_expressions.specs.Marks.{stands, says}
 use Rattle.c_parser_expressions.specs.Steps.{◌>>=◌, Step, with_front, all_of, the_sign, the_name}

@@ -6,12 +6,10 @@ use Rattle.c_syntax.specs.declared.token.Word.TheVariants as word
 use Rattle.c_syntax.specs.declared.token.TokenKind.{TokenKind}
 use Rattle.c_syntax.specs.declared.token.TokenKind.TheVariants as kind
 use Rattle.c_syntax.specs.declared.parts.Base.{Base}
-use Rattle.c_syntax.specs.ExprTree.{ExprTree, ExprList, LinkList, PostfixList}
-use Rattle.c_syntax.specs.Spelling.{Kinds, a_sign, base_kinds, type_kinds, star_kinds, text_kinds, expr_kinds, exprs_kinds, more_exprs_kinds, link_kinds}
-use Rattle.c_syntax.specs.Spelling.{postfix_kinds}
-use Rattle.c_syntax.specs.Nesting.{expr_nesting, exprs_nesting, arguments_nesting, links_nesting, postfix_nesting}
-use Rattle.c_syntax.specs.Shape.{rank, HasExpr, ShapedExpr, ShapedExprs, ShapedLinks, ShapedPostfix}
-use Rattle.c_syntax.specs.Place.{BaseAt, ExprAt, ExprsAt, LinksAt, PostfixAt}
+use Rattle.c_syntax.specs.Words.{ExprTree, ExprList, LinkList, PostfixList, Kinds, a_sign, base_kinds, type_kinds, star_kinds, text_kinds, expr_kinds}
+use Rattle.c_syntax.specs.Words.{exprs_kinds, more_exprs_kinds, link_kinds, postfix_kinds, expr_nesting, exprs_nesting, arguments_nesting, links_nesting}
+use Rattle.c_syntax.specs.Words.{postfix_nesting, rank, HasExpr, ShapedExpr, ShapedExprs, ShapedLinks, ShapedPostfix, BaseAt, ExprAt, ExprsAt, LinksAt}
+use Rattle.c_syntax.specs.Words.{PostfixAt}
 use Rattle.c_parser_expressions.specs.Reading.{Rule, Any, sign_at, word_at}
 
 -- How closely a sign binds what stands before it: what can't end a part of rank r binds by more than r.

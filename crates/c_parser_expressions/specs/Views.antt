@@ -4,8 +4,7 @@ use Rattle.std.specs.Global.{Global}
 use Rattle.c_syntax.specs.declared.expr.Expr.{Expr}
 use Rattle.c_syntax.specs.declared.expr.Link.{Link}
 use Rattle.c_syntax.specs.declared.expr.PostfixOperator.{PostfixOperator}
-use Rattle.c_syntax.specs.ExprTree.{ExprTree, LinkList, PostfixList}
-use Rattle.c_syntax.specs.Plain.{plain_expr, plain_link, plain_postfix}
+use Rattle.c_syntax.specs.Words.{ExprTree, LinkList, PostfixList, plain_expr, plain_link, plain_postfix}
 
 abbrev pub plain_items : Vec Expr Global → List ExprTree
 plain_items v = map plain_expr v.items

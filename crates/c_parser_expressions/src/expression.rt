@@ -1,6 +1,5 @@
 ghost use Rattle.std.specs.Prelude.{◌≡◌, ◌≤◌, ◌-◌, ◌+◌, Some, true};
-ghost use Rattle.c_syntax.specs.Plain.{plain_expr, plain_postfix, plain_link};
-ghost use Rattle.c_syntax.specs.Spelling.{prefix_of};
+ghost use Rattle.c_syntax.specs.Words.{plain_expr, plain_postfix, plain_link, prefix_of};
 ghost use Rattle.c_syntax.specs.declared.expr.PrefixOperator.TheVariants as prefix;
 ghost use Rattle.c_syntax.specs.declared.token.Sign.TheVariants as sign_variant;
 ghost use Rattle.c_parser_expressions.specs.Reading.{sign_at};

@@ -1,8 +1,6 @@
 ghost use Rattle.std.specs.Prelude.{◌≡◌, ◌≤◌};
 ghost use Rattle.std.specs.Option.{option_copied};
-ghost use Rattle.c_syntax.specs.Plain.{plain_expr};
-ghost use Rattle.c_syntax.specs.Shape.{level_of, is_assignment, rank};
-ghost use Rattle.c_syntax.specs.Spelling.{prefix_of};
+ghost use Rattle.c_syntax.specs.Words.{plain_expr, level_of, is_assignment, rank, prefix_of};
 ghost use Rattle.c_syntax.specs.declared.token.TokenKind.TheVariants as kind;
 ghost use Rattle.c_parser_expressions.specs.ExpressionParser.{prefix_at, level_sign, postfix_sign, chooses, assignment_sign};
 

@@ -10,13 +10,10 @@ use Rattle.c_syntax.specs.declared.parts.Base.TheVariants as base_is
 use Rattle.c_syntax.specs.declared.parts.Bound.{Bound}
 use Rattle.c_syntax.specs.declared.parts.Members.{Members}
 use Rattle.c_syntax.specs.declared.parts.Params.{Params}
-use Rattle.c_syntax.specs.StatementTree.{InitialTree, StartTree, EntryList}
+use Rattle.c_syntax.specs.Words.{InitialTree, StartTree, EntryList, ItemTree, Kinds, a_sign, a_name, parenthesized, bound_kinds, base_kinds, star_kinds}
+use Rattle.c_syntax.specs.Words.{type_kinds, declarator_kinds, members_kinds, params_kinds, start_kinds, after_commas, body_kinds, item_kinds, deep}
+use Rattle.c_syntax.specs.Words.{entries_nesting, ShapedEntries, EachAt, MembersAt, BaseAt, ParamsAt, EntriesAt}
 use Rattle.c_syntax.specs.ItemTree as i
-use Rattle.c_syntax.specs.ItemTree.{ItemTree}
-use Rattle.c_syntax.specs.Spelling.{Kinds, a_sign, a_name, parenthesized, bound_kinds, base_kinds, star_kinds, type_kinds, declarator_kinds, members_kinds, params_kinds, start_kinds, after_commas, body_kinds, item_kinds}
-use Rattle.c_syntax.specs.Nesting.{deep, entries_nesting}
-use Rattle.c_syntax.specs.Shape.{ShapedEntries}
-use Rattle.c_syntax.specs.Place.{EachAt, MembersAt, BaseAt, ParamsAt, EntriesAt}
 use Rattle.c_parser_expressions.specs.Reading.{Cursor, Same, Rule, Found, Fails, Read, Outcome, seq, sign, name, after, sign_at}
 use Rattle.c_parser_expressions.specs.Marks.{stands}
 use Rattle.c_parser_expressions.specs.Steps.{◌>>=◌, with_front, all_of, the_sign, the_name}

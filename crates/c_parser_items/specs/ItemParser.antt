@@ -4,9 +4,8 @@ use Rattle.c_syntax.specs.declared.token.Sign.TheVariants as sign
 use Rattle.c_syntax.specs.declared.parts.Base.{Base}
 use Rattle.c_syntax.specs.declared.parts.Base.TheVariants as base
 use Rattle.c_syntax.specs.declared.parts.Bound.{Bound}
-use Rattle.c_syntax.specs.StatementTree.{InitialTree, StartTree, EntryList}
+use Rattle.c_syntax.specs.Words.{InitialTree, StartTree, EntryList, ItemTree}
 use Rattle.c_syntax.specs.ItemTree as i
-use Rattle.c_syntax.specs.ItemTree.{ItemTree}
 use Rattle.c_parser_expressions.specs.Reading.{Cursor, Read, after}
 use Rattle.c_parser_expressions.specs.Marks.{stands}
 use Rattle.c_parser_expressions.specs.Steps.{◌>>=◌, the_sign, the_name}

@@ -3,8 +3,8 @@ use Rattle.std.specs.Prelude.{ℕ, ◌+◌, ◌-◌, ◌≤◌, List, ◌++◌, 
 use Rattle.c_syntax.specs.declared.token.Sign.TheVariants as sign
 use Rattle.c_syntax.specs.declared.parts.Bound.{Bound}
 use Rattle.c_syntax.specs.declared.parts.Params.{Params}
-use Rattle.c_syntax.specs.StatementTree.{InitialTree, StartTree, EntryList}
-use Rattle.c_syntax.specs.Spelling.{Kinds, a_sign, optional, after_commas, bound_kinds, params_kinds, initial_kinds, start_kinds, body_kinds}
+use Rattle.c_syntax.specs.Words.{InitialTree, StartTree, EntryList, Kinds, a_sign, optional, after_commas, bound_kinds, params_kinds, initial_kinds}
+use Rattle.c_syntax.specs.Words.{start_kinds, body_kinds}
 use Rattle.c_parser_expressions.specs.Reading.{Rule, Any, seq, name}
 use Rattle.c_parser_expressions.specs.Expressions.{stars}
 use Rattle.c_parser_declarations.specs.Declarations.{initialised, starts_end}

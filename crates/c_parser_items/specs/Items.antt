@@ -1,11 +1,7 @@
 -- The rules of items.
 use Rattle.std.specs.Prelude.{◌≡◌, ℕ, ◌≤◌, List, []}
 use Rattle.std.specs.List.{AllByRecursion, flat_map}
-use Rattle.c_syntax.specs.ItemTree.{ItemTree}
-use Rattle.c_syntax.specs.Spelling.{Kinds, item_kinds}
-use Rattle.c_syntax.specs.Nesting.{deepest, item_nesting}
-use Rattle.c_syntax.specs.Shape.{ShapedItem}
-use Rattle.c_syntax.specs.Place.{EachAt, ItemAt}
+use Rattle.c_syntax.specs.Words.{ItemTree, Kinds, item_kinds, deepest, item_nesting, ShapedItem, EachAt, ItemAt}
 use Rattle.c_parser_expressions.specs.Reading.{Rule, Any}
 
 pub record IsItem (d at : ℕ) (x : ItemTree) : Type 0 where

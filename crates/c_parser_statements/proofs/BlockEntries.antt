@@ -8,10 +8,8 @@ use Rattle.c_syntax.specs.declared.token.TokenKind.TheVariants as kind
 use Rattle.c_syntax.specs.declared.parts.Base.{Base}
 use Rattle.c_syntax.specs.declared.parts.Base.TheVariants as base_is
 use Rattle.c_syntax.specs.StatementTree as s
-use Rattle.c_syntax.specs.StatementTree.{DeclarationTree, StatementTree, EntryList}
-use Rattle.c_syntax.specs.Plain.{entry_list}
-use Rattle.c_syntax.specs.Spelling.{Kinds, a_sign, base_kinds, declaration_kinds, with_commas, start_kinds, expr_kinds, statement_kinds, entry_kinds}
-use Rattle.c_syntax.specs.Shape.{ShapedStatement}
+use Rattle.c_syntax.specs.Words.{DeclarationTree, StatementTree, EntryList, entry_list, Kinds, a_sign, base_kinds, declaration_kinds, with_commas, start_kinds}
+use Rattle.c_syntax.specs.Words.{expr_kinds, statement_kinds, entry_kinds, ShapedStatement}
 use Rattle.c_parser_expressions.specs.Reading.{Cursor, Same, Rule, Read, Outcome, seq, sign, sign_at}
 use Rattle.c_parser_expressions.specs.Marks.{stands}
 use Rattle.c_parser_expressions.specs.Steps.{◌>>=◌, the_sign}

@@ -3,9 +3,7 @@ use Rattle.std.proofs.Common.{◌≡◌, ℕ, ◌+◌, ◌≤◌, true, false, �
 use Rattle.std.proofs.lemmas.List.{append-nil}
 use Rattle.c_syntax.specs.declared.token.Word.TheVariants as word_is
 use Rattle.c_syntax.specs.declared.token.TokenKind.TheVariants as kind
-use Rattle.c_syntax.specs.StatementTree.{StatementTree}
-use Rattle.c_syntax.specs.Spelling.{Kinds, a_word, statement_kinds}
-use Rattle.c_syntax.specs.Shape.{ends_open}
+use Rattle.c_syntax.specs.Words.{StatementTree, Kinds, a_word, statement_kinds, ends_open}
 use Rattle.c_parser_expressions.specs.Reading.{Cursor, Same, Found, Fails, after, behind, word_at}
 use Rattle.c_parser_statements.specs.Statements.{IsInnerStatement, NoElse, EndsStatement, inner_statement, EndsOtherwise, else_kinds, branches}
 use Rattle.c_parser_expressions.proofs.Heads.{word-head, same-word, word-same}

@@ -7,13 +7,9 @@ use Rattle.c_syntax.specs.declared.token.Sign.TheVariants as sign_is
 use Rattle.c_syntax.specs.declared.token.Word.TheVariants as word_is
 use Rattle.c_syntax.specs.declared.token.TokenKind.{TokenKind}
 use Rattle.c_syntax.specs.declared.token.TokenKind.TheVariants as kind
-use Rattle.c_syntax.specs.ExprTree.{ExprTree}
+use Rattle.c_syntax.specs.Words.{ExprTree, ForStartTree, DeclarationTree, Kinds, a_sign, optional, base_kinds, expr_kinds, for_start_kinds, declaration_kinds}
+use Rattle.c_syntax.specs.Words.{with_commas, start_kinds, deep, expr_nesting, ShapedExpr, ExprAt}
 use Rattle.c_syntax.specs.StatementTree as s
-use Rattle.c_syntax.specs.StatementTree.{ForStartTree, DeclarationTree}
-use Rattle.c_syntax.specs.Spelling.{Kinds, a_sign, optional, base_kinds, expr_kinds, for_start_kinds, declaration_kinds, with_commas, start_kinds}
-use Rattle.c_syntax.specs.Nesting.{deep, expr_nesting}
-use Rattle.c_syntax.specs.Shape.{ShapedExpr}
-use Rattle.c_syntax.specs.Place.{ExprAt}
 use Rattle.c_parser_expressions.specs.Reading.{Cursor, Same, Rule, Outcome, seq, before, sign, word, behind, sign_at, kind_word}
 use Rattle.c_parser_expressions.specs.Marks.{sign_mark, stands}
 use Rattle.c_parser_expressions.specs.Steps.{◌>>=◌, the_sign, the_word}

@@ -7,13 +7,9 @@ use Rattle.c_syntax.specs.declared.token.Word.{Word}
 use Rattle.c_syntax.specs.declared.token.Word.TheVariants as word_is
 use Rattle.c_syntax.specs.declared.token.TokenKind.{TokenKind}
 use Rattle.c_syntax.specs.declared.token.TokenKind.TheVariants as kind
-use Rattle.c_syntax.specs.ExprTree.{ExprTree}
+use Rattle.c_syntax.specs.Words.{ExprTree, StatementTree, EntryList, if_tree, Kinds, a_sign, a_word, optional, parenthesized, expr_kinds, for_start_kinds}
+use Rattle.c_syntax.specs.Words.{statement_kinds, ShapedExpr, ExprAt, ForStartAt, StatementAt}
 use Rattle.c_syntax.specs.StatementTree as s
-use Rattle.c_syntax.specs.StatementTree.{StatementTree, EntryList}
-use Rattle.c_syntax.specs.Plain.{if_tree}
-use Rattle.c_syntax.specs.Spelling.{Kinds, a_sign, a_word, optional, parenthesized, expr_kinds, for_start_kinds, statement_kinds}
-use Rattle.c_syntax.specs.Shape.{ShapedExpr}
-use Rattle.c_syntax.specs.Place.{ExprAt, ForStartAt, StatementAt}
 use Rattle.c_parser_expressions.specs.Reading.{Cursor, Same, Found, seq, before, sign, first, after, behind, sign_at, word_at}
 use Rattle.c_parser_expressions.specs.Expressions.{IsExpr, expression}
 use Rattle.c_parser_statements.specs.StatementParser.{Header}

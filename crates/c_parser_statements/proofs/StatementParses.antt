@@ -5,12 +5,8 @@ use Rattle.c_syntax.specs.declared.token.Sign.TheVariants as sign_is
 use Rattle.c_syntax.specs.declared.token.Word.TheVariants as word_is
 use Rattle.c_syntax.specs.declared.token.TokenKind.{TokenKind}
 use Rattle.c_syntax.specs.declared.token.TokenKind.TheVariants as kind
-use Rattle.c_syntax.specs.ExprTree.{ExprTree}
+use Rattle.c_syntax.specs.Words.{ExprTree, StatementTree, if_tree, Kinds, statement_kinds, ends_open}
 use Rattle.c_syntax.specs.StatementTree as s
-use Rattle.c_syntax.specs.StatementTree.{StatementTree}
-use Rattle.c_syntax.specs.Plain.{if_tree}
-use Rattle.c_syntax.specs.Spelling.{Kinds, statement_kinds}
-use Rattle.c_syntax.specs.Shape.{ends_open}
 use Rattle.c_parser_expressions.specs.Reading.{Cursor, Same, Found, Fails, Read, Outcome, before, sign, first, after, behind, sign_at, word_at}
 use Rattle.c_parser_expressions.specs.Marks.{says}
 use Rattle.c_parser_expressions.specs.Steps.{◌>>=◌, the_sign}

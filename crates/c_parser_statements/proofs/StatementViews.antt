@@ -1,14 +1,14 @@
 -- What the code's statements are as trees, and what lies one deeper.
 use Rattle.std.proofs.Common.{◌≡◌, ℕ, zero, suc, ◌-◌, false, Option, Some, None, Ok, Err, Box, refl, ap, sym, ◌∙◌, arith}
 use Rattle.std.specs.Global.{Global}
+use Rattle.base_lists.proofs.Numbers.{suc_zero_test}
 use Rattle.c_syntax.specs.declared.token.Sign.TheVariants as sign_is
 use Rattle.c_syntax.specs.declared.expr.Expr.{Expr}
 use Rattle.c_syntax.specs.declared.statement.Entry.TheVariants as entry
 use Rattle.c_syntax.specs.declared.statement.Statement.{Statement}
 use Rattle.c_syntax.specs.declared.statement.Statement.TheVariants as statement
 use Rattle.c_syntax.specs.StatementTree as s
-use Rattle.c_syntax.specs.StatementTree.{EntryList}
-use Rattle.c_syntax.specs.Plain.{plain_expr, plain_entry, plain_statement, plain_second, if_tree}
+use Rattle.c_syntax.specs.Words.{EntryList, plain_expr, plain_entry, plain_statement, plain_second, if_tree}
 use Rattle.c_syntax.proofs.PlainStatements.{plain_if, plain_if_else, plain_stated}
 use Rattle.c_parser_expressions.specs.declared.stop.Stop.{Stop}
 use Rattle.c_parser_expressions.specs.declared.stop.Stop.TheVariants as stop
@@ -17,7 +17,6 @@ use Rattle.c_parser_expressions.specs.Marks.{stands}
 use Rattle.c_parser_expressions.specs.Steps.{Gives, Step}
 use Rattle.c_parser_expressions.specs.ExpressionParser.{begins_type}
 use Rattle.c_parser_statements.specs.StatementParser.{Header, header_by, for_by, entry_by, entry_step, statement_by, statements, statements_below}
-use Rattle.c_parser_expressions.proofs.Heads.{not-zero}
 
 pub plain_if_either : (token : ℕ) (condition : Expr) (first : Box Statement Global) (second : Option (Box Statement Global)) →
     plain_statement (statement.If token condition first second) ≡ if_tree token (plain_expr condition) (plain_statement first.value) (plain_second second)
@@ -44,7 +43,7 @@ unfolding for_by
 for_stops zero c mid h i ne head body = absurd (ne refl)
 for_stops (suc n) c mid h i ne head body =
     let deeper : statements_below (suc n) mid ≡ Err i = below (suc n) mid ne ∙ body in
-    rw (not-zero n, head, deeper) refl
+    rw (suc_zero_test n, head, deeper) refl
 
 pub for_err : (d : ℕ) (c mid later end : Cursor) (h : Header) (w : Stop) → (d ≡ 0 → ⊥) → header_by d (after c) ≡ Ok (h, mid)
     → Gives plain_statement (Err w) later (statements (d - 1) mid) → Gives plain_statement (Err w) end (for_by d (statements_below d) c)
@@ -58,5 +57,5 @@ unfolding entry_step entry_by
 entry_stated zero c to x brace ne type read = absurd (ne refl)
 entry_stated (suc n) c to x brace ne type read =
     let deeper : statements_below (suc n) c ≡ Ok (plain_statement x, to) = below (suc n) c ne ∙ read in
-    let step : entry_step (suc n) (statements_below (suc n)) c ≡ Some (Ok (s.stated (plain_statement x), to)) = rw (brace, not-zero n, type, deeper) refl in
+    let step : entry_step (suc n) (statements_below (suc n)) c ≡ Some (Ok (s.stated (plain_statement x), to)) = rw (brace, suc_zero_test n, type, deeper) refl in
     step ∙ ap {B = Step (EntryList → EntryList)} (λ (f : EntryList → EntryList). Some (Ok (f, to))) (sym (plain_stated x))

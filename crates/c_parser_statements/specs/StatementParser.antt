@@ -5,10 +5,8 @@ use Rattle.c_syntax.specs.declared.token.Sign.TheVariants as sign
 use Rattle.c_syntax.specs.declared.token.Word.TheVariants as word
 use Rattle.c_syntax.specs.declared.token.TokenKind.{TokenKind}
 use Rattle.c_syntax.specs.declared.token.TokenKind.TheVariants as kind
-use Rattle.c_syntax.specs.ExprTree.{ExprTree}
+use Rattle.c_syntax.specs.Words.{ExprTree, ForStartTree, StatementTree, EntryList, entry_list, if_tree}
 use Rattle.c_syntax.specs.StatementTree as s
-use Rattle.c_syntax.specs.StatementTree.{ForStartTree, StatementTree, EntryList}
-use Rattle.c_syntax.specs.Plain.{entry_list, if_tree}
 use Rattle.c_parser_expressions.specs.Reading.{Cursor, Read, first, after}
 use Rattle.c_parser_expressions.specs.Marks.{stands, says}
 use Rattle.c_parser_expressions.specs.Steps.{◌>>=◌, Step, all_of, the_sign, the_word}

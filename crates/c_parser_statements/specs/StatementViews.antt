@@ -2,8 +2,7 @@
 use Rattle.std.specs.Prelude.{Vec, List, map, option_map}
 use Rattle.std.specs.Global.{Global}
 use Rattle.c_syntax.specs.declared.statement.Entry.{Entry}
-use Rattle.c_syntax.specs.StatementTree.{EntryList}
-use Rattle.c_syntax.specs.Plain.{plain_expr, plain_for_start, plain_entry, entry_list}
+use Rattle.c_syntax.specs.Words.{EntryList, plain_expr, plain_for_start, plain_entry, entry_list}
 use Rattle.c_parser_statements.specs.declared.statement.ForHeader as code
 use Rattle.c_parser_statements.specs.StatementParser.{Header}
 

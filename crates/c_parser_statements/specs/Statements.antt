@@ -3,12 +3,9 @@ use Rattle.std.specs.Prelude.{◌≡◌, ℕ, ◌+◌, ◌≤◌, ◌<◌, true,
 use Rattle.c_syntax.specs.declared.token.Sign.{Sign}
 use Rattle.c_syntax.specs.declared.token.Sign.TheVariants as sign
 use Rattle.c_syntax.specs.declared.token.Word.TheVariants as word
-use Rattle.c_syntax.specs.ExprTree.{ExprTree}
-use Rattle.c_syntax.specs.StatementTree.{ForStartTree, StatementTree, EntryList}
-use Rattle.c_syntax.specs.Spelling.{Kinds, a_sign, a_word, optional, parenthesized, expr_kinds, for_start_kinds, statement_kinds, entry_kinds}
-use Rattle.c_syntax.specs.Nesting.{for_start_nesting, statement_nesting, entries_nesting}
-use Rattle.c_syntax.specs.Shape.{ShapedForStart, ends_open, ShapedStatement, ShapedEntries}
-use Rattle.c_syntax.specs.Place.{ForStartAt, StatementAt, EntriesAt}
+use Rattle.c_syntax.specs.Words.{ExprTree, ForStartTree, StatementTree, EntryList, Kinds, a_sign, a_word, optional, parenthesized, expr_kinds, for_start_kinds}
+use Rattle.c_syntax.specs.Words.{statement_kinds, entry_kinds, for_start_nesting, statement_nesting, entries_nesting, ShapedForStart, ends_open}
+use Rattle.c_syntax.specs.Words.{ShapedStatement, ShapedEntries, ForStartAt, StatementAt, EntriesAt}
 use Rattle.c_parser_expressions.specs.Reading.{Rule, Any, word_at}
 use Rattle.c_parser_expressions.specs.Expressions.{IsExpr}
 use Rattle.c_parser_statements.specs.StatementParser.{Header}

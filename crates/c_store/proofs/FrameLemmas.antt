@@ -3,9 +3,8 @@ use Rattle.std.proofs.Common.{◌≡◌, ℕ, zero, suc, ◌+◌, List, [], ◌�
 use Rattle.std.specs.Option.{option_and_then}
 use Rattle.cbi_base.specs.declared.scalar.Class.TheVariants.{Local}
 use Rattle.cbi_base.specs.declared.scalar.Scalar.{Scalar}
-use Rattle.cbi_base.specs.Objects.{Objects, made_with, killed}
+use Rattle.cbi_base.specs.Words.{Objects, made_with, killed, first_cells, all_made, all_killed}
 use Rattle.c_store.specs.declared.objects.Made.TheVariants as made
-use Rattle.cbi_base.specs.Frames.{first_cells, all_made, all_killed}
 use Rattle.c_store.specs.Made.{IsMade, cells_at_start}
 use Rattle.c_store.proofs.Sums.{remove-remove}
 

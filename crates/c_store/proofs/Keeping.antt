@@ -6,8 +6,11 @@ use Rattle.std.specs.Cmp.{nat_cmp_total, unsigned_tied}
 use Rattle.std.specs.FinMap.{FinMap, empty, entries, len-entries, len-empty, get-empty, get, insert, remove, get-insert, get-remove}
 use Rattle.std.proofs.lemmas.Bool.Decides.{nat_tests}
 use Rattle.std.proofs.lemmas.List.{length-map}
-use Rattle.cbi_base.specs.Objects.{Object, Objects, live_cells, cell_limit, object_limit, no_objects, has_room, with_object, undefined_in, cleared, killed}
-use Rattle.cbi_base.specs.Objects.{is_text}
+use Rattle.base_lists.proofs.Tests.{no_choice, true_both}
+use Rattle.base_lists.proofs.Numbers.{more_apart, same_number}
+use Rattle.base_lists.proofs.Maps.{sum_insert}
+use Rattle.cbi_base.specs.Words.{Object, Objects, live_cells, cell_limit, object_limit, no_objects, has_room, with_object, undefined_in, cleared, killed}
+use Rattle.cbi_base.specs.Words.{is_text, filled}
 use Rattle.cbi_base.specs.declared.scalar.Scalar.{Scalar}
 use Rattle.cbi_base.specs.declared.scalar.Scalar.TheVariants.{Undefined}
 use Rattle.cbi_base.specs.declared.trap.Trap.{Trap}
@@ -15,9 +18,8 @@ use Rattle.cbi_base.specs.declared.trap.Trap.TheVariants as trap
 use Rattle.c_store.specs.Written.{with_each, with_cell, put_back, stored_in, filled_map, after}
 use Rattle.c_store.specs.Kept.{AreObjectsKept}
 use Rattle.cbi_base.specs.Frames as frames
-use Rattle.cbi_base.specs.Frames.{filled}
 use Rattle.c_store.specs.Made.{undone}
-use Rattle.c_store.proofs.Sums.{sum-insert, sum-remove, sum-replace, remove-insert, remove_none, gone}
+use Rattle.c_store.proofs.Sums.{sum-remove, sum-replace, remove-insert, remove_none, gone}
 
 nothing : (es : List (ℕ × Object)) → length es ≡ 0 → sum_by (λ o. length o.cells) (map (λ e. e.1) es) ≡ 0
 nothing [] none = refl
@@ -32,23 +34,16 @@ kept_at_start =
       fresh = λ q h. get-empty nat_cmp q;
     }
 
-other : (q k : ℕ) → k < q → (q == k) ≡ false
-other q k h = grind (arith, nat_tests)
-
-hidden : {A : Type 0} (b : Bool) (x : A) (o : Option A) → b ≡ false → o ≡ None → cond b (Some x) o ≡ None
-hidden true x o is none = cc
-hidden false x o is none = none
-
 pub kept_by_make : (cells : ℕ) (o : Objects) (k : AreObjectsKept cells o) (object : Object) (n : ℕ) → length object.cells ≡ n → cells + n ≤ cell_limit →
     o.made < object_limit →
     AreObjectsKept (cells + n) (record { made = o.made + 1; live = insert o.live o.made object })
 kept_by_make cells o k object n long room more =
     record {
-      counted = let sum = sum-insert (λ o. length o.cells) o.live o.made object (k.fresh o.made (omega arith)) in omega (arith, k.counted, sum, long);
+      counted = let sum = sum_insert (λ o. length o.cells) o.live o.made object (k.fresh o.made (omega arith)) in omega (arith, k.counted, sum, long);
       room = room;
       numbers = omega arith;
       fresh = λ q h. get-insert nat_cmp_total o.live o.made object q
-          ∙ hidden (eq_by_cmp nat_cmp q o.made) object (get o.live q) (unsigned_tied q o.made ∙ other q o.made (omega arith)) (k.fresh q (omega arith));
+          ∙ no_choice (eq_by_cmp nat_cmp q o.made) object (get o.live q) (unsigned_tied q o.made ∙ more_apart q o.made (omega arith)) (k.fresh q (omega arith));
     }
 
 none_left : {A : Type 0} (b : Bool) (o : Option A) → o ≡ None → cond b None o ≡ None
@@ -69,9 +64,6 @@ absent : {A : Type 0} (b : Bool) (x : A) (o : Option A) (p : b ≡ true → o �
 absent true x o p none = absurd (p refl none)
 absent false x o p none = none
 
-same_number : (q k : ℕ) → (q == k) ≡ true → q ≡ k
-same_number q k is = grind (arith, nat_tests)
-
 -- a live object with as many cells as before
 pub kept_by_change : (cells : ℕ) (o : Objects) (k : AreObjectsKept cells o) (number : ℕ) (old object : Object) → get o.live number ≡ Some old →
     length object.cells ≡ length old.cells →
@@ -83,7 +75,7 @@ kept_by_change cells o k number old object at long =
       numbers = k.numbers;
       fresh = λ q h. get-insert nat_cmp_total o.live number object q
           ∙ absent (eq_by_cmp nat_cmp q number) object (get o.live q)
-          (λ is none. let same : q ≡ number = same_number q number (sym (unsigned_tied q number) ∙ is) in let both : Some old ≡ None = sym at
+          (λ is none. let same : q ≡ number = same_number q number (sym (unsigned_tied q number) ∙ is) in let true_both : Some old ≡ None = sym at
           ∙ ap (get o.live) (sym same) ∙ none in cc)
           (k.fresh q h);
     }
@@ -149,13 +141,10 @@ kept_by_undo cells o k none =
       fresh = λ q least. last_or_fresh cells o k q none least;
     }
 
-both : (a b : Bool) → IsTrue (a && b) → IsTrue a × IsTrue b
-both a b p = grind arith
-
 -- what room for one more object means
 pub room_parts : (cells : ℕ) (o : Objects) → IsTrue (has_room cells o) → (live_cells o + cells ≤ cell_limit) × (o.made < object_limit)
 room_parts cells o room =
-    let parts = both (nat_le (live_cells o + cells) cell_limit) (nat_lt o.made object_limit) room in
+    let parts = true_both (nat_le (live_cells o + cells) cell_limit) (nat_lt o.made object_limit) room in
     (grind (arith, nat_tests, parts.0), grind (arith, nat_tests, parts.1))
 
 -- an object that was just made is undone

@@ -20,9 +20,7 @@ undefined_unwanted want.Pointer = refl
 
 wanted_found : (w : Want) (value : Scalar) → is_wanted w value ≡ true → found_cell w (Some value) ≡ Ok value
 wanted_found w Undefined is = absurd (let no : true ≡ false = sym is ∙ undefined_unwanted w in cc)
-wanted_found w (Number kind value) is = ap (λ b. if b then Ok (Number kind value) else Err trap.WrongKind) is
-wanted_found w (Place object offset) is = ap (λ b. if b then Ok (Place object offset) else Err trap.WrongKind) is
-wanted_found w Null is = ap (λ b. if b then Ok Null else Err trap.WrongKind) is
+wanted_found w value is = ap (λ b. if b then Ok value else Err trap.WrongKind) is
 
 in_object : (w : Want) (offset : ℕ) (value : Scalar) (object : Option Object) → option_and_then (λ o. slice_get o.cells offset) object ≡ Some value →
     is_wanted w value ≡ true →

@@ -51,22 +51,14 @@ both_live (Some a) (Some b) same i j f = chosen same i j f
 pub by_offsets : {A : Type 0} (left right : Scalar) (o : Objects) (f : ℕ → ℕ → Result A Trap) →
     within_one left right o f ≡ (offsets left right o >>= λ p. f p.0 p.1)
 by_offsets (Place n i) (Place m j) o f = both_live (get o.live n) (get o.live m) (n == m) i j f
-by_offsets (Place n i) (Number l w) o f = refl
-by_offsets (Place n i) Null o f = refl
-by_offsets (Place n i) Undefined o f = refl
-by_offsets (Number k v) right o f = refl
-by_offsets Null right o f = refl
-by_offsets Undefined right o f = refl
+by_offsets left right o f = refl
 
 ordered : (order : Order) (left right : Scalar) (o : Objects) → (order ≡ Eq → ⊥) → (order ≡ Ne → ⊥) →
     compared order left right o ≡ of_pointers left right (within_one left right o (λ i j. Ok (in_order order i j)))
 unfolding compared
-ordered Lt left right o eq ne = refl
-ordered Le left right o eq ne = refl
-ordered Gt left right o eq ne = refl
-ordered Ge left right o eq ne = refl
 ordered Eq left right o eq ne = absurd (eq refl)
 ordered Ne left right o eq ne = absurd (ne refl)
+ordered order left right o eq ne = refl
 
 pub compared_by : (order : Order) (left right : Scalar) (o : Objects) (r : Result (ℕ × ℕ) Trap) → (order ≡ Eq → ⊥) → (order ≡ Ne → ⊥) →
     checked left right ≡ Ok (tt {0}) →
@@ -84,6 +76,3 @@ difference_by left right size o r two is =
     of_two left right (within_one left right o (λ i j. elements size (pos i -ℤ pos j))) two
     ∙ by_offsets left right o (λ i j. elements size (pos i -ℤ pos j))
     ∙ ap (λ x. x >>= λ p. elements size (pos p.0 -ℤ pos p.1)) (sym is)
-
-both : (a b : Bool) → IsTrue a → IsTrue b → IsTrue (a && b)
-both a b p q = grind arith

@@ -5,6 +5,7 @@ use Rattle.std.proofs.lemmas.List.Edits.{get_or-remove_below, get_or-remove_abov
 use Rattle.std.specs.List.{zip, remove}
 use Rattle.std.specs.Map.{lookup}
 use Rattle.std.proofs.lemmas.Bool.Decides.{nat_tests}
+use Rattle.base_lists.proofs.Numbers.{equal_number}
 use Rattle.c_store.specs.Stacked.{IsRising}
 
 -- what is there, or else what stands behind it
@@ -18,9 +19,6 @@ differs q n h = grind (arith, nat_tests)
 
 agrees : (q n : ℕ) → n ≡ q → nat_eq q n ≡ true
 agrees q n h = grind (arith, nat_tests)
-
-equal : (q n : ℕ) → nat_eq q n ≡ true → q ≡ n
-equal q n h = grind (arith, nat_tests)
 
 pub hit : {X : Type 0} (ns : List ℕ) (bs : List X) (i q : ℕ) → ((k : ℕ) → k < i → get_or ns k 0 ≡ q → ⊥) → i < length ns → get_or ns i 0 ≡ q →
     lookup (nat_eq q) (zip ns bs) ≡ slice_get bs i
@@ -76,7 +74,7 @@ removed_there [] bs i k q alone within at even = absurd (omega arith)
 removed_there (n ∷ ns) [] i k q alone within at even = absurd (omega arith)
 removed_there (n ∷ ns) (b ∷ bs) zero k q alone within at even =
     gone (nat_eq q n) (nat_eq k q) b (lookup (nat_eq q) (zip ns bs)) (grind (arith, nat_tests))
-    (λ is. miss ns bs q (λ j below same. let there : suc j ≡ 0 = alone (suc j) (omega arith) (same ∙ sym (equal k q is)) in omega arith))
+    (λ is. miss ns bs q (λ j below same. let there : suc j ≡ 0 = alone (suc j) (omega arith) (same ∙ sym (equal_number k q is)) in omega arith))
 removed_there (n ∷ ns) (b ∷ bs) (suc i) k q alone within at even =
     ap (cond (nat_eq q n) (Some b)) (removed_there ns bs i k q (λ j below same. let there : suc j ≡ suc i =
     alone (suc j) (omega arith) same in omega arith) (omega arith) at (omega arith))

@@ -10,6 +10,7 @@ use Rattle.std.proofs.lemmas.List.Sorted.{searched}
 use Rattle.std.specs.FinMap as map
 use Rattle.std.proofs.lemmas.Bool.Decides.{nat_tests}
 use Rattle.std.proofs.lemmas.List.Edits.{length-remove, get_or-remove_below, get_or-remove_above}
+use Rattle.base_lists.proofs.Numbers.{equal_number}
 use Rattle.cbi_base.specs.Objects.{Object}
 use Rattle.c_store.specs.Stacked.{IsRising, IsBelow, StandsAt, IsMissing, IsApart, IsStacked, map_of}
 use Rattle.c_store.specs.Written.{with_each, written_at, put_back, stored_in, filled_map, after}
@@ -89,9 +90,6 @@ second_changes : {X : Type 0} (t : Bool) (w : Option X) (s h : Option X) → (t 
 second_changes true w s h none = ap (λ o. or_else o w) (none refl)
 second_changes false w s h none = refl
 
-same_number : (k q : ℕ) → nat_eq k q ≡ true → k ≡ q
-same_number k q is = grind (arith, nat_tests)
-
 pub set_in_order : (ns : List ℕ) (bs : List Object) (es : List (ℕ × Object)) (k i : ℕ) (w : Object) → IsStacked ns bs es → StandsAt ns k i →
     map_of ns (slice_set bs i w) es ≡ map.insert (map_of ns bs es) k w
 set_in_order ns bs es k i w kept there =
@@ -108,7 +106,7 @@ removed_in_order ns bs es k i kept there =
     behind (remove ns i) (remove bs i) es q
     ∙ ap (λ o. or_else o (lookup (nat_eq q) es)) (removed_there ns bs i k q (alone ns k i kept.rising there) there.within there.at kept.even)
     ∙ first_goes (nat_eq k q) (lookup (nat_eq q) (zip ns bs)) (lookup (nat_eq q) es)
-    (λ is. subst (λ n. lookup (nat_eq n) es ≡ None) (same_number k q is) (not_apart ns es k i kept.apart there))
+    (λ is. subst (λ n. lookup (nat_eq n) es ≡ None) (equal_number k q is) (not_apart ns es k i kept.apart there))
     ∙ ap (cond (nat_eq k q) None) (sym (behind ns bs es q)))
 
 left_apart : (ns : List ℕ) (es : List (ℕ × Object)) (i k : ℕ) → IsApart ns es → i < length ns → k + 1 < length ns →
@@ -178,7 +176,7 @@ set_apart ns bs es fs k w missing h =
     behind ns bs fs q
     ∙ ap (or_else (lookup (nat_eq q) (zip ns bs))) (h q)
     ∙ second_changes (nat_eq k q) (Some w) (lookup (nat_eq q) (zip ns bs)) (lookup (nat_eq q) es)
-    (λ is. subst (λ n. lookup (nat_eq n) (zip ns bs) ≡ None) (same_number k q is) (miss ns bs k missing.nowhere))
+    (λ is. subst (λ n. lookup (nat_eq n) (zip ns bs) ≡ None) (equal_number k q is) (miss ns bs k missing.nowhere))
     ∙ ap (cond (nat_eq k q) (Some w)) (sym (behind ns bs es q)))
 
 pub removed_apart : (ns : List ℕ) (bs : List Object) (es fs : List (ℕ × Object)) (k : ℕ) → IsMissing ns k →
@@ -188,7 +186,7 @@ removed_apart ns bs es fs k missing h =
     behind ns bs fs q
     ∙ ap (or_else (lookup (nat_eq q) (zip ns bs))) (h q)
     ∙ second_changes (nat_eq k q) None (lookup (nat_eq q) (zip ns bs)) (lookup (nat_eq q) es)
-    (λ is. subst (λ n. lookup (nat_eq n) (zip ns bs) ≡ None) (same_number k q is) (miss ns bs k missing.nowhere))
+    (λ is. subst (λ n. lookup (nat_eq n) (zip ns bs) ≡ None) (equal_number k q is) (miss ns bs k missing.nowhere))
     ∙ ap (cond (nat_eq k q) None) (sym (behind ns bs es q)))
 
 still_none : (k n : ℕ) (w : Option Object) (o : Option Object) → (n ≡ k → ⊥) → o ≡ None → cond (nat_eq k n) w o ≡ None
@@ -267,10 +265,6 @@ stored_none m k offset value at = ap (λ o. stored_in k offset value o m) at
 -- what is put where it stands already changes nothing
 pub unchanged : (m n : map.FinMap nat_cmp Object) (k : ℕ) (b w : Object) → map.get m k ≡ Some b → w ≡ b → n ≡ map.insert m k w → n ≡ m
 unchanged m n k b w at same becomes = becomes ∙ ap (map.insert m k) same ∙ same_put m k b at
-
-pub on_err : {A E P Q : Type 0} (r : Result A E) → (P → Q) → OnErr r P → OnErr r Q
-on_err (Ok value) f p = p
-on_err (Err e) f p = f p
 
 pub heap_there : (ns : List ℕ) (bs : List Object) (es : List (ℕ × Object)) (q : ℕ) (b : Object) → IsStacked ns bs es →
     lookup (nat_eq q) es ≡ Some b → map.get (map_of ns bs es) q ≡ Some b

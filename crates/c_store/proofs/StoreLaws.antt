@@ -6,6 +6,7 @@ use Rattle.std.specs.Cmp.{nat_cmp_total, unsigned_tied}
 use Rattle.std.specs.Option.{option_and_then}
 use Rattle.std.specs.FinMap.{FinMap, get, insert, get-insert}
 use Rattle.std.proofs.lemmas.Bool.Decides.{nat_tests}
+use Rattle.base_lists.proofs.Numbers.{key_apart, key_itself}
 use Rattle.cbi_base.specs.declared.scalar.Scalar.{Scalar}
 use Rattle.cbi_base.specs.declared.scalar.Scalar.TheVariants.{Number, Place, Null, Undefined}
 use Rattle.cbi_base.specs.declared.scalar.Want.{Want}
@@ -41,11 +42,7 @@ by_object number offset value o p (Some object) there is =
 was_stored : (number offset : ℕ) (value : Scalar) (o p : Objects) → stored (Place number offset) value o ≡ Ok p → IsStored number offset value o p
 unfolding stored
 was_stored number offset Undefined o p is = absurd cc
-was_stored number offset (Number kind v) o p is =
-    by_object number offset (Number kind v) o p (get o.live number) refl (sym (stored_place number offset (Number kind v) o (λ no. cc)) ∙ is)
-was_stored number offset (Place n i) o p is =
-    by_object number offset (Place n i) o p (get o.live number) refl (sym (stored_place number offset (Place n i) o (λ no. cc)) ∙ is)
-was_stored number offset Null o p is = by_object number offset Null o p (get o.live number) refl (sym (stored_place number offset Null o (λ no. cc)) ∙ is)
+was_stored number offset value o p is = by_object number offset value o p (get o.live number) refl (sym (stored_place number offset value o (λ no. cc)) ∙ is)
 
 set_here : (cells : List Scalar) (i : ℕ) (value : Scalar) → i < length cells → slice_get (slice_set cells i value) i ≡ Some value
 set_here [] i value within = absurd (omega arith)
@@ -53,23 +50,15 @@ set_here (c ∷ cells) zero value within = refl
 set_here (c ∷ cells) (suc i) value within = set_here cells i value (omega arith)
 
 set_elsewhere : (cells : List Scalar) (i j : ℕ) (value : Scalar) → (j ≡ i → ⊥) → slice_get (slice_set cells i value) j ≡ slice_get cells j
-set_elsewhere [] i j value other = refl
 set_elsewhere (c ∷ cells) zero zero value other = absurd (other refl)
-set_elsewhere (c ∷ cells) zero (suc j) value other = refl
-set_elsewhere (c ∷ cells) (suc i) zero value other = refl
 set_elsewhere (c ∷ cells) (suc i) (suc j) value other = set_elsewhere cells i j value (λ same. other (ap suc same))
-
-itself : (k : ℕ) → eq_by_cmp nat_cmp k k ≡ true
-itself k = unsigned_tied k k ∙ grind (arith, nat_tests)
-
-another : (j k : ℕ) → (j ≡ k → ⊥) → eq_by_cmp nat_cmp j k ≡ false
-another j k other = unsigned_tied j k ∙ grind (arith, nat_tests)
+set_elsewhere cells i j value other = refl
 
 get_same : (m : FinMap nat_cmp Object) (k : ℕ) (b : Object) → get (insert m k b) k ≡ Some b
-get_same m k b = get-insert nat_cmp_total m k b k ∙ ap (λ t. cond t (Some b) (get m k)) (itself k)
+get_same m k b = get-insert nat_cmp_total m k b k ∙ ap (λ t. cond t (Some b) (get m k)) (key_itself k)
 
 get_other : (m : FinMap nat_cmp Object) (j k : ℕ) (b : Object) → (j ≡ k → ⊥) → get (insert m k b) j ≡ get m j
-get_other m j k b other = get-insert nat_cmp_total m k b j ∙ ap (λ t. cond t (Some b) (get m j)) (another j k other)
+get_other m j k b other = get-insert nat_cmp_total m k b j ∙ ap (λ t. cond t (Some b) (get m j)) (key_apart j k other)
 
 -- a load finds what was stored
 pub stored_found : (number offset : ℕ) (value : Scalar) (o p : Objects) (w : Want) → stored (Place number offset) value o ≡ Ok p →

@@ -29,9 +29,7 @@ pub stored_place : (number offset : ℕ) (value : Scalar) (o : Objects) → (val
     stored (Place number offset) value o ≡ with_live o (stored_in number offset value (get o.live number) o.live)
 unfolding stored
 stored_place number offset Undefined o defined = absurd (defined refl)
-stored_place number offset (Number kind v) o defined = by_object number offset (Number kind v) o (get o.live number)
-stored_place number offset (Place n at) o defined = by_object number offset (Place n at) o (get o.live number)
-stored_place number offset Null o defined = by_object number offset Null o (get o.live number)
+stored_place number offset value o defined = by_object number offset value o (get o.live number)
 
 pub lifted : {A : Type 0} (o : Objects) (r : Result A Trap) (m : FinMap nat_cmp Object) → with_live o (after r m) ≡ after r (record o { live = m })
 lifted o (Ok done) m = refl

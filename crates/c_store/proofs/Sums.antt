@@ -10,29 +10,11 @@ use Rattle.std.specs.FinMap.{nat_cmp-IsAntisymmetric}
 use Rattle.std.specs.FinMap.Entries.{find, put, by_order}
 use Rattle.std.proofs.lemmas.List.Sums.{sum_by-cons}
 use Rattle.std.proofs.lemmas.Bool.Decides.{nat_tests}
-
-sum-put : {X : Type 0} (f : X → ℕ) (k : ℕ) (v : X) (es : List (ℕ × X)) → find nat_cmp k es ≡ None →
-    sum_by f (map (λ e. e.1) (put nat_cmp k v es)) ≡ sum_by f (map (λ e. e.1) es) + f v
-sum-put f k v [] none = sum_by-cons f v [] ∙ omega arith
-sum-put {X = X} f k v (e ∷ es) none =
-    elim (nat_cmp k e.0) as (λ (o : Ordering). nat_cmp k e.0 ≡ o → cond (is_eq o) (Some e.1) (find nat_cmp k es) ≡ None →
-    sum_by f (map (λ e. e.1) (by_order o ((k, v) ∷ e ∷ es) ((e.0, v) ∷ es) (e ∷ put nat_cmp k v es))) ≡ sum_by f (e.1 ∷ map (λ e. e.1) es) + f v) [
-      | Less ↦ λ is n. sum_by-cons f v (e.1 ∷ map (λ e. e.1) es) ∙ omega arith
-      | Equal ↦ λ is n. cc
-      | Greater ↦ λ is n. let rest = sum-put f k v es n in
-          sum_by-cons f e.1 (map (λ e. e.1) (put nat_cmp k v es)) ∙ omega (arith, rest, sum_by-cons f e.1 (map (λ e. e.1) es))
-    ] refl none
-
-pub sum-insert : {X : Type 0} (f : X → ℕ) (m : FinMap nat_cmp X) (k : ℕ) (v : X) → get m k ≡ None →
-    sum_by f (values (insert m k v)) ≡ sum_by f (values m) + f v
-sum-insert f m k v none =
-    ap (λ es. sum_by f (map (λ e. e.1) es)) (entries-insert nat_cmp_total m k v) ∙ sum-put f k v (entries m) (sym (get-entries m k) ∙ none)
-
-itself : (k : ℕ) → eq_by_cmp nat_cmp k k ≡ true
-itself k = unsigned_tied k k ∙ grind (arith, nat_tests)
+use Rattle.base_lists.proofs.Numbers.{key_itself, same_number}
+use Rattle.base_lists.proofs.Maps.{sum_insert}
 
 pub gone : {X : Type 0} (m : FinMap nat_cmp X) (k : ℕ) → get (remove m k) k ≡ None
-gone m k = get-remove nat_cmp_total m k k ∙ ap (λ b. cond b None (get m k)) (itself k)
+gone m k = get-remove nat_cmp_total m k k ∙ ap (λ b. cond b None (get m k)) (key_itself k)
 
 again : {X : Type 0} (b : Bool) (v : X) (o : Option X) → cond b (Some v) (cond b None o) ≡ cond b (Some v) o
 again true v o = refl
@@ -59,23 +41,20 @@ same_put m k v at = same_map nat_cmp_total nat_cmp-IsAntisymmetric _ _ (λ q.
 pub sum-remove : {X : Type 0} (f : X → ℕ) (m : FinMap nat_cmp X) (k : ℕ) (v : X) → get m k ≡ Some v →
     sum_by f (values (remove m k)) + f v ≡ sum_by f (values m)
 sum-remove f m k v at =
-    sym (sum-insert f (remove m k) k v (gone m k))
+    sym (sum_insert f (remove m k) k v (gone m k))
     ∙ ap (λ n. sum_by f (values n)) (put_back m k v ∙ same_put m k v at)
 
 pub sum-replace : {X : Type 0} (f : X → ℕ) (m : FinMap nat_cmp X) (k : ℕ) (v w : X) → get m k ≡ Some v → f w ≡ f v →
     sum_by f (values (insert m k w)) ≡ sum_by f (values m)
 sum-replace f m k v w at same =
     ap (λ n. sum_by f (values n)) (sym (put_back m k w))
-    ∙ sum-insert f (remove m k) k w (gone m k)
+    ∙ sum_insert f (remove m k) k w (gone m k)
     ∙ ap (λ n. sum_by f (values (remove m k)) + n) same
     ∙ sum-remove f m k v at
 
 alike : {X : Type 0} (b : Bool) (o : Option X) → (b ≡ true → o ≡ None) → cond b None o ≡ o
 alike true o none = sym (none refl)
 alike false o none = refl
-
-same_number : (q k : ℕ) → (q == k) ≡ true → q ≡ k
-same_number q k is = grind (arith, nat_tests)
 
 -- nothing is taken from a number that has nothing
 pub remove_none : {X : Type 0} (m : FinMap nat_cmp X) (k : ℕ) → get m k ≡ None → remove m k ≡ m

@@ -2,8 +2,7 @@
 use Rattle.std.specs.Prelude.{Bool, true, nat_le, IsTrue}
 use Rattle.cbi_base.specs.declared.scalar.Scalar.{Scalar}
 use Rattle.cbi_base.specs.declared.scalar.Scalar.TheVariants.{Number, Place}
-use Rattle.cbi_base.specs.Kind.{lies_in}
-use Rattle.cbi_base.specs.Objects.{cell_limit}
+use Rattle.cbi_base.specs.Words.{lies_in, cell_limit}
 
 abbrev pub is_held : Scalar → Bool
 is_held (Number kind value) = lies_in kind value

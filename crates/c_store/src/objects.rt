@@ -1,12 +1,10 @@
 ghost use Rattle.std.specs.Prelude.{◌≡◌, ◌≤◌, Ok, IfOk, ◌+◌, OnOk, OnErr, IfSome, IsTrue, IsFalse, Some, All, drop, length, option_map, replicate};
 ghost use Rattle.std.specs.FinMap.{get};
 ghost use Rattle.cbi_base.specs.declared.scalar.Scalar.TheVariants.{Undefined};
-ghost use Rattle.cbi_base.specs.Objects.{no_objects, has_room, one_object_more, made_with, killed, cleared, loaded, stored, released, moved, compared};
-ghost use Rattle.cbi_base.specs.Objects.{difference, live_cells, cell_limit, found_cell, within_one};
-ghost use Rattle.cbi_base.specs.Kind.{LiesIn};
+ghost use Rattle.cbi_base.specs.Words.{no_objects, has_room, one_object_more, made_with, killed, cleared, loaded, stored, released, moved, compared};
+ghost use Rattle.cbi_base.specs.Words.{difference, live_cells, cell_limit, found_cell, within_one, LiesIn, first_cells, all_made, all_killed, filled};
 ghost use Rattle.cbi_base.specs.declared.scalar.Kind.TheVariants.{Int};
 ghost use Rattle.cbi_base.specs.declared.scalar.Class.TheVariants.{Local};
-ghost use Rattle.cbi_base.specs.Frames.{first_cells, all_made, all_killed, filled};
 ghost use Rattle.c_store.specs.Held.{IsHeldScalar};
 ghost use Rattle.c_store.specs.Made.{IsMade, IsObject, cells_at_start, undone, all_undone};
 ghost use Rattle.c_store.specs.Word.{cell_of};

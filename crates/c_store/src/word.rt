@@ -1,7 +1,5 @@
 ghost use Rattle.std.specs.Prelude.{◌≡◌, ◌≤◌, ◌/◌, pos, ◌≤ℤ◌, IfSome};
-ghost use Rattle.cbi_base.specs.Kind.{LiesIn};
-ghost use Rattle.cbi_base.specs.Scalars.{IsInRange, truth_of};
-ghost use Rattle.cbi_base.specs.Objects.{cell_limit, is_wanted, object_limit};
+ghost use Rattle.cbi_base.specs.Words.{LiesIn, IsInRange, truth_of, cell_limit, is_wanted, object_limit};
 ghost use Rattle.c_store.specs.Held.{IsHeldScalar};
 ghost use Rattle.c_store.specs.Pair.{tag_of};
 ghost use Rattle.c_store.specs.Place.{place_from_bits};

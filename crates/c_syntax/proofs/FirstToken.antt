@@ -11,17 +11,13 @@ mutual
   first_token_is (e.Assign token sign target value) at h = first_token_is target at h.1
   first_token_is (e.Conditional token condition first second) at h = first_token_is condition at h.1
   first_token_is (e.Chain level first links) at h = first_token_is first at h.0
-  first_token_is (e.Cast token base stars operand) at h = h.0
-  first_token_is (e.Prefix token operator operand) at h = h.0
-  first_token_is (e.SizeOfType token base stars) at h = h.0
   first_token_is (e.Postfix primary operators) at h = first_token_is primary at h.0
   first_token_is (e.Name token name) at h = h
-  first_token_is (e.Call token name arguments) at h = h.0
   first_token_is (e.Constant token kind value) at h = h
   first_token_is (e.Strings token parts) at h = h
-  first_token_is (e.Paren token inner) at h = h.0
   first_token_is (e.Null token) at h = h
   first_token_is (e.EndOfFile token) at h = h
+  first_token_is x at h = h.0
 
   pub first_of_is : (xs : ExprList) (token at : ℕ) → token ≡ first_comma at xs → ExprsAt at xs → first_of token xs ≡ at
   first_of_is e.no_exprs token at h placed = h

@@ -12,3 +12,4 @@ pub mod WellFormed
 pub mod Limits
 pub mod Tokens
 pub mod Kept
+pub mod Words

@@ -3,9 +3,7 @@ use Rattle.std.specs.Prelude.{ℕ, ◌-◌, ◌≤◌, ◌<◌, ℤ, List, lengt
 use Rattle.std.specs.List.Sorted.{IsNonDecreasing}
 use Rattle.cbi_base.specs.declared.scalar.Kind.{Kind}
 use Rattle.cbi_base.specs.declared.scalar.Kind.TheVariants.{Char}
-use Rattle.cbi_base.specs.Kind.{LiesIn, least_of}
-use Rattle.cbi_base.specs.Name.{IsName}
-use Rattle.cbi_base.specs.Scalars.{is_promoted}
+use Rattle.cbi_base.specs.Words.{LiesIn, least_of, IsName, is_promoted}
 use Rattle.c_syntax.specs.declared.token.Token.{Token}
 use Rattle.c_syntax.specs.declared.token.TokenKind.{TokenKind}
 use Rattle.c_syntax.specs.declared.token.TokenKind.TheVariants.{Constant, Name, Text}

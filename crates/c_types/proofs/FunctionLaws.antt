@@ -4,12 +4,13 @@ use Rattle.std.proofs.Math.ListN.{get_or-append}
 use Rattle.std.proofs.Math.Seq.{get_or-append_seam}
 use Rattle.std.proofs.lemmas.Bool.{cases_eq, cases_lt, lt-ltb}
 use Rattle.std.proofs.lemmas.List.{append-nil, get_or-set_other, get_or-set_same, map-append}
-use Rattle.std.proofs.lemmas.Option.{slice_get-get_or, slice_get_past, unwrap_or-slice_get}
+use Rattle.std.proofs.lemmas.Option.{slice_get-get_or, slice_get_past, unwrap_or-slice_get, same_Some}
+use Rattle.base_lists.proofs.Tests.{or_second_false}
+use Rattle.base_lists.proofs.Options.{none_is_some, not_some}
 use Rattle.c_syntax.specs.declared.parts.Base.{Base}
 use Rattle.c_syntax.specs.declared.parts.Params.{Params}
-use Rattle.c_syntax.specs.StatementTree.{EntryList}
+use Rattle.c_syntax.specs.Words.{EntryList, ItemTree, SourceTree}
 use Rattle.c_syntax.specs.ItemTree as i
-use Rattle.c_syntax.specs.ItemTree.{ItemTree, SourceTree}
 use Rattle.c_types_rules.specs.declared.fault.FaultKind.{FaultKind}
 use Rattle.c_types_rules.specs.declared.fault.FaultKind.TheVariants as fault
 use Rattle.c_types_rules.specs.declared.function.FunctionType.{FunctionType}
@@ -23,24 +24,16 @@ use Rattle.c_types_expressions.specs.declared.walk.Parameter.{Parameter}
 use Rattle.c_types_expressions.specs.declared.walk.VariableEntry.{VariableEntry}
 use Rattle.c_types_expressions.specs.declared.walk.Walk.{Walk}
 use Rattle.c_types.specs.Answers.{noted}
-use Rattle.c_types_expressions.specs.ExprWalk.{base_type}
-use Rattle.c_types_expressions.specs.Beginning.{beginning}
+use Rattle.c_types_expressions.specs.Words.{base_type, beginning, found, is_here, Walked, Fine, Faulty, ◌>>=◌, Done, closing, replaced}
 use Rattle.c_types.specs.Fault.{ends_with, last_fault, walk_tree}
 use Rattle.c_types_walk.specs.ItemWalk.{clashes, declares, entered, has_type, is_defined, known_as, listed_params, typed_function, walk_body, walk_item, walk_items, walk_params, walk_struct, with_definition, with_function, with_tag, walk_members, defined}
-use Rattle.c_types_expressions.specs.Names.{found, is_here}
 use Rattle.c_types.specs.Numbers.{HasNumber, frame, frame_of, frames_from, function_of, locals_behind, variables_in}
 use Rattle.c_types.specs.Parts.{Part, Expression, Use, Declared, Begins, declaration_parts, entries_parts, item_parts, params_parts}
 use Rattle.c_types_walk.specs.StatementWalk.{walk_declaration, walk_entries}
-use Rattle.c_types_expressions.specs.Walked.{Walked, Fine, Faulty, ◌>>=◌, Done, closing, replaced}
 use Rattle.c_types.proofs.Noted.{Functions, length_replaced, Gives, Seen, Step, functions_of, gives_more, gives_then, noting, noting_all, plainly, seen, stage}
 use Rattle.c_types.proofs.NotedExprs.{base_notes}
 use Rattle.c_types.proofs.NotedItems.{AreListed, PlainStep, declares_gives, inner_notes, is_refused, item_notes, members_notes, params_are, parts_from}
 use Rattle.c_types.proofs.NotedStatements.{declaration_notes}
-use Rattle.c_types.proofs.Options.{is_none_of, none_is_some, some_is}
-
-or_second : (a b : Bool) → (a || b) ≡ false → b ≡ false
-or_second true b h = absurd (cc)
-or_second false b h = h
 
 -- what is noted at a place of a list
 
@@ -48,10 +41,10 @@ noted_get : (xs : List (Option ℕ)) (k : ℕ) → noted xs k ≡ get_or xs k No
 noted_get xs k = unwrap_or-slice_get xs k None
 
 get_none : (xs : List (Option ℕ)) (k : ℕ) → get_or (xs ++ None ∷ []) k None ≡ get_or xs k None
+get_none (x ∷ xs) (suc k) = get_none xs k
 get_none [] zero = refl
 get_none [] (suc k) = refl
 get_none (x ∷ xs) zero = refl
-get_none (x ∷ xs) (suc k) = get_none xs k
 
 noted_none : (xs : List (Option ℕ)) (k : ℕ) → noted (xs ++ None ∷ []) k ≡ noted xs k
 noted_none xs k = noted_get (xs ++ None ∷ []) k ∙ get_none xs k ∙ sym (noted_get xs k)
@@ -98,7 +91,7 @@ module _ (numbers : List (Option ℕ)) (ds : List Definition) (d : Definition) (
   number_to place number is =
       ⊎_elim
       (λ e.
-      let same : length ds ≡ number = some_is (length ds) number (sym (noted_here numbers d.function (length ds) within) ∙ ap (noted (replaced numbers d.function (Some (length ds)))) (sym e) ∙ is) in
+      let same : length ds ≡ number = same_Some (length ds) number (sym (noted_here numbers d.function (length ds) within) ∙ ap (noted (replaced numbers d.function (Some (length ds)))) (sym e) ∙ is) in
       ap (defines (ds ++ d ∷ [])) (sym same) ∙ defines_last ds d ∙ ap Some (sym e))
       (λ n.
       let old : defines ds number ≡ Some place = (h place number).0 (sym (noted_apart numbers d.function place (length ds) n) ∙ is) in
@@ -114,7 +107,7 @@ module _ (numbers : List (Option ℕ)) (ds : List Definition) (d : Definition) (
       (λ past.
       ⊎_elim
       (λ e.
-      let same : d.function ≡ place = some_is d.function place (sym (defines_last ds d) ∙ ap (defines (ds ++ d ∷ [])) (sym e) ∙ is) in
+      let same : d.function ≡ place = same_Some d.function place (sym (defines_last ds d) ∙ ap (defines (ds ++ d ∷ [])) (sym e) ∙ is) in
       ap (noted (replaced numbers d.function (Some (length ds)))) (sym same) ∙ noted_here numbers d.function (length ds) within ∙ ap Some (sym e))
       (λ n. none_is_some (defines (ds ++ d ∷ []) number) place (defines_past (ds ++ d ∷ []) number (omega (arith, past, n, length-append ds (d ∷ [])))) is)
       (cases_eq number (length ds)))
@@ -150,15 +143,13 @@ no_type f (Some g) e h = absurd (cc)
 known_by : (b : Bool) (f : FunctionType) (k : ℕ) (w : Walk) → has_type f (slice_get w.functions k) ≡ b → IsKnownIn (if b then Some k else None) w
 known_by false f k w is = λ index h. none_is_some None index refl h
 known_by true f k w is = λ index h.
-    ⊎_elim (λ less. subst (λ n. n < length w.functions) (some_is k index h) less)
+    ⊎_elim (λ less. subst (λ n. n < length w.functions) (same_Some k index h) less)
     (λ past. no_type f (slice_get w.functions k) (slice_get_past w.functions k past) is) (cases_lt k (length w.functions))
 
 known_in_walk : (f : FunctionType) (m : Option Meaning) (w : Walk) → IsKnownIn (known_as f m w) w
 known_in_walk f None w = λ index h. none_is_some None index refl h
 known_in_walk f (Some (meaning.Function k)) w = known_by (has_type f (slice_get w.functions k)) f k w refl
-known_in_walk f (Some (meaning.Variable k)) w = λ index h. none_is_some None index refl h
-known_in_walk f (Some (meaning.Library function)) w = λ index h. none_is_some None index refl h
-known_in_walk f (Some (meaning.Struct k)) w = λ index h. none_is_some None index refl h
+known_in_walk f m w = λ index h. none_is_some None index refl h
 
 -- the place of the function that is defined: it is one of those that are declared, and has no number yet
 
@@ -221,7 +212,7 @@ body_does token f name ps body known w valid =
     let same : functions_of r ≡ functions_of v = k.0.2 ∙ h.2 in
     let count : r.locals ≡ locals_behind 0 parts = ap (λ (s : Seen). s.locals) (k.0.0 ∙ h.0) ∙ locals_are parts (seen v) in (
       λ fit. defined_does (functions_of v) r index (length w.variables) same
-          (place_free name f known w index (is_none_of (noted w.defined_as index) (or_second (clashes name known w) (is_defined index w.defined_as) k.1)))
+          (place_free name f known w index (not_some (noted w.defined_as index) (or_second_false (clashes name known w) (is_defined index w.defined_as) k.1)))
           (place_within name f known w valid fit) (fit_function name f known w fit),
       map-append frame r.definitions (record { function = index; first = length w.variables; count = r.locals } ∷ [])
           ∙ ap (λ ds. map frame ds ++ (length w.variables, r.locals) ∷ []) (ap (λ (p : Functions). p.definitions) same ∙ same_definitions name f known w)
@@ -289,7 +280,7 @@ item_does (i.Declaration declaration) w =
     gives_more (λ _ v. Step (declaration_parts true declaration) (stage w) (stage v)) (λ _ v. Does (functions_of w) [] v) (walk_declaration true declaration w)
     (λ _ v h. stays_so (functions_of w) v h.2) (declaration_notes true declaration w)
 
-gives_two : {A : Type 0} (P Q : A → Walk → Type 0) (r : Walked A) → Gives P r → Gives Q r → Gives (λ x v. P x v × Q x v) r
+pub gives_two : {A : Type 0} (P Q : A → Walk → Type 0) (r : Walked A) → Gives P r → Gives Q r → Gives (λ x v. P x v × Q x v) r
 gives_two P Q (Fine x v) h k = (h, k)
 gives_two P Q (Faulty kind token) h k = tt
 

@@ -1,10 +1,11 @@
+pub mod FunctionLaws
 pub mod Hiding
 pub mod Noted
 pub mod NotedExprs
-pub mod NotedStatements
 pub mod NotedItems
-pub mod TokenLaws
-pub mod Summed
+pub mod NotedStatements
 pub mod NumberLaws
-pub mod FunctionLaws
 pub mod Options
+pub mod Replaced
+pub mod Summed
+pub mod TokenLaws

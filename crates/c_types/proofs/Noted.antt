@@ -2,7 +2,7 @@
 use Rattle.std.proofs.Common.{◌≡◌, ℕ, ◌+◌, ◌<◌, nat_lt, Bool, true, false, if◌then◌else◌, List, [], ◌∷◌, ◌++◌, length, map, Option, Some, None, is_some, slice_get, slice_set, get_or, refl, sym, ap, ◌∙◌, subst, ⊎_elim, arith, length-append}
 use Rattle.std.proofs.lemmas.Bool.{cases_eq, ltb-true}
 use Rattle.std.proofs.lemmas.List.{get_or-set_other, get_or-set_same, length-map, length-set, map-set}
-use Rattle.std.proofs.lemmas.Option.{slice_get_within}
+use Rattle.std.proofs.lemmas.Option.{slice_get_within, same_Some}
 use Rattle.c_types_rules.specs.declared.layout.StructType.{StructType}
 use Rattle.c_types_rules.specs.TypeTree.{TypeTree}
 use Rattle.c_types_expressions.specs.declared.walk.Definition.{Definition}
@@ -11,10 +11,8 @@ use Rattle.c_types_expressions.specs.declared.walk.Variable.TheVariants as varia
 use Rattle.c_types_expressions.specs.declared.walk.VariableEntry.{VariableEntry}
 use Rattle.c_types_expressions.specs.declared.walk.Walk.{Walk}
 use Rattle.c_types.specs.Parts.{Part, Expression, Use, Declared, Begins}
-use Rattle.c_types_expressions.specs.Walked.{Walked, Fine, Faulty, ◌>>=◌, replaced, with_type, with_variable}
-use Rattle.c_types_expressions.specs.ExprWalk.{with_use}
+use Rattle.c_types_expressions.specs.Words.{Walked, Fine, Faulty, ◌>>=◌, replaced, with_type, with_variable, with_use}
 pub use Rattle.c_types_expressions.proofs.Giving.{Gives, gives_more, gives_then}
-use Rattle.c_types.proofs.Options.{some_is}
 
 -- what the walk has noted: at which tokens a type and a variable, the variables, how many are numbered, and the structs
 pub record Seen : Type 0 where
@@ -141,7 +139,7 @@ map_replaced f xs i x =
     ∙ ap (λ ys. if nat_lt i (length xs) then ys else map f xs) (map-set f xs i x)
     ∙ ap (λ n. if nat_lt i n then slice_set (map f xs) i (f x) else map f xs) (sym (length-map xs f))
 
-length_if : {A : Type 0} (b : Bool) (xs ys : List A) → length xs ≡ length ys → length (if b then xs else ys) ≡ length ys
+pub length_if : {A : Type 0} (b : Bool) (xs ys : List A) → length xs ≡ length ys → length (if b then xs else ys) ≡ length ys
 length_if true xs ys h = h
 length_if false xs ys h = refl
 
@@ -153,7 +151,7 @@ fit_if : (b : Bool) (count : ℕ) (notes : List (Option ℕ)) (i at : ℕ) → (
 fit_if false count notes i at within less fit = fit
 fit_if true count notes i at within less fit = λ k place is.
     ⊎_elim
-    (λ same. subst (λ n. n < count) (some_is at place (sym (get_or-set_same notes i (Some at) None (within refl)) ∙ ap (λ j. get_or (slice_set notes i (Some at)) j None) (sym same) ∙ is)) less)
+    (λ same. subst (λ n. n < count) (same_Some at place (sym (get_or-set_same notes i (Some at) None (within refl)) ∙ ap (λ j. get_or (slice_set notes i (Some at)) j None) (sym same) ∙ is)) less)
     (λ other. fit k place (sym (get_or-set_other notes i k (Some at) None other) ∙ is))
     (cases_eq k i)
 

@@ -7,35 +7,26 @@ use Rattle.c_syntax.specs.ExprTree.{ExprTree, ExprList, LinkList, PostfixList}
 use Rattle.c_types_rules.specs.declared.fault.FaultKind.{FaultKind}
 use Rattle.c_types_rules.specs.declared.layout.Member.{Member}
 use Rattle.c_types_rules.specs.declared.operand.Operand.{Operand}
-use Rattle.c_types_rules.specs.TypeTree.{TypeTree}
-use Rattle.c_types_rules.specs.Faults.{Looked}
+use Rattle.c_types_rules.specs.Words.{TypeTree, Looked, constant_of, enclosed, null_of, place_of, string_of, value_of, library_called}
 use Rattle.c_types_rules.specs.TypeTree as t
-use Rattle.c_types_rules.specs.Conversions.{constant_of, enclosed, null_of, place_of, string_of, value_of}
 use Rattle.c_types_rules.specs.Functions as functions
-use Rattle.c_types_rules.specs.Library.{library_called}
 use Rattle.c_types_expressions.specs.declared.names.Meaning.{Meaning}
 use Rattle.c_types_expressions.specs.declared.names.Meaning.TheVariants as meaning
 use Rattle.c_types_expressions.specs.declared.walk.FunctionEntry.{FunctionEntry}
 use Rattle.c_types_expressions.specs.declared.walk.Walk.{Walk}
-use Rattle.c_types_expressions.specs.Names.{found, meaning_of}
-use Rattle.c_types_expressions.specs.Walked.{Walked, ◌>>=◌}
-use Rattle.c_types_expressions.specs.ExprWalk.{base_type, called_name, format_of, is_printf, looked, named, of_function, of_variable, selected, string_cells, tagged_type, walk_expr, walk_exprs, walk_links, walk_postfix, walk_whole, whole_call, with_call, with_offset, with_use}
+use Rattle.c_types_expressions.specs.Words.{found, meaning_of, Walked, ◌>>=◌, base_type, called_name, format_of, is_printf, looked, named, of_function}
+use Rattle.c_types_expressions.specs.Words.{of_variable, selected, string_cells, tagged_type, walk_expr, walk_exprs, walk_links, walk_postfix, walk_whole}
+use Rattle.c_types_expressions.specs.Words.{whole_call, with_call, with_offset, with_use}
 use Rattle.c_types.specs.Parts.{Part, Expression, Use, expr_parts, exprs_parts, links_parts, postfix_parts}
 use Rattle.c_types.proofs.Noted.{Notes, behind, both, either, stage, then_on, typed_one, use_one}
 
 tagged_notes : (token : ℕ) (m : Option Meaning) (w : Walk) → Notes [] (stage w) (tagged_type token m w)
-tagged_notes token None w = tt
-tagged_notes token (Some (meaning.Variable index)) w = tt
-tagged_notes token (Some (meaning.Function index)) w = tt
-tagged_notes token (Some (meaning.Library function)) w = tt
 tagged_notes token (Some (meaning.Struct index)) w = (refl, (λ h. h), refl)
+tagged_notes token m w = tt
 
 pub base_notes : (b : Base) (w : Walk) → Notes [] (stage w) (base_type b w)
-base_notes (base.Void token) w = (refl, (λ h. h), refl)
-base_notes (base.Char token) w = (refl, (λ h. h), refl)
-base_notes (base.Int token) w = (refl, (λ h. h), refl)
-base_notes (base.Unsigned token int) w = (refl, (λ h. h), refl)
 base_notes (base.Struct token tag) w = tagged_notes token (found tag w.tags) w
+base_notes b w = (refl, (λ h. h), refl)
 
 pub looked_notes : (token : ℕ) (l : Looked) (w : Walk) → Notes (Expression token ∷ []) (stage w) (looked token l w)
 looked_notes token (Ok x) w = typed_one token x.ctype w
@@ -54,22 +45,17 @@ variable_notes token index (Some t) w is =
     (looked_notes token (Ok (place_of t)) (with_use token index w))
 
 named_notes : (token : ℕ) (m : Option Meaning) (w : Walk) → Notes (Use token ∷ Expression token ∷ []) (stage w) (named token m w)
-named_notes token None w = tt
 named_notes token (Some (meaning.Variable index)) w = variable_notes token index (slice_get w.declared_types index) w refl
-named_notes token (Some (meaning.Function index)) w = tt
-named_notes token (Some (meaning.Library function)) w = tt
-named_notes token (Some (meaning.Struct index)) w = tt
+named_notes token m w = tt
 
 function_notes : (token index : ℕ) (f : Option FunctionEntry) (xs : List Operand) (w : Walk) → Notes (Expression token ∷ []) (stage w) (of_function token index f xs w)
 function_notes token index None xs w = tt
 function_notes token index (Some f) xs w = looked_notes token (functions.called f.ctype xs) (with_call token index w)
 
 called_notes : (token : ℕ) (m : Option Meaning) (xs : List Operand) (w : Walk) → Notes (Expression token ∷ []) (stage w) (called_name token m xs w)
-called_notes token None xs w = tt
-called_notes token (Some (meaning.Variable index)) xs w = tt
 called_notes token (Some (meaning.Function index)) xs w = function_notes token index (slice_get w.functions index) xs w
 called_notes token (Some (meaning.Library function)) xs w = looked_notes token (library_called function xs) w
-called_notes token (Some (meaning.Struct index)) xs w = tt
+called_notes token m xs w = tt
 
 selected_on : {A : Type 0} (qs : List Part) (token : ℕ) (place : Bool) (m : Result Member FaultKind) (w : Walk) (next : Operand → Walk → Walked A) →
     ((x : Operand) (v : Walk) → Notes qs (stage v) (next x v)) → Notes (Expression token ∷ qs) (stage w) (selected token place m w >>= next)
@@ -137,17 +123,4 @@ whole_call_notes token m arguments xs w =
 pub whole_notes : (x : ExprTree) (w : Walk) → Notes (expr_parts x) (stage w) (walk_whole x w)
 whole_notes (e.Call token name arguments) w =
     both (exprs_parts arguments) (Expression token ∷ []) (stage w) (walk_exprs arguments [] w) _ (exprs_notes arguments [] w) (λ xs v. whole_call_notes token _ arguments xs v)
-whole_notes (e.Comma token operands) w = expr_notes (e.Comma token operands) w
-whole_notes (e.Assign token s target value) w = expr_notes (e.Assign token s target value) w
-whole_notes (e.Conditional token condition first second) w = expr_notes (e.Conditional token condition first second) w
-whole_notes (e.Chain level first links) w = expr_notes (e.Chain level first links) w
-whole_notes (e.Cast token b stars operand) w = expr_notes (e.Cast token b stars operand) w
-whole_notes (e.Prefix token operator operand) w = expr_notes (e.Prefix token operator operand) w
-whole_notes (e.SizeOfType token b stars) w = expr_notes (e.SizeOfType token b stars) w
-whole_notes (e.Postfix primary operators) w = expr_notes (e.Postfix primary operators) w
-whole_notes (e.Name token name) w = expr_notes (e.Name token name) w
-whole_notes (e.Constant token kind value) w = expr_notes (e.Constant token kind value) w
-whole_notes (e.Strings token parts) w = expr_notes (e.Strings token parts) w
-whole_notes (e.Paren token inner) w = expr_notes (e.Paren token inner) w
-whole_notes (e.Null token) w = expr_notes (e.Null token) w
-whole_notes (e.EndOfFile token) w = expr_notes (e.EndOfFile token) w
+whole_notes x w = expr_notes x w

@@ -2,38 +2,31 @@
 use Rattle.std.proofs.Common.{◌≡◌, ℕ, nat_le, Bool, true, false, ◌&&◌, ◌||◌, if◌then◌else◌, List, [], ◌∷◌, ◌++◌, length, Option, Some, None, is_some, unwrap_or, get_or, replicate, refl, sym, ap, ◌∙◌, subst, append_assoc, ⊎_elim, arith}
 use Rattle.std.proofs.lemmas.Bool.{cases_lt}
 use Rattle.std.proofs.lemmas.List.{append-nil, get_or-replicate, get_or_past, length-replicate}
+use Rattle.base_lists.proofs.Options.{none_is_some}
 use Rattle.c_syntax.specs.declared.parts.Base.{Base}
 use Rattle.c_syntax.specs.declared.parts.Declarator.{Declarator}
 use Rattle.c_syntax.specs.declared.parts.Members.{Members}
 use Rattle.c_syntax.specs.declared.parts.Param.{Param}
 use Rattle.c_syntax.specs.declared.parts.ParamName.{ParamName}
 use Rattle.c_syntax.specs.declared.parts.Params.{Params}
-use Rattle.c_syntax.specs.StatementTree.{DeclarationTree, EntryList}
+use Rattle.c_syntax.specs.Words.{DeclarationTree, EntryList, ItemTree, SourceTree}
 use Rattle.c_syntax.specs.ItemTree as i
-use Rattle.c_syntax.specs.ItemTree.{ItemTree, SourceTree}
 use Rattle.c_types_rules.specs.declared.fault.FaultKind.{FaultKind}
 use Rattle.c_types_rules.specs.declared.fault.FaultKind.TheVariants as fault
 use Rattle.c_types_rules.specs.declared.function.FunctionType.{FunctionType}
 use Rattle.c_types_rules.specs.declared.layout.StructType.{StructType}
-use Rattle.c_types_rules.specs.TypeTree.{TypeTree}
-use Rattle.c_types_rules.specs.Conversions.{is_scalar, is_struct}
-use Rattle.c_types_rules.specs.Selecting.{member_named}
-use Rattle.c_types_rules.specs.Sizes.{empty_struct, is_object, most_cells, with_member}
+use Rattle.c_types_rules.specs.Words.{TypeTree, is_scalar, is_struct, member_named, empty_struct, is_object, most_cells, with_member}
 use Rattle.c_types_expressions.specs.declared.walk.Parameter.{Parameter}
 use Rattle.c_types_expressions.specs.declared.walk.Walk.{Walk}
 use Rattle.c_types_walk.specs.Declarators.{declared_type}
-use Rattle.c_types_expressions.specs.Beginning.{beginning}
+use Rattle.c_types_expressions.specs.Words.{beginning, found, is_here, is_reserved, Walked, Fine, Faulty, ◌>>=◌, Done, closing, opened, base_type, with_stars}
 use Rattle.c_types.specs.Fault.{ends_with, last_fault, walk_tree}
-use Rattle.c_types_expressions.specs.Names.{found, is_here, is_reserved}
-use Rattle.c_types_expressions.specs.Walked.{Walked, Fine, Faulty, ◌>>=◌, Done, closing, opened}
-use Rattle.c_types_expressions.specs.ExprWalk.{base_type, with_stars}
 use Rattle.c_types_walk.specs.StatementWalk.{walk_declaration, walk_entries}
 use Rattle.c_types_walk.specs.ItemWalk.{clashes, declares, entered, has_length, is_among, is_defined, known_as, listed_params, looked_param, param_type, scalar_param, typed_function, typed_member, walk_body, walk_declarators, walk_item, walk_items, walk_member, walk_members, walk_param, walk_params, walk_struct, with_function, with_param, with_params, with_tag}
 use Rattle.c_types.specs.Parts.{Part, Declared, Begins, declaration_parts, entries_parts, item_parts, items_parts, named_parts, params_parts, parts_of}
 use Rattle.c_types.proofs.Noted.{Fits, Gives, Notes, Stage, Step, and_done, behind, declared_one, either, gives_more, gives_then, noting_all, noting_both, plainly, plainly_all, seen, stage, step_done, step_then, then_on}
 use Rattle.c_types.proofs.NotedExprs.{base_notes}
 use Rattle.c_types.proofs.NotedStatements.{declaration_notes, entries_notes}
-use Rattle.c_types.proofs.Options.{none_is_some}
 
 -- parameters
 

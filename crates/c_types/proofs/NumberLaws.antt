@@ -4,11 +4,10 @@ use Rattle.std.proofs.lemmas.List.{append-nil}
 use Rattle.c_syntax.specs.ItemTree.{SourceTree}
 use Rattle.c_types_expressions.specs.declared.walk.Variable.TheVariants as variable
 use Rattle.c_types_expressions.specs.declared.walk.Walk.{Walk}
-use Rattle.c_types_expressions.specs.Beginning.{beginning}
+use Rattle.c_types_expressions.specs.Words.{beginning, Fine}
 use Rattle.c_types.specs.Fault.{walk_tree}
 use Rattle.c_types.specs.Numbers.{numbered_from, variables_of}
 use Rattle.c_types.specs.Parts.{Part, Expression, Use, Declared, Begins, parts_of}
-use Rattle.c_types_expressions.specs.Walked.{Fine}
 use Rattle.c_types.proofs.Noted.{Seen, noting, noting_all, plainly, seen}
 use Rattle.c_types.proofs.NotedItems.{text_notes}
 

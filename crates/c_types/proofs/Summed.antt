@@ -5,6 +5,8 @@ use Rattle.std.proofs.Math.ListN.{get_or-append}
 use Rattle.std.proofs.lemmas.Bool.{leb-true, lt-ltb, ltb-true}
 use Rattle.std.proofs.lemmas.List.Sums.{sum_by-cons}
 use Rattle.std.proofs.lemmas.Option.{slice_get-get_or}
+use Rattle.base_lists.proofs.Tests.{and_first, and_second}
+use Rattle.base_lists.proofs.Every.{all_more}
 use Rattle.c_syntax.specs.declared.parts.Declarator.{Declarator}
 use Rattle.c_syntax.specs.declared.parts.Members.{Members}
 use Rattle.c_syntax.specs.ItemTree as i
@@ -14,35 +16,18 @@ use Rattle.c_types_rules.specs.declared.fault.FaultKind.TheVariants as fault
 use Rattle.c_types_rules.specs.declared.layout.Member.{Member}
 use Rattle.c_types_rules.specs.declared.layout.StructType.{StructType}
 use Rattle.c_types_rules.specs.TypeTree as t
-use Rattle.c_types_rules.specs.TypeTree.{TypeTree}
-use Rattle.c_types_rules.specs.Selecting.{member_named}
-use Rattle.c_types_rules.specs.Sizes.{cells_of, empty_struct, is_complete, is_object, most_cells, struct_cells, with_member}
+use Rattle.c_types_rules.specs.Words.{TypeTree, member_named, cells_of, empty_struct, is_complete, is_object, most_cells, struct_cells, with_member}
 use Rattle.c_types_expressions.specs.declared.walk.Walk.{Walk}
 use Rattle.c_types_walk.specs.Declarators.{declared_type}
-use Rattle.c_types_expressions.specs.ExprWalk.{base_type}
-use Rattle.c_types_expressions.specs.Beginning.{beginning}
+use Rattle.c_types_expressions.specs.Words.{base_type, beginning, is_here, Walked, Fine, Faulty, Done}
 use Rattle.c_types.specs.Fault.{ends_with, last_fault, walk_tree}
 use Rattle.c_types_walk.specs.ItemWalk.{typed_member, walk_declarators, walk_item, walk_items, walk_member, walk_members, walk_struct, with_tag}
 use Rattle.c_types.specs.Laid.{AreLaid, IsKnown, IsSummed, member_cells}
-use Rattle.c_types_expressions.specs.Names.{is_here}
 use Rattle.c_types.specs.Parts.{Part, declaration_parts, item_parts}
 use Rattle.c_types_walk.specs.StatementWalk.{walk_declaration}
-use Rattle.c_types_expressions.specs.Walked.{Walked, Fine, Faulty, Done}
 use Rattle.c_types.proofs.Noted.{Gives, Seen, Step, gives_more, gives_then, seen, stage, structs_stay}
 use Rattle.c_types.proofs.NotedExprs.{base_notes}
 use Rattle.c_types.proofs.NotedItems.{Outer, declaration_outer, function_notes}
-
-and_first : (a b : Bool) → (a && b) ≡ true → a ≡ true
-and_first true b h = refl
-and_first false b h = h
-
-and_second : (a b : Bool) → (a && b) ≡ true → b ≡ true
-and_second true b h = h
-and_second false b h = absurd (cc)
-
-all_more : {A : Type 0} (P : A → Type 0) (xs : List A) (x : A) → AllByRecursion P xs → P x → AllByRecursion P (xs ++ x ∷ [])
-all_more P [] x h is = (is, tt)
-all_more P (y ∷ xs) x h is = (h.0, all_more P xs x h.1 is)
 
 -- one more member
 
@@ -113,29 +98,22 @@ members_build (m ∷ ms) s w =
 -- one more struct: those before it keep their sizes
 
 cells_stay : (structs : List StructType) (s : StructType) (t : TypeTree) → is_complete structs t ≡ true → cells_of (structs ++ s ∷ []) t ≡ cells_of structs t
-cells_stay structs s t.Void h = refl
-cells_stay structs s t.Char h = refl
-cells_stay structs s t.Int h = refl
-cells_stay structs s t.Unsigned h = refl
-cells_stay structs s (t.Pointer to) h = refl
 cells_stay structs s (t.Array element size) h = ap (λ n. size * n) (cells_stay structs s element (and_second (nat_lt 0 size) (is_complete structs element) h))
 cells_stay structs s (t.Struct tag) h =
     let less : tag < length structs = ltb-true tag (length structs) h in
     ap struct_cells
     (slice_get-get_or (structs ++ s ∷ []) tag s (omega (arith, less, length-append structs (s ∷ [])))
     ∙ ap Some (get_or-append structs (s ∷ []) s tag less) ∙ sym (slice_get-get_or structs tag s less))
+cells_stay structs s t h = refl
 
 complete_stays : (structs : List StructType) (s : StructType) (t : TypeTree) → is_complete structs t ≡ true → is_complete (structs ++ s ∷ []) t ≡ true
 complete_stays structs s t.Void h = h
-complete_stays structs s t.Char h = refl
-complete_stays structs s t.Int h = refl
-complete_stays structs s t.Unsigned h = refl
-complete_stays structs s (t.Pointer to) h = refl
 complete_stays structs s (t.Array element size) h =
     ap (λ b. b && is_complete (structs ++ s ∷ []) element) (and_first (nat_lt 0 size) (is_complete structs element) h)
     ∙ complete_stays structs s element (and_second (nat_lt 0 size) (is_complete structs element) h)
 complete_stays structs s (t.Struct tag) h =
     lt-ltb tag (length (structs ++ s ∷ [])) (omega (arith, ltb-true tag (length structs) h, length-append structs (s ∷ [])))
+complete_stays structs s t h = refl
 
 laid_stays : (structs : List StructType) (s : StructType) (first : ℕ) (ms : List Member) (end : ℕ) → AllByRecursion (IsKnown structs) ms → AreLaid structs first ms end →
     AreLaid (structs ++ s ∷ []) first ms end

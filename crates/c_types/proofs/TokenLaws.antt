@@ -5,18 +5,17 @@ use Rattle.std.proofs.lemmas.Bool.{cases_eq, eq-eqb, lt-ltb, ne_eqb}
 use Rattle.std.proofs.lemmas.List.{get_or-replicate, get_or_past, get_or-set_other, get_or-set_same, length-map, length-replicate}
 use Rattle.std.proofs.Math.ListN.{get_or-map}
 use Rattle.std.proofs.lemmas.Option.{slice_get-get_or, unwrap_or-slice_get}
+use Rattle.base_lists.proofs.Options.{not_some}
 use Rattle.c_syntax.specs.ItemTree.{SourceTree}
 use Rattle.c_types_rules.specs.TypeTree.{TypeTree}
 use Rattle.c_types_expressions.specs.declared.walk.VariableEntry.{VariableEntry}
 use Rattle.c_types_expressions.specs.declared.walk.Walk.{Walk}
 use Rattle.c_types.specs.Answers.{noted, place_at, type_at, variable_at, variable_of}
-use Rattle.c_types_expressions.specs.Beginning.{beginning}
+use Rattle.c_types_expressions.specs.Words.{beginning, Fine, replaced}
 use Rattle.c_types.specs.Fault.{walk_tree}
 use Rattle.c_types.specs.Parts.{Part, Expression, Use, Declared, Begins, has_expression, has_variable, is_expression_at, is_variable_at, parts_of}
-use Rattle.c_types_expressions.specs.Walked.{Fine, replaced}
 use Rattle.c_types.proofs.Noted.{Seen, length_replaced, noting, noting_all, plainly, seen}
 use Rattle.c_types.proofs.NotedItems.{text_notes}
-use Rattle.c_types.proofs.Options.{is_none_of}
 
 -- what stands at a place after one was marked
 here_if : (b : Bool) (xs : List Bool) (k : ℕ) → b ≡ true → k < length xs → get_or (if b then slice_set xs k true else xs) k false ≡ true
@@ -133,7 +132,7 @@ begins_long : (A : Type 0) (n : ℕ) → length (map is_some (replicate {A = Opt
 begins_long A n = length-map (replicate {A = Option A} n None) is_some ∙ length-replicate n None
 
 none_noted : {A : Type 0} (notes : List (Option A)) (n k : ℕ) → length (map is_some notes) ≡ n → n ≤ k → noted notes k ≡ None
-none_noted notes n k long past = is_none_of (noted notes k) (noted_is notes k ∙ get_or_past (map is_some notes) k false (omega (arith, long, past)))
+none_noted notes n k long past = not_some (noted notes k) (noted_is notes k ∙ get_or_past (map is_some notes) k false (omega (arith, long, past)))
 
 pub no_type_beyond : (t : SourceTree) (w : Walk) → walk_tree t ≡ Fine tt w → (k : ℕ) → length t.lines ≤ k → type_at w k ≡ None
 no_type_beyond t w is k past =

@@ -1,7 +1,6 @@
 -- What a checked tree answers.
 use Rattle.std.specs.Prelude.{◌≡◌, ℕ, nat_lt, nat_le, Bool, true, false, ◌&&◌, List, Option, Some, None, option_map, option_and_then, unwrap_or, slice_get}
-use Rattle.c_syntax.specs.ItemTree.{SourceTree}
-use Rattle.c_syntax.specs.Plain.{plain_tree}
+use Rattle.c_syntax.specs.Words.{SourceTree, plain_tree}
 use Rattle.c_types_rules.specs.TypeTree.{TypeTree}
 use Rattle.c_types.specs.declared.checked.Checked.{Checked}
 use Rattle.c_types.specs.declared.checked.TypeFault.{TypeFault}

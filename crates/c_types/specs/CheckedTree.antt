@@ -1,8 +1,7 @@
 -- A tree without a fault, with what is known of it.
 use Rattle.std.specs.Prelude.{◌≡◌}
 use Rattle.c_syntax.specs.declared.tree.Tree.{Tree}
-use Rattle.c_syntax.specs.Kept.{IsKeptTree}
-use Rattle.c_syntax.specs.Plain.{plain_tree}
+use Rattle.c_syntax.specs.Words.{IsKeptTree, plain_tree}
 use Rattle.c_types.specs.Fault.{walk_tree}
 use Rattle.c_types_expressions.specs.declared.walk.Walk.{Walk}
 use Rattle.c_types_expressions.specs.Walked.{Fine}

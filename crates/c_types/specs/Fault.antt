@@ -3,15 +3,12 @@ use Rattle.std.specs.Prelude.{ℕ, ◌+◌, Bool, true, false, ◌&&◌, ◌==�
 use Rattle.c_syntax.specs.ItemTree.{SourceTree}
 use Rattle.c_types_rules.specs.declared.fault.FaultKind.{FaultKind}
 use Rattle.c_types_rules.specs.declared.fault.FaultKind.TheVariants as fault
-use Rattle.c_types_rules.specs.TypeTree.{Int, same_type}
-use Rattle.c_types_rules.specs.Faults.{fault_number}
+use Rattle.c_types_rules.specs.Words.{Int, same_type, fault_number}
 use Rattle.c_types_expressions.specs.declared.names.Meaning.{Meaning}
 use Rattle.c_types_expressions.specs.declared.names.Meaning.TheVariants as meaning
 use Rattle.c_types_expressions.specs.declared.walk.FunctionEntry.{FunctionEntry}
 use Rattle.c_types_expressions.specs.declared.walk.Walk.{Walk}
-use Rattle.c_types_expressions.specs.Beginning.{beginning}
-use Rattle.c_types_expressions.specs.Names.{found}
-use Rattle.c_types_expressions.specs.Walked.{Walked, Fine, Faulty, ◌>>=◌, Done}
+use Rattle.c_types_expressions.specs.Words.{beginning, found, Walked, Fine, Faulty, ◌>>=◌, Done}
 use Rattle.c_types_walk.specs.ItemWalk.{walk_items, is_defined}
 
 -- `int main` without parameters (C99 5.1.2.2.1)

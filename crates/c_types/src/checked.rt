@@ -50,14 +50,11 @@ fn span_holds(token: u32, variable: Option<&VariableEntry>, end: Option<&Option<
 
 impl Checked {
     ghost use Rattle.std.specs.Prelude.{◌≡◌, ◌≤◌, IsTrue, option_copied, option_map};
-    ghost use Rattle.c_syntax.specs.Kept.{IsKeptTree};
-    ghost use Rattle.c_syntax.specs.Plain.{plain_tree};
-    ghost use Rattle.c_types_rules.specs.Plain.{plain_type};
-    ghost use Rattle.c_types_rules.specs.Sizes.{cells_of, is_complete, most_cells};
+    ghost use Rattle.c_syntax.specs.Words.{IsKeptTree, plain_tree};
+    ghost use Rattle.c_types_rules.specs.Words.{plain_type, cells_of, is_complete, most_cells};
     ghost use Rattle.c_types.specs.Answers.{IsChecked, declared_at, function_at, known_of, offset_at, place_at, scope_holds, tree_of, type_at, variable_at};
     ghost use Rattle.c_types.specs.Fault.{walk_tree};
-    ghost use Rattle.c_types_expressions.specs.Names.{found};
-    ghost use Rattle.c_types_expressions.specs.Walked.{Fine};
+    ghost use Rattle.c_types_expressions.specs.Words.{found, Fine};
 
     /// A tree through which the walk came, with what it came to know.
     pub(crate) fn new(tree: Tree, walk: Walk) -> Checked

@@ -1,6 +1,5 @@
 ghost use Rattle.std.specs.Prelude.{◌≡◌, None, IfOk, IfErr, OnOk, Some};
-ghost use Rattle.c_syntax.specs.Kept.{IsKeptTree};
-ghost use Rattle.c_syntax.specs.Plain.{plain_tree};
+ghost use Rattle.c_syntax.specs.Words.{IsKeptTree, plain_tree};
 ghost use Rattle.c_types.specs.Answers.{IsChecked, IsTypeFault, tree_of};
 ghost use Rattle.c_types.specs.Fault.{begins_program, fault_of, first_undefined, has_main, is_main, lacks_definition, last_fault};
 

@@ -2,16 +2,14 @@ ghost use Rattle.std.specs.Prelude.{◌≡◌, ℕ, ◌*◌, ◌<◌, ◌≤◌,
 ghost use Rattle.std.specs.List.{AllByRecursion};
 ghost use Rattle.c_syntax.specs.ItemTree.{SourceTree};
 ghost use Rattle.c_types_rules.specs.declared.layout.StructType.{StructType};
-ghost use Rattle.c_types_rules.specs.Sizes.{cells_of};
-ghost use Rattle.c_types_rules.specs.TypeTree.{TypeTree, Array};
+ghost use Rattle.c_types_rules.specs.Words.{cells_of, TypeTree, Array};
 ghost use Rattle.c_types.specs.Answers.{type_at, variable_at};
 ghost use Rattle.c_types.specs.Fault.{walk_tree};
 ghost use Rattle.c_types.specs.Hiding.{declaration_of};
 ghost use Rattle.c_types.specs.Laid.{IsSummed};
-ghost use Rattle.c_types_expressions.specs.Names.{closed, found};
+ghost use Rattle.c_types_expressions.specs.Words.{closed, found, Fine};
 ghost use Rattle.c_types.specs.Numbers.{HasNumber, frame, frames_from, variables_of};
 ghost use Rattle.c_types.specs.Parts.{has_expression, has_variable};
-ghost use Rattle.c_types_expressions.specs.Walked.{Fine};
 ghost use Rattle.c_types_expressions.specs.declared.names.Meaning.{Meaning};
 ghost use Rattle.c_types_expressions.specs.declared.names.ScopeEntry.{ScopeEntry};
 ghost use Rattle.c_types_expressions.specs.declared.names.ScopeEntry.TheVariants.{Opens, Declares};

@@ -6,23 +6,17 @@ use Rattle.std.specs.Global.{Global}
 use Rattle.std.specs.HashMap.{HashMap, UpdatesBy}
 use Rattle.std.specs.Str.{bytes_eq}
 use Rattle.std.specs.Map.{lookup, IsKeyTest, AreApart, KeepsOthers}
+use Rattle.base_lists.proofs.Maps.{other_entries}
+use Rattle.base_lists.proofs.Lists.{bytes_apart}
 use Rattle.c_types_expressions.specs.declared.index.ScopedMeaning.{ScopedMeaning}
 use Rattle.c_types_expressions.specs.Indexed.{IsPopped, IsPushed, IsSame, but_last, is_key, stack_in, stack_of}
-
-other_entries : {K X : Type 0} (eq : K → K → Bool) (test : K → Bool) (old new : List (K × X)) → KeepsOthers eq test old new →
-    (other : K → Bool) → IsKeyTest eq other → AreApart test other → lookup other new ≡ lookup other old
-unfolding KeepsOthers
-other_entries eq test old new h = h
-
-apart : (name other key : List ℕ) → bytes_eq name other ≡ false → bytes_eq name key ≡ true → bytes_eq other key ≡ false
-apart name other key n y = nat_list_eq_equiv.symm other key ∙ sym (nat_list_eq_equiv.congr name key other y) ∙ n
 
 pub on_err : {A E P : Type 0} (r : Result A E) → P → OnErr r P
 on_err (Ok x) p = tt
 on_err (Err e) p = p
 
 -- at the name itself a value may be written by that name or by its equal
-at_name : {A : Type 0} (name other : List ℕ) (f : List ℕ → A) (x y : A) → x ≡ f name → (if bytes_eq name other then x else y) ≡ (if bytes_eq name other then f other else y)
+pub at_name : {A : Type 0} (name other : List ℕ) (f : List ℕ → A) (x y : A) → x ≡ f name → (if bytes_eq name other then x else y) ≡ (if bytes_eq name other then f other else y)
 at_name name other f x y is =
     ⊎_elim
     (λ t. cond-true (bytes_eq name other) x y t ∙ is ∙ ap f ((bytes_decides name other).0 t) ∙ sym (cond-true (bytes_eq name other) (f other) y t))
@@ -42,7 +36,7 @@ module _ {S : Type 0} (name : List ℕ) (m n : HashMap (Vec ℕ Global) (Vec Sco
   written h other =
       ⊎_elim
       (λ t. subst (λ o. stack_of n.entries o ≡ w.items) ((bytes_decides name other).0 t) (ap stack_in h.1) ∙ sym (cond-true (bytes_eq name other) w.items (stack_of m.entries other) t))
-      (λ f. ap stack_in (other_entries _ _ _ _ h.3 (is_key other) (λ x y. nat_list_eq_equiv.congr other x.items y.items) (λ k. apart name other k.items f))
+      (λ f. ap stack_in (other_entries _ _ _ _ h.3 (is_key other) (λ x y. nat_list_eq_equiv.congr other x.items y.items) (λ k. bytes_apart name other k.items f))
       ∙ sym (cond-false (bytes_eq name other) w.items (stack_of m.entries other) f))
       (cases_Bool (bytes_eq name other))
 

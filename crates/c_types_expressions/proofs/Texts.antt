@@ -3,9 +3,8 @@ use Rattle.std.proofs.Common.{◌≡◌, ℕ, ◌+◌, ◌≤◌, List, [], ◌�
 use Rattle.std.proofs.lemmas.List.Sums.{sum_by-append, sum_by-cons}
 use Rattle.c_syntax.specs.declared.token.TokenKind.TheVariants as kind
 use Rattle.c_syntax.specs.ExprTree as e
-use Rattle.c_syntax.specs.ExprTree.{ExprTree, ExprList, LinkList, PostfixList}
-use Rattle.c_syntax.specs.Spelling.{Kinds, expr_kinds, exprs_kinds, link_kinds, more_exprs_kinds, postfix_kinds, text_kinds}
-use Rattle.c_syntax.specs.Tokens.{kind_text_len}
+use Rattle.c_syntax.specs.Words.{ExprTree, ExprList, LinkList, PostfixList, Kinds, expr_kinds, exprs_kinds, link_kinds, more_exprs_kinds, postfix_kinds}
+use Rattle.c_syntax.specs.Words.{text_kinds, kind_text_len}
 use Rattle.c_types_expressions.specs.Room.{expr_text, exprs_text, links_text, postfix_text}
 
 -- how many bytes the strings among some tokens have
@@ -28,15 +27,11 @@ mutual
   expr_bytes (e.Chain level first links) = simp bytes_both (omega (arith, expr_bytes first, links_bytes links))
   expr_bytes (e.Cast token b stars operand) = simp bytes_both (omega (arith, expr_bytes operand))
   expr_bytes (e.Prefix token operator operand) = simp bytes_both (omega (arith, expr_bytes operand))
-  expr_bytes (e.SizeOfType token b stars) = omega arith
   expr_bytes (e.Postfix primary operators) = simp bytes_both (omega (arith, expr_bytes primary, postfix_bytes operators))
-  expr_bytes (e.Name token name) = omega arith
   expr_bytes (e.Call token name arguments) = simp bytes_both (omega (arith, exprs_bytes arguments))
-  expr_bytes (e.Constant token k value) = omega arith
   expr_bytes (e.Strings token parts) = parts_bytes parts
   expr_bytes (e.Paren token inner) = simp bytes_both (omega (arith, expr_bytes inner))
-  expr_bytes (e.Null token) = omega arith
-  expr_bytes (e.EndOfFile token) = omega arith
+  expr_bytes x = omega arith
 
   pub exprs_bytes : (xs : ExprList) → exprs_text xs ≤ bytes_in (exprs_kinds xs)
   exprs_bytes e.no_exprs = omega arith

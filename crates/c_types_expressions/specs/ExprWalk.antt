@@ -19,14 +19,10 @@ use Rattle.c_types_rules.specs.declared.layout.StructType.{StructType}
 use Rattle.c_types_rules.specs.declared.library.Library.TheVariants as library
 use Rattle.c_types_rules.specs.declared.operand.Operand.{Operand}
 use Rattle.c_types_rules.specs.TypeTree as t
-use Rattle.c_types_rules.specs.TypeTree.{TypeTree}
-use Rattle.c_types_rules.specs.Faults.{Looked}
-use Rattle.c_types_rules.specs.Conversions.{value_of, place_of, value_type, constant_of, string_of, null_of, enclosed}
-use Rattle.c_types_rules.specs.Assigning.{assigned}
-use Rattle.c_types_rules.specs.Operators.{combined, joined_truths, signed, turned, stepped, compounded, measured, cast_to}
-use Rattle.c_types_rules.specs.Selecting.{chosen, sequenced, pointed, addressed, indexed, member_of, member_behind}
+use Rattle.c_types_rules.specs.Words.{TypeTree, Looked, value_of, place_of, value_type, constant_of, string_of, null_of, enclosed, assigned, combined}
+use Rattle.c_types_rules.specs.Words.{joined_truths, signed, turned, stepped, compounded, measured, cast_to, chosen, sequenced, pointed, addressed, indexed}
+use Rattle.c_types_rules.specs.Words.{member_of, member_behind, library_called, printed}
 use Rattle.c_types_rules.specs.Functions as functions
-use Rattle.c_types_rules.specs.Library.{library_called, printed}
 use Rattle.c_types_expressions.specs.declared.names.Meaning.{Meaning}
 use Rattle.c_types_expressions.specs.declared.names.Meaning.TheVariants as meaning
 use Rattle.c_types_expressions.specs.declared.walk.FunctionEntry.{FunctionEntry}

@@ -4,3 +4,4 @@ pub mod ExprWalk
 pub mod Beginning
 pub mod Room
 pub mod Indexed
+pub mod Words

@@ -1,8 +1,7 @@
 -- How much can still be declared, and how many bytes the strings of an expression have.
 use Rattle.std.specs.Prelude.{ℕ, ◌+◌, ◌≤◌, length, sum_by}
-use Rattle.c_syntax.specs.Limits.{most_tokens}
+use Rattle.c_syntax.specs.Words.{most_tokens, ExprTree, ExprList, LinkList, PostfixList}
 use Rattle.c_syntax.specs.ExprTree as e
-use Rattle.c_syntax.specs.ExprTree.{ExprTree, ExprList, LinkList, PostfixList}
 use Rattle.c_types_expressions.specs.declared.walk.Walk.{Walk}
 
 -- how many variables, functions, structs and definitions of functions there are

@@ -1,11 +1,7 @@
 ghost use Rattle.std.specs.Prelude.{◌≡◌, ◌<◌, ◌++◌, ◌∷◌, [], true, IfOk, Ok, OnOk, length, slice_get, sum_by};
-ghost use Rattle.c_syntax.specs.Limits.{most_bytes};
+ghost use Rattle.c_syntax.specs.Words.{most_bytes, plain_expr, plain_exprs, plain_links, plain_operators};
 ghost use Rattle.c_syntax.specs.ExprTree as e;
-ghost use Rattle.c_syntax.specs.Plain.{plain_expr, plain_exprs, plain_links, plain_operators};
-ghost use Rattle.c_types_rules.specs.Conversions.{null_of, string_of, value_type};
-ghost use Rattle.c_types_rules.specs.Operators.{cast_to, measured};
-ghost use Rattle.c_types_rules.specs.Selecting.{chosen, member_behind, member_of, sequenced};
-ghost use Rattle.c_types_rules.specs.TypeTree.{Void};
+ghost use Rattle.c_types_rules.specs.Words.{null_of, string_of, value_type, cast_to, measured, chosen, member_behind, member_of, sequenced, Void};
 ghost use Rattle.c_types_expressions.specs.ExprWalk.{assigning, base_type, called_name, flat, format_of, is_printf, looked, named, of_function};
 ghost use Rattle.c_types_expressions.specs.ExprWalk.{of_variable, prefixed, selected, selected_as, string_cells, tagged_type, walk_expr, walk_exprs};
 ghost use Rattle.c_types_expressions.specs.ExprWalk.{walk_links, walk_postfix, walk_whole, with_stars};

@@ -1,6 +1,7 @@
 -- What the walk notes of an expression is the type of the operand that it is.
 use Rattle.std.proofs.Common.{◌≡◌, ℕ, refl, ap, subst, ◌∙◌, List, [], ◌∷◌, ◌++◌, Some, None, Ok, Err, Bool, true, false}
 use Rattle.std.specs.Prelude.{Option, Result, slice_get}
+use Rattle.c_types_expressions.proofs.Given.{Gives, and_then, looks, weaker}
 use Rattle.c_syntax.specs.declared.parts.Base.{Base}
 use Rattle.c_syntax.specs.ExprTree as e
 use Rattle.c_syntax.specs.ExprTree.{ExprTree, ExprList, LinkList, PostfixList}
@@ -9,38 +10,28 @@ use Rattle.c_types_rules.specs.declared.layout.Member.{Member}
 use Rattle.c_types_rules.specs.declared.layout.StructType.{StructType}
 use Rattle.c_types_rules.specs.declared.operand.Operand.{Operand}
 use Rattle.c_types_rules.specs.TypeTree as t
-use Rattle.c_types_rules.specs.TypeTree.{TypeTree}
-use Rattle.c_types_rules.specs.Conversions.{constant_of, enclosed, null_of, place_of, string_of, value_of, value_type}
-use Rattle.c_types_rules.specs.Faults.{Looked}
+use Rattle.c_types_rules.specs.Words.{TypeTree, constant_of, enclosed, null_of, place_of, string_of, value_of, value_type, Looked, library_called, cast_to}
+use Rattle.c_types_rules.specs.Words.{measured, stepped, chosen, indexed, member_behind, member_of, sequenced}
 use Rattle.c_types_rules.specs.Functions as functions
-use Rattle.c_types_rules.specs.Library.{library_called}
-use Rattle.c_types_rules.specs.Operators.{cast_to, measured, stepped}
-use Rattle.c_types_rules.specs.Selecting.{chosen, indexed, member_behind, member_of, sequenced}
 use Rattle.c_types_expressions.specs.declared.names.Meaning.{Meaning}
 use Rattle.c_types_expressions.specs.declared.names.Meaning.TheVariants as meaning
 use Rattle.c_types_expressions.specs.declared.walk.FunctionEntry.{FunctionEntry}
 use Rattle.c_types_expressions.specs.declared.walk.Walk.{Walk}
-use Rattle.c_types_expressions.specs.ExprWalk.{assigning, base_type, binary_of, called_name, chained, compound_of, format_of, is_printf, looked, named}
-use Rattle.c_types_expressions.specs.ExprWalk.{of_function, of_variable, prefixed, selected, string_cells, walk_expr, walk_exprs, walk_links, walk_postfix}
-use Rattle.c_types_expressions.specs.ExprWalk.{walk_whole, whole_call, with_call, with_stars, with_use}
-use Rattle.c_types_expressions.specs.Names.{meaning_of}
+use Rattle.c_types_expressions.specs.Words.{assigning, base_type, binary_of, called_name, chained, compound_of, format_of, is_printf, looked, named}
+use Rattle.c_types_expressions.specs.Words.{of_function, of_variable, prefixed, selected, string_cells, walk_expr, walk_exprs, walk_links, walk_postfix}
+use Rattle.c_types_expressions.specs.Words.{walk_whole, whole_call, with_call, with_stars, with_use, meaning_of}
 use Rattle.c_types_laws.proofs.Leading.{either}
 use Rattle.c_types_laws.proofs.Ruled.{behind_stays, chained_is, indexed_is, member_stays, stepped_is}
-use Rattle.c_types_laws.proofs.Scenes.{Stays}
-use Rattle.c_types_laws.proofs.Steps.{Gives, and_then, looks, weaker}
 use Rattle.c_meaning.specs.Trees.{token_of}
 use Rattle.c_types_faults.specs.Events.{Construct, Calls, Selects as Selecting, Other, Value, expr_events, exprs_events, links_events, postfix_events}
 use Rattle.c_types_faults.specs.Known.{Known}
 use Rattle.c_types_faults.specs.Exprs.{IsOperand, LinksGive, PostfixGives}
 use Rattle.c_types_faults.specs.Wholes.{IsWhole}
-use Rattle.c_types_faults.proofs.Exprs.{base_tells, expr_tells}
+use Rattle.c_types_faults.proofs.Exprs.{base_tells, expr_tells, same_structs}
 use Rattle.c_types_faults.proofs.Telling.{Agreed, agrees_on, known_rule, shown}
 use Rattle.c_types_faults.proofs.Wholes.{whole_tells}
 use Rattle.c_types_facts.specs.Exprs.{ExprTyped, ExprsTyped, HasType, LinksTyped, PostfixTyped, WholeTyped}
 use Rattle.c_types_facts.proofs.Logs.{Logged, both, logged_here, logged_one, logged_so, logged_then, looked_logs, rest, told}
-
-same_structs : (ss : List StructType) → Stays ss ss
-same_structs ss i x h = h
 
 -- the type of what the walk gives is noted at the token
 abbrev pub Marks : ℕ → Construct → Walk → Operand → Walk → Type 0
@@ -51,11 +42,8 @@ variable_marks own index None w = record { by = tt }
 variable_marks own index (Some of) w = looked_logs own Other (Ok (place_of of)) w (with_use own index w) refl refl
 
 name_marks : (own : ℕ) (m : Option Meaning) (w : Walk) → Gives (named own m w) (Marks own Other w)
-name_marks own None w = record { by = tt }
 name_marks own (Some (meaning.Variable index)) w = variable_marks own index (slice_get w.declared_types index) w
-name_marks own (Some (meaning.Function index)) w = record { by = tt }
-name_marks own (Some (meaning.Library f)) w = record { by = tt }
-name_marks own (Some (meaning.Struct index)) w = record { by = tt }
+name_marks own m w = record { by = tt }
 
 function_marks : (own index : ℕ) (name : List ℕ) (o : Option FunctionEntry) (xs : List Operand) (w : Walk)
     → Gives (of_function own index o xs w) (Marks own (Calls name) w)
@@ -63,11 +51,9 @@ function_marks own index name None xs w = record { by = tt }
 function_marks own index name (Some f) xs w = looked_logs own (Calls name) (functions.called f.ctype xs) w (with_call own index w) refl refl
 
 call_marks : (own : ℕ) (name : List ℕ) (m : Option Meaning) (xs : List Operand) (w : Walk) → Gives (called_name own m xs w) (Marks own (Calls name) w)
-call_marks own name None xs w = record { by = tt }
-call_marks own name (Some (meaning.Variable index)) xs w = record { by = tt }
 call_marks own name (Some (meaning.Function index)) xs w = function_marks own index name (slice_get w.functions index) xs w
 call_marks own name (Some (meaning.Library f)) xs w = looked_logs own (Calls name) (library_called f xs) w w refl refl
-call_marks own name (Some (meaning.Struct index)) xs w = record { by = tt }
+call_marks own name m xs w = record { by = tt }
 
 -- a member that `.` or `->` names
 member_marks : (own : ℕ) (c : Construct) (place : Bool) (r : Result Member FaultKind) (w : Walk) (P : Operand → Type 0)
@@ -248,17 +234,4 @@ module _ (k : Known) where
       weaker (whole_marks token name (meaning_of name v.names) arguments xs v)
       (λ d u q. logged_so (logged_then p.1 q) (λ z h i. (h.0, (d, (i, h.1))))))))
       (λ d v p. (p.0, logged_so p.1 (λ z f. f p.0.0)))
-  whole_logs (e.Comma token operands) w g = expr_logs (e.Comma token operands) w g
-  whole_logs (e.Assign token s target value) w g = expr_logs (e.Assign token s target value) w g
-  whole_logs (e.Conditional token condition first second) w g = expr_logs (e.Conditional token condition first second) w g
-  whole_logs (e.Chain level first links) w g = expr_logs (e.Chain level first links) w g
-  whole_logs (e.Cast token b stars operand) w g = expr_logs (e.Cast token b stars operand) w g
-  whole_logs (e.Prefix token o operand) w g = expr_logs (e.Prefix token o operand) w g
-  whole_logs (e.SizeOfType token b stars) w g = expr_logs (e.SizeOfType token b stars) w g
-  whole_logs (e.Postfix primary operators) w g = expr_logs (e.Postfix primary operators) w g
-  whole_logs (e.Name token name) w g = expr_logs (e.Name token name) w g
-  whole_logs (e.Constant token of value) w g = expr_logs (e.Constant token of value) w g
-  whole_logs (e.Strings token parts) w g = expr_logs (e.Strings token parts) w g
-  whole_logs (e.Paren token inner) w g = expr_logs (e.Paren token inner) w g
-  whole_logs (e.Null token) w g = expr_logs (e.Null token) w g
-  whole_logs (e.EndOfFile token) w g = expr_logs (e.EndOfFile token) w g
+  whole_logs x w g = expr_logs x w g

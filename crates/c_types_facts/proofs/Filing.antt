@@ -2,9 +2,9 @@
 use Rattle.std.proofs.Common.{◌≡◌, ℕ, ◌+◌, refl, ap, sym, ◌∙◌, arith, List, [], ◌++◌, length, map, Bool, append_assoc}
 use Rattle.std.specs.Prelude.{slice_get}
 use Rattle.std.proofs.lemmas.List.{append-nil, map-append}
+use Rattle.base_lists.proofs.Lists.{Stays}
 use Rattle.c_types_rules.specs.TypeTree.{TypeTree}
 use Rattle.c_types_expressions.specs.declared.walk.Walk.{Walk}
-use Rattle.c_types_laws.proofs.Scenes.{Stays}
 use Rattle.c_types_faults.specs.Events.{Event}
 use Rattle.c_types_faults.specs.Scopes.{start_of}
 use Rattle.c_types_facts.specs.Statements.{Typed}

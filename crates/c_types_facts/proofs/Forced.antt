@@ -4,27 +4,24 @@ use Rattle.std.proofs.Common.{Option, Some, None, Bool, true, false}
 use Rattle.std.specs.Prelude.{is_some, slice_get, if◌then◌else◌}
 use Rattle.std.proofs.lemmas.Bool.{cases_lt, false≢true}
 use Rattle.std.proofs.lemmas.List.{append-nil}
+use Rattle.base_lists.proofs.Numbers.{same_number}
 use Rattle.c_syntax.specs.declared.parts.Param.{Param}
 use Rattle.c_syntax.specs.ExprTree as e
-use Rattle.c_syntax.specs.ExprTree.{ExprTree, ExprList, LinkList, PostfixList}
+use Rattle.c_syntax.specs.Words.{ExprTree, ExprList, LinkList, PostfixList, ItemTree, SourceTree, declarator_kinds, DeclarationTree, EntryList, ForStartTree}
+use Rattle.c_syntax.specs.Words.{InitialTree, StartTree, StatementTree}
 use Rattle.c_syntax.specs.ItemTree as i
-use Rattle.c_syntax.specs.ItemTree.{ItemTree, SourceTree}
-use Rattle.c_syntax.specs.Spelling.{declarator_kinds}
 use Rattle.c_syntax.specs.StatementTree as s
-use Rattle.c_syntax.specs.StatementTree.{DeclarationTree, EntryList, ForStartTree, InitialTree, StartTree, StatementTree}
 use Rattle.c_types_rules.specs.declared.function.FunctionType.{FunctionType}
 use Rattle.c_types_rules.specs.declared.operand.Operand.{Operand}
 use Rattle.c_types_rules.specs.TypeTree.{TypeTree}
 use Rattle.c_types.specs.Answers.{type_at}
 use Rattle.c_types_expressions.specs.declared.walk.Walk.{Walk}
 use Rattle.c_types_walk.specs.ItemWalk.{listed_params}
-use Rattle.c_meaning.specs.Known.{signature_of}
-use Rattle.c_meaning.specs.Trees.{token_of}
+use Rattle.c_meaning.specs.Words.{signature_of, token_of}
 use Rattle.c_types_faults.specs.Events.{Calls, Other, Event, Value, Initialises, Variable, Opens, Closes, Struct, Names as Naming, Defines}
 use Rattle.c_types_faults.specs.Events.{construct_at, declaration_events, entries_events, events_of, expr_events, exprs_events, for_start_events, initial_events}
 use Rattle.c_types_faults.specs.Events.{item_events, items_events, links_events, optional_events, params_events, postfix_events, scoped, start_events}
 use Rattle.c_types_faults.specs.Events.{starts_events, statement_events}
-use Rattle.c_types_faults.proofs.Noting.{same_token}
 use Rattle.sites.specs.Table.{defined_by, defined_in}
 use Rattle.c_types_faults.specs.Known.{Known, Object}
 use Rattle.c_types_faults.specs.Context.{Context, declare, declared_in, empty_context, inner, known}
@@ -84,20 +81,15 @@ module _ (w v : Walk) where
           agree_both (expr_events operand) (Value token Other ∷ []) (expr_forced operand h.0 g.0) (own_same (e.Cast token b stars operand) h.1 g.1, tt)
       expr_forced (e.Prefix token o operand) h g =
           agree_both (expr_events operand) (Value token Other ∷ []) (expr_forced operand h.0 g.0) (own_same (e.Prefix token o operand) h.1 g.1, tt)
-      expr_forced (e.SizeOfType token b stars) h g = (own_same (e.SizeOfType token b stars) h g, tt)
       expr_forced (e.Postfix primary operators) (h0, (x, h)) (g0, (y, g)) =
           agree_both (expr_events primary) (postfix_events (token_of primary) operators) (expr_forced primary h0 g0)
           (postfix_forced operators (token_of primary) x h.1 (subst (λ z. PostfixTyped v k z operators) (one_operand k primary y x g.0 h.0) g.1))
-      expr_forced (e.Name token name) h g = (own_same (e.Name token name) h g, tt)
       expr_forced (e.Call token name arguments) h g =
           agree_both (exprs_events arguments) (Value token (Calls name) ∷ []) (exprs_forced arguments h.0 g.0)
           (own_same (e.Call token name arguments) h.1 g.1, tt)
-      expr_forced (e.Constant token of value) h g = (own_same (e.Constant token of value) h g, tt)
-      expr_forced (e.Strings token parts) h g = (own_same (e.Strings token parts) h g, tt)
       expr_forced (e.Paren token inner) h g =
           agree_both (expr_events inner) (Value token Other ∷ []) (expr_forced inner h.0 g.0) (own_same (e.Paren token inner) h.1 g.1, tt)
-      expr_forced (e.Null token) h g = (own_same (e.Null token) h g, tt)
-      expr_forced (e.EndOfFile token) h g = (own_same (e.EndOfFile token) h g, tt)
+      expr_forced x h g = (own_same x h g, tt)
 
       exprs_forced : (xs : ExprList) → ExprsTyped w k xs → ExprsTyped v k xs → Agree (tokens_in (exprs_events xs))
       exprs_forced e.no_exprs h g = tt
@@ -135,20 +127,7 @@ module _ (w v : Walk) where
     whole_forced (e.Call token name arguments) (h0, (d, h)) (g0, (y, g)) =
         agree_both (exprs_events arguments) (Value token (Calls name) ∷ []) (exprs_forced arguments h0 g0)
         (same_at token d y h.1 g.1 (whole_one k (e.Call token name arguments) d y h.0 g.0), tt)
-    whole_forced (e.Comma token operands) h g = expr_forced (e.Comma token operands) h g
-    whole_forced (e.Assign token op target value) h g = expr_forced (e.Assign token op target value) h g
-    whole_forced (e.Conditional token condition first second) h g = expr_forced (e.Conditional token condition first second) h g
-    whole_forced (e.Chain level first links) h g = expr_forced (e.Chain level first links) h g
-    whole_forced (e.Cast token b stars operand) h g = expr_forced (e.Cast token b stars operand) h g
-    whole_forced (e.Prefix token o operand) h g = expr_forced (e.Prefix token o operand) h g
-    whole_forced (e.SizeOfType token b stars) h g = expr_forced (e.SizeOfType token b stars) h g
-    whole_forced (e.Postfix primary operators) h g = expr_forced (e.Postfix primary operators) h g
-    whole_forced (e.Name token name) h g = expr_forced (e.Name token name) h g
-    whole_forced (e.Constant token of value) h g = expr_forced (e.Constant token of value) h g
-    whole_forced (e.Strings token parts) h g = expr_forced (e.Strings token parts) h g
-    whole_forced (e.Paren token inner) h g = expr_forced (e.Paren token inner) h g
-    whole_forced (e.Null token) h g = expr_forced (e.Null token) h g
-    whole_forced (e.EndOfFile token) h g = expr_forced (e.EndOfFile token) h g
+    whole_forced x h g = expr_forced x h g
 
     part_forced : (x : Option ExprTree) → PartTyped w k x → PartTyped v k x → Agree (tokens_in (optional_events x))
     part_forced None h g = tt
@@ -195,7 +174,6 @@ module _ (w v : Walk) where
         → (a ≡ b) × Agree (tokens_in (statement_events x))
     statement_forced (s.Block token entries) c a b h g =
         let r = entries_forced entries (inner c) a b h g in (r.0, agree_scoped (entries_events entries) r.1)
-    statement_forced (s.Empty token) c a b h g = (h ∙ sym g, tt)
     statement_forced (s.Expr token x) c a b h g = (h.1 ∙ sym g.1, whole_forced (known c) x h.0 g.0)
     statement_forced (s.If token condition first) c a b h g =
         let r = statement_forced first c a b h.1 g.1 in
@@ -225,8 +203,7 @@ module _ (w v : Walk) where
               (part_forced (known d) step h.1.1.0 (subst (λ z. PartTyped v (known z) step) (sym one.0) g.1.1.0)) two.1))),
         )
     statement_forced (s.Return token value) c a b h g = (h.1 ∙ sym g.1, part_forced (known c) value h.0 g.0)
-    statement_forced (s.Break token) c a b h g = (h ∙ sym g, tt)
-    statement_forced (s.Continue token) c a b h g = (h ∙ sym g, tt)
+    statement_forced x c a b h g = (h ∙ sym g, tt)
 
     entries_forced : (xs : EntryList) (c : Context) (a b : List Typed) → EntriesTyped w c xs a → EntriesTyped v c xs b
         → (a ≡ b) × Agree (tokens_in (entries_events xs))
@@ -327,7 +304,7 @@ module _ (w v : Walk) where
     where
       by : (b : Bool) → (own == token) ≡ b → is_some (if b then Some c else construct_at token es) ≡ true
           → (is_some (construct_at token es) ≡ true → type_at w token ≡ type_at v token) → type_at w token ≡ type_at v token
-      by true q l f = subst (λ n. type_at w n ≡ type_at v n) (same_token own token q) g.0
+      by true q l f = subst (λ n. type_at w n ≡ type_at v n) (same_number own token q) g.0
       by false q l f = f l
   type_same token (Initialises own ∷ es) h g = type_same token es h g
   type_same token (Variable own ∷ es) h g = type_same token es h g

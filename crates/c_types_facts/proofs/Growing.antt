@@ -2,15 +2,14 @@
 use Rattle.std.proofs.Common.{◌≡◌, ℕ, ◌+◌, refl, ap, subst, sym, ◌∙◌, arith, List, [], ◌∷◌, ◌++◌, length, length-append, map, Bool, true, false, append_assoc}
 use Rattle.std.specs.Prelude.{nat_le, not, if◌then◌else◌}
 use Rattle.std.proofs.lemmas.List.{append-nil, map-append}
+use Rattle.c_types_expressions.proofs.Given.{Gives}
 use Rattle.c_types_rules.specs.declared.fault.FaultKind.{FaultKind}
 use Rattle.c_types_rules.specs.declared.fault.FaultKind.TheVariants as fault
-use Rattle.c_types_rules.specs.Sizes.{cells_of, is_object, most_cells}
-use Rattle.c_types_rules.specs.TypeTree.{TypeTree}
+use Rattle.c_types_rules.specs.Words.{cells_of, is_object, most_cells, TypeTree}
 use Rattle.c_types_expressions.specs.declared.walk.Walk.{Walk}
 use Rattle.c_types_expressions.specs.Walked.{Fine, Faulty, Done, unless, with_variable}
 use Rattle.c_types_walk.specs.StatementWalk.{counted_cells, sized}
 use Rattle.c_types_laws.proofs.Leading.{either}
-use Rattle.c_types_laws.proofs.Steps.{Gives}
 use Rattle.c_types_faults.specs.Events.{Event, Closes, scoped}
 use Rattle.c_types_faults.specs.Scopes.{start_of}
 use Rattle.c_types_facts.specs.Statements.{Typed}

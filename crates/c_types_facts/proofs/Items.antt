@@ -3,42 +3,36 @@ use Rattle.std.proofs.Common.{◌≡◌, ℕ, ◌+◌, refl, ap, ap₂, subst, s
 use Rattle.std.proofs.Common.{Bool, true, false, append_assoc, inl, inr}
 use Rattle.std.specs.Prelude.{drop, is_some, nat_le, slice_get, take, unwrap_or, ◌&&◌, ◌||◌, if◌then◌else◌}
 use Rattle.std.proofs.lemmas.List.{append-nil, length-map}
+use Rattle.c_types_expressions.proofs.Given.{Gives, and_then, weaker}
+use Rattle.base_lists.proofs.Lists.{get_last, Stays}
 use Rattle.c_syntax.specs.declared.parts.Base.{Base}
 use Rattle.c_syntax.specs.declared.parts.Base.TheVariants as base
 use Rattle.c_syntax.specs.declared.parts.Declarator.{Declarator}
 use Rattle.c_syntax.specs.declared.parts.Members.{Members}
 use Rattle.c_syntax.specs.declared.parts.Param.{Param}
 use Rattle.c_syntax.specs.declared.parts.ParamName.{ParamName}
-use Rattle.c_syntax.specs.StatementTree.{EntryList}
+use Rattle.c_syntax.specs.Words.{EntryList, ItemTree}
 use Rattle.c_syntax.specs.ItemTree as i
-use Rattle.c_syntax.specs.ItemTree.{ItemTree}
 use Rattle.c_types_rules.specs.declared.fault.FaultKind.TheVariants as fault
 use Rattle.c_types_rules.specs.declared.function.FunctionType.{FunctionType}
 use Rattle.c_types_rules.specs.declared.layout.StructType.{StructType}
-use Rattle.c_types_rules.specs.Conversions.{is_scalar, is_struct}
-use Rattle.c_types_rules.specs.Selecting.{member_named}
-use Rattle.c_types_rules.specs.Sizes.{cells_of, empty_struct, is_object, most_cells, with_member}
+use Rattle.c_types_rules.specs.Words.{is_scalar, is_struct, member_named, cells_of, empty_struct, is_object, most_cells, with_member, TypeTree}
 use Rattle.c_types_rules.specs.TypeTree as t
-use Rattle.c_types_rules.specs.TypeTree.{TypeTree}
 use Rattle.c_types_expressions.specs.declared.names.Meaning.{Meaning}
 use Rattle.c_types_expressions.specs.declared.names.Meaning.TheVariants as meaning
 use Rattle.c_types_expressions.specs.declared.walk.Definition.{Definition}
 use Rattle.c_types_expressions.specs.declared.walk.FunctionEntry.{FunctionEntry}
 use Rattle.c_types_expressions.specs.declared.walk.Parameter.{Parameter}
 use Rattle.c_types_expressions.specs.declared.walk.Walk.{Walk}
-use Rattle.c_types_expressions.specs.ExprWalk.{base_type, tagged_type, with_stars}
-use Rattle.c_types_expressions.specs.Names.{found, is_here, is_reserved}
-use Rattle.c_types_expressions.specs.Walked.{Fine, Faulty, Done, opened, with_variable}
+use Rattle.c_types_expressions.specs.Words.{base_type, tagged_type, with_stars, found, is_here, is_reserved, Fine, Faulty, Done, opened, with_variable}
 use Rattle.c_types_walk.specs.Declarators.{declared_type}
 use Rattle.c_types_walk.specs.ItemWalk.{clashes, declares, has_length, is_among, is_defined, known_as, listed_params, looked_param, param_type}
 use Rattle.c_types_walk.specs.ItemWalk.{scalar_param, typed_function, typed_member, types_of, walk_body, walk_declarators, walk_item, walk_items}
 use Rattle.c_types_walk.specs.ItemWalk.{walk_members, walk_param, walk_params, walk_struct, with_definition, with_function, with_param, with_params, with_tag}
 use Rattle.c_types_walk.specs.StatementWalk.{walk_entries}
 use Rattle.c_meaning.specs.Known.{computed_type, signature_of, signature_with}
-use Rattle.c_types_laws.proofs.Declaring.{get_last, more_stays}
+use Rattle.c_types_laws.proofs.Declaring.{more_stays}
 use Rattle.c_types_laws.proofs.Leading.{allowed, refused}
-use Rattle.c_types_laws.proofs.Scenes.{Stays}
-use Rattle.c_types_laws.proofs.Steps.{Gives, and_then, weaker}
 use Rattle.c_types_faults.specs.Events.{Event, Closes, Defines, Names as Naming, Struct, entries_events, item_events, items_events, named_events}
 use Rattle.c_types_faults.specs.Events.{params_events, scoped}
 use Rattle.c_types_faults.specs.Scopes.{start_of}
@@ -65,18 +59,12 @@ use Rattle.c_types_facts.proofs.Variables.{declaration_logs}
 -- structs
 
 tagged_same : (own : ℕ) (m : Option Meaning) (w : Walk) → Gives (tagged_type own m w) (λ t v. v ≡ w)
-tagged_same own None w = record { by = tt }
-tagged_same own (Some (meaning.Variable index)) w = record { by = tt }
-tagged_same own (Some (meaning.Function index)) w = record { by = tt }
-tagged_same own (Some (meaning.Library f)) w = record { by = tt }
 tagged_same own (Some (meaning.Struct index)) w = record { by = refl }
+tagged_same own m w = record { by = tt }
 
 base_same : (b : Base) (w : Walk) → Gives (base_type b w) (λ t v. v ≡ w)
-base_same (base.Void own) w = record { by = refl }
-base_same (base.Char own) w = record { by = refl }
-base_same (base.Int own) w = record { by = refl }
-base_same (base.Unsigned own int) w = record { by = refl }
 base_same (base.Struct own tag) w = tagged_same own (found tag w.tags) w
+base_same b w = record { by = refl }
 
 typed_same : (d : Declarator) (o : Option TypeTree) (s : StructType) (w : Walk) → Gives (typed_member d o s w) (λ s v. v ≡ w)
 typed_same d None s w = record { by = tt }

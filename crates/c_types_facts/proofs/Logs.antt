@@ -1,17 +1,17 @@
 -- What a part of the walk notes of types: at which tokens, in their order, and that this is what it says.
 use Rattle.std.proofs.Common.{◌⊎◌, inl, inr, ◌≡◌, ℕ, ◌<◌, refl, ap, subst, sym, ◌∙◌, arith, List, [], ◌∷◌, ◌++◌, length, map, Option, Some}
 use Rattle.std.proofs.lemmas.List.{map-append}
-use Rattle.c_types_rules.specs.TypeTree.{TypeTree}
-use Rattle.c_types_rules.specs.Faults.{Looked}
+use Rattle.c_types_expressions.proofs.Giving.{Gives as GivesIn}
+use Rattle.c_types_expressions.proofs.Given.{Gives, looks}
+use Rattle.c_types.proofs.Replaced.{noted_other, noted_same}
+use Rattle.c_types.proofs.Noted.{length_replaced}
+use Rattle.c_types_rules.specs.Words.{TypeTree, Looked}
 use Rattle.c_types.specs.Answers.{noted}
 use Rattle.c_types_expressions.specs.declared.walk.Definition.{Definition}
 use Rattle.c_types_expressions.specs.declared.walk.FunctionEntry.{FunctionEntry}
 use Rattle.c_types_expressions.specs.declared.walk.VariableEntry.{VariableEntry}
 use Rattle.c_types_expressions.specs.declared.walk.Walk.{Walk}
-use Rattle.c_types_expressions.specs.Walked.{Walked, Fine, Faulty, replaced}
-use Rattle.c_types_expressions.specs.ExprWalk.{looked}
-use Rattle.c_types_laws.proofs.Scenes.{replaced_long}
-use Rattle.c_types_laws.proofs.Steps.{Gives, GivesIn, looks, noted_other, noted_same}
+use Rattle.c_types_expressions.specs.Words.{Walked, Fine, Faulty, replaced, looked}
 use Rattle.c_types_faults.specs.Events.{Construct, Event, Value, Initialises, Variable, Opens, Closes, Struct, Names, Defines}
 use Rattle.c_types_faults.proofs.Points.{Among, Once}
 use Rattle.c_types_rules.specs.declared.fault.FaultKind.{FaultKind}
@@ -169,7 +169,7 @@ says_all : (log : Log) (types : List (Option TypeTree)) → AreApart (map token 
 says_all [] types h less = tt
 says_all (n ∷ log) types h less = (
   stays log (replaced types n.0 (Some n.1)) n.0 h.0 ∙ noted_same types n.0 n.1 (less n.0 (inl refl)),
-  says_all log (replaced types n.0 (Some n.1)) h.1 (λ k i. omega (arith, less k (inr i), replaced_long types n.0 (Some n.1))),
+  says_all log (replaced types n.0 (Some n.1)) h.1 (λ k i. omega (arith, less k (inr i), length_replaced types n.0 (Some n.1))),
 )
 
 pub log_stands : (es : List Event) (log : Log) (types : List (Option TypeTree)) → map token log ≡ tokens_in es → Once es

@@ -1,35 +1,28 @@
 -- What the walk notes of statements is what their declarations say.
 use Rattle.std.proofs.Common.{◌≡◌, refl, subst, sym, ◌∙◌, ◌++◌, Option, Some, None, Bool, true, false}
 use Rattle.std.specs.Prelude.{not, ◌||◌}
-use Rattle.c_syntax.specs.ExprTree.{ExprTree}
+use Rattle.c_types_expressions.proofs.Given.{Gives, and_then, weaker}
+use Rattle.c_syntax.specs.Words.{ExprTree, EntryList, ForStartTree, StatementTree}
 use Rattle.c_syntax.specs.StatementTree as s
-use Rattle.c_syntax.specs.StatementTree.{EntryList, ForStartTree, StatementTree}
 use Rattle.c_types_rules.specs.declared.fault.FaultKind.TheVariants as fault
-use Rattle.c_types_rules.specs.Assigning.{assignable}
-use Rattle.c_types_rules.specs.Conversions.{is_struct, is_void}
-use Rattle.c_types_rules.specs.Operators.{is_scalar_value}
-use Rattle.c_types_rules.specs.TypeTree.{TypeTree}
+use Rattle.c_types_rules.specs.Words.{assignable, is_struct, is_void, is_scalar_value, TypeTree}
 use Rattle.c_types_expressions.specs.declared.walk.Walk.{Walk}
 use Rattle.c_types_expressions.specs.Walked.{Faulty, Done, opened, unless}
 use Rattle.c_types_walk.specs.StatementWalk.{is_condition_part, is_struct_part, walk_entries, walk_for_start, walk_optional}
 use Rattle.c_types_walk.specs.StatementWalk.{walk_statement}
 use Rattle.c_types_laws.proofs.Leading.{either}
-use Rattle.c_types_laws.proofs.Steps.{Gives, and_then, weaker}
 use Rattle.c_types_faults.specs.Events.{entries_events, for_start_events, optional_events, statement_events}
 use Rattle.c_types_faults.specs.Known.{Known}
 use Rattle.c_types_faults.specs.Context.{Context, inner, known}
 use Rattle.c_types_faults.specs.Statements.{IsRuledStatement}
 use Rattle.c_types_faults.proofs.Knowing.{Knows, agreed, entering_knows}
-use Rattle.c_types_faults.proofs.Statements.{Beyond, statement_tells}
+use Rattle.c_types_faults.proofs.Statements.{Beyond, statement_tells, know_on}
 use Rattle.c_types_faults.proofs.Telling.{Agreed, Shown, agrees_on, shown}
 use Rattle.c_types_facts.specs.Statements.{EntriesTyped, PartTyped, StartTyped, StatementTyped}
 use Rattle.c_types_facts.proofs.Exprs.{expr_logs, whole_logs}
 use Rattle.c_types_facts.proofs.Growing.{Grown, grown_after, grown_as, grown_before, grown_none, grown_of, grown_scoped, grown_so, grown_then, unless_grown}
 use Rattle.c_types_facts.proofs.Logs.{Logged, both, logged_here, told}
 use Rattle.c_types_facts.proofs.Variables.{declaration_logs}
-
-know_on : {c : Context} {s r : Shown} → Knows c s → r ≡ s → Knows c r
-know_on {c = c} k e = subst (Knows c) (sym e) k
 
 optional_logs : (k : Known) (x : Option ExprTree) (w : Walk) → Agreed k (shown w)
     → Gives (walk_optional x w) (λ o v. (shown v ≡ shown w) × Logged (optional_events x) (λ z. PartTyped z k x) w v)

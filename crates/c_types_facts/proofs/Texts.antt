@@ -2,16 +2,15 @@
 use Rattle.std.proofs.Common.{◌≡◌, ℕ, zero, suc, ◌-◌, refl, ap, subst, sym, ◌∙◌, arith, List, [], ◌∷◌, length, map, replicate, Option, Some, None, false}
 use Rattle.std.specs.Prelude.{is_some, option_and_then, option_map, slice_get}
 use Rattle.std.proofs.lemmas.List.{length-replicate}
-use Rattle.c_syntax.specs.ItemTree.{SourceTree}
-use Rattle.c_syntax.specs.WellFormed.{IsShaped}
+use Rattle.c_types_expressions.proofs.Giving.{Gives as GivesIn}
+use Rattle.c_types_expressions.proofs.Given.{Gives, and_then, weaker}
+use Rattle.c_syntax.specs.Words.{SourceTree, IsShaped}
 use Rattle.c_types_rules.specs.declared.fault.FaultKind.{FaultKind}
 use Rattle.c_types_rules.specs.TypeTree.{TypeTree}
 use Rattle.c_types.specs.Answers.{declared_at, place_at, variable_at, variable_of}
 use Rattle.c_types.specs.Fault.{ends_with, last_fault, walk_tree}
 use Rattle.c_types_expressions.specs.declared.walk.Walk.{Walk}
-use Rattle.c_types_expressions.specs.Beginning.{beginning}
-use Rattle.c_types_expressions.specs.Walked.{Walked, Fine, Done}
-use Rattle.c_types_laws.proofs.Steps.{Gives, GivesIn, and_then, weaker}
+use Rattle.c_types_expressions.specs.Words.{beginning, Walked, Fine, Done}
 use Rattle.c_types_faults.specs.Events.{events_of}
 use Rattle.c_types_faults.specs.Scopes.{scopes_of, start_of}
 use Rattle.c_types_faults.proofs.Leaving.{Left}

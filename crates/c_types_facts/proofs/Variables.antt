@@ -4,32 +4,29 @@ use Rattle.std.specs.Prelude.{is_some, slice_get, slice_set, nat_lt, ◌&&◌, i
 use Rattle.std.proofs.lemmas.Bool.Decides.{nat_tests}
 use Rattle.std.proofs.lemmas.Slice.Eq.{bytes_eq-Decides}
 use Rattle.std.proofs.Common.{length-append}
-use Rattle.c_syntax.specs.FirstToken.{first_token}
+use Rattle.std.proofs.lemmas.Option.{same_Some}
+use Rattle.c_types_expressions.proofs.Given.{Gives, and_then, weaker}
+use Rattle.base_lists.proofs.Lists.{get_last}
+use Rattle.c_syntax.specs.Words.{first_token, InitialTree, StartTree, DeclarationTree, declarator_kinds}
 use Rattle.c_syntax.specs.StatementTree as s
-use Rattle.c_syntax.specs.StatementTree.{InitialTree, StartTree, DeclarationTree}
 use Rattle.c_types_rules.specs.declared.fault.FaultKind.TheVariants as fault
-use Rattle.c_types_rules.specs.Sizes.{cells_of}
-use Rattle.c_types_rules.specs.TypeTree.{TypeTree}
+use Rattle.c_types_rules.specs.Words.{cells_of, TypeTree}
 use Rattle.c_types_expressions.specs.declared.names.Meaning.TheVariants as meaning
 use Rattle.c_types_expressions.specs.declared.names.ScopeEntry.{ScopeEntry}
 use Rattle.c_types_expressions.specs.declared.names.ScopeEntry.TheVariants as entry
 use Rattle.c_types_expressions.specs.declared.walk.FunctionEntry.{FunctionEntry}
 use Rattle.c_types_expressions.specs.declared.walk.Walk.{Walk}
-use Rattle.c_types_expressions.specs.Names.{is_name_taken}
-use Rattle.c_types_expressions.specs.Walked.{Done, replaced, with_variable}
+use Rattle.c_types_expressions.specs.Words.{is_name_taken, Done, replaced, with_variable}
 use Rattle.c_types_walk.specs.Declarators.{declared_type, is_open}
 use Rattle.c_types_walk.specs.Initialisers.{cells_of_string, completes, listed_type, valued, walk_initial}
 use Rattle.c_types_walk.specs.StatementWalk.{walk_closed, walk_declaration, walk_open, walk_start, walk_starts, walk_typed, with_declared_type}
-use Rattle.c_types_laws.proofs.Declaring.{get_last}
 use Rattle.c_types_laws.proofs.Leading.{either, refused}
-use Rattle.c_types_laws.proofs.Steps.{Gives, and_then, weaker}
 use Rattle.c_types_faults.specs.Events.{Event, declaration_events, expr_events, exprs_events, initial_events, start_events, starts_events}
-use Rattle.c_syntax.specs.Spelling.{declarator_kinds}
 use Rattle.c_types_faults.specs.Known.{Entity, Known, Object}
 use Rattle.c_types_faults.specs.Context.{Context, Declared, counting, declare, declared_in, known}
 use Rattle.c_types_faults.specs.Declarators.{DeclaresAs}
 use Rattle.c_types_faults.specs.Declarations.{DeclarationGives, VariableGives, VariablesGive}
-use Rattle.c_types_faults.proofs.Bounds.{declared_is, some_is}
+use Rattle.c_types_faults.proofs.Bounds.{declared_is}
 use Rattle.c_types_faults.proofs.Declaring.{Behind, behind_here, behind_on, variable_tells}
 use Rattle.c_types_faults.proofs.Exprs.{base_tells}
 use Rattle.c_types_faults.proofs.Knowing.{Knows, Matches, agreed, grown_knows, object_knows, variable_shown}
@@ -185,7 +182,7 @@ module _ (global : Bool) (base : TypeTree) (x : StartTree) (c : Context) (w : Wa
       ap (λ ts. slice_get ts (length w.variables)) d.declared ∙ ap (λ n. slice_get (w.declared_types ++ d.of ∷ []) n) (sym k.count)
       ∙ get_last w.declared_types d.of in
       ap (λ (y : Context). declared_in name y.scope) h.4 ∙ declared_here (Object u) (counting global (cells_of c.structs u) c).scope
-      ∙ ap (λ y. Some (Object y)) (some_is u d.of (sym at ∙ own))
+      ∙ ap (λ y. Some (Object y)) (same_Some u d.of (sym at ∙ own))
 
   abbrev OneTyped : Context → Walk → List Typed → Type 0
   OneTyped after z own = (of : TypeTree) × (VariableTyped z global base c x after of × (own ≡ record { token = x.declarator.name_token; of = of } ∷ []))

@@ -1,9 +1,8 @@
 -- What is noted of declarations and statements: of their expressions the types, and of the variables that they declare, in their order, the tokens of
 -- their names and their types.
 use Rattle.std.specs.Prelude.{◌≡◌, ℕ, Bool, false, List, [], ◌∷◌, ◌++◌, Option, Some, None}
-use Rattle.c_syntax.specs.ExprTree.{ExprTree}
+use Rattle.c_syntax.specs.Words.{ExprTree, InitialTree, StartTree, DeclarationTree, ForStartTree, StatementTree, EntryList}
 use Rattle.c_syntax.specs.StatementTree as s
-use Rattle.c_syntax.specs.StatementTree.{InitialTree, StartTree, DeclarationTree, ForStartTree, StatementTree, EntryList}
 use Rattle.c_types_rules.specs.TypeTree.{TypeTree}
 use Rattle.c_types_expressions.specs.declared.walk.Walk.{Walk}
 use Rattle.c_types_faults.specs.Known.{Known, Object}

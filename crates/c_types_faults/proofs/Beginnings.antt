@@ -1,25 +1,22 @@
 -- What an initialiser may be, and what it completes.
 use Rattle.std.proofs.Common.{inl, inr, ◌≡◌, ℕ, ◌+◌, refl, ap, subst, sym, ◌∙◌, arith, List, [], ◌∷◌, Some, None, Bool, true, false, length, ◌⊎◌}
-use Rattle.std.proofs.lemmas.Bool.{and_from, and_parts, eq-eqb, eqb-true, false≢true}
+use Rattle.std.proofs.lemmas.Bool.{and_from, and_parts, eq-eqb, eqb-true, false≢true, or_left, or_right}
 use Rattle.std.proofs.lemmas.Bool.Decides.{nat_tests}
 use Rattle.std.specs.Prelude.{Option, nat_le, nat_lt, not, ◌&&◌, ◌||◌, ◌==◌, if◌then◌else◌}
+use Rattle.std.proofs.lemmas.Option.{same_Some}
+use Rattle.base_lists.proofs.Tests.{three_and}
+use Rattle.base_lists.proofs.Numbers.{is_most, most_is}
 use Rattle.c_syntax.specs.declared.expr.PrefixOperator.TheVariants as prefix
 use Rattle.c_syntax.specs.ExprTree as e
-use Rattle.c_syntax.specs.ExprTree.{ExprTree, ExprList}
-use Rattle.c_syntax.specs.FirstToken.{first_token}
+use Rattle.c_syntax.specs.Words.{ExprTree, ExprList, first_token, InitialTree}
 use Rattle.c_syntax.specs.StatementTree as s
-use Rattle.c_syntax.specs.StatementTree.{InitialTree}
 use Rattle.c_types_rules.specs.declared.fault.FaultKind.{FaultKind}
 use Rattle.c_types_rules.specs.declared.fault.FaultKind.TheVariants as fault
 use Rattle.c_types_rules.specs.declared.layout.StructType.{StructType}
 use Rattle.c_types_rules.specs.declared.operand.Operand.{Operand}
-use Rattle.c_types_rules.specs.TypeTree.{TypeTree, Void, Char, Int, Unsigned, Pointer, Array, Struct}
-use Rattle.c_types_rules.specs.Assigning.{assignable}
-use Rattle.c_types_rules.specs.Conversions.{is_scalar}
-use Rattle.c_types_rules.specs.Sizes.{is_complete}
+use Rattle.c_types_rules.specs.Words.{TypeTree, Void, Char, Int, Unsigned, Pointer, Array, Struct, assignable, is_scalar, is_complete}
 use Rattle.c_types_expressions.specs.declared.walk.Walk.{Walk}
-use Rattle.c_types_expressions.specs.ExprWalk.{string_cells}
-use Rattle.c_types_expressions.specs.Walked.{Walked}
+use Rattle.c_types_expressions.specs.Words.{string_cells, Walked}
 use Rattle.c_types_walk.specs.Initialisers.{all_initialise, cells_of_string, completes, expressed, initialises, is_constant, is_number, known_length, listed_type}
 use Rattle.c_types_walk.specs.Initialisers.{spelled, takes_items, valued, walk_initial}
 use Rattle.c_types_laws.proofs.Ruled.{accepts}
@@ -27,96 +24,34 @@ use Rattle.c_types_faults.specs.Known.{Known}
 use Rattle.c_types_faults.specs.Exprs.{AreOperands}
 use Rattle.c_types_faults.specs.Initialisers.{AllInitialise, Completes, InitialBreaks, Initialises, IsConstant, IsConstantIfGlobal, IsNumberTree, Lists, Measures, ObjectBegins}
 use Rattle.c_types_faults.specs.Initialisers.{Spells, SpellsIn}
-use Rattle.c_types_faults.proofs.Bounds.{none_some, some_is}
+use Rattle.c_types_faults.proofs.Bounds.{none_some}
 use Rattle.c_types_faults.proofs.Exprs.{expr_tells, exprs_tells}
-use Rattle.c_types_faults.proofs.Fitting.{accepts_back, if_false, if_true, or_left, or_right, three_parts, three_true, most, most_back}
+use Rattle.c_types_faults.proofs.Fitting.{accepts_back, if_false, if_true, three_true}
 use Rattle.c_types_faults.proofs.Telling.{Agreed, Tells, and_then, shown, weaker}
 
 -- constants
 
 number_is : (x : ExprTree) → is_number x ≡ true → IsNumberTree x
-number_is (e.Comma token operands) h = absurd (false≢true h)
-number_is (e.Assign token s target value) h = absurd (false≢true h)
-number_is (e.Conditional token condition first second) h = absurd (false≢true h)
-number_is (e.Chain level first links) h = absurd (false≢true h)
-number_is (e.Cast token b stars operand) h = absurd (false≢true h)
-number_is (e.Prefix token o operand) h = absurd (false≢true h)
-number_is (e.SizeOfType token b stars) h = absurd (false≢true h)
-number_is (e.Postfix primary operators) h = absurd (false≢true h)
-number_is (e.Name token name) h = absurd (false≢true h)
-number_is (e.Call token name arguments) h = absurd (false≢true h)
 number_is (e.Constant token of value) h = tt
-number_is (e.Strings token parts) h = absurd (false≢true h)
-number_is (e.Paren token inner) h = absurd (false≢true h)
-number_is (e.Null token) h = absurd (false≢true h)
-number_is (e.EndOfFile token) h = absurd (false≢true h)
+number_is x h = absurd (false≢true h)
 
 number_back : (x : ExprTree) → IsNumberTree x → is_number x ≡ true
-number_back (e.Comma token operands) h = absurd h
-number_back (e.Assign token s target value) h = absurd h
-number_back (e.Conditional token condition first second) h = absurd h
-number_back (e.Chain level first links) h = absurd h
-number_back (e.Cast token b stars operand) h = absurd h
-number_back (e.Prefix token o operand) h = absurd h
-number_back (e.SizeOfType token b stars) h = absurd h
-number_back (e.Postfix primary operators) h = absurd h
-number_back (e.Name token name) h = absurd h
-number_back (e.Call token name arguments) h = absurd h
 number_back (e.Constant token of value) h = refl
-number_back (e.Strings token parts) h = absurd h
-number_back (e.Paren token inner) h = absurd h
-number_back (e.Null token) h = absurd h
-number_back (e.EndOfFile token) h = absurd h
+number_back x h = absurd h
 
 constant_is : (x : ExprTree) → is_constant x ≡ true → IsConstant x
-constant_is (e.Comma token operands) h = absurd (false≢true h)
-constant_is (e.Assign token s target value) h = absurd (false≢true h)
-constant_is (e.Conditional token condition first second) h = absurd (false≢true h)
-constant_is (e.Chain level first links) h = absurd (false≢true h)
-constant_is (e.Cast token b stars operand) h = absurd (false≢true h)
-constant_is (e.Prefix token prefix.Increment operand) h = absurd (false≢true h)
-constant_is (e.Prefix token prefix.Decrement operand) h = absurd (false≢true h)
-constant_is (e.Prefix token prefix.SizeOf operand) h = absurd (false≢true h)
-constant_is (e.Prefix token prefix.Address operand) h = absurd (false≢true h)
-constant_is (e.Prefix token prefix.Indirection operand) h = absurd (false≢true h)
-constant_is (e.Prefix token prefix.Plus operand) h = absurd (false≢true h)
 constant_is (e.Prefix token prefix.Minus operand) h = number_is operand h
-constant_is (e.Prefix token prefix.Complement operand) h = absurd (false≢true h)
-constant_is (e.Prefix token prefix.Not operand) h = absurd (false≢true h)
-constant_is (e.SizeOfType token b stars) h = absurd (false≢true h)
-constant_is (e.Postfix primary operators) h = absurd (false≢true h)
-constant_is (e.Name token name) h = absurd (false≢true h)
-constant_is (e.Call token name arguments) h = absurd (false≢true h)
 constant_is (e.Constant token of value) h = tt
 constant_is (e.Strings token parts) h = tt
-constant_is (e.Paren token inner) h = absurd (false≢true h)
 constant_is (e.Null token) h = tt
-constant_is (e.EndOfFile token) h = absurd (false≢true h)
+constant_is x h = absurd (false≢true h)
 
 constant_back : (x : ExprTree) → IsConstant x → is_constant x ≡ true
-constant_back (e.Comma token operands) h = absurd h
-constant_back (e.Assign token s target value) h = absurd h
-constant_back (e.Conditional token condition first second) h = absurd h
-constant_back (e.Chain level first links) h = absurd h
-constant_back (e.Cast token b stars operand) h = absurd h
-constant_back (e.Prefix token prefix.Increment operand) h = absurd h
-constant_back (e.Prefix token prefix.Decrement operand) h = absurd h
-constant_back (e.Prefix token prefix.SizeOf operand) h = absurd h
-constant_back (e.Prefix token prefix.Address operand) h = absurd h
-constant_back (e.Prefix token prefix.Indirection operand) h = absurd h
-constant_back (e.Prefix token prefix.Plus operand) h = absurd h
 constant_back (e.Prefix token prefix.Minus operand) h = number_back operand h
-constant_back (e.Prefix token prefix.Complement operand) h = absurd h
-constant_back (e.Prefix token prefix.Not operand) h = absurd h
-constant_back (e.SizeOfType token b stars) h = absurd h
-constant_back (e.Postfix primary operators) h = absurd h
-constant_back (e.Name token name) h = absurd h
-constant_back (e.Call token name arguments) h = absurd h
 constant_back (e.Constant token of value) h = refl
 constant_back (e.Strings token parts) h = refl
-constant_back (e.Paren token inner) h = absurd h
 constant_back (e.Null token) h = refl
-constant_back (e.EndOfFile token) h = absurd h
+constant_back x h = absurd h
 
 kept_is : (global : Bool) (x : ExprTree) → (not global || is_constant x) ≡ true → IsConstantIfGlobal global x
 kept_is true x h = constant_is x h
@@ -137,11 +72,11 @@ is_not_zero n false h f = h
 
 measures_is : (b : Bool) (known given : ℕ) → (known == 0) ≡ b → (b || nat_le given known) ≡ true → Measures known given (if b then given else known)
 measures_is true known given e h = inl (eqb-true known 0 e, refl)
-measures_is false known given e h = inr (not_zero known e, most given known h, refl)
+measures_is false known given e h = inr (not_zero known e, is_most given known h, refl)
 
 takes_back : (known given size : ℕ) → Measures known given size → takes_items known given ≡ true
 takes_back known given size (inl h) = or_left (known == 0) (nat_le given known) (eq-eqb known 0 h.0)
-takes_back known given size (inr h) = or_right (known == 0) (nat_le given known) (most_back given known h.1)
+takes_back known given size (inr h) = or_right (known == 0) (nat_le given known) (most_is given known h.1)
 
 length_back : (known given size : ℕ) → Measures known given size → known_length known given ≡ size
 length_back known given size (inl h) = if_true (known == 0) given known (eq-eqb known 0 h.0) ∙ sym h.1
@@ -150,7 +85,7 @@ length_back known given size (inr h) = if_false (known == 0) given known (is_not
 module _ (global : Bool) where
   initialises_is : (of : TypeTree) (value : ExprTree) (x : Operand) → initialises global of value x ≡ true → Initialises global of value x
   initialises_is of value x h =
-      let k = three_parts (is_scalar of) (assignable of x) (not global || is_constant value) h in (k.0, accepts of x k.1, kept_is global value k.2)
+      let k = three_and (is_scalar of) (assignable of x) (not global || is_constant value) h in (k.0, accepts of x k.1, kept_is global value k.2)
 
   initialises_back : (of : TypeTree) (value : ExprTree) (x : Operand) → Initialises global of value x → initialises global of value x ≡ true
   initialises_back of value x h = three_true (is_scalar of) (assignable of x) (not global || is_constant value) h.0 (accepts_back of x h.1)
@@ -180,7 +115,7 @@ module _ (global : Bool) where
           known_length size (length xs),
           (
             measures_is (size == 0) size (length xs) refl l.0,
-            sym (some_is (Array element (known_length size (length xs))) u h),
+            sym (same_Some (Array element (known_length size (length xs))) u h),
           ),
         ),
       )
@@ -189,12 +124,7 @@ module _ (global : Bool) where
   lists_is : (of : TypeTree) (items : ExprList) (xs : List Operand) (u : TypeTree) → listed_type global items xs of ≡ Some u → Lists global of items xs u
   lists_is (Array element size) items xs u h =
       list_by (is_scalar element && (takes_items size (length xs) && all_initialise global element items xs)) element size items xs u refl h
-  lists_is Void items xs u h = absurd (cc)
-  lists_is Char items xs u h = absurd (cc)
-  lists_is Int items xs u h = absurd (cc)
-  lists_is Unsigned items xs u h = absurd (cc)
-  lists_is (Pointer to) items xs u h = absurd (cc)
-  lists_is (Struct tag) items xs u h = absurd (cc)
+  lists_is of items xs u h = absurd (cc)
 
   pub lists_back : (of : TypeTree) (items : ExprList) (xs : List Operand) (u : TypeTree) → Lists global of items xs u → listed_type global items xs of ≡ Some u
   lists_back (Array element known) items xs u h =
@@ -204,17 +134,12 @@ module _ (global : Bool) where
       (and_from (takes_items known (length xs)) (all_initialise global element items xs) (takes_back known (length xs) h.2.0 h.2.1.0)
       (all_back element items xs h.1)))
       ∙ ap (λ n. Some (Array element n)) (length_back known (length xs) h.2.0 h.2.1.0) ∙ ap Some (sym h.2.1.1)
-  lists_back Void items xs u h = absurd h
-  lists_back Char items xs u h = absurd h
-  lists_back Int items xs u h = absurd h
-  lists_back Unsigned items xs u h = absurd h
-  lists_back (Pointer to) items xs u h = absurd h
-  lists_back (Struct tag) items xs u h = absurd h
+  lists_back of items xs u h = absurd h
 
   -- a value
   express_by : (b : Bool) (of u : TypeTree) (value : ExprTree) (x : Operand) → initialises global of value x ≡ b → (if b then Some of else None) ≡ Some u
       → ObjectBegins global of value x u
-  express_by true of u value x e h = inr (initialises_is of value x e, sym (some_is of u h))
+  express_by true of u value x e h = inr (initialises_is of value x e, sym (same_Some of u h))
   express_by false of u value x e h = absurd (cc)
 
   expressed_is : (of u : TypeTree) (value : ExprTree) (x : Operand) → expressed global of value x ≡ Some u → ObjectBegins global of value x u
@@ -225,8 +150,8 @@ module _ (global : Bool) where
 
   spell_by : (b c : Bool) (cells known : ℕ) (u : TypeTree) → (known == 0) ≡ b → (b || nat_le cells (known + 1)) ≡ c
       → (if c then Some (Array Char (if b then cells else known)) else None) ≡ Some u → SpellsIn cells (Array Char known) u
-  spell_by true true cells known u e f h = inl (eqb-true known 0 e, sym (some_is (Array Char cells) u h))
-  spell_by false true cells known u e f h = inr (not_zero known e, most cells (known + 1) f, sym (some_is (Array Char known) u h))
+  spell_by true true cells known u e f h = inl (eqb-true known 0 e, sym (same_Some (Array Char cells) u h))
+  spell_by false true cells known u e f h = inr (not_zero known e, is_most cells (known + 1) f, sym (same_Some (Array Char known) u h))
   spell_by b false cells known u e f h = absurd (cc)
 
   spells_back : (cells known : ℕ) (u : TypeTree) → SpellsIn cells (Array Char known) u → spelled cells (Array Char known) ≡ Some u
@@ -236,102 +161,30 @@ module _ (global : Bool) where
       ∙ ap (λ n. Some (Array Char n)) (if_true (known == 0) cells known (eq-eqb known 0 h.0)) ∙ ap Some (sym h.1)
   spells_back cells known u (inr h) =
       if_true (known == 0 || nat_le cells (known + 1)) (Some (Array Char (known_length known cells))) None
-      (or_right (known == 0) (nat_le cells (known + 1)) (most_back cells (known + 1) h.1))
+      (or_right (known == 0) (nat_le cells (known + 1)) (most_is cells (known + 1) h.1))
       ∙ ap (λ n. Some (Array Char n)) (if_false (known == 0) cells known (is_not_zero known (known == 0) refl h.0)) ∙ ap Some (sym h.2)
 
   string_is : (token : ℕ) (parts : List (List ℕ)) (of u : TypeTree) (x : Operand)
       → valued global of (e.Strings token parts) x (Some (string_cells parts)) ≡ Some u → ObjectBegins global of (e.Strings token parts) x u
-  string_is token parts Void u x h = expressed_is Void u (e.Strings token parts) x h
-  string_is token parts Char u x h = expressed_is Char u (e.Strings token parts) x h
-  string_is token parts Int u x h = expressed_is Int u (e.Strings token parts) x h
-  string_is token parts Unsigned u x h = expressed_is Unsigned u (e.Strings token parts) x h
-  string_is token parts (Pointer to) u x h = expressed_is (Pointer to) u (e.Strings token parts) x h
-  string_is token parts (Array Void size) u x h = expressed_is (Array Void size) u (e.Strings token parts) x h
   string_is token parts (Array Char size) u x h = inl (spell_by (size == 0) (size == 0 || nat_le (string_cells parts) (size + 1)) (string_cells parts) size u
       refl refl h)
-  string_is token parts (Array Int size) u x h = expressed_is (Array Int size) u (e.Strings token parts) x h
-  string_is token parts (Array Unsigned size) u x h = expressed_is (Array Unsigned size) u (e.Strings token parts) x h
-  string_is token parts (Array (Pointer to) size) u x h = expressed_is (Array (Pointer to) size) u (e.Strings token parts) x h
-  string_is token parts (Array (Array inner more) size) u x h = expressed_is (Array (Array inner more) size) u (e.Strings token parts) x h
-  string_is token parts (Array (Struct tag) size) u x h = expressed_is (Array (Struct tag) size) u (e.Strings token parts) x h
-  string_is token parts (Struct tag) u x h = expressed_is (Struct tag) u (e.Strings token parts) x h
+  string_is token parts of u x h = expressed_is of u (e.Strings token parts) x h
 
   string_back : (token : ℕ) (parts : List (List ℕ)) (of u : TypeTree) (x : Operand) → ObjectBegins global of (e.Strings token parts) x u
       → valued global of (e.Strings token parts) x (Some (string_cells parts)) ≡ Some u
-  string_back token parts Void u x (inl h) = absurd h
-  string_back token parts Void u x (inr h) = expressed_back Void u (e.Strings token parts) x h
-  string_back token parts Char u x (inl h) = absurd h
-  string_back token parts Char u x (inr h) = expressed_back Char u (e.Strings token parts) x h
-  string_back token parts Int u x (inl h) = absurd h
-  string_back token parts Int u x (inr h) = expressed_back Int u (e.Strings token parts) x h
-  string_back token parts Unsigned u x (inl h) = absurd h
-  string_back token parts Unsigned u x (inr h) = expressed_back Unsigned u (e.Strings token parts) x h
-  string_back token parts (Pointer to) u x (inl h) = absurd h
-  string_back token parts (Pointer to) u x (inr h) = expressed_back (Pointer to) u (e.Strings token parts) x h
-  string_back token parts (Array Void size) u x (inl h) = absurd h
-  string_back token parts (Array Void size) u x (inr h) = expressed_back (Array Void size) u (e.Strings token parts) x h
   string_back token parts (Array Char size) u x (inl h) = spells_back (string_cells parts) size u h
   string_back token parts (Array Char size) u x (inr h) = absurd (false≢true h.0.0)
-  string_back token parts (Array Int size) u x (inl h) = absurd h
-  string_back token parts (Array Int size) u x (inr h) = expressed_back (Array Int size) u (e.Strings token parts) x h
-  string_back token parts (Array Unsigned size) u x (inl h) = absurd h
-  string_back token parts (Array Unsigned size) u x (inr h) = expressed_back (Array Unsigned size) u (e.Strings token parts) x h
-  string_back token parts (Array (Pointer to) size) u x (inl h) = absurd h
-  string_back token parts (Array (Pointer to) size) u x (inr h) = expressed_back (Array (Pointer to) size) u (e.Strings token parts) x h
-  string_back token parts (Array (Array inner more) size) u x (inl h) = absurd h
-  string_back token parts (Array (Array inner more) size) u x (inr h) = expressed_back (Array (Array inner more) size) u (e.Strings token parts) x h
-  string_back token parts (Array (Struct tag) size) u x (inl h) = absurd h
-  string_back token parts (Array (Struct tag) size) u x (inr h) = expressed_back (Array (Struct tag) size) u (e.Strings token parts) x h
-  string_back token parts (Struct tag) u x (inl h) = absurd h
-  string_back token parts (Struct tag) u x (inr h) = expressed_back (Struct tag) u (e.Strings token parts) x h
+  string_back token parts of u x (inl h) = absurd h
+  string_back token parts of u x (inr h) = expressed_back of u (e.Strings token parts) x h
 
   begins_is : (value : ExprTree) (of u : TypeTree) (x : Operand) → valued global of value x (cells_of_string value) ≡ Some u → ObjectBegins global of value x u
   begins_is (e.Strings token parts) of u x h = string_is token parts of u x h
-  begins_is (e.Comma token operands) of u x h = expressed_is of u (e.Comma token operands) x h
-  begins_is (e.Assign token s target value) of u x h = expressed_is of u (e.Assign token s target value) x h
-  begins_is (e.Conditional token condition first second) of u x h = expressed_is of u (e.Conditional token condition first second) x h
-  begins_is (e.Chain level first links) of u x h = expressed_is of u (e.Chain level first links) x h
-  begins_is (e.Cast token b stars operand) of u x h = expressed_is of u (e.Cast token b stars operand) x h
-  begins_is (e.Prefix token o operand) of u x h = expressed_is of u (e.Prefix token o operand) x h
-  begins_is (e.SizeOfType token b stars) of u x h = expressed_is of u (e.SizeOfType token b stars) x h
-  begins_is (e.Postfix primary operators) of u x h = expressed_is of u (e.Postfix primary operators) x h
-  begins_is (e.Name token name) of u x h = expressed_is of u (e.Name token name) x h
-  begins_is (e.Call token name arguments) of u x h = expressed_is of u (e.Call token name arguments) x h
-  begins_is (e.Constant token kind value) of u x h = expressed_is of u (e.Constant token kind value) x h
-  begins_is (e.Paren token inner) of u x h = expressed_is of u (e.Paren token inner) x h
-  begins_is (e.Null token) of u x h = expressed_is of u (e.Null token) x h
-  begins_is (e.EndOfFile token) of u x h = expressed_is of u (e.EndOfFile token) x h
+  begins_is value of u x h = expressed_is of u value x h
 
   pub begins_back : (value : ExprTree) (of u : TypeTree) (x : Operand) → ObjectBegins global of value x u → valued global of value x (cells_of_string value) ≡ Some u
   begins_back (e.Strings token parts) of u x h = string_back token parts of u x h
-  begins_back (e.Comma token operands) of u x (inl h) = absurd h
-  begins_back (e.Comma token operands) of u x (inr h) = expressed_back of u (e.Comma token operands) x h
-  begins_back (e.Assign token s target value) of u x (inl h) = absurd h
-  begins_back (e.Assign token s target value) of u x (inr h) = expressed_back of u (e.Assign token s target value) x h
-  begins_back (e.Conditional token condition first second) of u x (inl h) = absurd h
-  begins_back (e.Conditional token condition first second) of u x (inr h) = expressed_back of u (e.Conditional token condition first second) x h
-  begins_back (e.Chain level first links) of u x (inl h) = absurd h
-  begins_back (e.Chain level first links) of u x (inr h) = expressed_back of u (e.Chain level first links) x h
-  begins_back (e.Cast token b stars operand) of u x (inl h) = absurd h
-  begins_back (e.Cast token b stars operand) of u x (inr h) = expressed_back of u (e.Cast token b stars operand) x h
-  begins_back (e.Prefix token o operand) of u x (inl h) = absurd h
-  begins_back (e.Prefix token o operand) of u x (inr h) = expressed_back of u (e.Prefix token o operand) x h
-  begins_back (e.SizeOfType token b stars) of u x (inl h) = absurd h
-  begins_back (e.SizeOfType token b stars) of u x (inr h) = expressed_back of u (e.SizeOfType token b stars) x h
-  begins_back (e.Postfix primary operators) of u x (inl h) = absurd h
-  begins_back (e.Postfix primary operators) of u x (inr h) = expressed_back of u (e.Postfix primary operators) x h
-  begins_back (e.Name token name) of u x (inl h) = absurd h
-  begins_back (e.Name token name) of u x (inr h) = expressed_back of u (e.Name token name) x h
-  begins_back (e.Call token name arguments) of u x (inl h) = absurd h
-  begins_back (e.Call token name arguments) of u x (inr h) = expressed_back of u (e.Call token name arguments) x h
-  begins_back (e.Constant token kind value) of u x (inl h) = absurd h
-  begins_back (e.Constant token kind value) of u x (inr h) = expressed_back of u (e.Constant token kind value) x h
-  begins_back (e.Paren token inner) of u x (inl h) = absurd h
-  begins_back (e.Paren token inner) of u x (inr h) = expressed_back of u (e.Paren token inner) x h
-  begins_back (e.Null token) of u x (inl h) = absurd h
-  begins_back (e.Null token) of u x (inr h) = expressed_back of u (e.Null token) x h
-  begins_back (e.EndOfFile token) of u x (inl h) = absurd h
-  begins_back (e.EndOfFile token) of u x (inr h) = expressed_back of u (e.EndOfFile token) x h
+  begins_back value of u x (inl h) = absurd h
+  begins_back value of u x (inr h) = expressed_back of u value x h
 
 completes_tells : {P : TypeTree → Type 0} {B : FaultKind → ℕ → Type 0} (token : ℕ) (o : Option TypeTree) (w : Walk) → ((u : TypeTree) → o ≡ Some u → P u)
     → (o ≡ None → B fault.Initialiser token) → Tells (completes token o w) (λ u v. P u × (shown v ≡ shown w)) B
@@ -370,12 +223,7 @@ SameOrOpen of u = u ≡ of
 
 same_type_here : (of u : TypeTree) → u ≡ of → SameOrOpen of u
 same_type_here (Array element known) u h = inr h
-same_type_here Void u h = h
-same_type_here Char u h = h
-same_type_here Int u h = h
-same_type_here Unsigned u h = h
-same_type_here (Pointer to) u h = h
-same_type_here (Struct tag) u h = h
+same_type_here of u h = h
 
 measured_so : (element : TypeTree) (known given size : ℕ) (u : TypeTree) → Measures known given size → u ≡ Array element size
     → SameOrOpen (Array element known) u
@@ -385,44 +233,15 @@ measured_so element known given size u (inr m) h = inr (h ∙ ap (λ n. Array el
 spelled_so : (cells : ℕ) (of u : TypeTree) → SpellsIn cells of u → SameOrOpen of u
 spelled_so cells (Array Char known) u (inl h) = inl (h.0, (cells, h.1))
 spelled_so cells (Array Char known) u (inr h) = inr h.2
-spelled_so cells Void u h = absurd h
-spelled_so cells Char u h = absurd h
-spelled_so cells Int u h = absurd h
-spelled_so cells Unsigned u h = absurd h
-spelled_so cells (Pointer to) u h = absurd h
-spelled_so cells (Array Void known) u h = absurd h
-spelled_so cells (Array Int known) u h = absurd h
-spelled_so cells (Array Unsigned known) u h = absurd h
-spelled_so cells (Array (Pointer to) known) u h = absurd h
-spelled_so cells (Array (Array inner more) known) u h = absurd h
-spelled_so cells (Array (Struct tag) known) u h = absurd h
-spelled_so cells (Struct tag) u h = absurd h
+spelled_so cells of u h = absurd h
 
 string_so : (value : ExprTree) (of u : TypeTree) → Spells value of u → SameOrOpen of u
-string_so (e.Comma token operands) of u h = absurd h
-string_so (e.Assign token op target x) of u h = absurd h
-string_so (e.Conditional token condition first second) of u h = absurd h
-string_so (e.Chain level first links) of u h = absurd h
-string_so (e.Cast token named stars operand) of u h = absurd h
-string_so (e.Prefix token o operand) of u h = absurd h
-string_so (e.SizeOfType token named stars) of u h = absurd h
-string_so (e.Postfix primary operators) of u h = absurd h
-string_so (e.Name token name) of u h = absurd h
-string_so (e.Call token name arguments) of u h = absurd h
-string_so (e.Constant token kind number) of u h = absurd h
 string_so (e.Strings token parts) of u h = spelled_so _ of u h
-string_so (e.Paren token inner) of u h = absurd h
-string_so (e.Null token) of u h = absurd h
-string_so (e.EndOfFile token) of u h = absurd h
+string_so value of u h = absurd h
 
 lists_so : (global : Bool) (of : TypeTree) (items : ExprList) (xs : List Operand) (u : TypeTree) → Lists global of items xs u → SameOrOpen of u
 lists_so global (Array element known) items xs u h = measured_so element known (length xs) h.2.0 u h.2.1.0 h.2.1.1
-lists_so global Void items xs u h = absurd h
-lists_so global Char items xs u h = absurd h
-lists_so global Int items xs u h = absurd h
-lists_so global Unsigned items xs u h = absurd h
-lists_so global (Pointer to) items xs u h = absurd h
-lists_so global (Struct tag) items xs u h = absurd h
+lists_so global of items xs u h = absurd h
 
 pub completes_so : (k : Known) (global : Bool) (of : TypeTree) (initial : InitialTree) (u : TypeTree) → Completes k global of (Some initial) u → SameOrOpen of u
 completes_so k global of (s.Value value) u (x, h) = by h.1
@@ -441,12 +260,7 @@ no_length ss element known e h =
 complete_same : (ss : List StructType) (of u : TypeTree) → SameOrOpen of u → is_complete ss of ≡ true → u ≡ of
 complete_same ss (Array element known) u (inl h) c = no_length ss element known h.0 c
 complete_same ss (Array element known) u (inr h) c = h
-complete_same ss Void u h c = h
-complete_same ss Char u h c = h
-complete_same ss Int u h c = h
-complete_same ss Unsigned u h c = h
-complete_same ss (Pointer to) u h c = h
-complete_same ss (Struct tag) u h c = h
+complete_same ss of u h c = h
 
 pub completes_same : (k : Known) (global : Bool) (ss : List StructType) (of : TypeTree) (initial : Option InitialTree) (u : TypeTree)
     → Completes k global of initial u → is_complete ss of ≡ true → u ≡ of

@@ -4,21 +4,15 @@ use Rattle.std.proofs.lemmas.Bool.{and_from, and_parts}
 use Rattle.std.proofs.lemmas.Bool.Decides.{nat_tests}
 use Rattle.std.proofs.lemmas.Int.{ints}
 use Rattle.std.specs.Prelude.{Option, ℤ, pos, negsuc, int_le, unsigned_abs, ◌&&◌, if◌then◌else◌}
+use Rattle.std.proofs.lemmas.Option.{same_Some}
 use Rattle.c_syntax.specs.declared.parts.Bound.{Bound}
 use Rattle.c_syntax.specs.declared.parts.Constant.{Constant}
 use Rattle.c_syntax.specs.declared.parts.Declarator.{Declarator}
-use Rattle.c_types_rules.specs.TypeTree.{TypeTree, Array}
-use Rattle.c_types_rules.specs.Sizes.{most_cells}
+use Rattle.c_types_rules.specs.Words.{TypeTree, Array, most_cells}
 use Rattle.c_types_expressions.specs.ExprWalk.{with_stars}
 use Rattle.c_types_walk.specs.Declarators.{array_of, bounded, bounded_by, declared_type, first_bounded, is_bound, with_bounds}
 use Rattle.c_types_faults.specs.Declarators.{DeclaresAs, HasBounds, HasFirstBounds, IsArray, IsFirstArray, IsLength}
 use Rattle.c_types_faults.proofs.Fitting.{if_true}
-
-pub some_is : {A : Type 0} (x y : A) → Some x ≡ Some y → x ≡ y
-some_is x y h = cc
-
-pub one_some : {A : Type 0} (o : Option A) (x y : A) → o ≡ Some x → o ≡ Some y → x ≡ y
-one_some o x y h k = some_is x y (sym h ∙ k)
 
 pub none_some : {A : Type 0} {B : Type 0} (o : Option A) (x : A) → o ≡ None → o ≡ Some x → B
 none_some o x h k = absurd (cc)
@@ -38,7 +32,7 @@ range_back n p q = and_from (int_le (pos 1) (pos n)) (int_le (pos n) (pos most_c
 
 array_is : (b : Bool) (c : Constant) (v t : TypeTree) → is_bound c ≡ b → (if b then Some (Array v (unsigned_abs c.value)) else None) ≡ Some t
     → IsArray (Some c) v t
-array_is true c v t e h = (unsigned_abs c.value, (length_is c e, sym (some_is (Array v (unsigned_abs c.value)) t h)))
+array_is true c v t e h = (unsigned_abs c.value, (length_is c e, sym (same_Some (Array v (unsigned_abs c.value)) t h)))
 array_is false c v t e h = absurd (cc)
 
 array_back : (c : Constant) (v t : TypeTree) → IsArray (Some c) v t → array_of c v ≡ Some t
@@ -54,7 +48,7 @@ bound_is (Some c) None of t P f h = absurd (cc)
 bound_is (Some c) (Some v) of t P f h = (v, (f v refl, array_is (is_bound c) c v t refl h))
 
 bounded_is : (bs : List Bound) (of t : TypeTree) → bounded bs of ≡ Some t → HasBounds bs of t
-bounded_is [] of t h = sym (some_is of t h)
+bounded_is [] of t h = sym (same_Some of t h)
 bounded_is (b ∷ bs) of t h = bound_is b.length (bounded bs of) of t (HasBounds bs of) (λ v k. bounded_is bs of v k) h
 
 bound_back : (o : Option Constant) (inner t : TypeTree) → IsArray o inner t → bounded_by o (Some inner) ≡ Some t
@@ -68,7 +62,7 @@ bounded_back (b ∷ bs) of t (inner, h) = ap (bounded_by b.length) (bounded_back
 first_is : (o : Option Constant) (inner : Option TypeTree) (t : TypeTree) (P : TypeTree → Type 0) → ((v : TypeTree) → inner ≡ Some v → P v)
     → first_bounded o inner ≡ Some t → (v : TypeTree) × (P v × IsFirstArray o v t)
 first_is None None t P f h = absurd (cc)
-first_is None (Some v) t P f h = (v, (f v refl, sym (some_is (Array v 0) t h)))
+first_is None (Some v) t P f h = (v, (f v refl, sym (same_Some (Array v 0) t h)))
 first_is (Some c) None t P f h = absurd (cc)
 first_is (Some c) (Some v) t P f h = (v, (f v refl, array_is (is_bound c) c v t refl h))
 
@@ -77,7 +71,7 @@ first_back None inner t h = ap Some (sym h)
 first_back (Some c) inner t h = array_back c inner t h
 
 firsts_is : (bs : List Bound) (of t : TypeTree) → with_bounds bs of ≡ Some t → HasFirstBounds bs of t
-firsts_is [] of t h = sym (some_is of t h)
+firsts_is [] of t h = sym (same_Some of t h)
 firsts_is (b ∷ bs) of t h = first_is b.length (bounded bs of) t (HasBounds bs of) (λ v k. bounded_is bs of v k) h
 
 firsts_back : (bs : List Bound) (of t : TypeTree) → HasFirstBounds bs of t → with_bounds bs of ≡ Some t

@@ -1,9 +1,10 @@
 -- The calls that the walk notes are those of the tree, each of a function with its name.
 use Rattle.std.proofs.Common.{◌⊎◌, inl, inr, ⊎_elim, ◌≡◌, ℕ, ◌<◌, ◌≤◌, refl, ap, subst, sym, ◌∙◌, arith, List, [], ◌∷◌, ◌++◌, length, Option, Some}
-use Rattle.c_types_faults.proofs.Bounds.{some_is}
 use Rattle.std.proofs.Common.{None, Bool, true, false, option_map}
 use Rattle.std.proofs.lemmas.Bool.{cases_eq, cases_lt, ltb-true}
 use Rattle.std.specs.Prelude.{slice_get, slice_set, nat_lt, if◌then◌else◌}
+use Rattle.std.proofs.lemmas.Option.{same_Some}
+use Rattle.c_types.proofs.Replaced.{noted_other, noted_same}
 use Rattle.c_types_rules.specs.declared.library.Library.{Library}
 use Rattle.c_types_rules.specs.Library.{library_named}
 use Rattle.c_types.specs.Answers.{noted}
@@ -11,10 +12,8 @@ use Rattle.c_types.proofs.Noted.{Gives}
 use Rattle.c_types_expressions.specs.declared.names.Meaning.{Meaning}
 use Rattle.c_types_expressions.specs.declared.names.Meaning.TheVariants as meaning
 use Rattle.c_types_expressions.specs.declared.walk.Walk.{Walk}
-use Rattle.c_types_expressions.specs.Names.{found, meaning_of, or_before}
-use Rattle.c_types_expressions.specs.Walked.{Walked, Fine, Faulty, replaced}
+use Rattle.c_types_expressions.specs.Words.{found, meaning_of, or_before, Walked, Fine, Faulty, replaced}
 use Rattle.c_types_rules.specs.declared.fault.FaultKind.{FaultKind}
-use Rattle.c_types_laws.proofs.Steps.{noted_other, noted_same}
 use Rattle.c_types_faults.specs.Events.{Calls, Selects, Other, Event, Value, Initialises, Variable, Opens, Closes, Struct, Names, Defines}
 use Rattle.c_types_faults.proofs.Noting.{FoundAs, Named, found_is, path_onward, step_onward}
 use Rattle.c_types_faults.proofs.Paths.{CalledAs, Path, Step, View}
@@ -63,7 +62,7 @@ noted_either notes own index token i h = ⊎_elim (λ e. within e (cases_lt own 
     unchanged false e f = ap (λ b. if b then slice_set notes own (Some index) else notes) e
 
     within : own ≡ token → ((own < length notes) ⊎ (length notes ≤ own)) → (noted notes token ≡ Some i) ⊎ ((own ≡ token) × (index ≡ i))
-    within e (inl l) = inr (e, some_is index i (sym (noted_same notes own index l) ∙ ap (noted (replaced notes own (Some index))) e ∙ h))
+    within e (inl l) = inr (e, same_Some index i (sym (noted_same notes own index l) ∙ ap (noted (replaced notes own (Some index))) e ∙ h))
     within e (inr l) = inl (ap (λ ns. noted ns token) (sym (unchanged (nat_lt own (length notes)) refl
         (λ t. omega (arith, l, ltb-true own (length notes) t)))) ∙ h)
 
@@ -79,9 +78,6 @@ module _ (a b : View) where
 
   one_call : (own : ℕ) (name : List ℕ) → Named a → (m : Option Meaning) → meaning_of name a.names ≡ m → CalledAs own m a b
       → CallsIn (Value own (Calls name) ∷ []) a.calls b.calls b.functions
-  one_call own name n None e c = absurd c
-  one_call own name n (Some (meaning.Variable i)) e c = absurd c
-  one_call own name n (Some (meaning.Struct i)) e c = absurd c
   one_call own name n (Some (meaning.Library f)) e c = no_call (Value own (Calls name) ∷ []) (ap (λ (v : View). v.calls) c.1)
   one_call own name n (Some (meaning.Function i)) e c = λ token index h. ⊎_elim (λ k. inl k) (λ k. inr (
     name,
@@ -93,6 +89,7 @@ module _ (a b : View) where
     ),
   ))
       (noted_either a.calls own i token index (ap (λ (v : View). noted v.calls token) (sym c.1) ∙ h))
+  one_call own name n m e c = absurd c
 
   step_calls : (event : Event) → Named a → Step event a b → CallsIn (event ∷ []) a.calls b.calls b.functions
   step_calls (Value own Other) n h = no_call (Value own Other ∷ []) (ap (λ (v : View). v.calls) h.1)

@@ -4,23 +4,21 @@ use Rattle.std.specs.Prelude.{slice_get}
 use Rattle.std.specs.Str.{bytes_eq}
 use Rattle.std.proofs.lemmas.Bool.{false≢true}
 use Rattle.std.proofs.lemmas.List.{length-replicate}
-use Rattle.std.proofs.lemmas.Option.{slice_get-map}
+use Rattle.std.proofs.lemmas.Option.{slice_get-map, same_Some}
 use Rattle.std.proofs.lemmas.Slice.Eq.{bytes_eq-Decides}
-use Rattle.c_syntax.specs.ItemTree.{SourceTree}
-use Rattle.c_syntax.specs.WellFormed.{IsShaped}
+use Rattle.c_types.proofs.Replaced.{noted_same}
+use Rattle.c_types_faults.proofs.Calling.{function_by}
+use Rattle.c_syntax.specs.Words.{SourceTree, IsShaped}
 use Rattle.c_types_rules.specs.declared.library.Library.{Library}
 use Rattle.c_types_rules.specs.Library.{library_named}
 use Rattle.c_types.specs.Answers.{function_at, noted}
 use Rattle.c_types.specs.Fault.{walk_tree}
 use Rattle.c_types.specs.Numbers.{function_of}
 use Rattle.c_types.proofs.FunctionLaws.{functions_numbered}
-use Rattle.c_types.proofs.Options.{some_is}
-use Rattle.c_types_expressions.specs.Walked.{Fine}
+use Rattle.c_types_expressions.specs.Words.{Fine, found, is_reserved, meaning_of, or_before}
 use Rattle.c_types_expressions.specs.declared.names.Meaning.{Meaning}
 use Rattle.c_types_expressions.specs.declared.names.Meaning.TheVariants as meaning
 use Rattle.c_types_expressions.specs.declared.walk.Walk.{Walk}
-use Rattle.c_types_expressions.specs.Names.{found, is_reserved, meaning_of, or_before}
-use Rattle.c_types_laws.proofs.Steps.{noted_same}
 use Rattle.sites.specs.Table.{functions_of}
 use Rattle.c_types_faults.specs.NotedCalls.{name_number, number_called}
 use Rattle.c_types_faults.specs.Events.{Construct, Calls, Selects, Other, Value, construct_at, events_of}
@@ -38,7 +36,7 @@ number_by : (name other : List ℕ) (n : ℕ) (rest : List (List ℕ)) (b : Bool
     → (if b then Some n else name_number name (n + 1) rest) ≡ Some number
     → (name_number name (n + 1) rest ≡ Some number → (i : ℕ) × ((number ≡ n + 1 + i) × (slice_get rest i ≡ Some name)))
     → (i : ℕ) × ((number ≡ n + i) × (slice_get (other ∷ rest) i ≡ Some name))
-number_by name other n rest true number e h f = (0, (omega (arith, some_is n number h), ap Some ((bytes_eq-Decides other name).0 e)))
+number_by name other n rest true number e h f = (0, (omega (arith, same_Some n number h), ap Some ((bytes_eq-Decides other name).0 e)))
 number_by name other n rest false number e h f =
     let g : (i : ℕ) × ((number ≡ n + 1 + i) × (slice_get rest i ≡ Some name)) = f h in (suc g.0, (omega (arith, g.1.0), g.1.1))
 
@@ -55,7 +53,7 @@ none_by name other n rest false e h = ((λ s. absurd (false≢true (sym e ∙ (b
 
 none_is : (name : List ℕ) (n : ℕ) (names : List (List ℕ)) (i : ℕ) → name_number name n names ≡ None → slice_get names i ≡ Some name → ⊥
 none_is name n [] i h g = absurd (cc)
-none_is name n (other ∷ rest) zero h g = (none_by name other n rest (bytes_eq other name) refl h).0 (some_is other name g)
+none_is name n (other ∷ rest) zero h g = (none_by name other n rest (bytes_eq other name) refl h).0 (same_Some other name g)
 none_is name n (other ∷ rest) (suc i) h g = none_is name (n + 1) rest i (none_by name other n rest (bytes_eq other name) refl h).1 g
 
 -- the definitions and their names
@@ -63,7 +61,7 @@ none_is name n (other ∷ rest) (suc i) h g = none_is name (n + 1) rest i (none_
 defined_name : (fs : List (List ℕ)) (indexes : List ℕ) (names : List (List ℕ)) (i index : ℕ) → Defined fs indexes names → slice_get indexes i ≡ Some index
     → (name : List ℕ) × ((slice_get names i ≡ Some name) × (slice_get fs index ≡ Some name))
 defined_name fs [] [] i index h e = absurd (cc)
-defined_name fs (x ∷ xs) (y ∷ ys) zero index h e = (y, (refl, subst (λ n. slice_get fs n ≡ Some y) (some_is x index e) h.0))
+defined_name fs (x ∷ xs) (y ∷ ys) zero index h e = (y, (refl, subst (λ n. slice_get fs n ≡ Some y) (same_Some x index e) h.0))
 defined_name fs (x ∷ xs) (y ∷ ys) (suc i) index h e = defined_name fs xs ys i index h.1 e
 defined_name fs [] (y ∷ ys) i index h e = absurd h
 defined_name fs (x ∷ xs) [] i index h e = absurd h
@@ -78,17 +76,11 @@ defined_index fs (x ∷ xs) [] i name h e = absurd h
 
 -- what a called name means
 
-library_by : (o : Option Meaning) (l : Option Library) (f : Library) → or_before o (option_map meaning.Library l) ≡ Some (meaning.Library f)
+pub library_by : (o : Option Meaning) (l : Option Library) (f : Library) → or_before o (option_map meaning.Library l) ≡ Some (meaning.Library f)
     → (o ≡ Some (meaning.Library f)) ⊎ (is_some l ≡ true)
 library_by None None f h = absurd (cc)
 library_by None (Some g) f h = inr refl
 library_by (Some m) l f h = inl h
-
-function_by : (o : Option Meaning) (l : Option Library) (index : ℕ) → or_before o (option_map meaning.Library l) ≡ Some (meaning.Function index)
-    → o ≡ Some (meaning.Function index)
-function_by None None index h = absurd (cc)
-function_by None (Some g) index h = absurd (cc)
-function_by (Some m) l index h = h
 
 module _ (s : SourceTree) (z : Walk) (shaped : IsShaped s) (w : walk_tree s ≡ Fine tt z) where
   abbrev n : ℕ

@@ -1,15 +1,13 @@
 -- Declarations: what the walk takes is declared behind it, and where it stops a rule is broken.
 use Rattle.std.proofs.Common.{◌⊎◌, inl, inr, ⊎_elim, ◌≡◌, ℕ, refl, ap, subst, sym, ◌∙◌, arith, List, [], ◌∷◌, Some, None, Bool, true, false, length}
-use Rattle.c_types_faults.proofs.Fitting.{either_true}
 use Rattle.std.specs.Prelude.{Option, is_some, ◌&&◌, if◌then◌else◌}
+use Rattle.std.proofs.lemmas.Bool.{or_cases}
 use Rattle.c_syntax.specs.StatementTree.{DeclarationTree, StartTree}
 use Rattle.c_types_rules.specs.declared.fault.FaultKind.{FaultKind}
 use Rattle.c_types_rules.specs.declared.fault.FaultKind.TheVariants as fault
-use Rattle.c_types_rules.specs.Sizes.{cells_of}
-use Rattle.c_types_rules.specs.TypeTree.{TypeTree}
+use Rattle.c_types_rules.specs.Words.{cells_of, TypeTree}
 use Rattle.c_types_expressions.specs.declared.walk.Walk.{Walk}
-use Rattle.c_types_expressions.specs.Names.{is_here, is_name_taken, is_reserved}
-use Rattle.c_types_expressions.specs.Walked.{Faulty, Done, with_variable}
+use Rattle.c_types_expressions.specs.Words.{is_here, is_name_taken, is_reserved, Faulty, Done, with_variable}
 use Rattle.c_types_walk.specs.Declarators.{declared_type, is_open}
 use Rattle.c_types_walk.specs.StatementWalk.{walk_closed, walk_declaration, walk_open, walk_start, walk_starts, walk_typed}
 use Rattle.c_types_faults.specs.Known.{Entity, Object}
@@ -185,7 +183,7 @@ module _ (global : Bool) (base : TypeTree) (x : StartTree) (c : Context) (w : Wa
       refl,
       least_first (IsTaken x.declarator.name c) ((u : TypeTree) → DeclaresAs x.declarator base u → BeginningBreaks global base c x u) fault.Redeclared
           fault.Object fault.Redeclared (omega arith) refl
-          (taken_by x.declarator.name c (shown w) k (either_true (is_reserved x.declarator.name) (is_here x.declarator.name w.names) e)),
+          (taken_by x.declarator.name c (shown w) k (or_cases (is_reserved x.declarator.name) (is_here x.declarator.name w.names) e)),
     );
   }
   taken_tells false e = typed_tells (declared_type x.declarator base) (not_taken x.declarator.name c (shown w) k e) refl

@@ -1,16 +1,16 @@
 -- In a text without a fault each function of the text that is called is defined.
 use Rattle.std.proofs.Common.{◌⊎◌, inl, inr, ⊎_elim, ◌≡◌, ℕ, zero, suc, ◌+◌, ◌<◌, ◌==◌, refl, ap, subst, sym, ◌∙◌, arith, List, [], ◌∷◌, map, Some, None}
 use Rattle.c_types_faults.proofs.Calling.{function_by}
-use Rattle.c_types_faults.proofs.Bounds.{some_is}
 use Rattle.std.proofs.Common.{Bool, true, false, length, option_map, ◌-◌}
 use Rattle.std.proofs.lemmas.Bool.{eq-eqb, false≢true, eqb-true}
 use Rattle.std.proofs.lemmas.List.{length-replicate}
 use Rattle.std.specs.Prelude.{Option, slice_get, if◌then◌else◌, is_some, unwrap_or}
-use Rattle.c_syntax.specs.ItemTree.{SourceTree}
-use Rattle.c_syntax.specs.WellFormed.{IsShaped}
+use Rattle.std.proofs.lemmas.Option.{same_Some}
+use Rattle.c_types.proofs.Replaced.{noted_same}
+use Rattle.c_types_faults.proofs.Calls.{library_by}
+use Rattle.c_syntax.specs.Words.{SourceTree, IsShaped}
 use Rattle.c_types_rules.specs.declared.library.Library.{Library}
-use Rattle.c_types_rules.specs.Library.{library_named}
-use Rattle.c_types_rules.specs.TypeTree.{TypeTree}
+use Rattle.c_types_rules.specs.Words.{library_named, TypeTree}
 use Rattle.c_types.specs.Answers.{noted}
 use Rattle.c_types.specs.Fault.{first_undefined, lacks_definition}
 use Rattle.c_types_expressions.specs.declared.names.Meaning.{Meaning}
@@ -21,7 +21,6 @@ use Rattle.c_types_expressions.specs.declared.walk.FunctionEntry.{FunctionEntry}
 use Rattle.c_types_expressions.specs.declared.walk.Walk.{Walk}
 use Rattle.c_types_expressions.specs.Names.{found, meaning_of, or_before}
 use Rattle.c_types_walk.specs.ItemWalk.{is_defined}
-use Rattle.c_types_laws.proofs.Steps.{noted_same}
 use Rattle.sites.specs.Table.{functions_of}
 use Rattle.c_types_faults.specs.Events.{Construct, Calls, Selects, Other, Event, Value, Initialises, Variable, Opens, Closes, Struct, Names, Defines}
 use Rattle.c_types_faults.specs.Events.{construct_at, events_of}
@@ -100,7 +99,7 @@ all_defined n (call ∷ calls) defs h i index e = by (lacks_definition call defs
         → (first_undefined (n + 1) calls defs ≡ None → (i index : ℕ) → slice_get calls i ≡ Some (Some index) → is_defined index defs ≡ true)
         → is_defined index defs ≡ true
     by true l h i e f = absurd (cc)
-    by false l h zero e f = defined_by (is_defined index defs) index defs refl (ap (λ o. lacks_definition o defs) (sym (some_is call (Some index) e)) ∙ l)
+    by false l h zero e f = defined_by (is_defined index defs) index defs refl (ap (λ o. lacks_definition o defs) (sym (same_Some call (Some index) e)) ∙ l)
     by false l h (suc i) e f = f h i index e
 
 -- and before the first that does
@@ -114,8 +113,8 @@ before_defined n (call ∷ calls) defs at h i index l e = by (lacks_definition c
         → (first_undefined (n + 1) calls defs ≡ Some at → (i index : ℕ) → n + 1 + i < at → slice_get calls i ≡ Some (Some index)
         → is_defined index defs ≡ true)
         → is_defined index defs ≡ true
-    by true q h i l e f = absurd (omega (arith, l, some_is n at h))
-    by false q h zero l e f = defined_by (is_defined index defs) index defs refl (ap (λ o. lacks_definition o defs) (sym (some_is call (Some index) e)) ∙ q)
+    by true q h i l e f = absurd (omega (arith, l, same_Some n at h))
+    by false q h zero l e f = defined_by (is_defined index defs) index defs refl (ap (λ o. lacks_definition o defs) (sym (same_Some call (Some index) e)) ∙ q)
     by false q h (suc i) l e f = f h i index (omega (arith, l)) e
 
 noted_is : (o : Option (Option ℕ)) (index : ℕ) → unwrap_or o None ≡ Some index → o ≡ Some (Some index)
@@ -143,12 +142,6 @@ function_place types fs name vb fb (entry.Declares n (meaning.Function i) ∷ re
     let r = function_place types fs name vb i rest ds h.3 q in (r.0, inr r.1)
 function_place types fs name vb fb (entry.Declares n (meaning.Library f) ∷ rest) (d ∷ ds) h q = absurd h
 function_place types fs name vb fb (entry.Declares n (meaning.Struct i) ∷ rest) (d ∷ ds) h q = absurd h
-
-library_by : (o : Option Meaning) (l : Option Library) (f : Library) → or_before o (option_map meaning.Library l) ≡ Some (meaning.Library f)
-    → (o ≡ Some (meaning.Library f)) ⊎ (is_some l ≡ true)
-library_by None None f h = absurd (cc)
-library_by None (Some g) f h = inr refl
-library_by (Some m) l f h = inl h
 
 pub listed_defined : (name : List ℕ) (index : ℕ) (ds : List (Option ℕ)) (ns : List (List ℕ)) (bound : ℕ) (names : List ScopeEntry)
     → Funs ds ns bound names → Listed name index names → is_defined index ds ≡ is_listed name ns
@@ -184,9 +177,6 @@ module _ (t : SourceTree) (z : Walk) (shaped : IsShaped t) (does : ItemsDo t.ite
   called_at : (token : ℕ) (name : List ℕ) (f : Found token (Calls name) (events_of t) (before t) (view z)) → Among token (events_of t)
       → HasFunction name c.scope → (m : Option Meaning) → meaning_of name f.from.names ≡ m → CalledAs token m f.from f.to
       → IsNotedAt token name
-  called_at token name f among h None e q = absurd q
-  called_at token name f among h (Some (meaning.Variable index)) e q = absurd q
-  called_at token name f among h (Some (meaning.Struct index)) e q = absurd q
   called_at token name f among h (Some (meaning.Library function)) e q =
       let p : (index : ℕ) × Listed name index z.names = function_place z.declared_types z.functions name (length z.variables)
       (length z.functions) z.names c.scope
@@ -204,6 +194,7 @@ module _ (t : SourceTree) (z : Walk) (shaped : IsShaped t) (does : ItemsDo t.ite
       ((named_from token name f).by name index (subst (λ m. FoundAs name m f.from.names)
       (function_by (found name f.from.names) (library_named name) index e) (found_is name f.from.names (named_from token name f).own))) in
       (index, (stay, listed_defined name index z.defined_as c.defined (length z.functions) z.names k.funs (k.places.listed index name is)))
+  called_at token name f among h m e q = absurd q
 
   called_there : (token : ℕ) (name : List ℕ) → HasCall token name (events_of t) → HasFunction name c.scope → IsNotedAt token name
   called_there token name h g =

@@ -9,14 +9,11 @@ use Rattle.c_syntax.specs.declared.parts.Params.TheVariants as params
 use Rattle.c_syntax.specs.declared.token.Sign.TheVariants as sign
 use Rattle.c_syntax.specs.ExprTree as e
 use Rattle.c_syntax.specs.ItemTree as i
-use Rattle.c_syntax.specs.ItemTree.{ItemTree, SourceTree}
+use Rattle.c_syntax.specs.Words.{ItemTree, SourceTree, StatementTree, IsShaped}
 use Rattle.c_syntax.specs.StatementTree as s
-use Rattle.c_syntax.specs.StatementTree.{StatementTree}
-use Rattle.c_syntax.specs.WellFormed.{IsShaped}
 use Rattle.c_types.specs.Answers.{function_at, offset_at, scope_holds}
 use Rattle.c_types.specs.Fault.{known_at_end, walk_tree}
-use Rattle.c_types_expressions.specs.Beginning.{beginning}
-use Rattle.c_types_expressions.specs.Walked.{Fine}
+use Rattle.c_types_expressions.specs.Words.{beginning, Fine}
 use Rattle.c_types_expressions.specs.declared.walk.Walk.{Walk}
 use Rattle.c_types_walk.specs.ItemWalk.{walk_body}
 use Rattle.c_types_walk.specs.StatementWalk.{walk_typed}

@@ -1,8 +1,9 @@
 -- An expression that the walk goes through is an operand, and one at which it stops breaks a rule.
 use Rattle.std.proofs.Common.{append_assoc, inl, inr, ◌≡◌, ℕ, refl, ap, subst, sym, ◌∙◌, List, [], ◌∷◌, ◌++◌, Some, None, Ok, Err, Bool, true}
-use Rattle.c_types_faults.proofs.Bounds.{some_is}
 use Rattle.std.proofs.lemmas.List.{append-nil}
 use Rattle.std.specs.Prelude.{Option, Result, slice_get}
+use Rattle.std.proofs.lemmas.Option.{same_Some}
+use Rattle.base_lists.proofs.Lists.{Stays}
 use Rattle.c_syntax.specs.declared.parts.Base.{Base}
 use Rattle.c_syntax.specs.declared.parts.Base.TheVariants as base
 use Rattle.c_syntax.specs.ExprTree as e
@@ -13,26 +14,19 @@ use Rattle.c_types_rules.specs.declared.layout.Member.{Member}
 use Rattle.c_types_rules.specs.declared.layout.StructType.{StructType}
 use Rattle.c_types_rules.specs.declared.operand.Operand.{Operand}
 use Rattle.c_types_rules.specs.TypeTree as t
-use Rattle.c_types_rules.specs.TypeTree.{TypeTree}
-use Rattle.c_types_rules.specs.Conversions.{place_of, value_type}
-use Rattle.c_types_rules.specs.Faults.{Looked}
+use Rattle.c_types_rules.specs.Words.{TypeTree, place_of, value_type, Looked, library_called, cast_to, measured, stepped, chosen, indexed, member_behind}
+use Rattle.c_types_rules.specs.Words.{member_of, sequenced}
 use Rattle.c_types_rules.specs.Functions as functions
-use Rattle.c_types_rules.specs.Library.{library_called}
-use Rattle.c_types_rules.specs.Operators.{cast_to, measured, stepped}
-use Rattle.c_types_rules.specs.Selecting.{chosen, indexed, member_behind, member_of, sequenced}
 use Rattle.c_types_expressions.specs.declared.names.Meaning.{Meaning}
 use Rattle.c_types_expressions.specs.declared.names.Meaning.TheVariants as meaning
 use Rattle.c_types_expressions.specs.declared.walk.FunctionEntry.{FunctionEntry}
 use Rattle.c_types_expressions.specs.declared.walk.Walk.{Walk}
-use Rattle.c_types_expressions.specs.ExprWalk.{assigning, base_type, binary_of, called_name, chained, compound_of, looked, named, of_function, of_variable}
-use Rattle.c_types_expressions.specs.ExprWalk.{prefixed, selected, tagged_type, walk_expr, walk_exprs, walk_links, walk_postfix, with_call}
-use Rattle.c_types_expressions.specs.ExprWalk.{with_stars}
-use Rattle.c_types_expressions.specs.Names.{found, meaning_of}
-use Rattle.c_types_expressions.specs.Walked.{Fine, Faulty}
+use Rattle.c_types_expressions.specs.Words.{assigning, base_type, binary_of, called_name, chained, compound_of, looked, named, of_function, of_variable}
+use Rattle.c_types_expressions.specs.Words.{prefixed, selected, tagged_type, walk_expr, walk_exprs, walk_links, walk_postfix, with_call, with_stars, found}
+use Rattle.c_types_expressions.specs.Words.{meaning_of, Fine, Faulty}
 use Rattle.c_types_laws.specs.Operands.{Indexes, Joins, Selects, SelectsBehind, Steps}
 use Rattle.c_types_laws.proofs.Ruled.{assigning_is, behind_stays, cast_is, chained_is, chosen_is, indexed_is, measured_is, member_stays, prefixed_is}
 use Rattle.c_types_laws.proofs.Ruled.{stepped_is}
-use Rattle.c_types_laws.proofs.Scenes.{Stays}
 use Rattle.c_types_faults.specs.Known.{Entity, Object, Function, Standard, Known}
 use Rattle.c_types_faults.specs.Agrees.{Agrees, Denotes, IsTag, IsType}
 use Rattle.c_types_faults.specs.Types.{BaseBreaks, IsBase}
@@ -46,7 +40,7 @@ use Rattle.c_types_faults.proofs.Refusing.{measured_breaks, member_breaks, prefi
 use Rattle.c_types_faults.proofs.Refusing.{stepped_breaks}
 use Rattle.c_types_faults.proofs.Telling.{Agreed, Tells, agrees_on, and_then, known_rule, looks, shown, told_fault, told_fine, weaker}
 
-same_structs : (ss : List StructType) → Stays ss ss
+pub same_structs : (ss : List StructType) → Stays ss ss
 same_structs ss i x h = h
 
 -- the base of a type
@@ -55,19 +49,16 @@ module _ (k : Known) where
   tag_tells : (token number : ℕ) (tag : List ℕ) (m : Option Meaning) (n : Option ℕ) (w : Walk) → IsTag m n → k.tags tag ≡ n
       → Tells (tagged_type token m w) (λ t v. IsBase k (base.Struct token tag) t × (v ≡ w)) (BaseBreaks k (base.Struct token tag))
   tag_tells token number tag None None w h q = record { by = (refl, refl, q) }
+  tag_tells token number tag (Some (meaning.Struct index)) (Some n) w h q = record { by = ((n, (q, ap t.Struct h)), refl) }
   tag_tells token number tag None (Some n) w h q = absurd h
   tag_tells token number tag (Some (meaning.Struct index)) None w h q = absurd h
-  tag_tells token number tag (Some (meaning.Struct index)) (Some n) w h q = record { by = ((n, (q, ap t.Struct h)), refl) }
   tag_tells token number tag (Some (meaning.Variable index)) n w h q = absurd h
   tag_tells token number tag (Some (meaning.Function index)) n w h q = absurd h
   tag_tells token number tag (Some (meaning.Library f)) n w h q = absurd h
 
   pub base_tells : (b : Base) (w : Walk) → Agreed k (shown w) → Tells (base_type b w) (λ t v. IsBase k b t × (v ≡ w)) (BaseBreaks k b)
-  base_tells (base.Void token) w g = record { by = (refl, refl) }
-  base_tells (base.Char token) w g = record { by = (refl, refl) }
-  base_tells (base.Int token) w g = record { by = (refl, refl) }
-  base_tells (base.Unsigned token int) w g = record { by = (refl, refl) }
   base_tells (base.Struct token tag) w g = tag_tells token 0 tag (found tag w.tags) (k.tags tag) w (g.by.tagged tag) refl
+  base_tells b w g = record { by = (refl, refl) }
 
   -- a name that isn't called
 
@@ -78,20 +69,20 @@ module _ (k : Known) where
       → Tells (of_variable token index o w) (λ d v. IsName name (Some (Object of)) d × (shown v ≡ shown w))
       (λ j at. (at ≡ token) × NameBreaks (Some (Object of)) j)
   variable_tells token index name of None w h = absurd (cc)
-  variable_tells token index name of (Some u) w h = record { by = ((of, (refl, ap place_of (some_is u of h))), refl) }
+  variable_tells token index name of (Some u) w h = record { by = ((of, (refl, ap place_of (same_Some u of h))), refl) }
 
   name_tells : (token : ℕ) (name : List ℕ) (m : Option Meaning) (x : Option Entity) (w : Walk) → Denotes w.declared_types w.functions m x
       → Tells (named token m w) (λ d v. IsName name x d × (shown v ≡ shown w)) (λ j at. (at ≡ token) × NameBreaks x j)
   name_tells token name None None w h = record { by = (refl, refl) }
-  name_tells token name None (Some x) w h = absurd h
   name_tells token name (Some (meaning.Variable index)) (Some (Object of)) w h =
       variable_tells token index name of (slice_get w.declared_types index) w h
+  name_tells token name (Some (meaning.Function index)) (Some (Function f)) w h = record { by = (refl, refl) }
+  name_tells token name (Some (meaning.Library f)) (Some (Standard g)) w h = record { by = (refl, refl) }
+  name_tells token name None (Some x) w h = absurd h
   name_tells token name (Some (meaning.Variable index)) (Some (Function f)) w h = absurd h
   name_tells token name (Some (meaning.Variable index)) (Some (Standard f)) w h = absurd h
-  name_tells token name (Some (meaning.Function index)) (Some (Function f)) w h = record { by = (refl, refl) }
   name_tells token name (Some (meaning.Function index)) (Some (Object of)) w h = absurd h
   name_tells token name (Some (meaning.Function index)) (Some (Standard f)) w h = absurd h
-  name_tells token name (Some (meaning.Library f)) (Some (Standard g)) w h = record { by = (refl, refl) }
   name_tells token name (Some (meaning.Library f)) (Some (Object of)) w h = absurd h
   name_tells token name (Some (meaning.Library f)) (Some (Function g)) w h = absurd h
   name_tells token name (Some (meaning.Struct index)) (Some x) w h = absurd h
@@ -110,16 +101,16 @@ module _ (k : Known) where
   pub call_tells : (token : ℕ) (xs : List Operand) (m : Option Meaning) (x : Option Entity) (w : Walk) → Denotes w.declared_types w.functions m x
       → Tells (called_name token m xs w) (λ d v. AsValue (Calls x xs) d × (shown v ≡ shown w)) (λ j at. (at ≡ token) × CallBreaks x xs j)
   call_tells token xs None None w h = record { by = (refl, refl) }
-  call_tells token xs None (Some x) w h = absurd h
   call_tells token xs (Some (meaning.Function index)) (Some (Function f)) w h = function_tells token index xs f (slice_get w.functions index) w h
-  call_tells token xs (Some (meaning.Function index)) (Some (Object of)) w h = absurd h
-  call_tells token xs (Some (meaning.Function index)) (Some (Standard f)) w h = absurd h
   call_tells token xs (Some (meaning.Library f)) (Some (Standard g)) w h = looks token (library_called f xs) w
       (λ d r. (standard_is g xs d (ap (λ u. library_called u xs) (sym h) ∙ r), refl))
       (λ j r. (refl, standard_breaks g xs j (ap (λ u. library_called u xs) (sym h) ∙ r)))
+  call_tells token xs (Some (meaning.Variable index)) (Some (Object of)) w h = record { by = (refl, refl) }
+  call_tells token xs None (Some x) w h = absurd h
+  call_tells token xs (Some (meaning.Function index)) (Some (Object of)) w h = absurd h
+  call_tells token xs (Some (meaning.Function index)) (Some (Standard f)) w h = absurd h
   call_tells token xs (Some (meaning.Library f)) (Some (Object of)) w h = absurd h
   call_tells token xs (Some (meaning.Library f)) (Some (Function g)) w h = absurd h
-  call_tells token xs (Some (meaning.Variable index)) (Some (Object of)) w h = record { by = (refl, refl) }
   call_tells token xs (Some (meaning.Variable index)) (Some (Function f)) w h = absurd h
   call_tells token xs (Some (meaning.Variable index)) (Some (Standard f)) w h = absurd h
   call_tells token xs (Some (meaning.Struct index)) (Some x) w h = absurd h
@@ -215,11 +206,8 @@ module _ (k : Known) where
         weaker (call_tells token xs (meaning_of name v.names) (k.ordinary name) v ((agrees_on g p.1).by.ordinary name))
         (λ j at h. inr (xs, (subst (AreOperands k arguments) (sym p.0.1.0) p.0.1.1, h)))
         (λ d u q. ((xs, (subst (AreOperands k arguments) (sym p.0.1.0) p.0.1.1, q.0)), q.1 ∙ p.1)))
-    expr_tells (e.Constant token of value) w g = record { by = (refl, refl) }
-    expr_tells (e.Strings token parts) w g = record { by = (refl, refl) }
     expr_tells (e.Paren token inner) w g = and_then (expr_tells inner w g) (λ j at h. h) (λ x v p. record { by = ((x, (p.0, refl)), p.1) })
-    expr_tells (e.Null token) w g = record { by = (refl, refl) }
-    expr_tells (e.EndOfFile token) w g = record { by = (refl, refl) }
+    expr_tells x w g = record { by = (refl, refl) }
 
     pub exprs_tells : (xs : ExprList) (before : List Operand) (w : Walk) → Agreed k (shown w)
         → Tells (walk_exprs xs before w) (λ all v. ((own : List Operand) × ((all ≡ before ++ own) × AreOperands k xs own)) × (shown v ≡ shown w))

@@ -1,15 +1,16 @@
 -- What the walk knows of functions between two items: each is known by one name, and is defined where the context says so.
 use Rattle.std.proofs.Common.{⊎_elim, inl, inr, map, ◌≡◌, ℕ, ◌<◌, refl, ap, ap₂, subst, sym, ◌∙◌, arith, List, [], ◌∷◌, ◌++◌, Some, None, Bool, true}
 use Rattle.std.proofs.Common.{false, length}
-use Rattle.std.proofs.lemmas.Bool.{and_from, and_parts, eqb-true, false≢true}
+use Rattle.std.proofs.lemmas.Bool.{and_from, and_parts, eqb-true, false≢true, or_left, or_right}
 use Rattle.std.proofs.lemmas.Option.{slice_get_within}
 use Rattle.std.proofs.lemmas.List.{length-map, map-append}
 use Rattle.std.proofs.lemmas.Slice.Eq.{bytes_eq-Decides}
 use Rattle.std.specs.Prelude.{Option, is_some, slice_get, ◌||◌, if◌then◌else◌, unwrap_or}
 use Rattle.std.specs.Str.{bytes_eq}
+use Rattle.c_types.proofs.Replaced.{replaced_other, replaced_same}
+use Rattle.base_lists.proofs.Lists.{get_before, get_either, get_last}
 use Rattle.c_types_rules.specs.declared.function.FunctionType.{FunctionType}
-use Rattle.c_types_rules.specs.Functions.{same_function}
-use Rattle.c_types_rules.specs.TypeTree.{TypeTree, same_type, same_types}
+use Rattle.c_types_rules.specs.Words.{same_function, TypeTree, same_type, same_types}
 use Rattle.c_types_rules.proofs.Same.{equal, same_self}
 use Rattle.c_types_expressions.specs.declared.names.Meaning.{Meaning}
 use Rattle.c_types_expressions.specs.declared.names.Meaning.TheVariants as meaning
@@ -17,18 +18,15 @@ use Rattle.c_types_expressions.specs.declared.names.ScopeEntry.{ScopeEntry}
 use Rattle.c_types_expressions.specs.declared.names.ScopeEntry.TheVariants.{Opens, Declares}
 use Rattle.c_types_expressions.specs.declared.walk.FunctionEntry.{FunctionEntry}
 use Rattle.c_types_expressions.specs.declared.walk.Walk.{Walk}
-use Rattle.c_types_expressions.specs.Names.{found, is_here, or_before}
-use Rattle.c_types_expressions.specs.Walked.{replaced}
+use Rattle.c_types_expressions.specs.Words.{found, is_here, or_before, replaced}
 use Rattle.c_types_walk.specs.ItemWalk.{is_defined}
-use Rattle.c_types_laws.proofs.Declaring.{get_either, get_last, get_more, more_stays}
-use Rattle.c_types_laws.proofs.Scenes.{replaced_other, replaced_same}
+use Rattle.c_types_laws.proofs.Declaring.{more_stays}
 use Rattle.c_types_faults.proofs.Noting.{Listed, Named, NoLibrary}
 use Rattle.c_types_faults.proofs.Paths.{called_name, view}
 use Rattle.c_types_faults.specs.Known.{Entity, Object, Function, Standard}
 use Rattle.c_types_faults.specs.Agrees.{Denotes, IsType, Means}
 use Rattle.c_types_faults.specs.Context.{Context, Declared, declared_in}
 use Rattle.c_types_faults.specs.Functions.{is_listed}
-use Rattle.c_types_faults.proofs.Fitting.{or_left, or_right}
 use Rattle.c_types_faults.proofs.Knowing.{Knows, Matches}
 use Rattle.c_types_faults.proofs.Telling.{Shown, shown}
 
@@ -92,7 +90,7 @@ module _ (types : List TypeTree) (fs : List FunctionEntry) where
     where
       by : (o : Option FunctionEntry) → slice_get fs i ≡ o → IsType o (λ y. y.ctype ≡ f) → IsType (slice_get (fs ++ g ∷ []) i) (λ y. y.ctype ≡ f)
       by None e h = absurd h
-      by (Some y) e h = subst (λ o. IsType o (λ z. z.ctype ≡ f)) (sym (get_more fs g i (slice_get_within fs i y e) ∙ e)) h
+      by (Some y) e h = subst (λ o. IsType o (λ z. z.ctype ≡ f)) (sym (get_before fs g i (slice_get_within fs i y e) ∙ e)) h
   means_more g (meaning.Function i) (Object of) h = absurd h
   means_more g (meaning.Function i) (Standard f) h = absurd h
   means_more g (meaning.Library f) (Standard l) h = h
@@ -102,17 +100,17 @@ module _ (types : List TypeTree) (fs : List FunctionEntry) where
 
   pub matches_more : (g : FunctionEntry) (vb fb : ℕ) (names : List ScopeEntry) (scope : List Declared) (outer : List (List Declared))
       → Matches types fs vb fb names scope outer → Matches types (fs ++ g ∷ []) vb fb names scope outer
-  matches_more g vb fb [] [] [] h = h
-  matches_more g vb fb [] [] (s ∷ ss) h = h
-  matches_more g vb fb [] (d ∷ ds) ss h = h
-  matches_more g vb fb (Opens ∷ rest) [] [] h = h
   matches_more g vb fb (Opens ∷ rest) [] (s ∷ ss) h = matches_more g vb fb rest s ss h
-  matches_more g vb fb (Opens ∷ rest) (d ∷ ds) ss h = h
   matches_more g vb fb (Declares n m ∷ rest) [] ss h = absurd h
   matches_more g vb fb (Declares n (meaning.Variable i) ∷ rest) (d ∷ ds) ss h =
       (h.0, h.1, means_more g (meaning.Variable i) d.entity h.2, matches_more g i fb rest ds ss h.3)
   matches_more g vb fb (Declares n (meaning.Function i) ∷ rest) (d ∷ ds) ss h =
       (h.0, h.1, means_more g (meaning.Function i) d.entity h.2, matches_more g vb i rest ds ss h.3)
+  matches_more g vb fb [] [] [] h = h
+  matches_more g vb fb [] [] (s ∷ ss) h = h
+  matches_more g vb fb [] (d ∷ ds) ss h = h
+  matches_more g vb fb (Opens ∷ rest) [] [] h = h
+  matches_more g vb fb (Opens ∷ rest) (d ∷ ds) ss h = h
   matches_more g vb fb (Declares n (meaning.Library f) ∷ rest) (d ∷ ds) ss h = h
   matches_more g vb fb (Declares n (meaning.Struct i) ∷ rest) (d ∷ ds) ss h = h
 

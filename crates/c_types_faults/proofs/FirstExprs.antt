@@ -13,10 +13,7 @@ use Rattle.c_types_rules.specs.declared.fault.FaultKind.TheVariants as fault
 use Rattle.c_types_rules.specs.declared.layout.StructType.{StructType}
 use Rattle.c_types_rules.specs.declared.operand.Operand.{Operand}
 use Rattle.c_types_rules.specs.TypeTree as t
-use Rattle.c_types_rules.specs.TypeTree.{TypeTree}
-use Rattle.c_types_rules.specs.Conversions.{value_type}
-use Rattle.c_types_rules.specs.Selecting.{indexed}
-use Rattle.c_types_rules.specs.Sizes.{is_complete}
+use Rattle.c_types_rules.specs.Words.{TypeTree, value_type, indexed, is_complete}
 use Rattle.c_types_expressions.specs.ExprWalk.{binary_of, chained, compound_of, with_stars}
 use Rattle.c_types_laws.specs.Operands.{Casts, Chooses, Indexes, Joins, Selects, SelectsBehind, Steps}
 use Rattle.c_types_faults.specs.Known.{Entity, Object, Function, Standard, Known}
@@ -43,13 +40,7 @@ step_kind ss x i j h g = least_one (λ k. ((k ≡ fault.Operands) × (Counts ss 
 prefix_kind : (ss : List StructType) (o : PrefixOperator) (x : Operand) → OneKind (PrefixBreaks ss o x)
 prefix_kind ss prefix.Increment x i j h g = step_kind ss x i j h g
 prefix_kind ss prefix.Decrement x i j h g = step_kind ss x i j h g
-prefix_kind ss prefix.Address x i j h g = h.0 ∙ sym g.0
-prefix_kind ss prefix.SizeOf x i j h g = h.0 ∙ sym g.0
-prefix_kind ss prefix.Indirection x i j h g = h.0 ∙ sym g.0
-prefix_kind ss prefix.Plus x i j h g = h.0 ∙ sym g.0
-prefix_kind ss prefix.Minus x i j h g = h.0 ∙ sym g.0
-prefix_kind ss prefix.Complement x i j h g = h.0 ∙ sym g.0
-prefix_kind ss prefix.Not x i j h g = h.0 ∙ sym g.0
+prefix_kind ss o x i j h g = h.0 ∙ sym g.0
 
 misfit_kind : (P : TypeTree → Type 0) → OneKind (Misfits P)
 misfit_kind P i j h g = h.0 ∙ sym g.0
@@ -62,18 +53,11 @@ member_kind ss name of i j (inr h) (inr g) = h.0 ∙ sym g.0
 
 arrow_kind : (ss : List StructType) (name : List ℕ) (of : TypeTree) → OneKind (ArrowBreaks ss name of)
 arrow_kind ss name (t.Pointer to) i j h g = member_kind ss name to i j h g
-arrow_kind ss name t.Void i j h g = h ∙ sym g
-arrow_kind ss name t.Char i j h g = h ∙ sym g
-arrow_kind ss name t.Int i j h g = h ∙ sym g
-arrow_kind ss name t.Unsigned i j h g = h ∙ sym g
-arrow_kind ss name (t.Array element size) i j h g = h ∙ sym g
-arrow_kind ss name (t.Struct tag) i j h g = h ∙ sym g
+arrow_kind ss name of i j h g = h ∙ sym g
 
 name_kind : (x : Option Entity) → OneKind (NameBreaks x)
-name_kind None i j h g = h ∙ sym g
 name_kind (Some (Object of)) i j h g = absurd h
-name_kind (Some (Function of)) i j h g = h ∙ sym g
-name_kind (Some (Standard f)) i j h g = h ∙ sym g
+name_kind x i j h g = h ∙ sym g
 
 pub call_kind : (x : Option Entity) (xs : List Operand) → OneKind (CallBreaks x xs)
 call_kind None xs i j h g = h ∙ sym g
@@ -83,11 +67,8 @@ call_kind (Some (Standard f)) xs i j h g = h.0 ∙ sym g.0
 
 module _ (k : Known) where
   pub base_single : (b : Base) → Single (BaseBreaks k b)
-  base_single (base.Void token) i j a c h g = absurd h
-  base_single (base.Char token) i j a c h g = absurd h
-  base_single (base.Int token) i j a c h g = absurd h
-  base_single (base.Unsigned token int) i j a c h g = absurd h
   base_single (base.Struct token tag) i j a c h g = (h.0 ∙ sym g.0, h.1 ∙ sym g.1)
+  base_single b i j a c h g = absurd h
 
   stepped_single : (token : ℕ) (rest : PostfixList) (left : Operand) → ((m : Operand) → Single (PostfixBreaks k m rest))
       → Single (Then (AsValue (Steps k.structs left)) (λ j at. (at ≡ token) × StepBreaks k.structs left j) (λ m. PostfixBreaks k m rest))
@@ -140,11 +121,8 @@ module _ (k : Known) where
     expr_single (e.Call token name arguments) = then_single (AreOperands k arguments) (ListBreaks k arguments)
         (λ xs j at. (at ≡ token) × CallBreaks (k.ordinary name) xs j) (one_list k arguments) (list_silent k arguments) (list_single arguments) (λ xs h.
         at_single (CallBreaks (k.ordinary name) xs) token (call_kind (k.ordinary name) xs))
-    expr_single (e.Constant token of value) = none_single
-    expr_single (e.Strings token parts) = none_single
     expr_single (e.Paren token inner) = expr_single inner
-    expr_single (e.Null token) = none_single
-    expr_single (e.EndOfFile token) = none_single
+    expr_single x = none_single
 
     pub list_single : (xs : ExprList) → Single (ListBreaks k xs)
     list_single e.no_exprs = none_single

@@ -3,16 +3,13 @@ use Rattle.std.proofs.Common.{inl, inr, ◌≡◌, ℕ, sym, ◌∙◌, List, []
 use Rattle.std.proofs.lemmas.Bool.{false≢true}
 use Rattle.std.specs.Prelude.{Option}
 use Rattle.c_syntax.specs.ExprTree as e
-use Rattle.c_syntax.specs.ExprTree.{ExprTree, ExprList}
-use Rattle.c_syntax.specs.FirstToken.{first_token}
+use Rattle.c_syntax.specs.Words.{ExprTree, ExprList, first_token, DeclarationTree, EntryList, ForStartTree, InitialTree, StartTree, StatementTree}
 use Rattle.c_syntax.specs.StatementTree as s
-use Rattle.c_syntax.specs.StatementTree.{DeclarationTree, EntryList, ForStartTree, InitialTree, StartTree, StatementTree}
 use Rattle.c_types_rules.specs.declared.fault.FaultKind.{FaultKind}
 use Rattle.c_types_rules.specs.declared.fault.FaultKind.TheVariants as fault
 use Rattle.c_types_rules.specs.declared.library.Library.TheVariants as library
 use Rattle.c_types_rules.specs.declared.operand.Operand.{Operand}
-use Rattle.c_types_rules.specs.Conversions.{is_struct}
-use Rattle.c_types_rules.specs.TypeTree.{TypeTree}
+use Rattle.c_types_rules.specs.Words.{is_struct, TypeTree}
 use Rattle.c_types_faults.specs.Known.{Entity, Object, Function, Standard, Known}
 use Rattle.c_types_faults.specs.Context.{Context, declare, inner, known}
 use Rattle.c_types_faults.specs.Types.{BaseBreaks, IsBase}
@@ -76,18 +73,8 @@ declaration_single global d c = then_single (IsBase (known c) d.base) (BaseBreak
 -- whole expressions
 
 whole_call_kind : (x : Option Entity) (arguments : ExprList) (xs : List Operand) → OneKind (WholeCallBreaks x arguments xs)
-whole_call_kind None arguments xs i j h g = call_kind None xs i j h g
-whole_call_kind (Some (Object of)) arguments xs i j h g = call_kind (Some (Object of)) xs i j h g
-whole_call_kind (Some (Function f)) arguments xs i j h g = call_kind (Some (Function f)) xs i j h g
 whole_call_kind (Some (Standard library.Printf)) arguments xs i j h g = h.0 ∙ sym g.0
-whole_call_kind (Some (Standard library.Getchar)) arguments xs i j h g = call_kind (Some (Standard library.Getchar)) xs i j h g
-whole_call_kind (Some (Standard library.Putchar)) arguments xs i j h g = call_kind (Some (Standard library.Putchar)) xs i j h g
-whole_call_kind (Some (Standard library.Puts)) arguments xs i j h g = call_kind (Some (Standard library.Puts)) xs i j h g
-whole_call_kind (Some (Standard library.Malloc)) arguments xs i j h g = call_kind (Some (Standard library.Malloc)) xs i j h g
-whole_call_kind (Some (Standard library.Free)) arguments xs i j h g = call_kind (Some (Standard library.Free)) xs i j h g
-whole_call_kind (Some (Standard library.Exit)) arguments xs i j h g = call_kind (Some (Standard library.Exit)) xs i j h g
-whole_call_kind (Some (Standard library.Abort)) arguments xs i j h g = call_kind (Some (Standard library.Abort)) xs i j h g
-whole_call_kind (Some (Standard library.Assert)) arguments xs i j h g = call_kind (Some (Standard library.Assert)) xs i j h g
+whole_call_kind x arguments xs i j h g = call_kind x xs i j h g
 
 module _ (k : Known) where
   whole_single : (x : ExprTree) → Single (WholeBreaks k x)
@@ -95,20 +82,7 @@ module _ (k : Known) where
       (λ xs j at. (at ≡ token) × WholeCallBreaks (k.ordinary name) arguments xs j)
       (one_list k arguments) (list_silent k arguments) (list_single k arguments) (λ xs h.
       at_single (WholeCallBreaks (k.ordinary name) arguments xs) token (whole_call_kind (k.ordinary name) arguments xs))
-  whole_single (e.Comma token operands) = expr_single k (e.Comma token operands)
-  whole_single (e.Assign token op target x) = expr_single k (e.Assign token op target x)
-  whole_single (e.Conditional token condition first second) = expr_single k (e.Conditional token condition first second)
-  whole_single (e.Chain level first links) = expr_single k (e.Chain level first links)
-  whole_single (e.Cast token named stars operand) = expr_single k (e.Cast token named stars operand)
-  whole_single (e.Prefix token o operand) = expr_single k (e.Prefix token o operand)
-  whole_single (e.SizeOfType token named stars) = expr_single k (e.SizeOfType token named stars)
-  whole_single (e.Postfix primary operators) = expr_single k (e.Postfix primary operators)
-  whole_single (e.Name token name) = expr_single k (e.Name token name)
-  whole_single (e.Constant token kind number) = expr_single k (e.Constant token kind number)
-  whole_single (e.Strings token parts) = expr_single k (e.Strings token parts)
-  whole_single (e.Paren token inner) = expr_single k (e.Paren token inner)
-  whole_single (e.Null token) = expr_single k (e.Null token)
-  whole_single (e.EndOfFile token) = expr_single k (e.EndOfFile token)
+  whole_single x = expr_single k x
 
   -- parts of statements
 

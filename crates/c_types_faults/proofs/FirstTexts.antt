@@ -5,23 +5,17 @@ use Rattle.std.specs.Prelude.{Option, is_some}
 use Rattle.c_syntax.specs.declared.parts.Declarator.{Declarator}
 use Rattle.c_syntax.specs.declared.parts.Members.{Members}
 use Rattle.c_syntax.specs.declared.parts.Param.{Param}
-use Rattle.c_syntax.specs.ExprTree.{ExprTree}
+use Rattle.c_syntax.specs.Words.{ExprTree, ItemTree, SourceTree, EntryList, IsShaped}
 use Rattle.c_syntax.specs.ItemTree as i
-use Rattle.c_syntax.specs.ItemTree.{ItemTree, SourceTree}
-use Rattle.c_syntax.specs.StatementTree.{EntryList}
-use Rattle.c_syntax.specs.WellFormed.{IsShaped}
 use Rattle.c_types_rules.specs.declared.fault.FaultKind.{FaultKind}
 use Rattle.c_types_rules.specs.declared.fault.FaultKind.TheVariants as fault
 use Rattle.c_types_rules.specs.declared.function.FunctionType.{FunctionType}
 use Rattle.c_types_rules.specs.declared.layout.StructType.{StructType}
 use Rattle.c_types_rules.specs.declared.operand.Operand.{Operand}
-use Rattle.c_types_rules.specs.Faults.{fault_number}
-use Rattle.c_types_rules.specs.Sizes.{empty_struct, most_cells}
-use Rattle.c_types_rules.specs.TypeTree.{TypeTree}
+use Rattle.c_types_rules.specs.Words.{fault_number, empty_struct, most_cells, TypeTree}
 use Rattle.c_types.specs.Fault.{fault_in, fault_of, walk_tree}
 use Rattle.c_types_expressions.specs.declared.walk.Walk.{Walk}
-use Rattle.c_types_expressions.specs.ExprWalk.{walk_expr, with_stars}
-use Rattle.c_types_expressions.specs.Walked.{Done, Fine, Faulty, Walked}
+use Rattle.c_types_expressions.specs.Words.{walk_expr, with_stars, Done, Fine, Faulty, Walked}
 use Rattle.c_types_walk.specs.ItemWalk.{listed_params}
 use Rattle.c_types_faults.specs.Known.{Known}
 use Rattle.c_types_faults.specs.Agrees.{Agrees}

@@ -2,18 +2,16 @@
 use Rattle.std.proofs.Common.{◌⊎◌, inl, inr, ◌≡◌, refl, ap, subst, sym, ◌∙◌, List, Some, None, Ok, Err, Bool, true, false, ◌≤◌, ℕ, arith}
 use Rattle.std.proofs.lemmas.Bool.Decides.{nat_tests}
 use Rattle.std.specs.Prelude.{Option, ◌&&◌, ◌||◌, if◌then◌else◌, not, nat_le}
-use Rattle.std.proofs.lemmas.Bool.{and_from, false≢true}
+use Rattle.std.proofs.lemmas.Bool.{and_from, false≢true, and_left, and_right, or_left, or_right}
 use Rattle.cbi_base.specs.declared.operators.Binary.{Binary}
 use Rattle.cbi_base.specs.declared.operators.Binary.TheVariants as op
 use Rattle.c_types_rules.specs.declared.fault.FaultKind.TheVariants as fault
 use Rattle.c_types_rules.specs.declared.layout.StructType.{StructType}
 use Rattle.c_types_rules.specs.declared.operand.Operand.{Operand}
-use Rattle.c_types_rules.specs.TypeTree.{TypeTree, Void, Char, Int, Unsigned, Pointer, Array, Struct, same_type}
-use Rattle.c_types_rules.specs.Assigning.{assignable, is_left_side, pointers_join, pointers_meet}
-use Rattle.c_types_rules.specs.Conversions.{common, decayed, is_arithmetic, is_array, is_pointer, is_void, is_void_pointer, place_of, promoted, value_of, value_type}
-use Rattle.c_types_rules.specs.Faults.{Looked, ◌>>=◌}
-use Rattle.c_types_rules.specs.Operators.{added, both_arithmetic, cast_to, combined, equated, gives, is_movable, is_scalar_value, ordered, subtracted}
-use Rattle.c_types_rules.specs.Selecting.{chosen, either, indexed, joined_pointer, pointed, pointed_type}
+use Rattle.c_types_rules.specs.Words.{TypeTree, Void, Char, Int, Unsigned, Pointer, Array, Struct, same_type, assignable, is_left_side, pointers_join}
+use Rattle.c_types_rules.specs.Words.{pointers_meet, common, decayed, is_arithmetic, is_array, is_pointer, is_void, is_void_pointer, place_of, promoted}
+use Rattle.c_types_rules.specs.Words.{value_of, value_type, Looked, ◌>>=◌, added, both_arithmetic, cast_to, combined, equated, gives, is_movable}
+use Rattle.c_types_rules.specs.Words.{is_scalar_value, ordered, subtracted, chosen, either, indexed, joined_pointer, pointed, pointed_type}
 use Rattle.c_types_rules.proofs.Same.{same_self}
 use Rattle.c_types_expressions.specs.ExprWalk.{chained}
 use Rattle.c_types_laws.specs.Operands.{Accepts, Adds, AreArithmetic, Calculates, Casts, Chooses, Equates, Indexes, IsModifiable, Joins, LeadsToObject}
@@ -29,42 +27,11 @@ pub if_false : {A : Type 0} (b : Bool) (m n : A) → b ≡ false → (if b then 
 if_false false m n h = refl
 if_false true m n h = absurd (false≢true (sym h))
 
-left_false : (a b : Bool) → a ≡ false → (a && b) ≡ false
-left_false false b h = refl
-left_false true b h = absurd (false≢true (sym h))
-
-right_false : (a b : Bool) → b ≡ false → (a && b) ≡ false
-right_false false b h = refl
-right_false true b h = h
-
-pub or_left : (a b : Bool) → a ≡ true → (a || b) ≡ true
-or_left true b h = refl
-or_left false b h = absurd (false≢true h)
-
-pub or_right : (a b : Bool) → b ≡ true → (a || b) ≡ true
-or_right true b h = refl
-or_right false b h = h
-
 pub three_true : (a b c : Bool) → a ≡ true → b ≡ true → c ≡ true → (a && b && c) ≡ true
 three_true true true true p q r = refl
 three_true false b c p q r = absurd (false≢true p)
 three_true true false c p q r = absurd (false≢true q)
 three_true true true false p q r = absurd (false≢true r)
-
-pub either_true : (a b : Bool) → (a || b) ≡ true → (a ≡ true) ⊎ (b ≡ true)
-either_true true b h = inl refl
-either_true false b h = inr h
-
-pub most : (m n : ℕ) → nat_le m n ≡ true → m ≤ n
-most m n h = grind (arith, nat_tests, h)
-
-pub most_back : (m n : ℕ) → m ≤ n → nat_le m n ≡ true
-most_back m n h = grind (arith, nat_tests, h)
-
-pub three_parts : (a b c : Bool) → (a && b && c) ≡ true → (a ≡ true) × (b ≡ true) × (c ≡ true)
-three_parts true true c h = (refl, refl, h)
-three_parts true false c h = absurd (false≢true h)
-three_parts false b c h = absurd (false≢true h)
 
 first_of : (a b c : Bool) → a ≡ true → (a || b || c) ≡ true
 first_of true b c h = refl
@@ -146,21 +113,11 @@ equated_back x y t h = of_type (gives_true (both_arithmetic (value_type x) (valu
 module _ (ss : List StructType) where
   pub points_back : (t : TypeTree) → PointsToObject ss t → is_movable ss t ≡ true
   points_back (Pointer to) h = h
-  points_back Void h = absurd h
-  points_back Char h = absurd h
-  points_back Int h = absurd h
-  points_back Unsigned h = absurd h
-  points_back (Array element size) h = absurd h
-  points_back (Struct tag) h = absurd h
+  points_back t h = absurd h
 
   no_number : (t : TypeTree) → PointsToObject ss t → is_arithmetic t ≡ false
   no_number (Pointer to) h = refl
-  no_number Void h = absurd h
-  no_number Char h = absurd h
-  no_number Int h = absurd h
-  no_number Unsigned h = absurd h
-  no_number (Array element size) h = absurd h
-  no_number (Struct tag) h = absurd h
+  no_number t h = absurd h
 
   pub added_back : (a b t : TypeTree) → Adds ss a b t → added ss a b ≡ Ok (value_of t)
   added_back a b t (inl h) = of_type (if_true (both_arithmetic a b) (Ok (value_of (common a b)))
@@ -168,13 +125,13 @@ module _ (ss : List StructType) where
   added_back a b t (inr (inl h)) = of_type (
       if_false (both_arithmetic a b) (Ok (value_of (common a b)))
       (if is_arithmetic b then gives (is_movable ss a) a else gives (is_arithmetic a && is_movable ss b) b)
-      (left_false (is_arithmetic a) (is_arithmetic b) (no_number a h.0))
+      (and_left (is_arithmetic a) (is_arithmetic b) (no_number a h.0))
       ∙ if_true (is_arithmetic b) (gives (is_movable ss a) a) (gives (is_arithmetic a && is_movable ss b) b) h.1
       ∙ gives_true (is_movable ss a) a (points_back a h.0)) h.2
   added_back a b t (inr (inr h)) = of_type (
       if_false (both_arithmetic a b) (Ok (value_of (common a b)))
       (if is_arithmetic b then gives (is_movable ss a) a else gives (is_arithmetic a && is_movable ss b) b)
-      (right_false (is_arithmetic a) (is_arithmetic b) (no_number b h.1))
+      (and_right (is_arithmetic a) (is_arithmetic b) (no_number b h.1))
       ∙ if_false (is_arithmetic b) (gives (is_movable ss a) a) (gives (is_arithmetic a && is_movable ss b) b) (no_number b h.1)
       ∙ gives_true (is_arithmetic a && is_movable ss b) b (and_from (is_arithmetic a) (is_movable ss b) h.0 (points_back b h.1))) h.2
 
@@ -184,13 +141,13 @@ module _ (ss : List StructType) where
   subtracted_back a b t (inr (inl h)) = of_type (
       if_false (both_arithmetic a b) (Ok (value_of (common a b)))
       (if is_arithmetic b then gives (is_movable ss a) a else gives (is_movable ss a && same_type a b) Int)
-      (left_false (is_arithmetic a) (is_arithmetic b) (no_number a h.0))
+      (and_left (is_arithmetic a) (is_arithmetic b) (no_number a h.0))
       ∙ if_true (is_arithmetic b) (gives (is_movable ss a) a) (gives (is_movable ss a && same_type a b) Int) h.1
       ∙ gives_true (is_movable ss a) a (points_back a h.0)) h.2
   subtracted_back a b t (inr (inr h)) = of_type (
       if_false (both_arithmetic a b) (Ok (value_of (common a b)))
       (if is_arithmetic b then gives (is_movable ss a) a else gives (is_movable ss a && same_type a b) Int)
-      (left_false (is_arithmetic a) (is_arithmetic b) (no_number a h.0))
+      (and_left (is_arithmetic a) (is_arithmetic b) (no_number a h.0))
       ∙ if_false (is_arithmetic b) (gives (is_movable ss a) a) (gives (is_movable ss a && same_type a b) Int)
       (subst (λ c. is_arithmetic c ≡ false) (sym h.1) (no_number a h.0))
       ∙ gives_true (is_movable ss a && same_type a b) Int
@@ -207,12 +164,7 @@ module _ (ss : List StructType) where
   combined_back op.Ge x y t h = ordered_back (value_type x) (value_type y) t h
   combined_back op.Eq x y t h = equated_back x y t h
   combined_back op.Ne x y t h = equated_back x y t h
-  combined_back op.Mul x y t h = calculated_back (value_type x) (value_type y) t h
-  combined_back op.Div x y t h = calculated_back (value_type x) (value_type y) t h
-  combined_back op.Rem x y t h = calculated_back (value_type x) (value_type y) t h
-  combined_back op.And x y t h = calculated_back (value_type x) (value_type y) t h
-  combined_back op.Or x y t h = calculated_back (value_type x) (value_type y) t h
-  combined_back op.Xor x y t h = calculated_back (value_type x) (value_type y) t h
+  combined_back o x y t h = calculated_back (value_type x) (value_type y) t h
 
   pub chained_back : (o : Option Binary) (x y : Operand) (t : TypeTree) → Joins ss o x y t → chained ss o x y ≡ Ok (value_of t)
   chained_back None x y t h = of_type (gives_true (is_scalar_value x && is_scalar_value y) Int (and_from (is_scalar_value x) (is_scalar_value y) h.0 h.1)) h.2
@@ -239,31 +191,20 @@ cast_back to x t h = of_type (gives_true (is_void to || assignable to x) to (tak
 -- the arms of `? :`
 
 void_no_number : (t : TypeTree) → is_void t ≡ true → is_arithmetic t ≡ false
-void_no_number Void h = refl
 void_no_number Char h = absurd (false≢true h)
 void_no_number Int h = absurd (false≢true h)
 void_no_number Unsigned h = absurd (false≢true h)
-void_no_number (Pointer to) h = refl
-void_no_number (Array element size) h = refl
-void_no_number (Struct tag) h = refl
+void_no_number t h = refl
 
 pointer_no_number : (t : TypeTree) → is_pointer t ≡ true → is_arithmetic t ≡ false
-pointer_no_number (Pointer to) h = refl
-pointer_no_number Void h = refl
 pointer_no_number Char h = absurd (false≢true h)
 pointer_no_number Int h = absurd (false≢true h)
 pointer_no_number Unsigned h = absurd (false≢true h)
-pointer_no_number (Array element size) h = refl
-pointer_no_number (Struct tag) h = refl
+pointer_no_number t h = refl
 
 pointer_no_void : (t : TypeTree) → is_pointer t ≡ true → is_void t ≡ false
-pointer_no_void (Pointer to) h = refl
 pointer_no_void Void h = absurd (false≢true h)
-pointer_no_void Char h = refl
-pointer_no_void Int h = refl
-pointer_no_void Unsigned h = refl
-pointer_no_void (Array element size) h = refl
-pointer_no_void (Struct tag) h = refl
+pointer_no_void t h = refl
 
 has_pointer : (x y : Operand) → PointersJoin x y → (IsPointer (value_type x)) ⊎ (IsPointer (value_type y))
 has_pointer x y (inl h) = inl h.0
@@ -271,8 +212,8 @@ has_pointer x y (inr (inl h)) = inl h.0
 has_pointer x y (inr (inr h)) = inr h.0
 
 neither : (a b : TypeTree) → (IsPointer a ⊎ IsPointer b) → (both_arithmetic a b ≡ false) × ((is_void a && is_void b) ≡ false)
-neither a b (inl h) = (left_false (is_arithmetic a) (is_arithmetic b) (pointer_no_number a h), left_false (is_void a) (is_void b) (pointer_no_void a h))
-neither a b (inr h) = (right_false (is_arithmetic a) (is_arithmetic b) (pointer_no_number b h), right_false (is_void a) (is_void b) (pointer_no_void b h))
+neither a b (inl h) = (and_left (is_arithmetic a) (is_arithmetic b) (pointer_no_number a h), and_left (is_void a) (is_void b) (pointer_no_void a h))
+neither a b (inr h) = (and_right (is_arithmetic a) (is_arithmetic b) (pointer_no_number b h), and_right (is_void a) (is_void b) (pointer_no_void b h))
 
 abbrev unlike : Operand → Operand → Looked
 unlike x y = if is_void (value_type x) && is_void (value_type y) then Ok (value_of Void) else gives (pointers_join x y) (joined_pointer x y)
@@ -282,7 +223,7 @@ either_back c x y t (s, inl h) = of_type (if_true (both_arithmetic (value_type x
     (unlike x y) (both_back (value_type x) (value_type y) h.0)) h.1
 either_back c x y t (s, inr (inl h)) = of_type (
     if_false (both_arithmetic (value_type x) (value_type y)) (Ok (value_of (common (value_type x) (value_type y)))) (unlike x y)
-    (left_false (is_arithmetic (value_type x)) (is_arithmetic (value_type y)) (void_no_number (value_type x) h.0))
+    (and_left (is_arithmetic (value_type x)) (is_arithmetic (value_type y)) (void_no_number (value_type x) h.0))
     ∙ if_true (is_void (value_type x) && is_void (value_type y)) (Ok (value_of Void)) (gives (pointers_join x y) (joined_pointer x y))
     (and_from (is_void (value_type x)) (is_void (value_type y)) h.0 h.1)) h.2
 either_back c x y t (s, inr (inr h)) =

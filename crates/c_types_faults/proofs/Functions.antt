@@ -1,23 +1,22 @@
 -- Functions: what the walk takes is declared behind it, and where it stops a rule is broken.
 use Rattle.std.proofs.Common.{◌⊎◌, inl, inr, ⊎_elim, ◌≡◌, ℕ, ◌<◌, refl, ap, subst, sym, ◌∙◌, arith, List, [], ◌∷◌, ◌++◌, map, Some, None, Bool, true}
-use Rattle.c_types_faults.proofs.Bounds.{some_is}
 use Rattle.std.proofs.Common.{false, length}
 use Rattle.c_types_walk.specs.StatementWalk.{walk_entries}
 use Rattle.c_types_faults.specs.Statements.{AreRuledEntries, EntriesBreak}
 use Rattle.std.proofs.Common.{length-append}
-use Rattle.std.proofs.lemmas.Bool.{and_parts, false≢true}
-use Rattle.std.proofs.lemmas.Option.{slice_get_past}
+use Rattle.std.proofs.lemmas.Bool.{and_parts, false≢true, or_cases, or_parts, or_right}
+use Rattle.std.proofs.lemmas.Option.{slice_get_past, same_Some}
 use Rattle.std.proofs.lemmas.Slice.Eq.{bytes_eq-Decides}
 use Rattle.std.specs.Str.{bytes_eq}
 use Rattle.std.specs.Prelude.{Option, is_none, is_some, slice_get, ◌&&◌, ◌||◌, if◌then◌else◌, unwrap_or}
+use Rattle.c_types.proofs.Noted.{length_replaced}
+use Rattle.base_lists.proofs.Tests.{left_false}
+use Rattle.base_lists.proofs.Lists.{get_before, get_last}
 use Rattle.c_syntax.specs.StatementTree.{EntryList}
 use Rattle.c_types_rules.specs.declared.fault.FaultKind.{FaultKind}
 use Rattle.c_types_rules.specs.declared.fault.FaultKind.TheVariants as fault
 use Rattle.c_types_rules.specs.declared.function.FunctionType.{FunctionType}
-use Rattle.c_types_rules.specs.Conversions.{is_struct}
-use Rattle.c_types_rules.specs.Functions.{same_function}
-use Rattle.c_types_rules.specs.Library.{library_named}
-use Rattle.c_types_rules.specs.TypeTree.{TypeTree}
+use Rattle.c_types_rules.specs.Words.{is_struct, same_function, library_named, TypeTree}
 use Rattle.c_types_expressions.specs.declared.names.Meaning.{Meaning}
 use Rattle.c_types_expressions.specs.declared.names.Meaning.TheVariants as meaning
 use Rattle.c_types_expressions.specs.declared.names.ScopeEntry.{ScopeEntry}
@@ -25,12 +24,9 @@ use Rattle.c_types_expressions.specs.declared.names.ScopeEntry.TheVariants.{Open
 use Rattle.c_types_expressions.specs.declared.walk.FunctionEntry.{FunctionEntry}
 use Rattle.c_types_expressions.specs.declared.walk.Parameter.{Parameter}
 use Rattle.c_types_expressions.specs.declared.walk.Walk.{Walk}
-use Rattle.c_types_expressions.specs.Names.{found, is_here, is_reserved, or_before}
-use Rattle.c_types_expressions.specs.Walked.{with_variable, Fine, Faulty, Done, opened, replaced}
+use Rattle.c_types_expressions.specs.Words.{found, is_here, is_reserved, or_before, with_variable, Fine, Faulty, Done, opened, replaced}
 use Rattle.c_types_walk.specs.ItemWalk.{clashes, declares, has_type, is_defined, known_as, typed_function, walk_body, walk_function}
 use Rattle.c_types_walk.specs.ItemWalk.{with_definition, with_function, with_param, with_params}
-use Rattle.c_types_laws.proofs.Declaring.{get_last, get_more}
-use Rattle.c_types_laws.proofs.Scenes.{replaced_long}
 use Rattle.c_types.specs.Answers.{noted}
 use Rattle.c_types_faults.specs.Events as event
 use Rattle.c_types_faults.specs.Events.{Event, entries_events, scoped}
@@ -48,7 +44,6 @@ use Rattle.c_types_faults.specs.Functions.{with_formal, FunctionFits}
 use Rattle.c_types_faults.specs.Functions.{with_formals}
 use Rattle.c_types_faults.proofs.Files.{named_in, places_new, places_on, Files, Funs, IsFlat, defined_funs, found_below, function_is, function_self}
 use Rattle.c_types_faults.proofs.Files.{funs_same, listed_is, matches_more, text_found}
-use Rattle.c_types_faults.proofs.Fitting.{or_right, either_true}
 use Rattle.c_types_faults.proofs.Knowing.{Knows, Matches, entering_knows, here_named, object_knows, variable_shown, named_here}
 use Rattle.c_types_faults.specs.Least.{IsLeast}
 use Rattle.c_types_faults.proofs.Least.{least_first, least_second}
@@ -69,7 +64,7 @@ If b j = if b then Some j else None
 known_function : (b : Bool) (f g : FunctionType) (j : ℕ) (o : Option ℕ) → same_function g f ≡ b → If b j ≡ o
     → KnownIs f (Some (meaning.Function j)) (Some (Function g)) o
 known_function true f g j None e h = absurd (cc)
-known_function true f g j (Some i) e h = (ap (λ z. Some (Function z)) (function_is g f e), ap (λ n. Some (meaning.Function n)) (some_is j i h))
+known_function true f g j (Some i) e h = (ap (λ z. Some (Function z)) (function_is g f e), ap (λ n. Some (meaning.Function n)) (same_Some j i h))
 known_function false f g j (Some i) e h = absurd (cc)
 known_function false f g j None e h = λ q. false≢true (sym e ∙ ap (λ z. same_function z f) (same g f q) ∙ function_self f)
   where
@@ -89,14 +84,14 @@ typed_function_is f g j (Some y) o h k =
 pub known_by : (f : FunctionType) (m : Option Meaning) (x : Option Entity) (w : Walk) (o : Option ℕ) → Denotes w.declared_types w.functions m x
     → known_as f m w ≡ o → KnownIs f m x o
 known_by f None None w o h k = not_known f None None o k (λ q. cc)
-known_by f None (Some x) w o h k = absurd h
 known_by f (Some (meaning.Variable i)) (Some (Object of)) w o h k = not_known f (Some (meaning.Variable i)) (Some (Object of)) o k (λ q. cc)
+known_by f (Some (meaning.Function i)) (Some (Function g)) w o h k = typed_function_is f g i (slice_get w.functions i) o h k
+known_by f (Some (meaning.Library l)) (Some (Standard g)) w o h k = not_known f (Some (meaning.Library l)) (Some (Standard g)) o k (λ q. cc)
+known_by f None (Some x) w o h k = absurd h
 known_by f (Some (meaning.Variable i)) (Some (Function g)) w o h k = absurd h
 known_by f (Some (meaning.Variable i)) (Some (Standard g)) w o h k = absurd h
-known_by f (Some (meaning.Function i)) (Some (Function g)) w o h k = typed_function_is f g i (slice_get w.functions i) o h k
 known_by f (Some (meaning.Function i)) (Some (Object of)) w o h k = absurd h
 known_by f (Some (meaning.Function i)) (Some (Standard g)) w o h k = absurd h
-known_by f (Some (meaning.Library l)) (Some (Standard g)) w o h k = not_known f (Some (meaning.Library l)) (Some (Standard g)) o k (λ q. cc)
 known_by f (Some (meaning.Library l)) (Some (Object of)) w o h k = absurd h
 known_by f (Some (meaning.Library l)) (Some (Function g)) w o h k = absurd h
 known_by f (Some (meaning.Struct i)) (Some x) w o h k = absurd h
@@ -177,7 +172,7 @@ new_files name f c w k new =
             ∙ sym (not_listed (is_listed name c.defined) refl),
         new,
         funs_same w.defined_as (w.defined_as ++ None ∷ []) c.defined c.defined (length w.functions) w.names
-            (λ i p. ap (λ o. is_some (unwrap_or o None)) (get_more w.defined_as None i (omega (arith, p, k.long)))) (λ n p. refl) k.flat k.funs,
+            (λ i p. ap (λ o. is_some (unwrap_or o None)) (get_before w.defined_as None i (omega (arith, p, k.long)))) (λ n p. refl) k.flat k.funs,
       );
       flat = k.flat;
       long = omega (arith, k.long, length-append w.functions (g ∷ []), length-append w.defined_as (None ∷ []));
@@ -189,19 +184,11 @@ new_files name f c w k new =
     not_listed true e = absurd (false≢true (sym new ∙ k.here name e))
     not_listed false e = refl
 
-or_parts : (a b : Bool) → (a || b) ≡ false → (a ≡ false) × (b ≡ false)
-or_parts true b h = absurd (false≢true (sym h))
-or_parts false b h = (refl, h)
-
-and_true : (a : Bool) → (a && true) ≡ false → a ≡ false
-and_true true h = h
-and_true false h = refl
-
 named_files : (name : List ℕ) (f : FunctionType) (o : Option ℕ) (c : Context) (w : Walk) → Files c (shown w) → clashes name o w ≡ false
     → Files (next_of name f o c) (shown (with_function name f o w))
 named_files name f (Some j) c w k h = k
 named_files name f None c w k h =
-    new_files name f c w k (and_true (is_here name w.names) (or_parts (is_reserved name) (is_here name w.names && true) h).1)
+    new_files name f c w k (left_false (is_here name w.names) (or_parts (is_reserved name) (is_here name w.names && true) h).1)
 
 moved_files : {c : Context} {s r : Shown} → Files c s → Knows c r → Moves [] s r → Files c r
 moved_files {c = c} {s = s} {r = r} k n m = record {
@@ -235,9 +222,9 @@ defined_files name j number c s k e =
       outer = k.outer;
       funs = defined_funs name j s.defined_as c.defined number (omega (arith, less, k.long)) (length s.functions) s.names k.flat e k.funs;
       flat = k.flat;
-      long = replaced_long s.defined_as j (Some number) ∙ k.long;
+      long = length_replaced s.defined_as j (Some number) ∙ k.long;
       here = λ n h. ⊎_elim (λ b. subst (λ m. is_here m s.names ≡ true) ((bytes_eq-Decides name n).0 b) (found_here name j s.names k.flat e))
-          (λ b. k.here n b) (either_true (bytes_eq name n) (is_listed n c.defined) h);
+          (λ b. k.here n b) (or_cases (bytes_eq name n) (is_listed n c.defined) h);
       places = k.places;
     }
 
@@ -314,7 +301,7 @@ module _ (token : ℕ) (name : List ℕ) (f : FunctionType) (c : Context) (w : W
       result false h = record { by = (refl, refl, refl) }
 
   rule_of : (o : Option ℕ) → Was o → clashes name o w ≡ true → Clashes name f c
-  rule_of o h e = clash_rule o h (either_true (is_reserved name) (is_here name w.names && is_none o) e)
+  rule_of o h e = clash_rule o h (or_cases (is_reserved name) (is_here name w.names && is_none o) e)
 
   named : (o : Option ℕ) → Named (view (with_function name f o w))
   named o = (step_onward (event.Names name) (view w) (view (with_function name f o w)) (function_step name f o w)).named (named_in w k)
@@ -334,7 +321,7 @@ module _ (token : ℕ) (name : List ℕ) (f : FunctionType) (c : Context) (w : W
 
       known_so : (o : Option ℕ) → Was o → (is_here name w.names && is_none o) ≡ false → HasName name c.scope → IsKnownAs name f c
       known_so (Some j) h e n = h.0
-      known_so None h e n = absurd (false≢true (sym (and_true (is_here name w.names) e) ∙ here n))
+      known_so None h e n = absurd (false≢true (sym (left_false (is_here name w.names) e) ∙ here n))
 
   fits_so : (o : Option ℕ) → Was o → clashes name o w ≡ false → is_struct f.gives ≡ false → FunctionFits name f c
   fits_so o h e g = let q = free_so o h e in (q.0, q.1, g)
@@ -388,7 +375,7 @@ module _ (token : ℕ) (name : List ℕ) (f : FunctionType) (c : Context) (w : W
 
   may_not : (o : Option ℕ) → Was o → (clashes name o w || is_defined (unwrap_or o (length w.functions)) w.defined_as) ≡ true → MayNot
   may_not o h e = ⊎_elim (λ a. inl (rule_of o h a)) (λ a. inr (twice_by o h a))
-      (either_true (clashes name o w) (is_defined (unwrap_or o (length w.functions)) w.defined_as) e)
+      (or_cases (clashes name o w) (is_defined (unwrap_or o (length w.functions)) w.defined_as) e)
 
   may : (o : Option ℕ) → Was o → (clashes name o w || is_defined (unwrap_or o (length w.functions)) w.defined_as) ≡ false → MayNot → ⊥
   may o h e (inl r) = no_clash o h (or_parts (clashes name o w) (is_defined (unwrap_or o (length w.functions)) w.defined_as) e).0 r

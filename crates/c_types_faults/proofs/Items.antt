@@ -4,19 +4,16 @@ use Rattle.sites.specs.Table.{defined_in}
 use Rattle.c_syntax.specs.declared.parts.Base.{Base}
 use Rattle.std.specs.Prelude.{slice_get, Option, is_some, ◌||◌}
 use Rattle.std.specs.Str.{bytes_eq}
+use Rattle.std.proofs.lemmas.Bool.{or_right}
 use Rattle.c_syntax.specs.declared.parts.Members.{Members}
 use Rattle.c_syntax.specs.ItemTree as i
-use Rattle.c_syntax.specs.ItemTree.{ItemTree}
-use Rattle.c_syntax.specs.StatementTree.{StartTree, EntryList}
+use Rattle.c_syntax.specs.Words.{ItemTree, StartTree, EntryList}
 use Rattle.c_types_rules.specs.declared.function.FunctionType.{FunctionType}
-use Rattle.c_types_rules.specs.TypeTree.{TypeTree}
-use Rattle.c_types_rules.specs.Sizes.{cells_of}
+use Rattle.c_types_rules.specs.Words.{TypeTree, cells_of}
 use Rattle.c_types_expressions.specs.declared.names.ScopeEntry.{ScopeEntry}
 use Rattle.c_types_expressions.specs.declared.walk.Parameter.{Parameter}
 use Rattle.c_types_expressions.specs.declared.walk.Walk.{Walk}
-use Rattle.c_types_expressions.specs.ExprWalk.{with_stars}
-use Rattle.c_types_expressions.specs.Names.{is_here}
-use Rattle.c_types_expressions.specs.Walked.{Done}
+use Rattle.c_types_expressions.specs.Words.{with_stars, is_here, Done}
 use Rattle.c_types_walk.specs.ItemWalk.{listed_params, types_of, walk_item, walk_items}
 use Rattle.c_syntax.specs.declared.parts.Params.{Params}
 use Rattle.c_types.specs.Answers.{noted}
@@ -35,7 +32,6 @@ use Rattle.c_types_faults.specs.Items.{ItemBreaks, ItemGives, ItemsBreak, ItemsG
 use Rattle.c_types_faults.proofs.Declaring.{Behind, declaration_tells}
 use Rattle.c_types_faults.proofs.Exprs.{base_tells}
 use Rattle.c_types_faults.proofs.Files.{Places, named_in, places_on, Files, Funs, IsFlat}
-use Rattle.c_types_faults.proofs.Fitting.{or_right}
 use Rattle.c_types_faults.proofs.Functions.{Notes, body_events, function_tells, in_function}
 use Rattle.c_types_faults.proofs.Knowing.{agreed}
 use Rattle.c_types_faults.proofs.Prototypes.{formal_of, params_tell}

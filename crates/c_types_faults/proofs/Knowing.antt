@@ -1,16 +1,17 @@
 -- What the walk knows at a point, and the declarations whose scopes hold there.
 use Rattle.std.proofs.Common.{◌⊎◌, inl, inr, ◌≡◌, ℕ, ◌+◌, ◌≤◌, ◌<◌, refl, ap, subst, sym, ◌∙◌, arith, List, [], ◌∷◌, ◌++◌, Some, None, Bool, true}
 use Rattle.std.proofs.Common.{false, length}
-use Rattle.c_types_faults.proofs.Fitting.{or_left, or_right, either_true}
 use Rattle.std.proofs.Common.{length-append}
 use Rattle.std.specs.Prelude.{Option, option_map, slice_get, ◌||◌, if◌then◌else◌}
 use Rattle.std.specs.Str.{bytes_eq}
-use Rattle.std.proofs.lemmas.Bool.{false≢true}
+use Rattle.std.proofs.lemmas.Bool.{false≢true, or_cases, or_left, or_right}
 use Rattle.std.proofs.lemmas.Option.{slice_get_within}
 use Rattle.std.proofs.lemmas.Slice.Eq.{bytes_eq-Decides}
+use Rattle.c_types.proofs.Replaced.{replaced_other, replaced_same}
+use Rattle.c_types.proofs.Noted.{length_replaced}
+use Rattle.base_lists.proofs.Lists.{get_before, get_last}
 use Rattle.c_types_rules.specs.declared.library.Library.{Library}
-use Rattle.c_types_rules.specs.Library.{library_named}
-use Rattle.c_types_rules.specs.TypeTree.{TypeTree}
+use Rattle.c_types_rules.specs.Words.{library_named, TypeTree}
 use Rattle.c_types_expressions.specs.declared.names.Meaning.{Meaning}
 use Rattle.c_types_expressions.specs.declared.names.Meaning.TheVariants as meaning
 use Rattle.c_types_expressions.specs.declared.names.ScopeEntry.{ScopeEntry}
@@ -18,10 +19,7 @@ use Rattle.c_types_expressions.specs.declared.names.ScopeEntry.TheVariants.{Open
 use Rattle.c_types_expressions.specs.declared.walk.FunctionEntry.{FunctionEntry}
 use Rattle.c_types_expressions.specs.declared.walk.Variable.TheVariants as variable
 use Rattle.c_types_expressions.specs.declared.walk.Walk.{Walk}
-use Rattle.c_types_expressions.specs.Names.{closed, found, is_here, meaning_of, or_before}
-use Rattle.c_types_expressions.specs.Walked.{replaced, with_variable}
-use Rattle.c_types_laws.proofs.Declaring.{get_last, get_more}
-use Rattle.c_types_laws.proofs.Scenes.{replaced_long, replaced_other, replaced_same}
+use Rattle.c_types_expressions.specs.Words.{closed, found, is_here, meaning_of, or_before, replaced, with_variable}
 use Rattle.c_types_faults.specs.Known.{Entity, Object, Function, Standard}
 use Rattle.c_types_faults.specs.Agrees.{Denotes, IsTag, Means}
 use Rattle.c_types_faults.specs.Context.{Context, Declared, HasName, Tagged, counting, declare, declared_in, denoted, inner, known, or_else, tag_in}
@@ -88,16 +86,16 @@ module _ (types : List TypeTree) (fs : List FunctionEntry) where
   pub name_denotes : (vb fb : ℕ) (names : List ScopeEntry) (scope : List Declared) (outer : List (List Declared)) → Matches types fs vb fb names scope outer
       → (name : List ℕ) → Denotes types fs (meaning_of name names) (denoted name (scope ∷ outer))
   name_denotes vb fb [] [] [] h name = library_denotes types fs (library_named name)
-  name_denotes vb fb [] [] (s ∷ ss) h name = absurd h
-  name_denotes vb fb [] (d ∷ ds) ss h name = absurd h
-  name_denotes vb fb (Opens ∷ rest) [] [] h name = absurd h
   name_denotes vb fb (Opens ∷ rest) [] (s ∷ ss) h name = name_denotes vb fb rest s ss h name
-  name_denotes vb fb (Opens ∷ rest) (d ∷ ds) ss h name = absurd h
-  name_denotes vb fb (Declares n m ∷ rest) [] ss h name = absurd h
   name_denotes vb fb (Declares n (meaning.Variable i) ∷ rest) (d ∷ ds) ss h name =
       entry_denotes n name d (meaning.Variable i) rest ds ss h.0 h.2 (name_denotes i fb rest ds ss h.3 name)
   name_denotes vb fb (Declares n (meaning.Function i) ∷ rest) (d ∷ ds) ss h name =
       entry_denotes n name d (meaning.Function i) rest ds ss h.0 h.2 (name_denotes vb i rest ds ss h.3 name)
+  name_denotes vb fb [] [] (s ∷ ss) h name = absurd h
+  name_denotes vb fb [] (d ∷ ds) ss h name = absurd h
+  name_denotes vb fb (Opens ∷ rest) [] [] h name = absurd h
+  name_denotes vb fb (Opens ∷ rest) (d ∷ ds) ss h name = absurd h
+  name_denotes vb fb (Declares n m ∷ rest) [] ss h name = absurd h
   name_denotes vb fb (Declares n (meaning.Library f) ∷ rest) (d ∷ ds) ss h name = absurd h
   name_denotes vb fb (Declares n (meaning.Struct i) ∷ rest) (d ∷ ds) ss h name = absurd h
 
@@ -114,11 +112,11 @@ module _ (types : List TypeTree) (fs : List FunctionEntry) where
       → (name : List ℕ) → is_here name names ≡ true → HasName name scope
   here_named vb fb [] scope outer h name q = absurd (false≢true q)
   here_named vb fb (Opens ∷ rest) scope outer h name q = absurd (false≢true q)
-  here_named vb fb (Declares n m ∷ rest) [] ss h name q = absurd h
   here_named vb fb (Declares n (meaning.Variable i) ∷ rest) (d ∷ ds) ss h name q =
-      next_here n name d rest ds h.0 (here_named i fb rest ds ss h.3 name) (either_true (bytes_eq n name) (is_here name rest) q)
+      next_here n name d rest ds h.0 (here_named i fb rest ds ss h.3 name) (or_cases (bytes_eq n name) (is_here name rest) q)
   here_named vb fb (Declares n (meaning.Function i) ∷ rest) (d ∷ ds) ss h name q =
-      next_here n name d rest ds h.0 (here_named vb i rest ds ss h.3 name) (either_true (bytes_eq n name) (is_here name rest) q)
+      next_here n name d rest ds h.0 (here_named vb i rest ds ss h.3 name) (or_cases (bytes_eq n name) (is_here name rest) q)
+  here_named vb fb (Declares n m ∷ rest) [] ss h name q = absurd h
   here_named vb fb (Declares n (meaning.Library f) ∷ rest) (d ∷ ds) ss h name q = absurd h
   here_named vb fb (Declares n (meaning.Struct i) ∷ rest) (d ∷ ds) ss h name q = absurd h
 
@@ -133,11 +131,11 @@ module _ (types : List TypeTree) (fs : List FunctionEntry) where
   named_here vb fb [] (d ∷ ds) outer h name q = absurd h
   named_here vb fb (Opens ∷ rest) [] outer h name q = absurd q
   named_here vb fb (Opens ∷ rest) (d ∷ ds) outer h name q = absurd h
-  named_here vb fb (Declares n m ∷ rest) [] ss h name q = absurd h
   named_here vb fb (Declares n (meaning.Variable i) ∷ rest) (d ∷ ds) ss h name q =
       here_behind n name d rest ds h.0 (named_here i fb rest ds ss h.3 name) q
   named_here vb fb (Declares n (meaning.Function i) ∷ rest) (d ∷ ds) ss h name q =
       here_behind n name d rest ds h.0 (named_here vb i rest ds ss h.3 name) q
+  named_here vb fb (Declares n m ∷ rest) [] ss h name q = absurd h
   named_here vb fb (Declares n (meaning.Library f) ∷ rest) (d ∷ ds) ss h name q = absurd h
   named_here vb fb (Declares n (meaning.Struct i) ∷ rest) (d ∷ ds) ss h name q = absurd h
 
@@ -274,7 +272,7 @@ module _ {c : Context} {s : Shown} where
       omega arith,
       subst (λ n. slice_get (s.types ++ t ∷ []) n ≡ Some t) k.count (get_last s.types t),
       matches_types s.types (s.types ++ t ∷ []) s.functions s.count (length s.functions) s.names c.scope c.outer
-          (λ i of p h. get_more s.types t i (slice_get_within s.types i of h) ∙ h) k.names,
+          (λ i of p h. get_before s.types t i (slice_get_within s.types i of h) ∙ h) k.names,
     );
     tags = k.tags;
     structs = k.structs;
@@ -292,11 +290,11 @@ module _ {c : Context} {s : Shown} where
           replaced_same (s.types ++ t ∷ []) s.count u within,
           matches_types s.types (replaced (s.types ++ t ∷ []) s.count u) s.functions s.count (length s.functions) s.names c.scope c.outer
               (λ i of p h. replaced_other (s.types ++ t ∷ []) s.count i u (λ e. omega (arith, e, p))
-              ∙ get_more s.types t i (slice_get_within s.types i of h) ∙ h) k.names,
+              ∙ get_before s.types t i (slice_get_within s.types i of h) ∙ h) k.names,
         );
         tags = k.tags;
         structs = k.structs;
-        count = replaced_long (s.types ++ t ∷ []) s.count u ∙ omega (arith, k.count, length-append s.types (t ∷ []));
+        count = length_replaced (s.types ++ t ∷ []) s.count u ∙ omega (arith, k.count, length-append s.types (t ∷ []));
         cells = k.cells;
       }
 

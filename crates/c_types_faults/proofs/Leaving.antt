@@ -4,13 +4,13 @@ use Rattle.std.specs.Prelude.{slice_set}
 use Rattle.std.proofs.Math.Nat.{le-max_left, le-max_right}
 use Rattle.std.proofs.lemmas.Bool.Decides.{nat_tests}
 use Rattle.std.proofs.lemmas.List.{append-nil, length-map, map-append, reverse-append}
+use Rattle.base_lists.proofs.Numbers.{max_most}
 use Rattle.c_types_rules.specs.TypeTree.{TypeTree}
 use Rattle.c_types_expressions.specs.declared.names.Meaning.{Meaning}
 use Rattle.c_types_expressions.specs.declared.names.Meaning.TheVariants as meaning
 use Rattle.c_types_expressions.specs.declared.names.ScopeEntry.{ScopeEntry}
 use Rattle.c_types_expressions.specs.declared.names.ScopeEntry.TheVariants as entry
-use Rattle.c_types_expressions.specs.Names.{closed, meaning_of}
-use Rattle.c_types_expressions.specs.Walked.{ended_scopes, replaced}
+use Rattle.c_types_expressions.specs.Words.{closed, meaning_of, ended_scopes, replaced}
 use Rattle.c_types_faults.specs.Events.{Construct, Calls, Selects, Other, Event, Value, Initialises, Variable, Opens, Closes, Struct, Names, Defines, scoped}
 use Rattle.c_types_faults.specs.Scopes.{Scope, scope_name}
 use Rattle.c_types_faults.proofs.Paths.{CalledAs, Notes, Path, View, calling, closing, opening, path_parts, selecting, typed}
@@ -392,11 +392,9 @@ selecting_shown : (token offset : ℕ) (t : TypeTree) (a b : View) → b ≡ typ
 selecting_shown token offset t a b h = subst (Shown token a) (sym h) (record { quiet = record { names = refl; starts = refl; ends = refl; functions = refl; definitions = refl }; latest = refl })
 
 called_shown : (token : ℕ) (m : Option Meaning) (a b : View) → CalledAs token m a b → Shown token a b
-called_shown token None a b h = absurd h
-called_shown token (Some (meaning.Variable index)) a b h = absurd h
 called_shown token (Some (meaning.Function index)) a b h = calling_shown token index h.0 a b h.1
 called_shown token (Some (meaning.Library function)) a b h = typed_shown token h.0 a b h.1
-called_shown token (Some (meaning.Struct index)) a b h = absurd h
+called_shown token m a b h = absurd h
 
 notes_shown : (c : Construct) (token : ℕ) (a b : View) → Notes c token a b → Shown token a b
 notes_shown Other token a b h = typed_shown token h.0 a b h.1
@@ -410,9 +408,6 @@ record Shows (es : List Event) (a b : View) : Type 0 where
   pub seen : (k : ℕ) → Among k es → k ≤ b.latest
   pub below : (n : ℕ) → a.latest ≤ n → ((k : ℕ) → Among k es → k ≤ n) → b.latest ≤ n
 
-most : (m n l : ℕ) → m ≤ l → n ≤ l → max m n ≤ l
-most m n l h k = grind (arith, nat_tests, h, k)
-
 values_show : (es : List Event) (a b : View) → AreValues es → Path es a b → Shows es a b
 values_show [] a b h p =
     subst (Shows [] a) (sym p) (record { quiet = quiet_here a; grows = omega arith; seen = λ k i. absurd i; below = λ n i j. i })
@@ -423,7 +418,7 @@ values_show (Value token c ∷ es) a b h p =
       quiet = quiet_then one.quiet rest.quiet;
       grows = omega (arith, one.latest, rest.grows, le-max_left a.latest token);
       seen = λ k i. ⊎_elim (λ e. omega (arith, e, one.latest, rest.grows, le-max_right a.latest token)) (λ j. rest.seen k j) i;
-      below = λ n i j. rest.below n (omega (arith, one.latest, most a.latest token n i (j token (inl refl)))) (λ k l. j k (inr l));
+      below = λ n i j. rest.below n (omega (arith, one.latest, max_most a.latest token n i (j token (inl refl)))) (λ k l. j k (inr l));
     }
 values_show (Initialises token ∷ es) a b h p = absurd h.0
 values_show (Variable token ∷ es) a b h p = absurd h.0

@@ -3,6 +3,7 @@ use Rattle.std.proofs.Common.{◌⊎◌, inl, inr, ◌≡◌, ℕ, ◌+◌, ◌�
 use Rattle.std.specs.Prelude.{IfSome}
 use Rattle.std.specs.List.{AllByRecursion, flat_map}
 use Rattle.std.proofs.lemmas.List.{append-nil}
+use Rattle.c_types_laws.proofs.Items.{params_at, params_within}
 use Rattle.c_syntax.specs.declared.parts.Base.{Base}
 use Rattle.c_syntax.specs.declared.parts.Param.{Param}
 use Rattle.c_syntax.specs.declared.parts.ParamName.{ParamName}
@@ -10,12 +11,8 @@ use Rattle.c_syntax.specs.declared.parts.Params.{Params}
 use Rattle.c_syntax.specs.declared.parts.Params.TheVariants as params
 use Rattle.c_syntax.specs.declared.token.Sign.TheVariants as sign
 use Rattle.c_syntax.specs.ItemTree as i
-use Rattle.c_syntax.specs.ItemTree.{ItemTree}
-use Rattle.c_syntax.specs.Place.{EachAt, ItemAt, NameAt, ParamAt, ParamsAt}
-use Rattle.c_syntax.specs.Shape.{ShapedItem}
-use Rattle.c_syntax.specs.Spelling.{a_name, a_sign, body_kinds, entry_kinds, item_kinds, optional, param_kinds, param_name_kinds, params_kinds, parenthesized}
-use Rattle.c_syntax.specs.Spelling.{type_kinds, with_commas}
-use Rattle.c_syntax.specs.StatementTree.{EntryList}
+use Rattle.c_syntax.specs.Words.{ItemTree, EachAt, ItemAt, NameAt, ParamAt, ParamsAt, ShapedItem, a_name, a_sign, body_kinds, entry_kinds, item_kinds, optional}
+use Rattle.c_syntax.specs.Words.{param_kinds, param_name_kinds, params_kinds, parenthesized, type_kinds, with_commas, EntryList}
 use Rattle.c_types_expressions.specs.declared.names.Meaning.TheVariants as meaning
 use Rattle.c_types_expressions.specs.declared.names.ScopeEntry.{ScopeEntry}
 use Rattle.c_types_expressions.specs.declared.names.ScopeEntry.TheVariants as entry
@@ -56,16 +53,6 @@ params_leave (q ∷ s ∷ ps) at hi last p high =
     leaves_then at (at + n) hi (param_leaves q at (at + n) last p.0 (omega arith))
     (leaves_wider (at + n + 1) hi (at + n) hi (params_leave (s ∷ ps) (at + n + 1) hi last p.1 (omega (arith, high, long))) (omega arith) (omega arith))
     (omega arith) (omega (arith, high, long))
-
-params_within : (ps : Params) → length (with_commas param_kinds (listed_params ps)) ≤ length (params_kinds ps)
-params_within params.Empty = omega arith
-params_within params.Void = omega arith
-params_within (params.List list) = omega arith
-
-params_at : (ps : Params) (at : ℕ) → ParamsAt at ps → EachAt ParamAt param_kinds 1 at (listed_params ps)
-params_at params.Empty at h = tt
-params_at params.Void at h = tt
-params_at (params.List list) at h = h
 
 function_long : (b : Base) (stars : ℕ) (name : List ℕ) (ps : Params) (body : EntryList)
     → length (item_kinds (i.Function 0 b stars name ps (Some body))) ≡ length (type_kinds b stars) + 5 + length (params_kinds ps) + length (entry_kinds body)

@@ -7,16 +7,14 @@ use Rattle.c_syntax.specs.declared.parts.Declarator.{Declarator}
 use Rattle.c_syntax.specs.declared.token.Sign.TheVariants as sign
 use Rattle.c_syntax.specs.declared.token.TokenKind.TheVariants as kind
 use Rattle.c_syntax.specs.declared.token.Word.TheVariants as word
-use Rattle.c_syntax.specs.ExprTree.{ExprTree}
-use Rattle.c_syntax.specs.Place.{DeclarationAt, EachAt, EntriesAt, ExprAt, ForStartAt, InitialAt, StartAt, StatementAt}
-use Rattle.c_syntax.specs.Shape.{ShapedDeclaration, ShapedEntries, ShapedExpr, ShapedForStart, ShapedInitial, ShapedStart, ShapedStatement}
-use Rattle.c_syntax.specs.Spelling.{Kinds, a_name, a_sign, a_word, base_kinds, bound_kinds, comma_kinds, declaration_kinds, declarator_kinds, entry_kinds}
-use Rattle.c_syntax.specs.Spelling.{expr_kinds, exprs_kinds, for_start_kinds, initial_kinds, optional, parenthesized, star_kinds, start_kinds, statement_kinds}
-use Rattle.c_syntax.specs.Spelling.{with_commas}
+use Rattle.c_syntax.specs.Words.{ExprTree, DeclarationAt, EachAt, EntriesAt, ExprAt, ForStartAt, InitialAt, StartAt, StatementAt, ShapedDeclaration}
+use Rattle.c_syntax.specs.Words.{ShapedEntries, ShapedExpr, ShapedForStart, ShapedInitial, ShapedStart, ShapedStatement, Kinds, a_name, a_sign, a_word}
+use Rattle.c_syntax.specs.Words.{base_kinds, bound_kinds, comma_kinds, declaration_kinds, declarator_kinds, entry_kinds, expr_kinds, exprs_kinds}
+use Rattle.c_syntax.specs.Words.{for_start_kinds, initial_kinds, optional, parenthesized, star_kinds, start_kinds, statement_kinds, with_commas, InitialTree}
+use Rattle.c_syntax.specs.Words.{StartTree, DeclarationTree, ForStartTree, StatementTree, EntryList}
 use Rattle.c_syntax.specs.StatementTree as s
-use Rattle.c_syntax.specs.StatementTree.{InitialTree, StartTree, DeclarationTree, ForStartTree, StatementTree, EntryList}
 use Rattle.c_types_laws.proofs.Goods.{around}
-use Rattle.c_types_laws.proofs.Statements.{commas_long, commas_one}
+use Rattle.c_types_laws.proofs.Statements.{commas_long, commas_one, declarator_long}
 use Rattle.c_types_faults.specs.Events.{declaration_events, entries_events, expr_events, exprs_events, for_start_events, initial_events}
 use Rattle.c_types_faults.specs.Events.{optional_events, start_events, starts_events, statement_events}
 use Rattle.c_types_faults.specs.Scopes.{declaration_scopes, entries_scopes, for_start_scopes, last_token, starts_scopes, statement_scopes}
@@ -25,14 +23,6 @@ use Rattle.c_types_faults.proofs.Points.{spread_wider}
 use Rattle.c_types_faults.proofs.SpreadExprs.{expr_has, expr_spread, exprs_spread}
 
 -- how many tokens a part has
-
-declarator_long : (d : Declarator) → d.stars < length (declarator_kinds d)
-declarator_long d = omega (
-  arith,
-  length-append (star_kinds d.stars ++ a_name d.name) (flat_map bound_kinds d.bounds),
-  length-append (star_kinds d.stars) (a_name d.name),
-  length-replicate d.stars (kind.Punctuator sign.Star),
-)
 
 if_long : (c : ExprTree) (x : StatementTree) → length (statement_kinds (s.If 0 c x)) ≡ 3 + length (expr_kinds c) + length (statement_kinds x)
 if_long c x = omega (arith, length-append (a_word word.If ++ parenthesized (expr_kinds c)) (statement_kinds x), around (expr_kinds c))
@@ -153,7 +143,6 @@ mutual
       leaves_scoped (at + 1) (at + 1 + length (entry_kinds entries)) last at hi outer
       (entries_leave entries (at + 1) (at + 1 + length (entry_kinds entries)) last h p.1 (omega arith))
       (omega arith) (omega (arith, p.0, long)) (omega (arith, p.0, long, end))
-  statement_leaves (s.Empty token) at hi outer h p end = leaves_none at hi outer (omega (arith, end))
   statement_leaves (s.Expr token x) at hi outer h p end =
       expr_leaves x at hi outer h p.1 (omega (arith, end, length-append (expr_kinds x) (a_sign sign.Semicolon)))
   statement_leaves (s.If token c x) at hi outer h p end =
@@ -207,13 +196,11 @@ mutual
       (omega arith) (omega (arith, long, end)))
       (omega arith) (omega (arith, long, end)))
       (omega arith) (omega (arith, p.0, long, end)) (omega (arith, p.0, long, end))
-  statement_leaves (s.Return token None) at hi outer h p end = leaves_none at hi outer (omega (arith, end))
   statement_leaves (s.Return token (Some x)) at hi outer h p end =
       let long : length (statement_kinds (s.Return token (Some x))) ≡ length (expr_kinds x) + 2 =
       omega (arith, length-append (a_word word.Return ++ expr_kinds x) (a_sign sign.Semicolon)) in
       leaves_wider (at + 1) hi at hi (expr_leaves x (at + 1) hi outer h p.1 (omega (arith, long, end))) (omega arith) (omega arith)
-  statement_leaves (s.Break token) at hi outer h p end = leaves_none at hi outer (omega (arith, end))
-  statement_leaves (s.Continue token) at hi outer h p end = leaves_none at hi outer (omega (arith, end))
+  statement_leaves x at hi outer h p end = leaves_none at hi outer (omega (arith, end))
 
   pub entries_leave : (xs : EntryList) (at hi last : ℕ) → ShapedEntries xs → EntriesAt at xs → at + length (entry_kinds xs) ≡ hi
       → Leaves true at hi last (entries_events xs) (entries_scopes last xs)

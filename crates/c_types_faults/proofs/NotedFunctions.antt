@@ -5,13 +5,12 @@ use Rattle.std.specs.Str.{bytes_eq}
 use Rattle.std.proofs.lemmas.Bool.{false≢true}
 use Rattle.std.proofs.lemmas.List.{append-nil, length-map}
 use Rattle.std.proofs.lemmas.Slice.Eq.{bytes_eq-Decides}
+use Rattle.std.proofs.lemmas.Option.{same_Some}
+use Rattle.base_lists.proofs.Tests.{or_second_false}
+use Rattle.base_lists.proofs.Lists.{get_either, get_last, Stays}
 use Rattle.c_syntax.specs.ItemTree as i
-use Rattle.c_syntax.specs.ItemTree.{ItemTree}
-use Rattle.c_syntax.specs.Place.{EachAt, ItemAt}
-use Rattle.c_syntax.specs.Shape.{ShapedItem}
-use Rattle.c_syntax.specs.Spelling.{declaration_kinds, item_kinds}
+use Rattle.c_syntax.specs.Words.{ItemTree, EachAt, ItemAt, ShapedItem, declaration_kinds, item_kinds}
 use Rattle.c_types_rules.specs.declared.function.FunctionType.{FunctionType}
-use Rattle.c_types.proofs.Options.{some_is}
 use Rattle.c_types_expressions.specs.declared.names.Meaning.{Meaning}
 use Rattle.c_types_expressions.specs.declared.names.Meaning.TheVariants as meaning
 use Rattle.c_types_expressions.specs.declared.names.ScopeEntry.{ScopeEntry}
@@ -19,8 +18,7 @@ use Rattle.c_types_expressions.specs.declared.names.ScopeEntry.TheVariants as en
 use Rattle.c_types_expressions.specs.declared.walk.Walk.{Walk}
 use Rattle.c_types_expressions.specs.Names.{closed, found, is_here, is_reserved}
 use Rattle.c_types_walk.specs.ItemWalk.{clashes, has_type, known_as, listed_params, with_function}
-use Rattle.c_types_laws.proofs.Declaring.{get_either, get_last, more_stays}
-use Rattle.c_types_laws.proofs.Scenes.{Stays}
+use Rattle.c_types_laws.proofs.Declaring.{more_stays}
 use Rattle.c_types_laws.proofs.Steps.{IsFlat}
 use Rattle.sites.specs.Table.{defined_by, defined_in}
 use Rattle.c_types_faults.specs.Events.{Event, Closes, Names, declaration_events, entries_events, params_events, scoped}
@@ -91,14 +89,10 @@ known_same defs new a b named names variables functions definitions k = record {
 
 -- a new function
 
-or_second : (a b : Bool) → (a || b) ≡ false → b ≡ false
-or_second true b h = absurd (cc)
-or_second false b h = h
-
 not_here : (name : List ℕ) (index : ℕ) (names : List ScopeEntry) → IsFlat names → is_here name names ≡ false → Listed name index names → ⊥
 not_here name index [] flat h l = l
 not_here name index (entry.Opens ∷ rest) flat h l = flat
-not_here name index (entry.Declares other (meaning.Variable q) ∷ rest) flat h l = not_here name index rest flat (or_second (bytes_eq other name) _ h) l
+not_here name index (entry.Declares other (meaning.Variable q) ∷ rest) flat h l = not_here name index rest flat (or_second_false (bytes_eq other name) _ h) l
 not_here name index (entry.Declares other (meaning.Function q) ∷ rest) flat h l = by (bytes_eq other name) refl h (λ g m. not_here name index rest flat g m) l
   where
     by : (b : Bool) → bytes_eq other name ≡ b → (b || is_here name rest) ≡ false → (is_here name rest ≡ false → Listed name index rest → ⊥)
@@ -106,8 +100,8 @@ not_here name index (entry.Declares other (meaning.Function q) ∷ rest) flat h 
     by true e g f m = absurd (cc)
     by false e g f (inl m) = absurd (false≢true (sym e ∙ (bytes_eq-Decides other name).1 m.0))
     by false e g f (inr m) = f g m
-not_here name index (entry.Declares other (meaning.Library function) ∷ rest) flat h l = not_here name index rest flat (or_second (bytes_eq other name) _ h) l
-not_here name index (entry.Declares other (meaning.Struct q) ∷ rest) flat h l = not_here name index rest flat (or_second (bytes_eq other name) _ h) l
+not_here name index (entry.Declares other (meaning.Library function) ∷ rest) flat h l = not_here name index rest flat (or_second_false (bytes_eq other name) _ h) l
+not_here name index (entry.Declares other (meaning.Struct q) ∷ rest) flat h l = not_here name index rest flat (or_second_false (bytes_eq other name) _ h) l
 
 module _ (defs : List (List ℕ)) (name : List ℕ) (a : View) (k : Known defs a) (new : is_here name a.names ≡ false) (own : is_reserved name ≡ false) where
   absent : (index : ℕ) → slice_get a.functions index ≡ Some name → ⊥
@@ -140,7 +134,7 @@ known_found f (Some (meaning.Struct q)) w index h = absurd (cc)
 known_found f (Some (meaning.Function q)) w index h = by (has_type f (slice_get w.functions q)) h
   where
     by : (b : Bool) → (if b then Some q else None) ≡ Some index → Some (meaning.Function q) ≡ Some (meaning.Function index)
-    by true e = ap (λ n. Some (meaning.Function n)) (some_is q index e)
+    by true e = ap (λ n. Some (meaning.Function n)) (same_Some q index e)
     by false e = absurd (cc)
 
 both_false : (a b : Bool) → (a || (b && true)) ≡ false → (a ≡ false) × (b ≡ false)

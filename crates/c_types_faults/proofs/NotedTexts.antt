@@ -3,12 +3,10 @@ use Rattle.std.proofs.Common.{⊎_elim, ◌≡◌, ℕ, ◌-◌, false, [], leng
 use Rattle.std.proofs.lemmas.Bool.{cases_lt}
 use Rattle.std.proofs.lemmas.List.{get_or-replicate, get_or_past, length-replicate}
 use Rattle.std.proofs.lemmas.Option.{unwrap_or-slice_get}
-use Rattle.c_syntax.specs.ItemTree.{SourceTree}
-use Rattle.c_syntax.specs.WellFormed.{IsShaped}
+use Rattle.c_syntax.specs.Words.{SourceTree, IsShaped}
 use Rattle.c_types.specs.Answers.{noted}
 use Rattle.c_types.specs.Fault.{walk_tree}
-use Rattle.c_types_expressions.specs.Beginning.{beginning}
-use Rattle.c_types_expressions.specs.Walked.{Fine}
+use Rattle.c_types_expressions.specs.Words.{beginning, Fine}
 use Rattle.c_types_expressions.specs.declared.walk.Walk.{Walk}
 use Rattle.sites.specs.Table.{functions_of}
 use Rattle.c_types_faults.specs.Events.{events_of}

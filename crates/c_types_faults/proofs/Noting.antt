@@ -5,17 +5,19 @@ use Rattle.std.specs.Str.{bytes_eq}
 use Rattle.std.proofs.Math.Nat.{le-max_left}
 use Rattle.std.proofs.lemmas.Bool.{cases_eq, eq-eqb, false≢true, ne_eqb}
 use Rattle.std.proofs.lemmas.Slice.Eq.{bytes_eq-Decides}
+use Rattle.std.proofs.lemmas.Option.{same_Some}
+use Rattle.c_types.proofs.Replaced.{noted_other}
+use Rattle.c_types.proofs.Noted.{length_replaced}
+use Rattle.base_lists.proofs.Numbers.{not_number, same_number}
+use Rattle.base_lists.proofs.Lists.{get_last, Stays}
 use Rattle.c_types_rules.specs.TypeTree.{TypeTree}
 use Rattle.c_types.specs.Answers.{noted}
-use Rattle.c_types.proofs.Options.{some_is}
 use Rattle.c_types_expressions.specs.declared.names.Meaning.{Meaning}
 use Rattle.c_types_expressions.specs.declared.names.Meaning.TheVariants as meaning
 use Rattle.c_types_expressions.specs.declared.names.ScopeEntry.{ScopeEntry}
 use Rattle.c_types_expressions.specs.declared.names.ScopeEntry.TheVariants as entry
 use Rattle.c_types_expressions.specs.Names.{closed, found, meaning_of, or_before}
-use Rattle.c_types_laws.proofs.Declaring.{get_last, more_stays}
-use Rattle.c_types_laws.proofs.Scenes.{Stays, replaced_long}
-use Rattle.c_types_laws.proofs.Steps.{noted_other}
+use Rattle.c_types_laws.proofs.Declaring.{more_stays}
 use Rattle.c_types_faults.specs.Events.{Construct, Calls, Selects, Other, Event, Value, Initialises, Variable, Opens, Closes, Struct, Names, Defines, construct_at}
 use Rattle.c_types_faults.proofs.Paths.{CalledAs, Notes, Path, Step, View, calling, selecting, typed}
 use Rattle.c_types_faults.proofs.Points.{Among, Once, among_right}
@@ -63,18 +65,16 @@ found_behind : (name other : List ℕ) (m : Meaning) (o : Option Meaning) (rest 
 found_behind name other m None rest h = tt
 found_behind name other m (Some (meaning.Variable q)) rest h = tt
 found_behind name other m (Some (meaning.Struct q)) rest h = tt
+found_behind name other (meaning.Function p) (Some (meaning.Function q)) rest h = inr h
 found_behind name other m (Some (meaning.Library function)) rest h = h
 found_behind name other (meaning.Variable p) (Some (meaning.Function q)) rest h = h
-found_behind name other (meaning.Function p) (Some (meaning.Function q)) rest h = inr h
 found_behind name other (meaning.Library f) (Some (meaning.Function q)) rest h = h
 found_behind name other (meaning.Struct p) (Some (meaning.Function q)) rest h = h
 
 found_opens : (name : List ℕ) (o : Option Meaning) (rest : List ScopeEntry) → FoundAs name o rest → FoundAs name o (entry.Opens ∷ rest)
-found_opens name None rest h = tt
-found_opens name (Some (meaning.Variable q)) rest h = tt
-found_opens name (Some (meaning.Struct q)) rest h = tt
 found_opens name (Some (meaning.Library function)) rest h = h
 found_opens name (Some (meaning.Function q)) rest h = h
+found_opens name o rest h = tt
 
 found_here : (name other : List ℕ) (m : Meaning) (rest : List ScopeEntry) → other ≡ name → NoLibrary (entry.Declares other m ∷ rest)
     → FoundAs name (Some m) (entry.Declares other m ∷ rest)
@@ -84,11 +84,8 @@ found_here name other (meaning.Library function) rest e h = h
 found_here name other (meaning.Struct q) rest e h = tt
 
 no_library_rest : (e : ScopeEntry) (rest : List ScopeEntry) → NoLibrary (e ∷ rest) → NoLibrary rest
-no_library_rest entry.Opens rest h = h
-no_library_rest (entry.Declares other (meaning.Variable q)) rest h = h
-no_library_rest (entry.Declares other (meaning.Function q)) rest h = h
 no_library_rest (entry.Declares other (meaning.Library function)) rest h = absurd h
-no_library_rest (entry.Declares other (meaning.Struct q)) rest h = h
+no_library_rest e rest h = h
 
 pub found_is : (name : List ℕ) (names : List ScopeEntry) → NoLibrary names → FoundAs name (found name names) names
 found_is name [] h = tt
@@ -135,7 +132,7 @@ onward_then h k = record {
 
 typed_onward : (token : ℕ) (t : TypeTree) (a : View) → Onward a (typed token t a)
 typed_onward token t a = record {
-  types = replaced_long a.types token (Some t);
+  types = length_replaced a.types token (Some t);
   offsets = refl;
   calls = refl;
   functions = λ k x h. h;
@@ -148,7 +145,7 @@ calling_onward : (token index : ℕ) (a : View) → Onward a (calling token inde
 calling_onward token index a = record {
   types = refl;
   offsets = refl;
-  calls = replaced_long a.calls token (Some index);
+  calls = length_replaced a.calls token (Some index);
   functions = λ k x h. h;
   structs = λ k x h. h;
   latest = omega arith;
@@ -158,7 +155,7 @@ calling_onward token index a = record {
 selecting_onward : (token offset : ℕ) (a : View) → Onward a (selecting token offset a)
 selecting_onward token offset a = record {
   types = refl;
-  offsets = replaced_long a.offsets token (Some offset);
+  offsets = length_replaced a.offsets token (Some offset);
   calls = refl;
   functions = λ k x h. h;
   structs = λ k x h. h;
@@ -167,12 +164,10 @@ selecting_onward token offset a = record {
 }
 
 called_onward : (token : ℕ) (m : Option Meaning) (a b : View) → CalledAs token m a b → Onward a b
-called_onward token None a b h = absurd h
-called_onward token (Some (meaning.Variable index)) a b h = absurd h
 called_onward token (Some (meaning.Function index)) a b h =
     subst (Onward a) (sym h.1) (onward_then (calling_onward token index a) (typed_onward token h.0 (calling token index a)))
 called_onward token (Some (meaning.Library function)) a b h = subst (Onward a) (sym h.1) (typed_onward token h.0 a)
-called_onward token (Some (meaning.Struct index)) a b h = absurd h
+called_onward token m a b h = absurd h
 
 notes_onward : (c : Construct) (token : ℕ) (a b : View) → Notes c token a b → Onward a b
 notes_onward Other token a b h = subst (Onward a) (sym h.1) (typed_onward token h.0 a)
@@ -244,13 +239,11 @@ typed_alike : (k token : ℕ) (t : TypeTree) (a : View) → (token ≡ k → ⊥
 typed_alike k token t a h = record { types = noted_other a.types token k (Some t) h; offsets = refl; calls = refl }
 
 called_alike : (k token : ℕ) (m : Option Meaning) (a b : View) → (token ≡ k → ⊥) → CalledAs token m a b → Alike k a b
-called_alike k token None a b n h = absurd h
-called_alike k token (Some (meaning.Variable index)) a b n h = absurd h
 called_alike k token (Some (meaning.Function index)) a b n h =
     subst (Alike k a) (sym h.1)
     (record { types = noted_other a.types token k (Some h.0) n; offsets = refl; calls = noted_other a.calls token k (Some index) n })
 called_alike k token (Some (meaning.Library function)) a b n h = subst (Alike k a) (sym h.1) (typed_alike k token h.0 a n)
-called_alike k token (Some (meaning.Struct index)) a b n h = absurd h
+called_alike k token m a b n h = absurd h
 
 notes_alike : (k : ℕ) (c : Construct) (token : ℕ) (a b : View) → (token ≡ k → ⊥) → Notes c token a b → Alike k a b
 notes_alike k Other token a b n h = subst (Alike k a) (sym h.1) (typed_alike k token h.0 a n)
@@ -265,12 +258,6 @@ notes_alike k (Selects operand behind name) token a b n h =
 same_notes : (k : ℕ) (a b c : View) → b ≡ c → Alike k a c → Alike k a b
 same_notes k a b c h g = subst (Alike k a) (sym h) g
 
-other_token : (own k : ℕ) → (own == k) ≡ false → own ≡ k → ⊥
-other_token own k h e = absurd (false≢true (sym h ∙ eq-eqb own k e))
-
-pub same_token : (own k : ℕ) → (own == k) ≡ true → own ≡ k
-same_token own k h = ⊎_elim (λ e. e) (λ n. absurd (false≢true (sym (ne_eqb own k n) ∙ h))) (cases_eq own k)
-
 value_none : (own k : ℕ) (c : Construct) (b : Bool) (es : List Event) → (if b then Some c else construct_at k es) ≡ None
     → (b ≡ false) × (construct_at k es ≡ None)
 value_none own k c true es h = absurd (cc)
@@ -281,7 +268,7 @@ pub stays : (k : ℕ) (es : List Event) (a b : View) → construct_at k es ≡ N
 stays k [] a b h p = subst (Alike k a) (sym p) (alike_here k a)
 stays k (Value own c ∷ es) a b h p =
     let g : ((own == k) ≡ false) × (construct_at k es ≡ None) = value_none own k c (own == k) es h in
-    alike_then (notes_alike k c own a p.0 (other_token own k g.0) p.1.0) (stays k es p.0 b g.1 p.1.1)
+    alike_then (notes_alike k c own a p.0 (not_number own k g.0) p.1.0) (stays k es p.0 b g.1 p.1.1)
 stays k (Initialises token ∷ es) a b h p = alike_then (same_notes k a p.0 a p.1.0 (alike_here k a)) (stays k es p.0 b h p.1.1)
 stays k (Variable token ∷ es) a b h p =
     alike_then (same_notes k a p.0 _ p.1.0.1 (record { types = refl; offsets = refl; calls = refl })) (stays k es p.0 b h p.1.1)
@@ -325,8 +312,8 @@ found_later k c event es a u b s f = record {
 found_value : (k own : ℕ) (c d : Construct) (b : Bool) (es : List Event) (a z : View) → (own == k) ≡ b → (if b then Some d else construct_at k es) ≡ Some c
     → Path (Value own d ∷ es) a z → ((u : View) → construct_at k es ≡ Some c → Path es u z → Found k c es u z) → Found k c (Value own d ∷ es) a z
 found_value k own c d true es a z e h p f =
-    subst (λ x. Found k x (Value own d ∷ es) a z) (some_is d c h)
-    (subst (λ x. Found x d (Value own d ∷ es) a z) (same_token own k e) (record {
+    subst (λ x. Found k x (Value own d ∷ es) a z) (same_Some d c h)
+    (subst (λ x. Found x d (Value own d ∷ es) a z) (same_number own k e) (record {
       before = [];
       after = es;
       from = a;
@@ -356,7 +343,7 @@ none_at k [] h = refl
 none_at k (Value own c ∷ es) h = by (own == k) refl (none_at k es (λ i. h (inr i)))
   where
     by : (b : Bool) → (own == k) ≡ b → construct_at k es ≡ None → (if b then Some c else construct_at k es) ≡ None
-    by true e g = absurd (h (inl (sym (same_token own k e))))
+    by true e g = absurd (h (inl (sym (same_number own k e))))
     by false e g = g
 none_at k (Initialises token ∷ es) h = none_at k es (λ i. h (inr i))
 none_at k (Variable token ∷ es) h = none_at k es (λ i. h (inr i))
@@ -372,7 +359,7 @@ some_at k c (Value own d ∷ es) h = by (own == k) refl h (λ g. some_at k c es 
   where
     by : (b : Bool) → (own == k) ≡ b → (if b then Some d else construct_at k es) ≡ Some c → (construct_at k es ≡ Some c → Among k es)
         → (k ≡ own) ⊎ Among k es
-    by true e g f = inl (sym (same_token own k e))
+    by true e g f = inl (sym (same_number own k e))
     by false e g f = inr (f g)
 some_at k c (Initialises token ∷ es) h = inr (some_at k c es h)
 some_at k c (Variable token ∷ es) h = inr (some_at k c es h)

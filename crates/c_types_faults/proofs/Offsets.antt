@@ -4,25 +4,23 @@ use Rattle.std.specs.Prelude.{slice_get}
 use Rattle.std.specs.List.{AllByRecursion}
 use Rattle.std.specs.Str.{bytes_eq}
 use Rattle.std.proofs.lemmas.List.{length-replicate}
-use Rattle.c_syntax.specs.ItemTree.{SourceTree}
-use Rattle.c_syntax.specs.WellFormed.{IsShaped}
+use Rattle.std.proofs.lemmas.Option.{same_Some}
+use Rattle.c_types.proofs.Replaced.{noted_same}
+use Rattle.base_lists.proofs.Options.{none_is_some}
+use Rattle.base_lists.proofs.Every.{all_at}
+use Rattle.c_syntax.specs.Words.{SourceTree, IsShaped}
 use Rattle.c_types_rules.specs.declared.layout.Member.{Member}
 use Rattle.c_types_rules.specs.declared.layout.StructType.{StructType}
 use Rattle.c_types_rules.specs.TypeTree as t
-use Rattle.c_types_rules.specs.TypeTree.{TypeTree}
-use Rattle.c_types_rules.specs.Selecting.{known_member, member_in, member_named, member_of}
-use Rattle.c_types_rules.specs.Sizes.{cells_of}
+use Rattle.c_types_rules.specs.Words.{TypeTree, known_member, member_in, member_named, member_of, cells_of}
 use Rattle.c_types.specs.Answers.{noted, offset_at, type_at}
 use Rattle.c_types.specs.Fault.{walk_tree}
 use Rattle.c_types.specs.Laid.{AreLaid, IsSummed}
-use Rattle.c_types.proofs.Options.{none_is_some, some_is}
 use Rattle.c_types.proofs.Summed.{structs_summed}
-use Rattle.c_types_expressions.specs.Walked.{Fine}
+use Rattle.c_types_expressions.specs.Words.{Fine, meaning_of}
 use Rattle.c_types_expressions.specs.declared.names.Meaning.{Meaning}
 use Rattle.c_types_expressions.specs.declared.names.Meaning.TheVariants as meaning
 use Rattle.c_types_expressions.specs.declared.walk.Walk.{Walk}
-use Rattle.c_types_expressions.specs.Names.{meaning_of}
-use Rattle.c_types_laws.proofs.Steps.{noted_same}
 use Rattle.c_types_faults.specs.Events.{Construct, Calls, Selects, Other, Value, construct_at, events_of}
 use Rattle.c_types_faults.specs.Offsets.{HasOffset, cells_before, cells_in, offset_of, struct_in, struct_of}
 use Rattle.c_types_faults.specs.Scopes.{scopes_of}
@@ -38,7 +36,7 @@ before_by : (structs : List StructType) (name : List ℕ) (first : ℕ) (m : Mem
     → (if b then Some m else member_named name ms) ≡ Some r
     → (member_named name ms ≡ Some r → (n : ℕ) × ((cells_before structs name ms ≡ Some n) × (r.offset ≡ first + cells_of structs m.ctype + n)))
     → (n : ℕ) × (((if b then Some 0 else option_map (λ n. cells_of structs m.ctype + n) (cells_before structs name ms)) ≡ Some n) × (r.offset ≡ first + n))
-before_by structs name first m ms true r at h f = (0, (refl, omega (arith, at, ap (λ (x : Member). x.offset) (some_is m r h))))
+before_by structs name first m ms true r at h f = (0, (refl, omega (arith, at, ap (λ (x : Member). x.offset) (same_Some m r h))))
 before_by structs name first m ms false r at h f =
     let g : (n : ℕ) × ((cells_before structs name ms ≡ Some n) × (r.offset ≡ first + cells_of structs m.ctype + n)) = f h in
     (cells_of structs m.ctype + g.0, (ap (option_map (λ n. cells_of structs m.ctype + n)) g.1.0, omega (arith, g.1.1)))
@@ -68,29 +66,15 @@ in_struct structs name tag m None e h = absurd (cc)
 in_struct structs name tag m (Some s) e h = record { tag = tag; struct = s; is = refl; stands = e; named = known_is (member_named name s.members) m h }
 
 chosen_of : (structs : List StructType) (name : List ℕ) (of : TypeTree) (m : Member) → member_of structs name of ≡ Ok m → Chosen structs name (struct_in of) m
-chosen_of structs name t.Void m h = absurd (cc)
-chosen_of structs name t.Char m h = absurd (cc)
-chosen_of structs name t.Int m h = absurd (cc)
-chosen_of structs name t.Unsigned m h = absurd (cc)
-chosen_of structs name (t.Pointer to) m h = absurd (cc)
-chosen_of structs name (t.Array element size) m h = absurd (cc)
 chosen_of structs name (t.Struct tag) m h = in_struct structs name tag m (slice_get structs tag) refl h
+chosen_of structs name of m h = absurd (cc)
 
 chosen_by : (behind : Bool) (structs : List StructType) (name : List ℕ) (of : TypeTree) (m : Member) → member_by behind structs name of ≡ Ok m
     → Chosen structs name (struct_of behind of) m
 chosen_by false structs name of m h = chosen_of structs name of m h
-chosen_by true structs name t.Void m h = absurd (cc)
-chosen_by true structs name t.Char m h = absurd (cc)
-chosen_by true structs name t.Int m h = absurd (cc)
-chosen_by true structs name t.Unsigned m h = absurd (cc)
 chosen_by true structs name (t.Pointer to) m h = chosen_of structs name to m h
 chosen_by true structs name (t.Array element size) m h = chosen_of structs name element m h
-chosen_by true structs name (t.Struct tag) m h = absurd (cc)
-
-all_at : {A : Type 0} (P : A → Type 0) (xs : List A) (i : ℕ) (x : A) → AllByRecursion P xs → slice_get xs i ≡ Some x → P x
-all_at P [] i x h e = absurd (cc)
-all_at P (y ∷ ys) zero x h e = subst P (some_is y x e) h.0
-all_at P (y ∷ ys) (suc i) x h e = all_at P ys i x h.1 e
+chosen_by true structs name of m h = absurd (cc)
 
 cells_are : (w : Walk) (operand : ℕ) (behind : Bool) (name : List ℕ) (of : TypeTree) (m : Member) → type_at w operand ≡ Some of
     → AllByRecursion (IsSummed w.structs) w.structs → Chosen w.structs name (struct_of behind of) m → offset_of w operand behind name ≡ Some m.offset
@@ -105,11 +89,9 @@ cells_are w operand behind name of m typed summed c =
 -- what is noted of other expressions
 
 called_offsets : (token : ℕ) (m : Option Meaning) (a b : View) → CalledAs token m a b → b.offsets ≡ a.offsets
-called_offsets token None a b h = absurd h
-called_offsets token (Some (meaning.Variable index)) a b h = absurd h
 called_offsets token (Some (meaning.Function index)) a b h = ap (λ (v : View). v.offsets) h.1
 called_offsets token (Some (meaning.Library function)) a b h = ap (λ (v : View). v.offsets) h.1
-called_offsets token (Some (meaning.Struct index)) a b h = absurd h
+called_offsets token m a b h = absurd h
 
 module _ (s : SourceTree) (z : Walk) (shaped : IsShaped s) (w : walk_tree s ≡ Fine tt z) (k : ℕ) where
   abbrev n : ℕ

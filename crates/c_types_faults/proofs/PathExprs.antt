@@ -7,36 +7,27 @@ use Rattle.c_syntax.specs.ExprTree.{ExprTree, ExprList, LinkList, PostfixList}
 use Rattle.c_types_rules.specs.declared.fault.FaultKind.{FaultKind}
 use Rattle.c_types_rules.specs.declared.layout.Member.{Member}
 use Rattle.c_types_rules.specs.declared.operand.Operand.{Operand}
-use Rattle.c_types_rules.specs.TypeTree.{TypeTree}
-use Rattle.c_types_rules.specs.Faults.{Looked}
+use Rattle.c_types_rules.specs.Words.{TypeTree, Looked, constant_of, enclosed, null_of, place_of, string_of, value_of, library_called}
 use Rattle.c_types_rules.specs.TypeTree as t
-use Rattle.c_types_rules.specs.Conversions.{constant_of, enclosed, null_of, place_of, string_of, value_of}
 use Rattle.c_types_rules.specs.Functions as functions
-use Rattle.c_types_rules.specs.Library.{library_called}
 use Rattle.c_meaning.specs.Trees.{link_token, postfix_token, token_of}
 use Rattle.c_types_expressions.specs.declared.names.Meaning.{Meaning}
 use Rattle.c_types_expressions.specs.declared.names.Meaning.TheVariants as meaning
 use Rattle.c_types_expressions.specs.declared.walk.FunctionEntry.{FunctionEntry}
 use Rattle.c_types_expressions.specs.declared.walk.Walk.{Walk}
-use Rattle.c_types_expressions.specs.Names.{found, meaning_of}
-use Rattle.c_types_expressions.specs.Walked.{Walked, ◌>>=◌, with_type}
-use Rattle.c_types_expressions.specs.ExprWalk.{base_type, called_name, format_of, is_printf, looked, named, of_function, of_variable, selected, string_cells, tagged_type, walk_expr, walk_exprs, walk_links, walk_postfix, walk_whole, whole_call, with_call, with_offset, with_use}
+use Rattle.c_types_expressions.specs.Words.{found, meaning_of, Walked, ◌>>=◌, with_type, base_type, called_name, format_of, is_printf, looked, named}
+use Rattle.c_types_expressions.specs.Words.{of_function, of_variable, selected, string_cells, tagged_type, walk_expr, walk_exprs, walk_links, walk_postfix}
+use Rattle.c_types_expressions.specs.Words.{walk_whole, whole_call, with_call, with_offset, with_use}
 use Rattle.c_types_faults.specs.Events.{Calls, Selects, Other, Event, Value, expr_events, exprs_events, links_events, postfix_events}
 use Rattle.c_types_faults.proofs.Paths.{Anyhow, CalledAs, Goes, Holds, Notes, View, either, goes_then, holds_here, member_by, then_on, typed, view}
 
 tagged_goes : (token : ℕ) (m : Option Meaning) (w : Walk) → Goes Anyhow [] (view w) (tagged_type token m w)
-tagged_goes token None w = tt
-tagged_goes token (Some (meaning.Variable index)) w = tt
-tagged_goes token (Some (meaning.Function index)) w = tt
-tagged_goes token (Some (meaning.Library function)) w = tt
 tagged_goes token (Some (meaning.Struct index)) w = (refl, tt)
+tagged_goes token m w = tt
 
 pub base_goes : (b : Base) (w : Walk) → Goes Anyhow [] (view w) (base_type b w)
-base_goes (base.Void token) w = (refl, tt)
-base_goes (base.Char token) w = (refl, tt)
-base_goes (base.Int token) w = (refl, tt)
-base_goes (base.Unsigned token int) w = (refl, tt)
 base_goes (base.Struct token tag) w = tagged_goes token (found tag w.tags) w
+base_goes b w = (refl, tt)
 
 -- the type of the operand is noted at the token
 abbrev pub TypedAt : ℕ → Operand → View → Type 0
@@ -58,11 +49,8 @@ variable_goes token index None w = tt
 variable_goes token index (Some t) w = looked_goes token (Ok (place_of t)) (with_use token index w)
 
 named_goes : (token : ℕ) (m : Option Meaning) (w : Walk) → Goes (TypedAt token) (Value token Other ∷ []) (view w) (named token m w)
-named_goes token None w = tt
 named_goes token (Some (meaning.Variable index)) w = variable_goes token index (slice_get w.declared_types index) w
-named_goes token (Some (meaning.Function index)) w = tt
-named_goes token (Some (meaning.Library function)) w = tt
-named_goes token (Some (meaning.Struct index)) w = tt
+named_goes token m w = tt
 
 -- a call of what the name means
 called_step : (token : ℕ) (name : List ℕ) (a b : View) (m : Option Meaning) → meaning_of name a.names ≡ m → CalledAs token m a b
@@ -93,24 +81,20 @@ library_goes token name m (Err kind) w h k = tt
 
 called_goes : (token : ℕ) (name : List ℕ) (m : Option Meaning) (xs : List Operand) (w : Walk) → meaning_of name w.names ≡ m
     → Goes (TypedAt token) (Value token (Calls name) ∷ []) (view w) (called_name token m xs w)
-called_goes token name None xs w h = tt
-called_goes token name (Some (meaning.Variable index)) xs w h = tt
 called_goes token name (Some (meaning.Function index)) xs w h = function_goes token index name (slice_get w.functions index) xs w h
 called_goes token name (Some (meaning.Library function)) xs w h =
     library_goes token name (Some (meaning.Library function)) (library_called function xs) w h (λ t. (t, refl))
-called_goes token name (Some (meaning.Struct index)) xs w h = tt
+called_goes token name m xs w h = tt
 
 whole_call_goes : (token : ℕ) (name : List ℕ) (m : Option Meaning) (arguments : ExprList) (xs : List Operand) (w : Walk) → meaning_of name w.names ≡ m
     → Goes (TypedAt token) (Value token (Calls name) ∷ []) (view w) (whole_call token m arguments xs w)
-whole_call_goes token name None arguments xs w h = tt
-whole_call_goes token name (Some (meaning.Variable index)) arguments xs w h = tt
 whole_call_goes token name (Some (meaning.Function index)) arguments xs w h = called_goes token name (Some (meaning.Function index)) xs w h
 whole_call_goes token name (Some (meaning.Library function)) arguments xs w h =
     either (TypedAt token) (Value token (Calls name) ∷ []) (view w) (is_printf (Some (meaning.Library function))) (looked token (format_of arguments xs) w)
     (called_name token (Some (meaning.Library function)) xs w)
     (library_goes token name (Some (meaning.Library function)) (format_of arguments xs) w h (λ t. (t, refl)))
     (called_goes token name (Some (meaning.Library function)) xs w h)
-whole_call_goes token name (Some (meaning.Struct index)) arguments xs w h = tt
+whole_call_goes token name m arguments xs w h = tt
 
 -- a member of an operand whose type is noted
 selected_goes : (token operand : ℕ) (behind place : Bool) (name : List ℕ) (left : TypeTree) (m : Result Member FaultKind) (w : Walk)
@@ -204,17 +188,4 @@ pub whole_goes : (x : ExprTree) (w : Walk) → Goes (TypedAt (token_of x)) (expr
 whole_goes (e.Call token name arguments) w =
     goes_then Anyhow (TypedAt token) (exprs_events arguments) (Value token (Calls name) ∷ []) (view w) (walk_exprs arguments [] w) _
     (exprs_goes arguments [] w) (λ xs v g. whole_call_goes token name (meaning_of name v.names) arguments xs v refl)
-whole_goes (e.Comma token operands) w = expr_goes (e.Comma token operands) w
-whole_goes (e.Assign token s target value) w = expr_goes (e.Assign token s target value) w
-whole_goes (e.Conditional token condition first second) w = expr_goes (e.Conditional token condition first second) w
-whole_goes (e.Chain level first links) w = expr_goes (e.Chain level first links) w
-whole_goes (e.Cast token b stars operand) w = expr_goes (e.Cast token b stars operand) w
-whole_goes (e.Prefix token operator operand) w = expr_goes (e.Prefix token operator operand) w
-whole_goes (e.SizeOfType token b stars) w = expr_goes (e.SizeOfType token b stars) w
-whole_goes (e.Postfix primary operators) w = expr_goes (e.Postfix primary operators) w
-whole_goes (e.Name token name) w = expr_goes (e.Name token name) w
-whole_goes (e.Constant token kind value) w = expr_goes (e.Constant token kind value) w
-whole_goes (e.Strings token parts) w = expr_goes (e.Strings token parts) w
-whole_goes (e.Paren token inner) w = expr_goes (e.Paren token inner) w
-whole_goes (e.Null token) w = expr_goes (e.Null token) w
-whole_goes (e.EndOfFile token) w = expr_goes (e.EndOfFile token) w
+whole_goes x w = expr_goes x w

@@ -1,23 +1,20 @@
 -- The path of the walk through items, and what each of them does to the functions that are known.
 use Rattle.std.proofs.Common.{inl, inr, ◌≡◌, ℕ, nat_le, Bool, true, false, ◌&&◌, ◌||◌, if◌then◌else◌, List, [], ◌∷◌, ◌++◌, length, map, Option, Some, None, is_some, unwrap_or, refl, sym, ap, ◌∙◌, subst, append_assoc}
 use Rattle.std.proofs.lemmas.List.{append-nil, length-map, map-append}
+use Rattle.base_lists.proofs.Tests.{or_first_false}
 use Rattle.c_syntax.specs.declared.parts.Base.{Base}
 use Rattle.c_syntax.specs.declared.parts.Declarator.{Declarator}
 use Rattle.c_syntax.specs.declared.parts.Members.{Members}
 use Rattle.c_syntax.specs.declared.parts.Param.{Param}
 use Rattle.c_syntax.specs.declared.parts.ParamName.{ParamName}
 use Rattle.c_syntax.specs.declared.parts.Params.{Params}
-use Rattle.c_syntax.specs.StatementTree.{EntryList}
+use Rattle.c_syntax.specs.Words.{EntryList, ItemTree, SourceTree}
 use Rattle.c_syntax.specs.ItemTree as i
-use Rattle.c_syntax.specs.ItemTree.{ItemTree, SourceTree}
 use Rattle.c_types_rules.specs.declared.fault.FaultKind.{FaultKind}
 use Rattle.c_types_rules.specs.declared.fault.FaultKind.TheVariants as fault
 use Rattle.c_types_rules.specs.declared.function.FunctionType.{FunctionType}
 use Rattle.c_types_rules.specs.declared.layout.StructType.{StructType}
-use Rattle.c_types_rules.specs.TypeTree.{TypeTree}
-use Rattle.c_types_rules.specs.Conversions.{is_scalar, is_struct}
-use Rattle.c_types_rules.specs.Selecting.{member_named}
-use Rattle.c_types_rules.specs.Sizes.{empty_struct, is_object, most_cells, with_member}
+use Rattle.c_types_rules.specs.Words.{TypeTree, is_scalar, is_struct, member_named, empty_struct, is_object, most_cells, with_member}
 use Rattle.c_types.specs.Fault.{ends_with, last_fault, walk_tree}
 use Rattle.c_types.specs.Numbers.{function_of}
 use Rattle.c_types.proofs.Noted.{Gives, gives_more, gives_then}
@@ -25,10 +22,7 @@ use Rattle.c_types_expressions.specs.declared.names.Meaning.TheVariants as meani
 use Rattle.c_types_expressions.specs.declared.names.ScopeEntry.TheVariants as entry
 use Rattle.c_types_expressions.specs.declared.walk.Parameter.{Parameter}
 use Rattle.c_types_expressions.specs.declared.walk.Walk.{Walk}
-use Rattle.c_types_expressions.specs.Beginning.{beginning}
-use Rattle.c_types_expressions.specs.Names.{found, is_here, is_reserved}
-use Rattle.c_types_expressions.specs.Walked.{Walked, Fine, Faulty, ◌>>=◌, Done, closing, opened}
-use Rattle.c_types_expressions.specs.ExprWalk.{base_type, with_stars}
+use Rattle.c_types_expressions.specs.Words.{beginning, found, is_here, is_reserved, Walked, Fine, Faulty, ◌>>=◌, Done, closing, opened, base_type, with_stars}
 use Rattle.c_types_walk.specs.Declarators.{declared_type}
 use Rattle.c_types_walk.specs.StatementWalk.{walk_declaration, walk_entries}
 use Rattle.c_types_walk.specs.ItemWalk.{clashes, declares, entered, has_length, is_among, is_defined, known_as, listed_params, looked_param, param_type, scalar_param, typed_function, typed_member, walk_body, walk_declarators, walk_item, walk_items, walk_member, walk_members, walk_param, walk_params, walk_struct, with_definition, with_function, with_param, with_params, with_tag}
@@ -154,10 +148,6 @@ declares_goes token false gives w = by (is_struct gives)
     by true = tt
     by false = (refl, refl)
 
-or_first : (a b : Bool) → (a || b) ≡ false → a ≡ false
-or_first true b h = h
-or_first false b h = refl
-
 -- the parameters and the body of a function
 inner_goes : (gives : TypeTree) (xs : List Parameter) (body : EntryList) (w : Walk)
     → Goes Anyhow (scoped (variables_from xs ++ entries_events body)) (view w) (walk_entries gives false body (entered xs w) >>= closing)
@@ -184,7 +174,7 @@ body_does token f name xs body w =
       here = w;
       same = refl;
       of = f;
-      fits = or_first (clashes name known w) _ k.1;
+      fits = or_first_false (clashes name known w) _ k.1;
       inner = view v;
       path = g.0;
       to = definition_view (unwrap_or known (length w.functions)) (length w.variables) r ∙ ap (defining (unwrap_or known (length w.functions))) k.0;

@@ -1,24 +1,16 @@
 -- The path of the walk through declarations and statements.
 use Rattle.std.proofs.Common.{ℕ, ◌+◌, nat_le, Bool, true, false, not, ◌&&◌, if◌then◌else◌, List, [], ◌∷◌, ◌++◌, length, Option, Some, None, is_some, refl, sym, ap, ◌∙◌, ◌≡◌, append_assoc}
-use Rattle.c_syntax.specs.FirstToken.{first_token}
-use Rattle.c_syntax.specs.ExprTree.{ExprTree}
-use Rattle.c_syntax.specs.Spelling.{declarator_kinds}
+use Rattle.c_syntax.specs.Words.{first_token, ExprTree, declarator_kinds, InitialTree, StartTree, DeclarationTree, ForStartTree, StatementTree, EntryList}
 use Rattle.c_syntax.specs.StatementTree as s
-use Rattle.c_syntax.specs.StatementTree.{InitialTree, StartTree, DeclarationTree, ForStartTree, StatementTree, EntryList}
 use Rattle.c_types_rules.specs.declared.fault.FaultKind.{FaultKind}
 use Rattle.c_types_rules.specs.declared.fault.FaultKind.TheVariants as fault
-use Rattle.c_types_rules.specs.TypeTree.{TypeTree}
-use Rattle.c_types_rules.specs.Assigning.{assignable}
-use Rattle.c_types_rules.specs.Conversions.{is_struct, is_void}
-use Rattle.c_types_rules.specs.Operators.{is_scalar_value}
-use Rattle.c_types_rules.specs.Sizes.{cells_of, is_object, most_cells}
+use Rattle.c_types_rules.specs.Words.{TypeTree, assignable, is_struct, is_void, is_scalar_value, cells_of, is_object, most_cells}
 use Rattle.c_meaning.specs.Trees.{token_of}
 use Rattle.c_types_expressions.specs.declared.walk.Walk.{Walk}
-use Rattle.c_types_expressions.specs.Names.{is_name_taken}
-use Rattle.c_types_expressions.specs.Walked.{Walked, Fine, Faulty, Done, closing, opened, unless, with_variable, ◌>>=◌}
+use Rattle.c_types_expressions.specs.Words.{is_name_taken, Walked, Fine, Faulty, Done, closing, opened, unless, with_variable, ◌>>=◌, base_type, walk_expr}
+use Rattle.c_types_expressions.specs.Words.{walk_exprs, walk_whole}
 use Rattle.c_types_walk.specs.Declarators.{declared_type, is_open}
 use Rattle.c_types_walk.specs.Initialisers.{cells_of_string, completes, listed_type, valued, walk_initial}
-use Rattle.c_types_expressions.specs.ExprWalk.{base_type, walk_expr, walk_exprs, walk_whole}
 use Rattle.c_types_walk.specs.StatementWalk.{counted_cells, looped, sized, walk_closed, walk_declaration, walk_entries, walk_for_start, walk_open, walk_optional, walk_start, walk_starts, walk_statement, walk_typed}
 use Rattle.c_types_faults.specs.Events.{Event, Initialises, Variable, Opens, Closes, declaration_events, entries_events, expr_events, exprs_events, for_start_events, initial_events, optional_events, scoped, start_events, starts_events, statement_events}
 use Rattle.c_types_faults.proofs.Paths.{Anyhow, Goes, and_done, either, event_then, goes_same, goes_then, then_on, variable_step, view}

@@ -3,12 +3,11 @@ use Rattle.std.proofs.Common.{◌⊎◌, ◌≡◌, ℕ, ◌≤◌, ◌<◌, max
 use Rattle.std.proofs.Math.Nat.{le-max_right}
 use Rattle.std.proofs.lemmas.List.{append-nil, length-map, map-append}
 use Rattle.std.specs.Prelude.{Result}
+use Rattle.c_types.proofs.Replaced.{noted_same}
 use Rattle.c_types_rules.specs.declared.fault.FaultKind.{FaultKind}
 use Rattle.c_types_rules.specs.declared.layout.Member.{Member}
 use Rattle.c_types_rules.specs.declared.layout.StructType.{StructType}
-use Rattle.c_types_rules.specs.TypeTree.{TypeTree}
-use Rattle.c_types_rules.specs.Conversions.{decayed}
-use Rattle.c_types_rules.specs.Selecting.{member_behind, member_of}
+use Rattle.c_types_rules.specs.Words.{TypeTree, decayed, member_behind, member_of}
 use Rattle.c_types.specs.Answers.{noted}
 use Rattle.c_types_expressions.specs.declared.names.Meaning.{Meaning}
 use Rattle.c_types_expressions.specs.declared.names.Meaning.TheVariants as meaning
@@ -16,12 +15,9 @@ use Rattle.c_types_expressions.specs.declared.names.ScopeEntry.{ScopeEntry}
 use Rattle.c_types_expressions.specs.declared.names.ScopeEntry.TheVariants as entry
 use Rattle.c_types_expressions.specs.declared.walk.FunctionEntry.{FunctionEntry}
 use Rattle.c_types_expressions.specs.declared.walk.Walk.{Walk}
-use Rattle.c_types_expressions.specs.Names.{closed, meaning_of}
-use Rattle.c_types_expressions.specs.Walked.{Walked, ◌>>=◌, ended_scopes, replaced, with_variable}
-use Rattle.c_types.proofs.Noted.{Gives, gives_more, gives_then}
+use Rattle.c_types_expressions.specs.Words.{closed, meaning_of, Walked, ◌>>=◌, ended_scopes, replaced, with_variable}
+use Rattle.c_types.proofs.Noted.{Gives, gives_more, gives_then, length_replaced}
 use Rattle.c_types.specs.Numbers.{function_of}
-use Rattle.c_types_laws.proofs.Steps.{noted_same}
-use Rattle.c_types_laws.proofs.Scenes.{replaced_long}
 use Rattle.c_types_faults.specs.Events.{Construct, Calls, Selects, Other, Event, Value, Initialises, Variable, Opens, Closes, Struct, Names, Defines}
 use Rattle.c_types_faults.specs.Scopes.{start_of}
 
@@ -146,7 +142,7 @@ path_parts (x ∷ xs) ys a c h =
 
 pub holds_here : (token : ℕ) (t : TypeTree) (a : View) → Holds token t (typed token t a)
 holds_here token t a = record {
-  by = λ h. noted_same a.types token t (omega (arith, h, replaced_long a.types token (Some t)));
+  by = λ h. noted_same a.types token t (omega (arith, h, length_replaced a.types token (Some t)));
   reached = le-max_right a.latest token;
 }
 

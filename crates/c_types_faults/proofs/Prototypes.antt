@@ -1,7 +1,6 @@
 -- Parameters: what the walk takes is what they are, and where it stops a rule is broken.
 use Rattle.std.proofs.Common.{◌⊎◌, inl, inr, ◌≡◌, ℕ, refl, ap, subst, sym, ◌∙◌, arith, List, [], ◌∷◌, ◌++◌, map, Some, None, Bool, true, false}
-use Rattle.c_types_faults.proofs.Fitting.{or_left, or_right, either_true}
-use Rattle.std.proofs.lemmas.Bool.{and_from, false≢true, and_parts}
+use Rattle.std.proofs.lemmas.Bool.{and_from, false≢true, and_parts, or_cases, or_left, or_right}
 use Rattle.std.proofs.lemmas.List.{map-append}
 use Rattle.std.proofs.lemmas.Slice.Eq.{bytes_eq-Decides}
 use Rattle.std.specs.Prelude.{Option, ◌&&◌, ◌||◌, if◌then◌else◌}
@@ -11,14 +10,10 @@ use Rattle.c_syntax.specs.declared.parts.Param.{Param}
 use Rattle.c_syntax.specs.declared.parts.ParamName.{ParamName}
 use Rattle.c_types_rules.specs.declared.fault.FaultKind.{FaultKind}
 use Rattle.c_types_rules.specs.declared.fault.FaultKind.TheVariants as fault
-use Rattle.c_types_rules.specs.Conversions.{is_scalar}
-use Rattle.c_types_rules.specs.Library.{library_named}
-use Rattle.c_types_rules.specs.TypeTree.{TypeTree}
+use Rattle.c_types_rules.specs.Words.{is_scalar, library_named, TypeTree}
 use Rattle.c_types_expressions.specs.declared.walk.Parameter.{Parameter}
 use Rattle.c_types_expressions.specs.declared.walk.Walk.{Walk}
-use Rattle.c_types_expressions.specs.ExprWalk.{with_stars}
-use Rattle.c_types_expressions.specs.Names.{is_reserved}
-use Rattle.c_types_expressions.specs.Walked.{Fine, Faulty}
+use Rattle.c_types_expressions.specs.Words.{with_stars, is_reserved, Fine, Faulty}
 use Rattle.c_types_walk.specs.ItemWalk.{has_length, is_among, is_length, is_named, looked_param, param_type, scalar_param, walk_param, walk_params}
 use Rattle.c_types_faults.specs.Context.{Context, IsReserved, known}
 use Rattle.c_types_faults.specs.Functions.{Formal, HasLength, IsFormal, IsPositiveLength, ParamBreaks, ParamGives, ParamRule, ParamsBreak, ParamsGive}
@@ -60,7 +55,7 @@ formals_among name (p ∷ ps) (inr h) = or_right (is_named name p.name) (is_amon
 
 among_formals : (name : List ℕ) (ps : List Parameter) → is_among name ps ≡ true → IsFormal name (map formal_of ps)
 among_formals name [] h = absurd (false≢true h)
-among_formals name (p ∷ ps) h = by p.name refl (either_true (is_named name p.name) (is_among name ps) h) (among_formals name ps)
+among_formals name (p ∷ ps) h = by p.name refl (or_cases (is_named name p.name) (is_among name ps) h) (among_formals name ps)
   where
     by : (o : Option (List ℕ)) → p.name ≡ o → ((is_named name o ≡ true) ⊎ (is_among name ps ≡ true))
         → (is_among name ps ≡ true → IsFormal name (map formal_of ps)) → IsFormal name (map formal_of (p ∷ ps))
@@ -99,7 +94,7 @@ module _ (c : Context) (body : Bool) (token : ℕ) where
     by = (
       refl,
       least_first (IsReserved n.name ⊎ IsFormal n.name (map formal_of before)) ((is_scalar (adjusted n.bound t) ≡ true) × HasLength n.bound → ⊥)
-          fault.Redeclared fault.Object fault.Redeclared (omega arith) refl (taken (either_true (is_reserved n.name) (is_among n.name before) e)),
+          fault.Redeclared fault.Object fault.Redeclared (omega arith) refl (taken (or_cases (is_reserved n.name) (is_among n.name before) e)),
     );
   }
     where

@@ -2,19 +2,17 @@
 use Rattle.std.proofs.Common.{◌⊎◌, inl, inr, ⊎_elim, ◌≡◌, ℕ, ap, subst, sym, ◌∙◌, List, [], ◌∷◌, Some, None, Bool, true, false}
 use Rattle.std.proofs.lemmas.Bool.{false≢true}
 use Rattle.std.specs.Prelude.{Option}
+use Rattle.base_lists.proofs.Options.{one_some}
 use Rattle.c_syntax.specs.declared.parts.Declarator.{Declarator}
 use Rattle.c_syntax.specs.ExprTree as e
-use Rattle.c_syntax.specs.ExprTree.{ExprTree, ExprList}
+use Rattle.c_syntax.specs.Words.{ExprTree, ExprList, DeclarationTree, EntryList, ForStartTree, InitialTree, StartTree, StatementTree}
 use Rattle.c_syntax.specs.StatementTree as s
-use Rattle.c_syntax.specs.StatementTree.{DeclarationTree, EntryList, ForStartTree, InitialTree, StartTree, StatementTree}
 use Rattle.c_types_rules.specs.declared.fault.FaultKind.{FaultKind}
 use Rattle.c_types_rules.specs.declared.fault.FaultKind.TheVariants as fault
 use Rattle.c_types_rules.specs.declared.layout.StructType.{StructType}
 use Rattle.c_types_rules.specs.declared.library.Library.TheVariants as library
 use Rattle.c_types_rules.specs.declared.operand.Operand.{Operand}
-use Rattle.c_types_rules.specs.Conversions.{is_struct}
-use Rattle.c_types_rules.specs.Sizes.{cells_of}
-use Rattle.c_types_rules.specs.TypeTree.{TypeTree, Void, Char, Int, Unsigned, Pointer, Array, Struct}
+use Rattle.c_types_rules.specs.Words.{is_struct, cells_of, TypeTree, Void, Char, Int, Unsigned, Pointer, Array, Struct}
 use Rattle.c_types_walk.specs.Declarators.{declared_type}
 use Rattle.c_types_walk.specs.Initialisers.{cells_of_string, listed_type as list_of, valued}
 use Rattle.c_types_laws.specs.Operands.{Accepts, IsScalar}
@@ -30,7 +28,7 @@ use Rattle.c_types_faults.specs.Wholes.{IsFormatted, IsWhole, WholeBreaks, Whole
 use Rattle.c_types_faults.specs.Statements.{AreRuledEntries, EntriesBreak, ForBreaks, GivesUpStruct, IfPart, IsCondition, IsGivenUp, IsSomeOperand, NoCondition, OfPart}
 use Rattle.c_types_faults.specs.Statements.{IsRuledStatement, ReturnBreaks, Returns, StartBreaks, StartGives, StartLeaves, StatementBreaks, computed}
 use Rattle.c_types_faults.proofs.Beginnings.{begins_back, lists_back, completes_so, SameOrOpen}
-use Rattle.c_types_faults.proofs.Bounds.{declared_back, one_some}
+use Rattle.c_types_faults.proofs.Bounds.{declared_back}
 use Rattle.c_types_faults.proofs.Variables.{element_object}
 use Rattle.c_types_faults.proofs.Silent.{base_silent, call_silent, expr_silent, list_silent}
 use Rattle.c_types_faults.proofs.Single.{one_base, one_list, one_operand}
@@ -66,12 +64,7 @@ module _ (k : Known) (global : Bool) where
 closed_same : (of u : TypeTree) (initial : InitialTree) → SameOrOpen of u → (IsOpen of (Some initial) → ⊥) → u ≡ of
 closed_same (Array element known) u initial (inl h) f = absurd (f h.0)
 closed_same (Array element known) u initial (inr h) f = h
-closed_same Void u initial h f = h
-closed_same Char u initial h f = h
-closed_same Int u initial h f = h
-closed_same Unsigned u initial h f = h
-closed_same (Pointer to) u initial h f = h
-closed_same (Struct tag) u initial h f = h
+closed_same of u initial h f = h
 
 pub completes_closed : (k : Known) (global : Bool) (of : TypeTree) (initial : Option InitialTree) (u : TypeTree) → Completes k global of initial u
     → (IsOpen of initial → ⊥) → u ≡ of
@@ -82,12 +75,7 @@ open_element : (ss : List StructType) (of u : TypeTree) (initial : InitialTree) 
     → ElementBreaks ss of → ⊥
 open_element ss (Array element known) u initial (inl h) o q b = b (element_object ss element h.1.0 (subst (IsObject ss) h.1.1 o))
 open_element ss (Array element known) u initial (inr h) o q b = b (element_object ss element known (subst (IsObject ss) h o))
-open_element ss Void u initial h o q b = b
-open_element ss Char u initial h o q b = b
-open_element ss Int u initial h o q b = b
-open_element ss Unsigned u initial h o q b = b
-open_element ss (Pointer to) u initial h o q b = b
-open_element ss (Struct tag) u initial h o q b = b
+open_element ss of u initial h o q b = b
 
 pub completes_elements : (k : Known) (global : Bool) (ss : List StructType) (of : TypeTree) (initial : Option InitialTree) (u : TypeTree)
     → Completes k global of initial u → IsObject ss u → IsOpen of initial → ElementBreaks ss of → ⊥
@@ -166,35 +154,12 @@ module _ (k : Known) where
   whole_one (e.Call token name arguments) a b (inl (xs, h)) (inr g) = absurd (no_print (k.ordinary name) xs a.ctype g.0 h.1.0)
   whole_one (e.Call token name arguments) a b (inr h) (inl (xs, g)) = absurd (no_print (k.ordinary name) xs b.ctype h.0 g.1.0)
   whole_one (e.Call token name arguments) a b (inr h) (inr g) = h.2 ∙ sym g.2
-  whole_one (e.Comma token operands) a b h g = one_operand k (e.Comma token operands) a b h g
-  whole_one (e.Assign token op target x) a b h g = one_operand k (e.Assign token op target x) a b h g
-  whole_one (e.Conditional token condition first second) a b h g = one_operand k (e.Conditional token condition first second) a b h g
-  whole_one (e.Chain level first links) a b h g = one_operand k (e.Chain level first links) a b h g
-  whole_one (e.Cast token named stars operand) a b h g = one_operand k (e.Cast token named stars operand) a b h g
-  whole_one (e.Prefix token o operand) a b h g = one_operand k (e.Prefix token o operand) a b h g
-  whole_one (e.SizeOfType token named stars) a b h g = one_operand k (e.SizeOfType token named stars) a b h g
-  whole_one (e.Postfix primary operators) a b h g = one_operand k (e.Postfix primary operators) a b h g
-  whole_one (e.Name token name) a b h g = one_operand k (e.Name token name) a b h g
-  whole_one (e.Constant token kind number) a b h g = one_operand k (e.Constant token kind number) a b h g
-  whole_one (e.Strings token parts) a b h g = one_operand k (e.Strings token parts) a b h g
-  whole_one (e.Paren token inner) a b h g = one_operand k (e.Paren token inner) a b h g
-  whole_one (e.Null token) a b h g = one_operand k (e.Null token) a b h g
-  whole_one (e.EndOfFile token) a b h g = one_operand k (e.EndOfFile token) a b h g
+  whole_one x a b h g = one_operand k x a b h g
 
   pub whole_call_silent : (x : Option Entity) (arguments : ExprList) (xs : List Operand) (t : TypeTree) (j : FaultKind) → Calls x xs t
       → WholeCallBreaks x arguments xs j → ⊥
-  whole_call_silent None arguments xs t j h b = call_silent None xs t j h b
-  whole_call_silent (Some (Object of)) arguments xs t j h b = call_silent (Some (Object of)) xs t j h b
-  whole_call_silent (Some (Function f)) arguments xs t j h b = call_silent (Some (Function f)) xs t j h b
   whole_call_silent (Some (Standard library.Printf)) arguments xs t j h b = h
-  whole_call_silent (Some (Standard library.Getchar)) arguments xs t j h b = call_silent (Some (Standard library.Getchar)) xs t j h b
-  whole_call_silent (Some (Standard library.Putchar)) arguments xs t j h b = call_silent (Some (Standard library.Putchar)) xs t j h b
-  whole_call_silent (Some (Standard library.Puts)) arguments xs t j h b = call_silent (Some (Standard library.Puts)) xs t j h b
-  whole_call_silent (Some (Standard library.Malloc)) arguments xs t j h b = call_silent (Some (Standard library.Malloc)) xs t j h b
-  whole_call_silent (Some (Standard library.Free)) arguments xs t j h b = call_silent (Some (Standard library.Free)) xs t j h b
-  whole_call_silent (Some (Standard library.Exit)) arguments xs t j h b = call_silent (Some (Standard library.Exit)) xs t j h b
-  whole_call_silent (Some (Standard library.Abort)) arguments xs t j h b = call_silent (Some (Standard library.Abort)) xs t j h b
-  whole_call_silent (Some (Standard library.Assert)) arguments xs t j h b = call_silent (Some (Standard library.Assert)) xs t j h b
+  whole_call_silent x arguments xs t j h b = call_silent x xs t j h b
 
   print_silent : (x : Option Entity) (arguments : ExprList) (xs : List Operand) (j : FaultKind) → x ≡ Some (Standard library.Printf)
       → IsFormatted arguments xs → WholeCallBreaks x arguments xs j → ⊥
@@ -207,20 +172,7 @@ module _ (k : Known) where
   whole_silent (e.Call token name arguments) d j at (inr h) (inl b) = list_silent k arguments h.1.0 j at h.1.1.0 b
   whole_silent (e.Call token name arguments) d j at (inr h) (inr (ys, b)) = print_silent (k.ordinary name) arguments h.1.0 j h.0 h.1.1.1
       (subst (λ z. WholeCallBreaks (k.ordinary name) arguments z j) (one_list k arguments ys h.1.0 b.0 h.1.1.0) b.1.1)
-  whole_silent (e.Comma token operands) d j at h b = expr_silent k (e.Comma token operands) d j at h b
-  whole_silent (e.Assign token op target x) d j at h b = expr_silent k (e.Assign token op target x) d j at h b
-  whole_silent (e.Conditional token condition first second) d j at h b = expr_silent k (e.Conditional token condition first second) d j at h b
-  whole_silent (e.Chain level first links) d j at h b = expr_silent k (e.Chain level first links) d j at h b
-  whole_silent (e.Cast token named stars operand) d j at h b = expr_silent k (e.Cast token named stars operand) d j at h b
-  whole_silent (e.Prefix token o operand) d j at h b = expr_silent k (e.Prefix token o operand) d j at h b
-  whole_silent (e.SizeOfType token named stars) d j at h b = expr_silent k (e.SizeOfType token named stars) d j at h b
-  whole_silent (e.Postfix primary operators) d j at h b = expr_silent k (e.Postfix primary operators) d j at h b
-  whole_silent (e.Name token name) d j at h b = expr_silent k (e.Name token name) d j at h b
-  whole_silent (e.Constant token kind number) d j at h b = expr_silent k (e.Constant token kind number) d j at h b
-  whole_silent (e.Strings token parts) d j at h b = expr_silent k (e.Strings token parts) d j at h b
-  whole_silent (e.Paren token inner) d j at h b = expr_silent k (e.Paren token inner) d j at h b
-  whole_silent (e.Null token) d j at h b = expr_silent k (e.Null token) d j at h b
-  whole_silent (e.EndOfFile token) d j at h b = expr_silent k (e.EndOfFile token) d j at h b
+  whole_silent x d j at h b = expr_silent k x d j at h b
 
   -- parts of statements
 

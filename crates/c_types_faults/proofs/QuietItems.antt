@@ -8,13 +8,11 @@ use Rattle.c_syntax.specs.declared.parts.Members.{Members}
 use Rattle.c_syntax.specs.declared.parts.Param.{Param}
 use Rattle.c_syntax.specs.declared.parts.ParamName.{ParamName}
 use Rattle.c_syntax.specs.ItemTree as i
-use Rattle.c_syntax.specs.ItemTree.{ItemTree, SourceTree}
-use Rattle.c_syntax.specs.StatementTree.{EntryList}
+use Rattle.c_syntax.specs.Words.{ItemTree, SourceTree, EntryList}
 use Rattle.c_types_rules.specs.declared.fault.FaultKind.{FaultKind}
 use Rattle.c_types_rules.specs.declared.function.FunctionType.{FunctionType}
 use Rattle.c_types_rules.specs.declared.layout.StructType.{StructType}
-use Rattle.c_types_rules.specs.Sizes.{empty_struct, with_member, most_cells}
-use Rattle.c_types_rules.specs.TypeTree.{TypeTree}
+use Rattle.c_types_rules.specs.Words.{empty_struct, with_member, most_cells, TypeTree}
 use Rattle.c_types_expressions.specs.ExprWalk.{with_stars}
 use Rattle.c_types_walk.specs.ItemWalk.{listed_params}
 use Rattle.c_types_faults.specs.Context.{Context, empty_context, inner, known}

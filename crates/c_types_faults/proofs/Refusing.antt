@@ -2,7 +2,7 @@
 use Rattle.std.proofs.Common.{◌⊎◌, inl, inr, ⊎_elim, ◌≡◌, ℕ, suc, refl, subst, sym, ◌∙◌, List, [], ◌∷◌, Some, None, Ok, Err, Bool, true, false}
 use Rattle.std.proofs.Common.{arith, length}
 use Rattle.std.specs.Prelude.{Option, Result, ◌&&◌, ◌||◌, if◌then◌else◌, slice_get}
-use Rattle.std.proofs.lemmas.Bool.{and_from, and_parts, eqb-true, false≢true}
+use Rattle.std.proofs.lemmas.Bool.{and_from, and_parts, eqb-true, false≢true, or_cases, or_left, or_right}
 use Rattle.cbi_base.specs.declared.operators.Binary.{Binary}
 use Rattle.cbi_base.specs.declared.operators.Binary.TheVariants as op
 use Rattle.c_syntax.specs.declared.expr.PrefixOperator.{PrefixOperator}
@@ -15,16 +15,11 @@ use Rattle.c_types_rules.specs.declared.layout.StructType.{StructType}
 use Rattle.c_types_rules.specs.declared.library.Library.{Library}
 use Rattle.c_types_rules.specs.declared.library.Library.TheVariants as library
 use Rattle.c_types_rules.specs.declared.operand.Operand.{Operand}
-use Rattle.c_types_rules.specs.TypeTree.{TypeTree, Void, Char, Int, Unsigned, Pointer, Array, Struct, same_type}
-use Rattle.c_types_rules.specs.Assigning.{assignable, assigned, fits_parameters, is_left_side, pointers_join}
-use Rattle.c_types_rules.specs.Conversions.{common, is_arithmetic, is_pointer, is_struct, is_void, place_of, promoted, value_of, value_type}
-use Rattle.c_types_rules.specs.Faults.{Looked, ◌>>=◌}
-use Rattle.c_types_rules.specs.Functions.{called}
-use Rattle.c_types_rules.specs.Library.{library_called, one_scalar}
-use Rattle.c_types_rules.specs.Operators.{added, both_arithmetic, cast_to, combined, gives, is_movable, is_scalar_value, measured, signed, stepped, subtracted}
-use Rattle.c_types_rules.specs.Selecting.{chosen, either, indexed, joined_pointer, known_member, member_behind, member_in, member_named, member_of, pointed}
-use Rattle.c_types_rules.specs.Selecting.{pointed_type, sequenced}
-use Rattle.c_types_rules.specs.Sizes.{is_complete}
+use Rattle.c_types_rules.specs.Words.{TypeTree, Void, Char, Int, Unsigned, Pointer, Array, Struct, same_type, assignable, assigned, fits_parameters}
+use Rattle.c_types_rules.specs.Words.{is_left_side, pointers_join, common, is_arithmetic, is_pointer, is_struct, is_void, place_of, promoted, value_of}
+use Rattle.c_types_rules.specs.Words.{value_type, Looked, ◌>>=◌, called, library_called, one_scalar, added, both_arithmetic, cast_to, combined, gives}
+use Rattle.c_types_rules.specs.Words.{is_movable, is_scalar_value, measured, signed, stepped, subtracted, chosen, either, indexed, joined_pointer, known_member}
+use Rattle.c_types_rules.specs.Words.{member_behind, member_in, member_named, member_of, pointed, pointed_type, sequenced, is_complete}
 use Rattle.c_types_expressions.specs.ExprWalk.{assigning, chained, prefixed}
 use Rattle.c_types_laws.specs.Operands.{Accepts, Casts, Chooses, Indexes, IsArithmetic, IsModifiable, Joins, Operates, PointsToObject, Prefixes}
 use Rattle.c_types_laws.proofs.Ruled.{Is, accepts, combined_is, is_value, value_is}
@@ -33,8 +28,8 @@ use Rattle.c_types_faults.specs.Calls.{ArgumentsPass, CallsAs, CallsStandard, Is
 use Rattle.c_types_faults.specs.Operands.{AsValue, Sequence}
 use Rattle.c_types_faults.specs.ExprRules.{ArrowBreaks, AssignBreaks, Counts, HasStruct, MemberBreaks, Misfits, PrefixBreaks, StepBreaks, Stores, Unmodifiable}
 use Rattle.c_types_faults.proofs.Least.{least_first, least_second}
-use Rattle.c_types_faults.proofs.Fitting.{either_true, accepts_back, cast_back, chained_back, chosen_back, combined_back, gives_true}
-use Rattle.c_types_faults.proofs.Fitting.{indexed_back, modifiable_back, of_type, or_left, or_right, pointed_back, points_back}
+use Rattle.c_types_faults.proofs.Fitting.{accepts_back, cast_back, chained_back, chosen_back, combined_back, gives_true}
+use Rattle.c_types_faults.proofs.Fitting.{indexed_back, modifiable_back, of_type, pointed_back, points_back}
 
 pub not_both : {A : Type 0} (r : Looked) (x : Operand) (k : FaultKind) → r ≡ Ok x → r ≡ Err k → A
 not_both r x k h g = absurd (cc)
@@ -91,14 +86,6 @@ only_combined ss op.Add x y = only_added ss (value_type x) (value_type y)
 only_combined ss op.Sub x y = only_subtracted ss (value_type x) (value_type y)
 only_combined ss op.Shl x y = only_gives (both_arithmetic (value_type x) (value_type y)) (promoted (value_type x))
 only_combined ss op.Shr x y = only_gives (both_arithmetic (value_type x) (value_type y)) (promoted (value_type x))
-only_combined ss op.Lt x y = only_gives (both_arithmetic (value_type x) (value_type y) || (is_pointer (value_type x) && same_type (value_type x)
-    (value_type y))) Int
-only_combined ss op.Le x y = only_gives (both_arithmetic (value_type x) (value_type y) || (is_pointer (value_type x) && same_type (value_type x)
-    (value_type y))) Int
-only_combined ss op.Gt x y = only_gives (both_arithmetic (value_type x) (value_type y) || (is_pointer (value_type x) && same_type (value_type x)
-    (value_type y))) Int
-only_combined ss op.Ge x y = only_gives (both_arithmetic (value_type x) (value_type y) || (is_pointer (value_type x) && same_type (value_type x)
-    (value_type y))) Int
 only_combined ss op.Eq x y = only_gives (both_arithmetic (value_type x) (value_type y) || pointers_join x y) Int
 only_combined ss op.Ne x y = only_gives (both_arithmetic (value_type x) (value_type y) || pointers_join x y) Int
 only_combined ss op.Mul x y = only_gives (both_arithmetic (value_type x) (value_type y)) (common (value_type x) (value_type y))
@@ -107,6 +94,7 @@ only_combined ss op.Rem x y = only_gives (both_arithmetic (value_type x) (value_
 only_combined ss op.And x y = only_gives (both_arithmetic (value_type x) (value_type y)) (common (value_type x) (value_type y))
 only_combined ss op.Or x y = only_gives (both_arithmetic (value_type x) (value_type y)) (common (value_type x) (value_type y))
 only_combined ss op.Xor x y = only_gives (both_arithmetic (value_type x) (value_type y)) (common (value_type x) (value_type y))
+only_combined ss o x y = only_gives (both_arithmetic (value_type x) (value_type y) || (is_pointer (value_type x) && same_type (value_type x) (value_type y))) Int
 
 only_chained : (ss : List StructType) (o : Option Binary) (x y : Operand) → Only (chained ss o x y)
 only_chained ss None x y = only_gives (is_scalar_value x && is_scalar_value y) Int
@@ -114,12 +102,7 @@ only_chained ss (Some o) x y = only_combined ss o x y
 
 only_pointed : (t : TypeTree) → Only (pointed_type t)
 only_pointed (Pointer to) = only_if (is_void to) (Err fault.Operands) (Ok (place_of to)) only_err (only_ok (place_of to))
-only_pointed Void = only_err
-only_pointed Char = only_err
-only_pointed Int = only_err
-only_pointed Unsigned = only_err
-only_pointed (Array element size) = only_err
-only_pointed (Struct tag) = only_err
+only_pointed t = only_err
 
 only_chosen : (c x y : Operand) → Only (chosen c x y)
 only_chosen c x y = only_if (is_scalar_value c) (either x y) (Err fault.Operands)
@@ -165,21 +148,11 @@ misplaced j k h = cc
 pub member_breaks : (ss : List StructType) (name : List ℕ) (t : TypeTree) (k : FaultKind) → member_of ss name t ≡ Err k → MemberBreaks ss name t k
 member_breaks ss name (Struct tag) k h =
     inr (struct_unknown name (slice_get ss tag) k h, refl, λ t s. no_member (member_of ss name (Struct tag)) s.0 k s.1.0 h)
-member_breaks ss name Void k h = inl (misplaced fault.Operands k h, false≢true)
-member_breaks ss name Char k h = inl (misplaced fault.Operands k h, false≢true)
-member_breaks ss name Int k h = inl (misplaced fault.Operands k h, false≢true)
-member_breaks ss name Unsigned k h = inl (misplaced fault.Operands k h, false≢true)
-member_breaks ss name (Pointer to) k h = inl (misplaced fault.Operands k h, false≢true)
-member_breaks ss name (Array element size) k h = inl (misplaced fault.Operands k h, false≢true)
+member_breaks ss name t k h = inl (misplaced fault.Operands k h, false≢true)
 
 pub arrow_breaks : (ss : List StructType) (name : List ℕ) (t : TypeTree) (k : FaultKind) → member_behind ss name t ≡ Err k → ArrowBreaks ss name t k
 arrow_breaks ss name (Pointer to) k h = member_breaks ss name to k h
-arrow_breaks ss name Void k h = misplaced fault.Operands k h
-arrow_breaks ss name Char k h = misplaced fault.Operands k h
-arrow_breaks ss name Int k h = misplaced fault.Operands k h
-arrow_breaks ss name Unsigned k h = misplaced fault.Operands k h
-arrow_breaks ss name (Array element size) k h = misplaced fault.Operands k h
-arrow_breaks ss name (Struct tag) k h = misplaced fault.Operands k h
+arrow_breaks ss name t k h = misplaced fault.Operands k h
 
 -- operands of a comma
 
@@ -295,15 +268,10 @@ module _ (ss : List StructType) where
 
   points : (t : TypeTree) → is_movable ss t ≡ true → PointsToObject ss t
   points (Pointer to) h = h
-  points Void h = absurd (false≢true h)
-  points Char h = absurd (false≢true h)
-  points Int h = absurd (false≢true h)
-  points Unsigned h = absurd (false≢true h)
-  points (Array element size) h = absurd (false≢true h)
-  points (Struct tag) h = absurd (false≢true h)
+  points t h = absurd (false≢true h)
 
   counts_is : (x : Operand) → (is_arithmetic (value_type x) || is_movable ss (value_type x)) ≡ true → Counts ss x
-  counts_is x h = ⊎_elim (λ e. inl e) (λ e. inr (points (value_type x) e)) (either_true (is_arithmetic (value_type x)) (is_movable ss (value_type x)) h)
+  counts_is x h = ⊎_elim (λ e. inl e) (λ e. inr (points (value_type x) e)) (or_cases (is_arithmetic (value_type x)) (is_movable ss (value_type x)) h)
 
   counts_back : (x : Operand) → Counts ss x → (is_arithmetic (value_type x) || is_movable ss (value_type x)) ≡ true
   counts_back x (inl h) = or_left (is_arithmetic (value_type x)) (is_movable ss (value_type x)) h
@@ -351,8 +319,6 @@ module _ (ss : List StructType) where
   prefix_breaks prefix.SizeOf x k h = let m = measured_breaks ss x.ctype k h in (m.0, λ t p. m.1 p.0)
   prefix_breaks prefix.Indirection x k h = misfit (Prefixes ss prefix.Indirection x) place_of (pointed x) k (pointed_back ss x)
       (only_pointed (value_type x)) h
-  prefix_breaks prefix.Plus x k h = signed_breaks x k h
-  prefix_breaks prefix.Minus x k h = signed_breaks x k h
-  prefix_breaks prefix.Complement x k h = signed_breaks x k h
   prefix_breaks prefix.Not x k h = misfit (Prefixes ss prefix.Not x) value_of (prefixed ss prefix.Not x) k
       (λ t p. of_type (gives_true (is_scalar_value x) Int p.0) p.1) (only_gives (is_scalar_value x) Int) h
+  prefix_breaks o x k h = signed_breaks x k h

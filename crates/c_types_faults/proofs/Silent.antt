@@ -15,10 +15,7 @@ use Rattle.c_types_rules.specs.declared.layout.Member.{Member}
 use Rattle.c_types_rules.specs.declared.layout.StructType.{StructType}
 use Rattle.c_types_rules.specs.declared.operand.Operand.{Operand}
 use Rattle.c_types_rules.specs.TypeTree as t
-use Rattle.c_types_rules.specs.TypeTree.{TypeTree}
-use Rattle.c_types_rules.specs.Conversions.{is_struct, value_type}
-use Rattle.c_types_rules.specs.Selecting.{indexed, member_of}
-use Rattle.c_types_rules.specs.Sizes.{is_complete}
+use Rattle.c_types_rules.specs.Words.{TypeTree, is_struct, value_type, indexed, member_of, is_complete}
 use Rattle.c_types_expressions.specs.ExprWalk.{binary_of, chained, compound_of, with_stars}
 use Rattle.c_types_laws.specs.Operands.{Assigns, Casts, Chooses, Indexes, Joins, Prefixes, Selects, SelectsBehind, Steps}
 use Rattle.c_types_faults.specs.Known.{Entity, Object, Function, Standard, Known}
@@ -49,13 +46,8 @@ step_silent ss x of j h (inr b, least) = b.1 h.0
 prefix_silent : (ss : List StructType) (o : PrefixOperator) (x : Operand) (of : TypeTree) (j : FaultKind) → Prefixes ss o x of → PrefixBreaks ss o x j → ⊥
 prefix_silent ss prefix.Increment x of j h b = step_silent ss x of j h b
 prefix_silent ss prefix.Decrement x of j h b = step_silent ss x of j h b
-prefix_silent ss prefix.SizeOf x of j h b = b.1 of h
 prefix_silent ss prefix.Address x of j h b = b.1 h.0
-prefix_silent ss prefix.Indirection x of j h b = b.1 of h
-prefix_silent ss prefix.Plus x of j h b = b.1 of h
-prefix_silent ss prefix.Minus x of j h b = b.1 of h
-prefix_silent ss prefix.Complement x of j h b = b.1 of h
-prefix_silent ss prefix.Not x of j h b = b.1 of h
+prefix_silent ss o x of j h b = b.1 of h
 
 selects_struct : (ss : List StructType) (name : List ℕ) (of u : TypeTree) → Selects ss name of u → is_struct of ≡ true
 selects_struct ss name (t.Struct tag) u h = refl
@@ -90,12 +82,7 @@ member_silent ss name of u j h (inr b) = b.2 u h
 
 pub arrow_silent : (ss : List StructType) (name : List ℕ) (of u : TypeTree) (j : FaultKind) → SelectsBehind ss name of u → ArrowBreaks ss name of j → ⊥
 arrow_silent ss name (t.Pointer to) u j h b = member_silent ss name to u j h b
-arrow_silent ss name t.Void u j h b = h
-arrow_silent ss name t.Char u j h b = h
-arrow_silent ss name t.Int u j h b = h
-arrow_silent ss name t.Unsigned u j h b = h
-arrow_silent ss name (t.Array element size) u j h b = h
-arrow_silent ss name (t.Struct tag) u j h b = h
+arrow_silent ss name of u j h b = h
 
 pub call_silent : (x : Option Entity) (xs : List Operand) (of : TypeTree) (j : FaultKind) → Calls x xs of → CallBreaks x xs j → ⊥
 call_silent None xs of j h b = h
@@ -105,11 +92,8 @@ call_silent (Some (Standard f)) xs of j h b = b.1 of h
 
 module _ (k : Known) where
   pub base_silent : (b : Base) (of : TypeTree) (j : FaultKind) (at : ℕ) → IsBase k b of → BaseBreaks k b j at → ⊥
-  base_silent (base.Void token) of j at h b = b
-  base_silent (base.Char token) of j at h b = b
-  base_silent (base.Int token) of j at h b = b
-  base_silent (base.Unsigned token int) of j at h b = b
   base_silent (base.Struct token tag) of j at h b = none_some (k.tags tag) h.0 b.2 h.1.0
+  base_silent other of j at h b = b
 
   mutual
     pub expr_silent : (x : ExprTree) (d : Operand) (j : FaultKind) (at : ℕ) → IsOperand k x d → Breaks k x j at → ⊥
@@ -152,11 +136,8 @@ module _ (k : Known) where
     expr_silent (e.Call token name arguments) d j at (xs, h) (inl b) = list_silent arguments xs j at h.0 b
     expr_silent (e.Call token name arguments) d j at (xs, h) (inr (ys, b)) =
         call_silent (k.ordinary name) xs d.ctype j h.1.0 (subst (λ z. CallBreaks (k.ordinary name) z j) (one_list k arguments ys xs b.0 h.0) b.1.1)
-    expr_silent (e.Constant token of value) d j at h b = b
-    expr_silent (e.Strings token parts) d j at h b = b
     expr_silent (e.Paren token inner) d j at (x, h) b = expr_silent inner x j at h.0 b
-    expr_silent (e.Null token) d j at h b = b
-    expr_silent (e.EndOfFile token) d j at h b = b
+    expr_silent x d j at h b = b
 
     pub list_silent : (xs : ExprList) (ds : List Operand) (j : FaultKind) (at : ℕ) → AreOperands k xs ds → ListBreaks k xs j at → ⊥
     list_silent e.no_exprs ds j at h b = b

@@ -1,7 +1,7 @@
 -- An expression is one operand at most.
 use Rattle.std.proofs.Common.{◌≡◌, ℕ, refl, ap, ap₂, subst, sym, ◌∙◌, List, [], ◌∷◌, Some, None, Ok, Bool, true, false}
-use Rattle.c_types_faults.proofs.Bounds.{one_some}
 use Rattle.std.specs.Prelude.{Option, Result}
+use Rattle.base_lists.proofs.Options.{one_some}
 use Rattle.cbi_base.specs.declared.operators.Binary.{Binary}
 use Rattle.c_syntax.specs.declared.parts.Base.{Base}
 use Rattle.c_syntax.specs.declared.parts.Base.TheVariants as base
@@ -16,10 +16,7 @@ use Rattle.c_types_rules.specs.declared.library.Library.{Library}
 use Rattle.c_types_rules.specs.declared.library.Library.TheVariants as library
 use Rattle.c_types_rules.specs.declared.operand.Operand.{Operand}
 use Rattle.c_types_rules.specs.TypeTree as t
-use Rattle.c_types_rules.specs.TypeTree.{TypeTree}
-use Rattle.c_types_rules.specs.Conversions.{enclosed, place_of, value_of, value_type}
-use Rattle.c_types_rules.specs.Faults.{Looked}
-use Rattle.c_types_rules.specs.Selecting.{chosen, indexed, member_of}
+use Rattle.c_types_rules.specs.Words.{TypeTree, enclosed, place_of, value_of, value_type, Looked, chosen, indexed, member_of}
 use Rattle.c_types_expressions.specs.ExprWalk.{binary_of, chained, compound_of, with_stars}
 use Rattle.c_types_laws.specs.Operands.{Assigns, Chooses, Indexes, Joins, Prefixes, Selects, SelectsBehind}
 use Rattle.c_types_faults.specs.Known.{Entity, Object, Function, Standard, Known}
@@ -64,15 +61,8 @@ sequence_one before [] a b h k = h ∙ sym k
 sequence_one before (x ∷ xs) a b h k = sequence_one (value_type x) xs a b h.1 k.1
 
 standard_one : (f : Library) (xs : List Operand) (a b : TypeTree) → CallsStandard f xs a → CallsStandard f xs b → a ≡ b
-standard_one library.Getchar xs a b h k = h.1 ∙ sym k.1
-standard_one library.Putchar xs a b h k = h.1 ∙ sym k.1
-standard_one library.Puts xs a b h k = h.1 ∙ sym k.1
-standard_one library.Malloc xs a b h k = h.1 ∙ sym k.1
-standard_one library.Free xs a b h k = h.1 ∙ sym k.1
-standard_one library.Exit xs a b h k = h.1 ∙ sym k.1
-standard_one library.Abort xs a b h k = h.1 ∙ sym k.1
-standard_one library.Assert xs a b h k = h.1 ∙ sym k.1
 standard_one library.Printf xs a b h k = absurd h
+standard_one f xs a b h k = h.1 ∙ sym k.1
 
 calls_one : (x : Option Entity) (xs : List Operand) (a b : TypeTree) → Calls x xs a → Calls x xs b → a ≡ b
 calls_one None xs a b h k = absurd h
@@ -86,13 +76,8 @@ to_one a b h = cc
 prefix_one : (ss : List StructType) (o : PrefixOperator) (x : Operand) (a b : TypeTree) → Prefixes ss o x a → Prefixes ss o x b → a ≡ b
 prefix_one ss prefix.Increment x a b h k = h.2 ∙ sym k.2
 prefix_one ss prefix.Decrement x a b h k = h.2 ∙ sym k.2
-prefix_one ss prefix.SizeOf x a b h k = h.1 ∙ sym k.1
-prefix_one ss prefix.Address x a b h k = h.1 ∙ sym k.1
 prefix_one ss prefix.Indirection x a b h k = to_one a b (sym h.0 ∙ k.0)
-prefix_one ss prefix.Plus x a b h k = h.1 ∙ sym k.1
-prefix_one ss prefix.Minus x a b h k = h.1 ∙ sym k.1
-prefix_one ss prefix.Complement x a b h k = h.1 ∙ sym k.1
-prefix_one ss prefix.Not x a b h k = h.1 ∙ sym k.1
+prefix_one ss o x a b h k = h.1 ∙ sym k.1
 
 abbrev IsMember : Result Member FaultKind → Member → Type 0
 IsMember r m = r ≡ Ok m
@@ -108,23 +93,15 @@ selects_one ss name of a b h k = h.1.1 ∙ ap (λ (m : Member). m.ctype) (one_me
 
 pub behind_one : (ss : List StructType) (name : List ℕ) (of a b : TypeTree) → SelectsBehind ss name of a → SelectsBehind ss name of b → a ≡ b
 behind_one ss name (t.Pointer to) a b h k = selects_one ss name to a b h k
-behind_one ss name t.Void a b h k = absurd h
-behind_one ss name t.Char a b h k = absurd h
-behind_one ss name t.Int a b h k = absurd h
-behind_one ss name t.Unsigned a b h k = absurd h
-behind_one ss name (t.Array element size) a b h k = absurd h
-behind_one ss name (t.Struct tag) a b h k = absurd h
+behind_one ss name of a b h k = absurd h
 
 object_one : (a b : TypeTree) → Object a ≡ Object b → a ≡ b
 object_one a b h = cc
 
 module _ (k : Known) where
   pub one_base : (b : Base) (x y : TypeTree) → IsBase k b x → IsBase k b y → x ≡ y
-  one_base (base.Void token) x y h g = h ∙ sym g
-  one_base (base.Char token) x y h g = h ∙ sym g
-  one_base (base.Int token) x y h g = h ∙ sym g
-  one_base (base.Unsigned token int) x y h g = h ∙ sym g
   one_base (base.Struct token tag) x y h g = h.1.1 ∙ ap t.Struct (one_some (k.tags tag) h.0 g.0 h.1.0 g.1.0) ∙ sym g.1.1
+  one_base b x y h g = h ∙ sym g
 
   mutual
     pub one_operand : (x : ExprTree) (a b : Operand) → IsOperand k x a → IsOperand k x b → a ≡ b
@@ -154,11 +131,8 @@ module _ (k : Known) where
     one_operand (e.Call token name arguments) a b (xs, h) (ys, g) =
         let g' : AsValue (Calls (k.ordinary name) xs) b = subst (λ zs. AsValue (Calls (k.ordinary name) zs) b) (sym (one_list arguments xs ys h.0 g.0)) g.1 in
         same_operand a b false (calls_one (k.ordinary name) xs a.ctype b.ctype h.1.0 g'.0) h.1.1 h.1.2 g'.1 g'.2
-    one_operand (e.Constant token kind value) a b h g = h ∙ sym g
-    one_operand (e.Strings token parts) a b h g = h ∙ sym g
     one_operand (e.Paren token inner) a b (x, h) (y, g) = h.1 ∙ ap enclosed (one_operand inner x y h.0 g.0) ∙ sym g.1
-    one_operand (e.Null token) a b h g = h ∙ sym g
-    one_operand (e.EndOfFile token) a b h g = h ∙ sym g
+    one_operand x a b h g = h ∙ sym g
 
     pub one_list : (xs : ExprList) (us vs : List Operand) → AreOperands k xs us → AreOperands k xs vs → us ≡ vs
     one_list e.no_exprs [] [] h g = refl

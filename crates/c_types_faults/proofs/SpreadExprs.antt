@@ -2,10 +2,8 @@
 use Rattle.std.proofs.Common.{inl, ◌≡◌, ℕ, ◌+◌, [], ◌∷◌, ◌++◌, length, false, true, refl, sym, subst, append_assoc, arith, length-append}
 use Rattle.c_syntax.specs.declared.token.Sign.TheVariants as sign
 use Rattle.c_syntax.specs.ExprTree as e
-use Rattle.c_syntax.specs.ExprTree.{ExprTree, ExprList, LinkList, PostfixList}
-use Rattle.c_syntax.specs.Place.{ExprAt, ExprsAt, LinksAt, PostfixAt}
-use Rattle.c_syntax.specs.Shape.{ShapedExpr, ShapedExprs, ShapedLinks, ShapedPostfix}
-use Rattle.c_syntax.specs.Spelling.{a_sign, expr_kinds, exprs_kinds, link_kinds, more_exprs_kinds, parenthesized, postfix_kinds, type_kinds}
+use Rattle.c_syntax.specs.Words.{ExprTree, ExprList, LinkList, PostfixList, ExprAt, ExprsAt, LinksAt, PostfixAt, ShapedExpr, ShapedExprs, ShapedLinks}
+use Rattle.c_syntax.specs.Words.{ShapedPostfix, a_sign, expr_kinds, exprs_kinds, link_kinds, more_exprs_kinds, parenthesized, postfix_kinds, type_kinds}
 use Rattle.c_meaning.specs.Trees.{token_of}
 use Rattle.c_types_laws.proofs.Goods.{around, conditional_long, infix_long, texts_long}
 use Rattle.c_types_faults.specs.Events.{Calls, Other, Selects, Value, expr_events, exprs_events, links_events, postfix_events}

@@ -1,21 +1,17 @@
 -- A statement that the walk takes leaves the declarations around it, and one at which it stops breaks a rule.
 use Rattle.std.proofs.Common.{◌⊎◌, inl, inr, ⊎_elim, ◌≡◌, ℕ, refl, ap, subst, sym, ◌∙◌, List, [], ◌∷◌, Some, None, Bool, true, false}
 use Rattle.c_types_laws.proofs.Ruled.{accepts}
-use Rattle.std.proofs.lemmas.Bool.{false≢true}
+use Rattle.std.proofs.lemmas.Bool.{false≢true, not-false, not-true}
 use Rattle.std.specs.Prelude.{Option, not, ◌||◌, if◌then◌else◌}
-use Rattle.c_syntax.specs.ExprTree.{ExprTree}
+use Rattle.base_lists.proofs.Tests.{three_or, three_or_false}
+use Rattle.c_syntax.specs.Words.{ExprTree, DeclarationTree, EntryList, ForStartTree, StartTree, StatementTree}
 use Rattle.c_syntax.specs.StatementTree as s
-use Rattle.c_syntax.specs.StatementTree.{DeclarationTree, EntryList, ForStartTree, StartTree, StatementTree}
 use Rattle.c_types_rules.specs.declared.fault.FaultKind.{FaultKind}
 use Rattle.c_types_rules.specs.declared.fault.FaultKind.TheVariants as fault
 use Rattle.c_types_rules.specs.declared.operand.Operand.{Operand}
-use Rattle.c_types_rules.specs.Assigning.{assignable}
-use Rattle.c_types_rules.specs.Conversions.{is_struct, is_void}
-use Rattle.c_types_rules.specs.Operators.{is_scalar_value}
-use Rattle.c_types_rules.specs.TypeTree.{TypeTree}
+use Rattle.c_types_rules.specs.Words.{assignable, is_struct, is_void, is_scalar_value, TypeTree}
 use Rattle.c_types_expressions.specs.declared.walk.Walk.{Walk}
-use Rattle.c_types_expressions.specs.Names.{closed}
-use Rattle.c_types_expressions.specs.Walked.{Faulty, Done, closing, opened, unless}
+use Rattle.c_types_expressions.specs.Words.{closed, Faulty, Done, closing, opened, unless}
 use Rattle.c_types_walk.specs.StatementWalk.{conditioned, is_condition_part, is_struct_part, looped, walk_entries, walk_for_start}
 use Rattle.c_types_walk.specs.StatementWalk.{walk_optional, walk_statement}
 use Rattle.c_types_laws.specs.Operands.{IsScalar}
@@ -46,7 +42,7 @@ beyond_here {c = c} {w = w} {v = v} k e = record { knows = subst (Knows c) (sym 
 pub beyond_then : {c : Context} {w v u : Walk} → Beyond c w v → Beyond c v u → Beyond c w u
 beyond_then a b = record { knows = b.knows; moves = moves_then a.moves b.moves }
 
-know_on : {c : Context} {s r : Shown} → Knows c s → r ≡ s → Knows c r
+pub know_on : {c : Context} {s r : Shown} → Knows c s → r ≡ s → Knows c r
 know_on {c = c} k e = subst (Knows c) (sym e) k
 
 -- the parts of a scope
@@ -73,24 +69,16 @@ declaration_within d c after (base, h) = variables_within base d.starts c after 
 
 -- tests at the end of a statement
 
-is_false : (b : Bool) → not b ≡ true → b ≡ false
-is_false true h = absurd (false≢true h)
-is_false false h = refl
-
-is_true : (b : Bool) → not b ≡ false → b ≡ true
-is_true true h = refl
-is_true false h = absurd (false≢true (sym h))
-
 unless_tells : {B : FaultKind → ℕ → Type 0} (b : Bool) (kind : FaultKind) (token : ℕ) (c : Context) (w : Walk) → Knows c (shown w)
     → (b ≡ true → B kind token) → Tells (unless b kind token w) (λ (d : Done) v. Beyond c w v × (b ≡ false)) B
 unless_tells true kind token c w k f = record { by = f refl }
 unless_tells false kind token c w k f = record { by = (beyond_here k refl, refl) }
 
 a_scalar : (a : Operand) → not (is_scalar_value a) ≡ false → IsScalar a
-a_scalar a h = is_true (is_scalar_value a) h
+a_scalar a h = not-false (is_scalar_value a) h
 
 no_scalar : (a : Operand) → not (is_scalar_value a) ≡ true → IsScalar a → ⊥
-no_scalar a h g = false≢true (sym (is_false (is_scalar_value a) h) ∙ g)
+no_scalar a h g = false≢true (sym (not-true (is_scalar_value a) h) ∙ g)
 
 condition_tells : {B : FaultKind → ℕ → Type 0} (token : ℕ) (x : ExprTree) (a : Operand) (c : Context) (w : Walk) → Knows c (shown w)
     → IsOperand (known c) x a → ((j : FaultKind) → NoCondition (known c) x j → B j token)
@@ -130,16 +118,6 @@ condition_part k None (Some a) h e = absurd h
 condition_part k (Some x) None h e = absurd h
 condition_part k (Some x) (Some a) h e = (refl, (a, (h, no_scalar a e)))
 
-three_or : (a b c : Bool) → (a || b || c) ≡ true → (a ≡ true) ⊎ ((b ≡ true) ⊎ (c ≡ true))
-three_or true b c h = inl refl
-three_or false true c h = inr (inl refl)
-three_or false false c h = inr (inr h)
-
-three_not : (a b c : Bool) → (a || b || c) ≡ false → (a ≡ false) × (b ≡ false) × (c ≡ false)
-three_not true b c h = absurd (false≢true (sym h))
-three_not false true c h = absurd (false≢true (sym h))
-three_not false false c h = (refl, refl, h)
-
 given_part : (k : Known) (x : Option ExprTree) (o : Option Operand) → PartIs k x o → is_struct_part o ≡ false → IfPart (IsGivenUp k) x
 given_part k None o h e = tt
 given_part k (Some x) None h e = absurd h
@@ -163,7 +141,7 @@ looped_tells before k token start condition step x y z c w g p q r f =
     (λ h. inr (⊎_elim (λ i. inl (condition_part k condition y q i)) (λ i. inr (struct_part k step z r i)) h))
     (three_or (is_struct_part x) (not (is_condition_part y)) (is_struct_part z) e))))
     (λ j at b. b) (λ d v h.
-    let n = three_not (is_struct_part x) (not (is_condition_part y)) (is_struct_part z) h.1 in
+    let n = three_or_false (is_struct_part x) (not (is_condition_part y)) (is_struct_part z) h.1 in
     (h.0, (given_part before (computed start) x p n.0, deciding_part k condition y q n.1, given_part k step z r n.2)))
 
 -- the first part of a `for`
@@ -215,8 +193,8 @@ value_tells : {B : FaultKind → ℕ → Type 0} (b : Bool) (token : ℕ) (gives
     (λ (d : Done) v. Beyond c w v × Returns (known c) gives (Some x)) B
 value_tells true token gives x a c w k h e f = record { by = f fault.Jump (inl (refl, e)) }
 value_tells false token gives x a c w k h e f = weaker (unless_tells (not (assignable gives a)) fault.Operands token c w k
-    (λ n. f fault.Operands (inr (refl, e, (a, (h, λ p. false≢true (sym (is_false (assignable gives a) n) ∙ accepts_back gives a p)))))))
-    (λ j at b. b) (λ d v p. (p.0, (e, (a, (h, accepts gives a (is_true (assignable gives a) p.1))))))
+    (λ n. f fault.Operands (inr (refl, e, (a, (h, λ p. false≢true (sym (not-true (assignable gives a) n) ∙ accepts_back gives a p)))))))
+    (λ j at b. b) (λ d v p. (p.0, (e, (a, (h, accepts gives a (not-false (assignable gives a) p.1))))))
 
 pub within_on : {c : Context} {w v u : Walk} (ps : List (List ℕ × ℕ)) → Moves ps (shown w) (shown v) → Within c v u → Within c w u
 within_on ps m i = record { scope = i.scope; knows = i.knows; names = joined i.names ps; moves = moves_then m i.moves }
@@ -279,14 +257,14 @@ module _ (gives : TypeTree) where
         (λ j at b. b)
         (λ g a b. (b, (d, (start_gives start (inner c) d p.gives l.1.0, l.1.1, l.1.2, m.1)))))))))
     statement_tells looping (s.Return token None) c w k = weaker (unless_tells (not (is_void gives)) fault.Jump token c w k
-        (λ e. inr (tt, (refl, (refl, is_false (is_void gives) e))))) (λ j at b. b) (λ d v p. (p.0, is_true (is_void gives) p.1))
+        (λ e. inr (tt, (refl, (refl, not-true (is_void gives) e))))) (λ j at b. b) (λ d v p. (p.0, not-false (is_void gives) p.1))
     statement_tells looping (s.Return token (Some x)) c w k = and_then (expr_tells (known c) x w (agreed k)) (λ j at h. inl h) (λ a v p.
         weaker (value_tells (is_void gives) token gives x a c v (know_on k p.1) p.0 refl (λ j h. inr ((a, p.0), (refl, h)))) (λ j at h. h)
         (λ d u q. (beyond_then (beyond_here k p.1) q.0, q.1)))
-    statement_tells looping (s.Break token) c w k = weaker (unless_tells (not looping) fault.Jump token c w k (λ e. (refl, (refl, is_false looping e))))
-        (λ j at b. b) (λ d v p. (p.0, is_true looping p.1))
-    statement_tells looping (s.Continue token) c w k = weaker (unless_tells (not looping) fault.Jump token c w k (λ e. (refl, (refl, is_false looping e))))
-        (λ j at b. b) (λ d v p. (p.0, is_true looping p.1))
+    statement_tells looping (s.Break token) c w k = weaker (unless_tells (not looping) fault.Jump token c w k (λ e. (refl, (refl, not-true looping e))))
+        (λ j at b. b) (λ d v p. (p.0, not-false looping p.1))
+    statement_tells looping (s.Continue token) c w k = weaker (unless_tells (not looping) fault.Jump token c w k (λ e. (refl, (refl, not-true looping e))))
+        (λ j at b. b) (λ d v p. (p.0, not-false looping p.1))
 
     pub entries_tell : (looping : Bool) (xs : EntryList) (c : Context) (w : Walk) → Knows c (shown w)
         → Tells (walk_entries gives looping xs w) (λ (d : Done) v. Within c w v × AreRuledEntries gives c looping xs) (EntriesBreak gives c looping xs)

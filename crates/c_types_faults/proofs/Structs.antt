@@ -1,24 +1,22 @@
 -- Structs: what the walk takes is known behind it, and where it stops a rule is broken.
 use Rattle.std.proofs.Common.{◌⊎◌, inl, inr, ◌≡◌, ℕ, ◌≤◌, refl, ap, subst, sym, ◌∙◌, arith, List, [], ◌∷◌, ◌++◌, Some, None, Bool, true, false, length}
-use Rattle.c_types_faults.proofs.Fitting.{or_left, or_right, either_true, most, most_back}
-use Rattle.std.proofs.lemmas.Bool.{false≢true}
+use Rattle.std.proofs.lemmas.Bool.{false≢true, or_cases, or_left, or_right}
 use Rattle.std.proofs.lemmas.Slice.Eq.{bytes_eq-Decides}
 use Rattle.std.specs.Prelude.{Option, is_some, nat_le, if◌then◌else◌}
 use Rattle.std.specs.Str.{bytes_eq}
+use Rattle.std.proofs.lemmas.Option.{same_Some}
+use Rattle.base_lists.proofs.Numbers.{is_most, most_is}
 use Rattle.c_syntax.specs.declared.parts.Declarator.{Declarator}
 use Rattle.c_syntax.specs.declared.parts.Members.{Members}
 use Rattle.c_types_rules.specs.declared.fault.FaultKind.TheVariants as fault
 use Rattle.c_types_rules.specs.declared.layout.Member.{Member}
 use Rattle.c_types_rules.specs.declared.layout.StructType.{StructType}
-use Rattle.c_types_rules.specs.TypeTree.{TypeTree}
-use Rattle.c_types_rules.specs.Selecting.{member_named}
-use Rattle.c_types_rules.specs.Sizes.{empty_struct, is_object, most_cells, with_member}
+use Rattle.c_types_rules.specs.Words.{TypeTree, member_named, empty_struct, is_object, most_cells, with_member}
 use Rattle.c_types_expressions.specs.declared.names.Meaning.TheVariants as meaning
 use Rattle.c_types_expressions.specs.declared.names.ScopeEntry.{ScopeEntry}
 use Rattle.c_types_expressions.specs.declared.names.ScopeEntry.TheVariants.{Opens, Declares}
 use Rattle.c_types_expressions.specs.declared.walk.Walk.{Walk}
-use Rattle.c_types_expressions.specs.Names.{is_here}
-use Rattle.c_types_expressions.specs.Walked.{Fine, Faulty, Done}
+use Rattle.c_types_expressions.specs.Words.{is_here, Fine, Faulty, Done}
 use Rattle.c_types_walk.specs.Declarators.{declared_type}
 use Rattle.c_types_walk.specs.ItemWalk.{defined, typed_member, walk_declarators, walk_members, walk_struct, with_tag}
 use Rattle.c_types_faults.specs.Context.{Context, Tagged, known}
@@ -27,7 +25,7 @@ use Rattle.c_types_faults.specs.Declarations.{IsObject}
 use Rattle.c_types_faults.specs.Structs.{HasMember, HasTag, LineBreaks, LineGives, NewMemberBreaks, MemberGives, MembersBreak, MembersGive, StructBreaks}
 use Rattle.c_types_faults.specs.Structs.{StructGives}
 use Rattle.c_types_faults.specs.Structs.{tagging}
-use Rattle.c_types_faults.proofs.Bounds.{declared_back, declared_is, no_type, some_is}
+use Rattle.c_types_faults.proofs.Bounds.{declared_back, declared_is, no_type}
 use Rattle.c_types_faults.proofs.Exprs.{base_tells}
 use Rattle.c_types_faults.proofs.Least.{least_first, least_second}
 use Rattle.c_types_faults.proofs.Knowing.{Knows, TagsMatch, agreed}
@@ -68,7 +66,7 @@ has_tag : (tag : List ℕ) (tags : List ScopeEntry) (ds : List Tagged) → TagsM
 has_tag tag [] ds h e = absurd (false≢true e)
 has_tag tag (Opens ∷ rest) ds h e = absurd h
 has_tag tag (Declares t m ∷ rest) [] h e = absurd h
-has_tag tag (Declares t (meaning.Struct i) ∷ rest) (d ∷ ds) h e = by (either_true (bytes_eq t tag) (is_here tag rest) e) (has_tag tag rest ds h.2)
+has_tag tag (Declares t (meaning.Struct i) ∷ rest) (d ∷ ds) h e = by (or_cases (bytes_eq t tag) (is_here tag rest) e) (has_tag tag rest ds h.2)
   where
     by : ((bytes_eq t tag ≡ true) ⊎ (is_here tag rest ≡ true)) → (is_here tag rest ≡ true → HasTag tag ds) → HasTag tag (d ∷ ds)
     by (inl b) f = inl (sym h.0 ∙ (bytes_eq-Decides t tag).0 b)
@@ -80,7 +78,7 @@ has_tag tag (Declares t (meaning.Library f) ∷ rest) (d ∷ ds) h e = absurd h
 module _ (c : Context) where
   no_member_type : (base t u : TypeTree) (d : Declarator) → declared_type d base ≡ Some t → is_object c.structs t ≡ false → law.DeclaresAs d base u
       → IsObject c.structs u → ⊥
-  no_member_type base t u d e h k o = no_object c.structs t h (subst (IsObject c.structs) (some_is u t (sym (declared_back d base u k) ∙ e)) o)
+  no_member_type base t u d e h k o = no_object c.structs t h (subst (IsObject c.structs) (same_Some u t (sym (declared_back d base u k) ∙ e)) o)
 
   typed_by : (b : Bool) (base t : TypeTree) (d : Declarator) (s : StructType) (w : Walk) → (HasMember d.name s.members → ⊥) → c.structs ≡ w.structs
       → declared_type d base ≡ Some t
@@ -168,7 +166,7 @@ fits_by true token tag members s c w k g new e = record {
   by = (
     record (tagging tag c) { structs = c.structs ++ s ∷ [] },
     (
-      (s, (g, new, most s.cells most_cells e, refl)),
+      (s, (g, new, is_most s.cells most_cells e, refl)),
       record {
         knows = record {
           names = k.names;
@@ -193,7 +191,7 @@ fits_by false token tag members s c w k g new e = record {
       (
         refl,
         least_second (HasTag tag c.tags) (s.cells ≤ most_cells → ⊥) fault.Redeclared fault.Object fault.Object new refl
-            (λ l. false≢true (sym e ∙ most_back s.cells most_cells l)),
+            (λ l. false≢true (sym e ∙ most_is s.cells most_cells l)),
       ),
     ),
   );

@@ -4,13 +4,11 @@ use Rattle.std.specs.Prelude.{Option}
 use Rattle.c_types_rules.specs.declared.fault.FaultKind.{FaultKind}
 use Rattle.c_types_rules.specs.declared.layout.StructType.{StructType}
 use Rattle.c_types_rules.specs.declared.operand.Operand.{Operand}
-use Rattle.c_types_rules.specs.Faults.{Looked}
-use Rattle.c_types_rules.specs.TypeTree.{TypeTree}
+use Rattle.c_types_rules.specs.Words.{Looked, TypeTree}
 use Rattle.c_types_expressions.specs.declared.names.ScopeEntry.{ScopeEntry}
 use Rattle.c_types_expressions.specs.declared.walk.FunctionEntry.{FunctionEntry}
 use Rattle.c_types_expressions.specs.declared.walk.Walk.{Walk}
-use Rattle.c_types_expressions.specs.ExprWalk.{looked}
-use Rattle.c_types_expressions.specs.Walked.{Walked, Fine, Faulty, ◌>>=◌, with_type}
+use Rattle.c_types_expressions.specs.Words.{looked, Walked, Fine, Faulty, ◌>>=◌, with_type}
 use Rattle.c_types_faults.specs.Known.{Known}
 use Rattle.c_types_faults.specs.Agrees.{AgreesOn}
 

@@ -1,29 +1,26 @@
 -- A text at which the walk stops breaks a rule.
 use Rattle.std.proofs.Common.{inl, inr, ⊎_elim, ◌≡◌, ℕ, suc, ◌+◌, ◌<◌, refl, ap, subst, sym, ◌∙◌, arith, List, [], ◌∷◌, Some, None, Bool, true, false, length}
-use Rattle.c_types_rules.specs.Faults.{fault_number}
-use Rattle.c_types_faults.proofs.Bounds.{some_is, none_some}
+use Rattle.c_types_rules.specs.Words.{fault_number, TypeTree, Int, same_type}
+use Rattle.c_types_faults.proofs.Bounds.{none_some}
 use Rattle.c_types_faults.proofs.Calling.{both_tell}
 use Rattle.c_types_faults.proofs.Defining.{calls_defined, defined_before, listed_defined}
-use Rattle.c_syntax.specs.WellFormed.{IsShaped}
+use Rattle.c_syntax.specs.Words.{IsShaped, SourceTree}
 use Rattle.c_types_rules.proofs.Same.{equal}
 use Rattle.c_types_rules.specs.declared.function.FunctionType.{FunctionType}
 use Rattle.std.proofs.lemmas.Bool.{and_from, false≢true, and_parts, eqb-true}
 use Rattle.std.specs.Prelude.{Option, slice_get, if◌then◌else◌, unwrap_or, codes, ◌==◌}
-use Rattle.c_syntax.specs.ItemTree.{SourceTree}
+use Rattle.std.proofs.lemmas.Option.{same_Some}
 use Rattle.c_types_rules.specs.declared.fault.FaultKind.{FaultKind}
 use Rattle.c_types_rules.specs.declared.fault.FaultKind.TheVariants as fault
-use Rattle.c_types_rules.specs.TypeTree.{TypeTree, Int, same_type}
 use Rattle.c_types.specs.Answers.{noted}
 use Rattle.c_types.specs.Fault.{begins_program, ends_with, first_undefined, has_main, is_main, lacks_definition, undefined_at, walk_tree, fault_in, fault_of}
-use Rattle.c_types_expressions.specs.Beginning.{beginning}
+use Rattle.c_types_expressions.specs.Words.{beginning, found, Faulty, Done, Fine, Walked}
 use Rattle.c_types_expressions.specs.declared.names.Meaning.{Meaning}
 use Rattle.c_types_expressions.specs.declared.names.Meaning.TheVariants as meaning
 use Rattle.c_types_expressions.specs.declared.names.ScopeEntry.{ScopeEntry}
 use Rattle.c_types_expressions.specs.declared.names.ScopeEntry.TheVariants.{Opens, Declares}
 use Rattle.c_types_expressions.specs.declared.walk.FunctionEntry.{FunctionEntry}
 use Rattle.c_types_expressions.specs.declared.walk.Walk.{Walk}
-use Rattle.c_types_expressions.specs.Names.{found}
-use Rattle.c_types_expressions.specs.Walked.{Faulty, Done, Fine, Walked}
 use Rattle.c_types_walk.specs.ItemWalk.{is_defined, walk_items}
 use Rattle.c_types_faults.specs.Events.{events_of}
 use Rattle.c_types_faults.proofs.Noting.{Listed}
@@ -69,13 +66,10 @@ begins_by (Some g) h = ap (λ t. begins_program (Some (record { name = g.name; c
 module _ (c : Context) (w : Walk) (k : Files c (shown w)) where
   main_by : (m : Option Meaning) → found (codes "main") w.names ≡ m → Denotes w.declared_types w.functions m (Some (Function main_type))
       → is_listed (codes "main") c.defined ≡ true → is_main m w ≡ true
-  main_by None e h l = absurd h
-  main_by (Some (meaning.Variable i)) e h l = absurd h
-  main_by (Some (meaning.Library f)) e h l = absurd h
-  main_by (Some (meaning.Struct i)) e h l = absurd h
   main_by (Some (meaning.Function i)) e h l = and_from (begins_program (slice_get w.functions i)) (is_defined i w.defined_as)
       (begins_by (slice_get w.functions i) h)
       (listed_is (codes "main") i w.defined_as c.defined (length w.functions) w.names k.flat e k.funs ∙ l)
+  main_by m e h l = absurd h
 
   no_main : has_main w ≡ false → IsKnownAs (codes "main") main_type c × (is_listed (codes "main") c.defined ≡ true) → ⊥
   no_main h m = false≢true (sym h ∙ main_by (found (codes "main") w.names) refl
@@ -98,10 +92,6 @@ module _ (c : Context) (w : Walk) (k : Files c (shown w)) where
   main_found : (m : Option Meaning) (x : Option Entity) → found (codes "main") w.names ≡ m → declared_in (codes "main") c.scope ≡ x
       → Denotes w.declared_types w.functions m x → is_main m w ≡ true
       → IsKnownAs (codes "main") main_type c × (is_listed (codes "main") c.defined ≡ true)
-  main_found None x e g h l = absurd (false≢true l)
-  main_found (Some (meaning.Variable i)) x e g h l = absurd (false≢true l)
-  main_found (Some (meaning.Library f)) x e g h l = absurd (false≢true l)
-  main_found (Some (meaning.Struct i)) x e g h l = absurd (false≢true l)
   main_found (Some (meaning.Function i)) None e g h l = absurd h
   main_found (Some (meaning.Function i)) (Some (Object of)) e g h l = absurd h
   main_found (Some (meaning.Function i)) (Some (Standard f)) e g h l = absurd h
@@ -110,6 +100,7 @@ module _ (c : Context) (w : Walk) (k : Files c (shown w)) where
         g ∙ ap (λ z. Some (Function z)) (program_by (slice_get w.functions i) f h p.0),
         sym (listed_is (codes "main") i w.defined_as c.defined (length w.functions) w.names k.flat e k.funs) ∙ p.1,
       )
+  main_found m x e g h l = absurd (false≢true l)
 
   has_its_main : has_main w ≡ true → IsKnownAs (codes "main") main_type c × (is_listed (codes "main") c.defined ≡ true)
   has_its_main h = main_found (found (codes "main") w.names) (declared_in (codes "main") c.scope) refl refl
@@ -134,7 +125,7 @@ undefined_by n (call ∷ calls) defs token h = by (lacks_definition call defs) r
   where
     by : (b : Bool) → lacks_definition call defs ≡ b → (if b then Some n else first_undefined (n + 1) calls defs) ≡ Some token
         → (first_undefined (n + 1) calls defs ≡ Some token → Undefined (n + 1) calls defs token) → Undefined n (call ∷ calls) defs token
-    by true e h f = let l = lacks_by call defs e in (0, (l.0, (omega (arith, some_is n token h), ap Some l.1.0, l.1.1)))
+    by true e h f = let l = lacks_by call defs e in (0, (l.0, (omega (arith, same_Some n token h), ap Some l.1.0, l.1.1)))
     by false e h f = let u = f h in (suc u.0, (u.1.0, (omega (arith, u.1.1.0), u.1.1.1, u.1.1.2)))
 
 function_entity : (types : List TypeTree) (fs : List FunctionEntry) (i : ℕ) (x : Entity) → Means types fs (meaning.Function i) x → IsFunctionEntity x
@@ -224,7 +215,7 @@ fault_by : (m : Walked Done) (number token : ℕ) → fault_in m ≡ Some (numbe
     → (kind : FaultKind) × ((fault_number kind ≡ number) × (m ≡ Faulty kind token))
 fault_by (Fine value known) number token h = absurd (cc)
 fault_by (Faulty kind index) number token h =
-    let e : (fault_number kind, index) ≡ (number, token) = some_is (fault_number kind, index) (number, token) h in
+    let e : (fault_number kind, index) ≡ (number, token) = same_Some (fault_number kind, index) (number, token) h in
     (kind, (ap (λ (p : ℕ × ℕ). p.0) e, ap (λ (p : ℕ × ℕ). Faulty kind p.1) e))
 
 pub told_text : (t : SourceTree) (number token : ℕ) → fault_of t ≡ Some (number, token)

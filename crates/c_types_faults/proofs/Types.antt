@@ -1,17 +1,15 @@
 -- A type is noted at a token exactly where an expression has it for its own.
 use Rattle.std.proofs.Common.{◌≡◌, ℕ, ◌<◌, ◌-◌, false, length, Option, Some, None, is_some, refl, ap, ◌∙◌, arith}
 use Rattle.std.proofs.lemmas.List.{length-replicate}
-use Rattle.c_syntax.specs.ItemTree.{SourceTree}
-use Rattle.c_syntax.specs.WellFormed.{IsShaped}
+use Rattle.c_types.proofs.Replaced.{noted_same}
+use Rattle.c_syntax.specs.Words.{SourceTree, IsShaped}
 use Rattle.c_types_rules.specs.TypeTree.{TypeTree}
 use Rattle.c_types.specs.Answers.{noted, type_at}
 use Rattle.c_types.specs.Fault.{walk_tree}
-use Rattle.c_types_expressions.specs.Walked.{Fine}
+use Rattle.c_types_expressions.specs.Words.{Fine, meaning_of}
 use Rattle.c_types_expressions.specs.declared.names.Meaning.{Meaning}
 use Rattle.c_types_expressions.specs.declared.names.Meaning.TheVariants as meaning
 use Rattle.c_types_expressions.specs.declared.walk.Walk.{Walk}
-use Rattle.c_types_expressions.specs.Names.{meaning_of}
-use Rattle.c_types_laws.proofs.Steps.{noted_same}
 use Rattle.c_types_faults.specs.Events.{Construct, Calls, Selects, Other, construct_at, events_of}
 use Rattle.c_types_faults.specs.Scopes.{scopes_of}
 use Rattle.c_types_faults.proofs.Leaving.{Left}
@@ -24,11 +22,9 @@ abbrev HasType : ℕ → View → Type 0
 HasType k b = (t : TypeTree) × (noted b.types k ≡ Some t)
 
 called_type : (k : ℕ) (m : Option Meaning) (a b : View) → k < length a.types → CalledAs k m a b → HasType k b
-called_type k None a b h c = absurd c
-called_type k (Some (meaning.Variable index)) a b h c = absurd c
 called_type k (Some (meaning.Function index)) a b h c = (c.0, ap (λ (v : View). noted v.types k) c.1 ∙ noted_same a.types k c.0 h)
 called_type k (Some (meaning.Library function)) a b h c = (c.0, ap (λ (v : View). noted v.types k) c.1 ∙ noted_same a.types k c.0 h)
-called_type k (Some (meaning.Struct index)) a b h c = absurd c
+called_type k m a b h c = absurd c
 
 notes_type : (c : Construct) (k : ℕ) (a b : View) → k < length a.types → Notes c k a b → HasType k b
 notes_type Other k a b h n = (n.0, ap (λ (v : View). noted v.types k) n.1 ∙ noted_same a.types k n.0 h)

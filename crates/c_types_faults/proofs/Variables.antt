@@ -1,24 +1,21 @@
 -- A variable that the walk takes is declared behind it, and one at which it stops breaks a rule.
 use Rattle.std.proofs.Common.{◌⊎◌, inl, inr, ◌≡◌, ℕ, ◌+◌, ◌≤◌, ◌<◌, arith, refl, ap, subst, sym, ◌∙◌, List, [], ◌∷◌, Some, None, Bool, true, false, length}
-use Rattle.c_types_faults.proofs.Fitting.{or_left, or_right, most, most_back}
 use Rattle.std.proofs.lemmas.Bool.Decides.{nat_tests}
 use Rattle.std.proofs.lemmas.Nat.{mul-le}
 use Rattle.std.specs.Prelude.{Option, nat_lt, ◌*◌, nat_le, is_some, ◌&&◌, ◌==◌, if◌then◌else◌, IsSome}
-use Rattle.std.proofs.lemmas.Bool.{and_from, and_parts, eq-eqb, eqb-true, false≢true}
+use Rattle.std.proofs.lemmas.Bool.{and_from, and_parts, eq-eqb, eqb-true, false≢true, or_left, or_right}
+use Rattle.base_lists.proofs.Numbers.{is_less, is_most, most_is}
 use Rattle.c_syntax.specs.StatementTree.{InitialTree}
 use Rattle.c_types_rules.specs.declared.fault.FaultKind.{FaultKind}
 use Rattle.c_types_rules.specs.declared.fault.FaultKind.TheVariants as fault
 use Rattle.c_types_rules.specs.declared.layout.StructType.{StructType}
 use Rattle.c_types_rules.specs.declared.library.Library.{Library}
-use Rattle.c_types_rules.specs.Library.{library_named}
-use Rattle.c_types_rules.specs.Sizes.{cells_of, is_complete, is_object, most_cells}
-use Rattle.c_types_rules.specs.TypeTree.{TypeTree, Void, Char, Int, Unsigned, Pointer, Array, Struct}
+use Rattle.c_types_rules.specs.Words.{library_named, cells_of, is_complete, is_object, most_cells, TypeTree, Void, Char, Int, Unsigned, Pointer, Array, Struct}
 use Rattle.c_types_expressions.specs.declared.names.Meaning.TheVariants as meaning
 use Rattle.c_types_expressions.specs.declared.names.ScopeEntry.{ScopeEntry}
 use Rattle.c_types_expressions.specs.declared.names.ScopeEntry.TheVariants.{Opens, Declares}
 use Rattle.c_types_expressions.specs.declared.walk.Walk.{Walk}
-use Rattle.c_types_expressions.specs.Names.{closed, is_here, is_name_taken, is_reserved}
-use Rattle.c_types_expressions.specs.Walked.{Fine, Faulty, Done}
+use Rattle.c_types_expressions.specs.Words.{closed, is_here, is_name_taken, is_reserved, Fine, Faulty, Done}
 use Rattle.c_types_walk.specs.Declarators.{is_open}
 use Rattle.c_types_walk.specs.StatementWalk.{counted_cells, sized}
 use Rattle.c_types_faults.specs.Known.{Object}
@@ -69,10 +66,10 @@ closed_pushed (p ∷ ps) names = closed_pushed ps names
 
 pub object_is : (ss : List StructType) (t : TypeTree) → is_object ss t ≡ true → IsObject ss t
 object_is ss t h =
-    let k = and_parts (is_complete ss t) (nat_le (cells_of ss t) most_cells) h in (k.0, most (cells_of ss t) most_cells k.1)
+    let k = and_parts (is_complete ss t) (nat_le (cells_of ss t) most_cells) h in (k.0, is_most (cells_of ss t) most_cells k.1)
 
 pub object_back : (ss : List StructType) (t : TypeTree) → IsObject ss t → is_object ss t ≡ true
-object_back ss t h = and_from (is_complete ss t) (nat_le (cells_of ss t) most_cells) h.0 (most_back (cells_of ss t) most_cells h.1)
+object_back ss t h = and_from (is_complete ss t) (nat_le (cells_of ss t) most_cells) h.0 (most_is (cells_of ss t) most_cells h.1)
 
 pub no_object : (ss : List StructType) (t : TypeTree) → is_object ss t ≡ false → IsObject ss t → ⊥
 no_object ss t h o = false≢true (sym h ∙ object_back ss t o)
@@ -84,7 +81,7 @@ room_tells : (b : Bool) (token n : ℕ) (c : Context) (t : TypeTree) (w : Walk) 
 room_tells true token n c t w k e h = record {
   by = (
     subst (λ m. m ≤ most_cells) (sym (ap (λ x. x + cells_of c.structs t) k.cells
-        ∙ ap (λ x. w.global_cells + x) e)) (most (w.global_cells + n) most_cells h),
+        ∙ ap (λ x. w.global_cells + x) e)) (is_most (w.global_cells + n) most_cells h),
     refl,
   );
 }
@@ -92,7 +89,7 @@ room_tells false token n c t w k e h = record {
   by = (
     refl,
     refl,
-    λ r. false≢true (sym h ∙ most_back (w.global_cells + n) most_cells
+    λ r. false≢true (sym h ∙ most_is (w.global_cells + n) most_cells
         (subst (λ m. m ≤ most_cells) (ap (λ x. x + cells_of c.structs t) k.cells ∙ ap (λ x. w.global_cells + x) e) r)),
   );
 }
@@ -126,24 +123,16 @@ sized_tells global token t c w k = size_by (is_object w.structs t) global token 
 
 -- the elements of an array that is an object
 
-less_by : (m n : ℕ) → nat_lt m n ≡ true → m < n
-less_by m n h = grind (arith, nat_tests, h)
-
 pub element_object : (ss : List StructType) (element : TypeTree) (size : ℕ) → IsObject ss (Array element size) → IsObject ss element
 element_object ss element size h =
     let p = and_parts (nat_lt 0 size) (is_complete ss element) h.0 in
-    let n : 0 < size = less_by 0 size p.0 in
+    let n : 0 < size = is_less 0 size p.0 in
     let m : 1 * cells_of ss element ≤ size * cells_of ss element = mul-le 1 (cells_of ss element) size (cells_of ss element) (omega (arith, n)) (omega arith) in
     (p.1, omega (arith, m, h.1))
 
 pub object_elements : (ss : List StructType) (t : TypeTree) → IsObject ss t → ElementBreaks ss t → ⊥
 object_elements ss (Array element size) h b = b (element_object ss element size h)
-object_elements ss Void h b = b
-object_elements ss Char h b = b
-object_elements ss Int h b = b
-object_elements ss Unsigned h b = b
-object_elements ss (Pointer to) h b = b
-object_elements ss (Struct tag) h b = b
+object_elements ss t h b = b
 
 -- an array whose length isn't known yet
 
@@ -160,12 +149,7 @@ opens_by ss t None h = absurd (false≢true h)
 pub opens_elements : (ss : List StructType) (t : TypeTree) (initial : Option InitialTree) → (is_some initial && is_open ss t) ≡ true → ElementBreaks ss t → ⊥
 opens_elements ss (Array element size) (Some i) h b = b (object_is ss element (and_parts (size == 0) (is_object ss element) h).1)
 opens_elements ss (Array element size) None h b = false≢true h
-opens_elements ss Void initial h b = b
-opens_elements ss Char initial h b = b
-opens_elements ss Int initial h b = b
-opens_elements ss Unsigned initial h b = b
-opens_elements ss (Pointer to) initial h b = b
-opens_elements ss (Struct tag) initial h b = b
+opens_elements ss t initial h b = b
 
 element_by : (ss : List StructType) (element : TypeTree) (size : ℕ) (i : InitialTree) (b : Bool) → (size == 0) ≡ b → (b && is_object ss element) ≡ false
     → (IsOpen (Array element size) (Some i) → ⊥) ⊎ (IsOpen (Array element size) (Some i) × ElementBreaks ss (Array element size))

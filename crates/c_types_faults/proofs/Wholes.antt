@@ -9,15 +9,11 @@ use Rattle.c_types_rules.specs.declared.fault.FaultKind.TheVariants as fault
 use Rattle.c_types_rules.specs.declared.library.Library.{Library}
 use Rattle.c_types_rules.specs.declared.library.Library.TheVariants as library
 use Rattle.c_types_rules.specs.declared.operand.Operand.{Operand}
-use Rattle.c_types_rules.specs.TypeTree.{Int}
-use Rattle.c_types_rules.specs.Conversions.{value_of}
-use Rattle.c_types_rules.specs.Faults.{Looked}
-use Rattle.c_types_rules.specs.Library.{fits_format}
+use Rattle.c_types_rules.specs.Words.{Int, value_of, Looked, fits_format}
 use Rattle.c_types_expressions.specs.declared.names.Meaning.{Meaning}
 use Rattle.c_types_expressions.specs.declared.names.Meaning.TheVariants as meaning
 use Rattle.c_types_expressions.specs.declared.walk.Walk.{Walk}
-use Rattle.c_types_expressions.specs.ExprWalk.{flat, format_of, walk_whole, whole_call}
-use Rattle.c_types_expressions.specs.Names.{meaning_of}
+use Rattle.c_types_expressions.specs.Words.{flat, format_of, walk_whole, whole_call, meaning_of}
 use Rattle.c_types_laws.proofs.Ruled.{Is}
 use Rattle.c_types_faults.specs.Known.{Entity, Object, Function, Standard, Known}
 use Rattle.c_types_faults.specs.Agrees.{Denotes}
@@ -47,9 +43,9 @@ no_format : {A : Type 0} (d : Operand) → Is (Err fault.Arguments) d → A
 no_format d h = absurd (cc)
 
 format_is : (arguments : ExprList) (xs : List Operand) (d : Operand) → Is (format_of arguments xs) d → IsFormatted arguments xs × (d ≡ value_of Int)
+format_is (e.more_exprs (e.Strings token parts) rest) (x ∷ xs) d h = printed_is (fits_format (flat parts) xs) d h
 format_is e.no_exprs xs d h = no_format d h
 format_is (e.more_exprs (e.Strings token parts) rest) [] d h = no_format d h
-format_is (e.more_exprs (e.Strings token parts) rest) (x ∷ xs) d h = printed_is (fits_format (flat parts) xs) d h
 format_is (e.more_exprs (e.Comma token operands) rest) xs d h = no_format d h
 format_is (e.more_exprs (e.Assign token s target value) rest) xs d h = no_format d h
 format_is (e.more_exprs (e.Conditional token condition first second) rest) xs d h = no_format d h
@@ -67,9 +63,9 @@ format_is (e.more_exprs (e.EndOfFile token) rest) xs d h = no_format d h
 
 format_breaks : (arguments : ExprList) (xs : List Operand) (j : FaultKind) → IsErr (format_of arguments xs) j
     → (j ≡ fault.Arguments) × (IsFormatted arguments xs → ⊥)
+format_breaks (e.more_exprs (e.Strings token parts) rest) (x ∷ xs) j h = printed_breaks (fits_format (flat parts) xs) j h
 format_breaks e.no_exprs xs j h = (fault_is fault.Arguments j h, λ f. f)
 format_breaks (e.more_exprs (e.Strings token parts) rest) [] j h = (fault_is fault.Arguments j h, λ f. f)
-format_breaks (e.more_exprs (e.Strings token parts) rest) (x ∷ xs) j h = printed_breaks (fits_format (flat parts) xs) j h
 format_breaks (e.more_exprs (e.Comma token operands) rest) xs j h = (fault_is fault.Arguments j h, λ f. f)
 format_breaks (e.more_exprs (e.Assign token s target value) rest) xs j h = (fault_is fault.Arguments j h, λ f. f)
 format_breaks (e.more_exprs (e.Conditional token condition first second) rest) xs j h = (fault_is fault.Arguments j h, λ f. f)
@@ -101,38 +97,23 @@ module _ (k : Known) (token : ℕ) (arguments : ExprList) (xs : List Operand) wh
   plain_call m x w h = weaker h (λ j at b. b) (λ d v p. (inl p.0, p.1))
 
   standard_tells : (f : Library) (w : Walk) → Told (Some (meaning.Library f)) (Some (Standard f)) w
-  standard_tells library.Getchar w = plain_call (Some (meaning.Library library.Getchar)) (Some (Standard library.Getchar)) w
-      (call_tells k token xs (Some (meaning.Library library.Getchar)) (Some (Standard library.Getchar)) w refl)
-  standard_tells library.Putchar w = plain_call (Some (meaning.Library library.Putchar)) (Some (Standard library.Putchar)) w
-      (call_tells k token xs (Some (meaning.Library library.Putchar)) (Some (Standard library.Putchar)) w refl)
-  standard_tells library.Puts w = plain_call (Some (meaning.Library library.Puts)) (Some (Standard library.Puts)) w
-      (call_tells k token xs (Some (meaning.Library library.Puts)) (Some (Standard library.Puts)) w refl)
-  standard_tells library.Malloc w = plain_call (Some (meaning.Library library.Malloc)) (Some (Standard library.Malloc)) w
-      (call_tells k token xs (Some (meaning.Library library.Malloc)) (Some (Standard library.Malloc)) w refl)
-  standard_tells library.Free w = plain_call (Some (meaning.Library library.Free)) (Some (Standard library.Free)) w
-      (call_tells k token xs (Some (meaning.Library library.Free)) (Some (Standard library.Free)) w refl)
-  standard_tells library.Exit w = plain_call (Some (meaning.Library library.Exit)) (Some (Standard library.Exit)) w
-      (call_tells k token xs (Some (meaning.Library library.Exit)) (Some (Standard library.Exit)) w refl)
-  standard_tells library.Abort w = plain_call (Some (meaning.Library library.Abort)) (Some (Standard library.Abort)) w
-      (call_tells k token xs (Some (meaning.Library library.Abort)) (Some (Standard library.Abort)) w refl)
-  standard_tells library.Assert w = plain_call (Some (meaning.Library library.Assert)) (Some (Standard library.Assert)) w
-      (call_tells k token xs (Some (meaning.Library library.Assert)) (Some (Standard library.Assert)) w refl)
   standard_tells library.Printf w = looks token (format_of arguments xs) w
       (λ d h. let f = format_is arguments xs d h in (inr (refl, f.0, f.1), refl)) (λ j h. (refl, format_breaks arguments xs j h))
+  standard_tells f w = plain_call (Some (meaning.Library f)) (Some (Standard f)) w (call_tells k token xs (Some (meaning.Library f)) (Some (Standard f)) w refl)
 
   whole_call_tells : (m : Option Meaning) (x : Option Entity) (w : Walk) → Denotes w.declared_types w.functions m x → Told m x w
   whole_call_tells (Some (meaning.Library f)) (Some (Standard g)) w h = subst (λ a. Told (Some (meaning.Library f)) (Some (Standard a)) w) h
       (standard_tells f w)
-  whole_call_tells (Some (meaning.Library f)) (Some (Object of)) w h = absurd h
-  whole_call_tells (Some (meaning.Library f)) (Some (Function g)) w h = absurd h
   whole_call_tells None None w h = plain_call None None w (call_tells k token xs None None w h)
-  whole_call_tells None (Some x) w h = absurd h
   whole_call_tells (Some (meaning.Function index)) (Some (Function f)) w h = plain_call (Some (meaning.Function index)) (Some (Function f)) w
       (call_tells k token xs (Some (meaning.Function index)) (Some (Function f)) w h)
-  whole_call_tells (Some (meaning.Function index)) (Some (Object of)) w h = absurd h
-  whole_call_tells (Some (meaning.Function index)) (Some (Standard f)) w h = absurd h
   whole_call_tells (Some (meaning.Variable index)) (Some (Object of)) w h = plain_call (Some (meaning.Variable index)) (Some (Object of)) w
       (call_tells k token xs (Some (meaning.Variable index)) (Some (Object of)) w h)
+  whole_call_tells (Some (meaning.Library f)) (Some (Object of)) w h = absurd h
+  whole_call_tells (Some (meaning.Library f)) (Some (Function g)) w h = absurd h
+  whole_call_tells None (Some x) w h = absurd h
+  whole_call_tells (Some (meaning.Function index)) (Some (Object of)) w h = absurd h
+  whole_call_tells (Some (meaning.Function index)) (Some (Standard f)) w h = absurd h
   whole_call_tells (Some (meaning.Variable index)) (Some (Function f)) w h = absurd h
   whole_call_tells (Some (meaning.Variable index)) (Some (Standard f)) w h = absurd h
   whole_call_tells (Some (meaning.Struct index)) (Some x) w h = absurd h
@@ -149,17 +130,4 @@ module _ (k : Known) where
       weaker (whole_call_tells k token arguments xs (meaning_of name v.names) (k.ordinary name) v ((agrees_on g p.1).by.ordinary name))
       (λ j at h. inr (xs, (subst (AreOperands k arguments) (sym p.0.1.0) p.0.1.1, h)))
       (λ d u q. (whole_is token name arguments xs d (subst (AreOperands k arguments) (sym p.0.1.0) p.0.1.1) q.0, q.1 ∙ p.1)))
-  whole_tells (e.Comma token operands) w g = expr_tells k (e.Comma token operands) w g
-  whole_tells (e.Assign token s target value) w g = expr_tells k (e.Assign token s target value) w g
-  whole_tells (e.Conditional token condition first second) w g = expr_tells k (e.Conditional token condition first second) w g
-  whole_tells (e.Chain level first links) w g = expr_tells k (e.Chain level first links) w g
-  whole_tells (e.Cast token b stars operand) w g = expr_tells k (e.Cast token b stars operand) w g
-  whole_tells (e.Prefix token o operand) w g = expr_tells k (e.Prefix token o operand) w g
-  whole_tells (e.SizeOfType token b stars) w g = expr_tells k (e.SizeOfType token b stars) w g
-  whole_tells (e.Postfix primary operators) w g = expr_tells k (e.Postfix primary operators) w g
-  whole_tells (e.Name token name) w g = expr_tells k (e.Name token name) w g
-  whole_tells (e.Constant token of value) w g = expr_tells k (e.Constant token of value) w g
-  whole_tells (e.Paren token inner) w g = expr_tells k (e.Paren token inner) w g
-  whole_tells (e.Null token) w g = expr_tells k (e.Null token) w g
-  whole_tells (e.EndOfFile token) w g = expr_tells k (e.EndOfFile token) w g
-  whole_tells (e.Strings token parts) w g = expr_tells k (e.Strings token parts) w g
+  whole_tells x w g = expr_tells k x w g

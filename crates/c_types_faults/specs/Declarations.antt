@@ -4,8 +4,7 @@ use Rattle.c_syntax.specs.StatementTree.{DeclarationTree, InitialTree, StartTree
 use Rattle.c_types_rules.specs.declared.fault.FaultKind.{FaultKind}
 use Rattle.c_types_rules.specs.declared.fault.FaultKind.TheVariants as fault
 use Rattle.c_types_rules.specs.declared.layout.StructType.{StructType}
-use Rattle.c_types_rules.specs.TypeTree.{TypeTree, Array}
-use Rattle.c_types_rules.specs.Sizes.{cells_of, is_complete, most_cells}
+use Rattle.c_types_rules.specs.Words.{TypeTree, Array, cells_of, is_complete, most_cells}
 use Rattle.c_types_faults.specs.Known.{Object}
 use Rattle.c_types_faults.specs.Least.{IsLeast}
 use Rattle.c_types_faults.specs.Context.{Context, IsTaken, counting, declare, known}

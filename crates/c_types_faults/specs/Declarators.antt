@@ -3,8 +3,7 @@ use Rattle.std.specs.Prelude.{◌≡◌, ℕ, ◌≤◌, pos, List, [], ◌∷�
 use Rattle.c_syntax.specs.declared.parts.Bound.{Bound}
 use Rattle.c_syntax.specs.declared.parts.Constant.{Constant}
 use Rattle.c_syntax.specs.declared.parts.Declarator.{Declarator}
-use Rattle.c_types_rules.specs.TypeTree.{TypeTree, Array}
-use Rattle.c_types_rules.specs.Sizes.{most_cells}
+use Rattle.c_types_rules.specs.Words.{TypeTree, Array, most_cells}
 use Rattle.c_types_expressions.specs.ExprWalk.{with_stars}
 
 -- The length of an array is from 1 on (6.7.5.2p1); a longer one than the greatest object has more cells than that, whatever its elements are.

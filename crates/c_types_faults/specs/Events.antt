@@ -4,12 +4,10 @@ use Rattle.std.specs.List.{list_any}
 use Rattle.c_syntax.specs.declared.parts.Param.{Param}
 use Rattle.c_syntax.specs.declared.parts.ParamName.{ParamName}
 use Rattle.c_syntax.specs.ExprTree as e
-use Rattle.c_syntax.specs.ExprTree.{ExprTree, ExprList, LinkList, PostfixList}
+use Rattle.c_syntax.specs.Words.{ExprTree, ExprList, LinkList, PostfixList, InitialTree, StartTree, DeclarationTree, ForStartTree, StatementTree, EntryList}
+use Rattle.c_syntax.specs.Words.{ItemTree, SourceTree, declarator_kinds}
 use Rattle.c_syntax.specs.StatementTree as s
-use Rattle.c_syntax.specs.StatementTree.{InitialTree, StartTree, DeclarationTree, ForStartTree, StatementTree, EntryList}
 use Rattle.c_syntax.specs.ItemTree as i
-use Rattle.c_syntax.specs.ItemTree.{ItemTree, SourceTree}
-use Rattle.c_syntax.specs.Spelling.{declarator_kinds}
 use Rattle.c_types_walk.specs.ItemWalk.{listed_params}
 use Rattle.c_meaning.specs.Trees.{token_of}
 

@@ -6,9 +6,7 @@ use Rattle.c_syntax.specs.ExprTree.{ExprTree, ExprList, LinkList, PostfixList}
 use Rattle.c_types_rules.specs.declared.fault.FaultKind.{FaultKind}
 use Rattle.c_types_rules.specs.declared.fault.FaultKind.TheVariants as fault
 use Rattle.c_types_rules.specs.declared.operand.Operand.{Operand}
-use Rattle.c_types_rules.specs.TypeTree.{TypeTree}
-use Rattle.c_types_rules.specs.Conversions.{value_type}
-use Rattle.c_types_rules.specs.Sizes.{is_complete}
+use Rattle.c_types_rules.specs.Words.{TypeTree, value_type, is_complete}
 use Rattle.c_types_expressions.specs.ExprWalk.{binary_of, compound_of, with_stars}
 use Rattle.c_types_laws.specs.Operands.{Casts, Chooses, Indexes, Joins, Selects, SelectsBehind, Steps}
 use Rattle.c_types_faults.specs.Known.{Known}

@@ -7,8 +7,7 @@ use Rattle.c_types_rules.specs.declared.fault.FaultKind.{FaultKind}
 use Rattle.c_types_rules.specs.declared.fault.FaultKind.TheVariants as fault
 use Rattle.c_types_rules.specs.declared.layout.StructType.{StructType}
 use Rattle.c_types_rules.specs.declared.operand.Operand.{Operand}
-use Rattle.c_types_rules.specs.TypeTree.{TypeTree, Pointer}
-use Rattle.c_types_rules.specs.Conversions.{is_struct, value_of, value_type}
+use Rattle.c_types_rules.specs.Words.{TypeTree, Pointer, is_struct, value_of, value_type}
 use Rattle.c_types_laws.specs.Operands.{Accepts, IsArithmetic, IsModifiable, Operates, PointsToObject, Prefixes, Selects}
 use Rattle.c_types_faults.specs.Known.{Entity, Object, Function, Standard}
 use Rattle.c_types_faults.specs.Least.{IsLeast}

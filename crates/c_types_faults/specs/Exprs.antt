@@ -4,9 +4,7 @@ use Rattle.std.specs.Prelude.{◌≡◌, true, List, [], ◌∷◌, Some}
 use Rattle.c_syntax.specs.ExprTree as e
 use Rattle.c_syntax.specs.ExprTree.{ExprTree, ExprList, LinkList, PostfixList}
 use Rattle.c_types_rules.specs.declared.operand.Operand.{Operand}
-use Rattle.c_types_rules.specs.TypeTree.{TypeTree, Void, Int, Unsigned}
-use Rattle.c_types_rules.specs.Conversions.{constant_of, enclosed, null_of, place_of, string_of, value_of, value_type}
-use Rattle.c_types_rules.specs.Sizes.{is_complete}
+use Rattle.c_types_rules.specs.Words.{TypeTree, Void, Int, Unsigned, constant_of, enclosed, null_of, place_of, string_of, value_of, value_type, is_complete}
 use Rattle.c_types_expressions.specs.ExprWalk.{binary_of, compound_of, string_cells, with_stars}
 use Rattle.c_types_laws.specs.Operands.{Assigns, Casts, Chooses, Indexes, Joins, Selects, SelectsBehind, Steps}
 use Rattle.c_types_faults.specs.Known.{Known, Object}

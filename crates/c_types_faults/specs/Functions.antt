@@ -10,8 +10,7 @@ use Rattle.c_syntax.specs.StatementTree.{EntryList}
 use Rattle.c_types_rules.specs.declared.fault.FaultKind.{FaultKind}
 use Rattle.c_types_rules.specs.declared.fault.FaultKind.TheVariants as fault
 use Rattle.c_types_rules.specs.declared.function.FunctionType.{FunctionType}
-use Rattle.c_types_rules.specs.TypeTree.{TypeTree, Pointer}
-use Rattle.c_types_rules.specs.Conversions.{is_scalar, is_struct}
+use Rattle.c_types_rules.specs.Words.{TypeTree, Pointer, is_scalar, is_struct}
 use Rattle.c_types_expressions.specs.ExprWalk.{with_stars}
 use Rattle.c_types_faults.specs.Known.{Object, Function}
 use Rattle.c_types_faults.specs.Least.{IsLeast}

@@ -2,15 +2,12 @@
 use Rattle.std.specs.Prelude.{◌≡◌, ◌⊎◌, ℕ, ◌+◌, ◌≤◌, Bool, true, false, List, [], ◌∷◌, length, Option, Some, None}
 use Rattle.c_syntax.specs.declared.expr.PrefixOperator.TheVariants as prefix
 use Rattle.c_syntax.specs.ExprTree as e
-use Rattle.c_syntax.specs.ExprTree.{ExprTree, ExprList}
-use Rattle.c_syntax.specs.FirstToken.{first_token}
+use Rattle.c_syntax.specs.Words.{ExprTree, ExprList, first_token, InitialTree}
 use Rattle.c_syntax.specs.StatementTree as s
-use Rattle.c_syntax.specs.StatementTree.{InitialTree}
 use Rattle.c_types_rules.specs.declared.fault.FaultKind.{FaultKind}
 use Rattle.c_types_rules.specs.declared.fault.FaultKind.TheVariants as fault
 use Rattle.c_types_rules.specs.declared.operand.Operand.{Operand}
-use Rattle.c_types_rules.specs.TypeTree.{TypeTree, Char, Array}
-use Rattle.c_types_rules.specs.Conversions.{is_scalar}
+use Rattle.c_types_rules.specs.Words.{TypeTree, Char, Array, is_scalar}
 use Rattle.c_types_expressions.specs.ExprWalk.{string_cells}
 use Rattle.c_types_laws.specs.Operands.{Accepts}
 use Rattle.c_types_faults.specs.Known.{Known}

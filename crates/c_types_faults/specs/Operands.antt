@@ -4,8 +4,7 @@ use Rattle.c_syntax.specs.declared.expr.PrefixOperator.{PrefixOperator}
 use Rattle.c_syntax.specs.declared.expr.PrefixOperator.TheVariants as prefix
 use Rattle.c_types_rules.specs.declared.layout.StructType.{StructType}
 use Rattle.c_types_rules.specs.declared.operand.Operand.{Operand}
-use Rattle.c_types_rules.specs.TypeTree.{TypeTree}
-use Rattle.c_types_rules.specs.Conversions.{is_struct, value_type}
+use Rattle.c_types_rules.specs.Words.{TypeTree, is_struct, value_type}
 use Rattle.c_types_laws.specs.Operands.{Prefixes}
 
 -- a value of such a type

@@ -4,10 +4,9 @@ use Rattle.std.specs.Prelude.{ℕ, ◌+◌, ◌-◌, nat_le, Bool, false, ◌&&�
 use Rattle.c_syntax.specs.declared.parts.Param.{Param}
 use Rattle.c_syntax.specs.declared.parts.ParamName.{ParamName}
 use Rattle.c_syntax.specs.StatementTree as s
-use Rattle.c_syntax.specs.StatementTree.{StartTree, DeclarationTree, ForStartTree, StatementTree, EntryList}
+use Rattle.c_syntax.specs.Words.{StartTree, DeclarationTree, ForStartTree, StatementTree, EntryList, ItemTree, SourceTree, Kinds, declarator_kinds, item_kinds}
+use Rattle.c_syntax.specs.Words.{param_name_kinds, statement_kinds}
 use Rattle.c_syntax.specs.ItemTree as i
-use Rattle.c_syntax.specs.ItemTree.{ItemTree, SourceTree}
-use Rattle.c_syntax.specs.Spelling.{Kinds, declarator_kinds, item_kinds, param_name_kinds, statement_kinds}
 use Rattle.c_types_expressions.specs.declared.walk.VariableEntry.{VariableEntry}
 use Rattle.c_types_walk.specs.ItemWalk.{listed_params}
 

@@ -1,14 +1,12 @@
 -- Which statements keep the rules (C99 6.8), and which rule one breaks first: from left to right a part of it does, where those before it keep the rules; or
 -- all of them do, and the statement itself breaks one, at its own token.
 use Rattle.std.specs.Prelude.{◌≡◌, ◌⊎◌, ℕ, Bool, true, false, Option, Some, None}
-use Rattle.c_syntax.specs.ExprTree.{ExprTree}
+use Rattle.c_syntax.specs.Words.{ExprTree, EntryList, ForStartTree, StatementTree}
 use Rattle.c_syntax.specs.StatementTree as s
-use Rattle.c_syntax.specs.StatementTree.{EntryList, ForStartTree, StatementTree}
 use Rattle.c_types_rules.specs.declared.fault.FaultKind.{FaultKind}
 use Rattle.c_types_rules.specs.declared.fault.FaultKind.TheVariants as fault
 use Rattle.c_types_rules.specs.declared.operand.Operand.{Operand}
-use Rattle.c_types_rules.specs.TypeTree.{TypeTree}
-use Rattle.c_types_rules.specs.Conversions.{is_struct, is_void}
+use Rattle.c_types_rules.specs.Words.{TypeTree, is_struct, is_void}
 use Rattle.c_types_laws.specs.Operands.{Accepts, IsScalar}
 use Rattle.c_types_faults.specs.Known.{Known}
 use Rattle.c_types_faults.specs.Context.{Context, inner, known}

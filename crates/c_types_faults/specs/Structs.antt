@@ -6,8 +6,7 @@ use Rattle.c_types_rules.specs.declared.fault.FaultKind.{FaultKind}
 use Rattle.c_types_rules.specs.declared.fault.FaultKind.TheVariants as fault
 use Rattle.c_types_rules.specs.declared.layout.Member.{Member}
 use Rattle.c_types_rules.specs.declared.layout.StructType.{StructType}
-use Rattle.c_types_rules.specs.TypeTree.{TypeTree}
-use Rattle.c_types_rules.specs.Sizes.{empty_struct, most_cells, with_member}
+use Rattle.c_types_rules.specs.Words.{TypeTree, empty_struct, most_cells, with_member}
 use Rattle.c_types_faults.specs.Least.{IsLeast}
 use Rattle.c_types_faults.specs.Context.{Context, Tagged, known}
 use Rattle.c_types_faults.specs.Types.{BaseBreaks, IsBase}

@@ -1,8 +1,7 @@
 -- Which texts keep the rules, and which rule one breaks first (C99 5.1.2.2.1, 6.9): one of its items does, by the declarations before it; or, behind the last
 -- one, it has no `main`; or it has, and calls a function that it doesn't define.
 use Rattle.std.specs.Prelude.{◌≡◌, ◌⊎◌, ℕ, ◌<◌, Bool, true, false, List, [], ◌∷◌, length, codes}
-use Rattle.c_syntax.specs.ItemTree.{SourceTree}
-use Rattle.c_syntax.specs.WellFormed.{IsShaped}
+use Rattle.c_syntax.specs.Words.{SourceTree, IsShaped}
 use Rattle.c_types_rules.specs.declared.fault.FaultKind.{FaultKind}
 use Rattle.c_types_rules.specs.declared.fault.FaultKind.TheVariants as fault
 use Rattle.c_types_rules.specs.declared.function.FunctionType.{FunctionType}

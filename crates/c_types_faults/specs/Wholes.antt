@@ -6,9 +6,7 @@ use Rattle.c_types_rules.specs.declared.fault.FaultKind.{FaultKind}
 use Rattle.c_types_rules.specs.declared.fault.FaultKind.TheVariants as fault
 use Rattle.c_types_rules.specs.declared.library.Library.TheVariants as library
 use Rattle.c_types_rules.specs.declared.operand.Operand.{Operand}
-use Rattle.c_types_rules.specs.TypeTree.{Int}
-use Rattle.c_types_rules.specs.Conversions.{value_of}
-use Rattle.c_types_rules.specs.Library.{fits_format}
+use Rattle.c_types_rules.specs.Words.{Int, value_of, fits_format}
 use Rattle.c_types_expressions.specs.ExprWalk.{flat}
 use Rattle.c_types_faults.specs.Known.{Entity, Standard, Known}
 use Rattle.c_types_faults.specs.Exprs.{AreOperands, IsOperand}

@@ -1,15 +1,10 @@
 ghost use Rattle.std.specs.Prelude.{◌≡◌, ℕ, Bool, Some};
 ghost use Rattle.c_types_rules.specs.declared.fault.FaultKind.{FaultKind};
 ghost use Rattle.c_types_rules.specs.declared.operand.Operand.{Operand};
-ghost use Rattle.c_types_rules.specs.TypeTree.{TypeTree};
-ghost use Rattle.c_syntax.specs.ExprTree.{ExprTree};
-ghost use Rattle.c_syntax.specs.ItemTree.{ItemTree, SourceTree};
-ghost use Rattle.c_syntax.specs.StatementTree.{StatementTree};
-ghost use Rattle.c_syntax.specs.WellFormed.{IsShaped};
-ghost use Rattle.c_types_rules.specs.Faults.{fault_number};
+ghost use Rattle.c_types_rules.specs.Words.{TypeTree, fault_number};
+ghost use Rattle.c_syntax.specs.Words.{ExprTree, ItemTree, SourceTree, StatementTree, IsShaped};
 ghost use Rattle.c_types.specs.Fault.{fault_of, walk_tree};
-ghost use Rattle.c_types_expressions.specs.ExprWalk.{walk_expr};
-ghost use Rattle.c_types_expressions.specs.Walked.{Fine, Faulty};
+ghost use Rattle.c_types_expressions.specs.Words.{walk_expr, Fine, Faulty};
 ghost use Rattle.c_types_expressions.specs.declared.walk.Walk.{Walk};
 ghost use Rattle.c_types_faults.specs.Agrees.{Agrees};
 ghost use Rattle.c_types_faults.specs.Context.{Context};

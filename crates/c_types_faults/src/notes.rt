@@ -1,6 +1,5 @@
 ghost use Rattle.std.specs.Prelude.{◌≡◌, ℕ, true, is_some, map, slice_get};
-ghost use Rattle.c_syntax.specs.ItemTree.{SourceTree};
-ghost use Rattle.c_syntax.specs.WellFormed.{IsShaped};
+ghost use Rattle.c_syntax.specs.Words.{SourceTree, IsShaped};
 ghost use Rattle.c_types.specs.Answers.{function_at, scope_holds, type_at};
 ghost use Rattle.c_types.specs.Fault.{walk_tree};
 ghost use Rattle.c_types_expressions.specs.Walked.{Fine};

@@ -4,6 +4,9 @@ use Rattle.std.proofs.Common.{true, false, length, length-append}
 use Rattle.std.specs.Prelude.{slice_get, MatchOption}
 use Rattle.std.proofs.lemmas.Bool.{cases_lt}
 use Rattle.std.proofs.lemmas.Option.{slice_get_past, slice_get_within}
+use Rattle.c_types.proofs.Replaced.{noted_other, noted_same}
+use Rattle.c_types.proofs.Noted.{length_replaced}
+use Rattle.base_lists.proofs.Lists.{get_before, get_either, get_last, Stays}
 use Rattle.c_types_rules.specs.TypeTree.{TypeTree}
 use Rattle.c_types_expressions.specs.declared.names.Meaning.TheVariants as meaning
 use Rattle.c_types_expressions.specs.declared.names.ScopeEntry.TheVariants.{Opens}
@@ -12,37 +15,16 @@ use Rattle.c_types_expressions.specs.declared.walk.Variable.{Variable}
 use Rattle.c_types_expressions.specs.declared.walk.VariableEntry.{VariableEntry}
 use Rattle.c_types_expressions.specs.declared.walk.Walk.{Walk}
 use Rattle.c_types.specs.Answers.{noted}
-use Rattle.c_types_expressions.specs.Names.{closed}
-use Rattle.c_types_expressions.specs.Walked.{ended_scopes, numbered, opened, replaced, with_variable}
+use Rattle.c_types_expressions.specs.Words.{closed, ended_scopes, numbered, opened, replaced, with_variable}
 use Rattle.c_types_laws.specs.Naming.{BeginsAt, DeclaresVariable, IsNamed}
-use Rattle.c_types_laws.proofs.Scenes.{EndsOn, IsBefore, Scene, Sound, Stays, closes_ended, ended_long, ends_ended, ends_here, opens_ended, replaced_long}
-use Rattle.c_types_laws.proofs.Scenes.{scene, some_is, some_none, stack_ended, stack_same}
-use Rattle.c_types_laws.proofs.Steps.{IsFlat, Later, Part, Ready, Same, later_then, noted_other, noted_same, sound_later}
+use Rattle.c_types_laws.proofs.Scenes.{EndsOn, IsBefore, Scene, Sound, closes_ended, ended_long, ends_ended, ends_here, opens_ended}
+use Rattle.c_types_laws.proofs.Scenes.{scene, some_none, stack_ended, stack_same}
+use Rattle.c_types_laws.proofs.Steps.{IsFlat, Later, Part, Ready, Same, later_then, sound_later}
 
 -- a list with one more item
 
-pub get_more : {A : Type 0} (xs : List A) (x : A) (q : ℕ) → q < length xs → slice_get (xs ++ x ∷ []) q ≡ slice_get xs q
-get_more [] x q h = absurd (omega (arith, h))
-get_more (y ∷ ys) x zero h = refl
-get_more (y ∷ ys) x (suc q) h = get_more ys x q (omega (arith, h))
-
-pub get_last : {A : Type 0} (xs : List A) (x : A) → slice_get (xs ++ x ∷ []) (length xs) ≡ Some x
-get_last [] x = refl
-get_last (y ∷ ys) x = get_last ys x
-
--- what stands in the longer list stood in the other one, or is the new item at its place
-pub get_either : {A : Type 0} (xs : List A) (x : A) (q : ℕ) (y : A) → slice_get (xs ++ x ∷ []) q ≡ Some y
-    → (slice_get xs q ≡ Some y) ⊎ ((q ≡ length xs) × (x ≡ y))
-get_either [] x zero y h = inr (refl, some_is x y h)
-get_either [] x (suc q) y h = absurd (nothing h)
-  where
-    nothing : None ≡ Some y → ⊥
-    nothing h = absurd (cc)
-get_either (x' ∷ xs) x zero y h = inl h
-get_either (x' ∷ xs) x (suc q) y h = ⊎_elim (λ e. inl e) (λ e. inr (ap suc e.0, e.1)) (get_either xs x q y h)
-
 pub more_stays : {A : Type 0} (xs : List A) (x : A) → Stays xs (xs ++ x ∷ [])
-more_stays xs x = λ i y h. get_more xs x i (slice_get_within xs i y h) ∙ h
+more_stays xs x = λ i y h. get_before xs x i (slice_get_within xs i y h) ∙ h
 
 -- the scene with one more variable
 abbrev pub more : ℕ → List ℕ → Variable → Scene → Scene
@@ -64,7 +46,7 @@ more_sound at token l name number s less h =
         subst (IsBefore at) (sym (get_last s.variables v)) less,
         subst (λ n. slice_get (s.ends ++ None ∷ []) n ≡ Some None) h.long (get_last s.ends None),
         stack_same s.functions s.functions s.variables (s.variables ++ v ∷ []) s.ends (s.ends ++ None ∷ []) at (length s.variables) s.names (λ i x k. k)
-            (λ q k. get_more s.variables v q k) (λ q k. get_more s.ends None q (omega (arith, k, h.long))) h.stack,
+            (λ q k. get_before s.variables v q k) (λ q k. get_before s.ends None q (omega (arith, k, h.long))) h.stack,
       );
       opens = λ q k. ⊎_elim (λ e. inr (h.opens q e)) (λ e. inl (e.0 ∙ h.long)) (get_either s.ends None q None k);
       closes = λ q e k. ⊎_elim (λ i. h.closes q e i) (λ i. some_none e (sym (ap Some i.1))) (get_either s.ends None q (Some e) k);
@@ -79,7 +61,7 @@ more_later at token l name number s low long =
     record {
       variables = more_stays s.variables v;
       behind = λ q e h. ⊎_elim (λ i. inl i) (λ i. inr (subst (λ (x : VariableEntry). at ≤ x.from) i.1 low)) (get_either s.variables v q e h);
-      ends = λ q. ⊎_elim (λ h. subst (λ o. EndsOn l (slice_get s.ends q) o) (sym (get_more s.ends None q h)) (ends_here l (slice_get s.ends q)))
+      ends = λ q. ⊎_elim (λ h. subst (λ o. EndsOn l (slice_get s.ends q) o) (sym (get_before s.ends None q h)) (ends_here l (slice_get s.ends q)))
           (λ h. subst (λ o. EndsOn l o (slice_get (s.ends ++ None ∷ []) q)) (sym (slice_get_past s.ends q h)) tt) (cases_lt q (length s.ends));
       latest = omega arith;
       structs = λ i x h. h;
@@ -127,7 +109,7 @@ module _ {z : Walk} where
       let entry : VariableEntry = record { name = name; variable = number; from = token } in
       record {
         types = ap (λ xs. length xs) t;
-        variables_at = ap (λ xs. length xs) n ∙ replaced_long w.variables_at token (Some (length w.variables));
+        variables_at = ap (λ xs. length xs) n ∙ length_replaced w.variables_at token (Some (length w.variables));
         functions_at = ap (λ xs. length xs) f;
         below = λ q h. same q (λ e. omega (arith, e, low, h));
         above = λ q h. same q (λ e. omega (arith, e, high, h));

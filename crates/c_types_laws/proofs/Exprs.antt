@@ -3,38 +3,33 @@ use Rattle.std.proofs.Common.{append_assoc, inl, inr, ◌≡◌, ℕ, ◌≤◌,
 use Rattle.std.proofs.Common.{Err, Bool, true, false, length, length-append}
 use Rattle.std.specs.Prelude.{Option, if◌then◌else◌}
 use Rattle.std.proofs.lemmas.List.{append-nil}
+use Rattle.c_types_expressions.proofs.Given.{Gives, and_then}
+use Rattle.base_lists.proofs.Lists.{Stays}
 use Rattle.c_syntax.specs.declared.token.Sign.TheVariants as sign
 use Rattle.c_syntax.specs.ExprTree as e
-use Rattle.c_syntax.specs.ExprTree.{ExprTree, ExprList, LinkList, PostfixList}
-use Rattle.c_syntax.specs.Place.{ExprAt, ExprsAt, LinksAt, PostfixAt}
-use Rattle.c_syntax.specs.Shape.{ShapedExpr, ShapedExprs, ShapedLinks, ShapedPostfix}
-use Rattle.c_syntax.specs.Spelling.{a_sign, expr_kinds, exprs_kinds, link_kinds, more_exprs_kinds, parenthesized, postfix_kinds, type_kinds}
+use Rattle.c_syntax.specs.Words.{ExprTree, ExprList, LinkList, PostfixList, ExprAt, ExprsAt, LinksAt, PostfixAt, ShapedExpr, ShapedExprs, ShapedLinks}
+use Rattle.c_syntax.specs.Words.{ShapedPostfix, a_sign, expr_kinds, exprs_kinds, link_kinds, more_exprs_kinds, parenthesized, postfix_kinds, type_kinds}
 use Rattle.c_types_rules.specs.declared.fault.FaultKind.TheVariants as fault
 use Rattle.c_types_rules.specs.declared.library.Library.TheVariants as library
 use Rattle.c_meaning.specs.Trees.{token_of}
 use Rattle.c_types_rules.specs.declared.operand.Operand.{Operand}
 use Rattle.c_types_rules.specs.TypeTree as t
-use Rattle.c_types_rules.specs.TypeTree.{TypeTree}
+use Rattle.c_types_rules.specs.Words.{TypeTree, constant_of, enclosed, is_struct, null_of, place_of, string_of, value_of, fits_format, library_named, cast_to}
+use Rattle.c_types_rules.specs.Words.{measured, stepped, chosen, indexed, member_behind, member_of, sequenced}
 use Rattle.c_types_rules.specs.Conversions as rule
-use Rattle.c_types_rules.specs.Conversions.{constant_of, enclosed, is_struct, null_of, place_of, string_of, value_of}
-use Rattle.c_types_rules.specs.Library.{fits_format, library_named}
-use Rattle.c_types_rules.specs.Operators.{cast_to, measured, stepped}
-use Rattle.c_types_rules.specs.Selecting.{chosen, indexed, member_behind, member_of, sequenced}
 use Rattle.c_types_expressions.specs.declared.names.Meaning.{Meaning}
 use Rattle.c_types_expressions.specs.declared.names.Meaning.TheVariants as meaning
 use Rattle.c_types_expressions.specs.declared.walk.Walk.{Walk}
 use Rattle.c_types.specs.Answers.{noted}
-use Rattle.c_types_expressions.specs.ExprWalk.{assigning, binary_of, called_name, chained, compound_of, flat, format_of, looked}
-use Rattle.c_types_expressions.specs.ExprWalk.{prefixed, string_cells, walk_expr, walk_exprs, walk_links, walk_postfix, walk_whole, whole_call}
-use Rattle.c_types_expressions.specs.ExprWalk.{with_stars}
-use Rattle.c_types_expressions.specs.Names.{meaning_of}
+use Rattle.c_types_expressions.specs.Words.{assigning, binary_of, called_name, chained, compound_of, flat, format_of, looked, prefixed, string_cells, walk_expr}
+use Rattle.c_types_expressions.specs.Words.{walk_exprs, walk_links, walk_postfix, walk_whole, whole_call, with_stars, meaning_of}
 use Rattle.c_types_laws.specs.Fits.{FormatFits, Operands}
 use Rattle.c_types_laws.specs.Fits.{WholeFits, operand}
 use Rattle.c_types_laws.specs.Operands.{Steps}
 use Rattle.c_types_laws.proofs.Ruled.{Is}
 use Rattle.c_types_laws.proofs.Ruled.{stepped_is}
-use Rattle.c_types_laws.proofs.Scenes.{Means, Stays}
-use Rattle.c_types_laws.proofs.Steps.{Gives, Ready, and_then, ready_in}
+use Rattle.c_types_laws.proofs.Scenes.{Means}
+use Rattle.c_types_laws.proofs.Steps.{Ready, ready_in}
 use Rattle.c_types_laws.proofs.Leading.{Leads, leads_so, leaf, look, look_both, nothing, onwards, seq, together, widely}
 use Rattle.c_types_laws.proofs.Goods.{Good, GoodLinks, GoodList, GoodPostfix, Known, Looks, around, arrow_good, assign_good, base_leads, call_long}
 use Rattle.c_types_laws.proofs.Goods.{called_leads, cast_good, chain_good, choose_good, comma_good, conditional_long, index_good, infix_long, leaf_good}
@@ -303,29 +298,7 @@ module _ (z : Walk) where
       → Gives (whole_call token m arguments xs v) (Leads z true at hi w (WholeGood (e.Call token name arguments)))
   whole_called at token name arguments w v xs (Some (meaning.Library library.Printf)) p less high r g h =
       leads_so (library_leads z at token name w v xs (format_of arguments xs) p less high r g h.1) (λ d. print_good token name arguments xs d h.0)
-  whole_called at token name arguments w v xs None p less high r g h = called_whole at token name arguments w v xs None p less high r g h
-  whole_called at token name arguments w v xs (Some (meaning.Variable index)) p less high r g h =
-      called_whole at token name arguments w v xs (Some (meaning.Variable index)) p less high r g h
-  whole_called at token name arguments w v xs (Some (meaning.Struct index)) p less high r g h =
-      called_whole at token name arguments w v xs (Some (meaning.Struct index)) p less high r g h
-  whole_called at token name arguments w v xs (Some (meaning.Function index)) p less high r g h =
-      called_whole at token name arguments w v xs (Some (meaning.Function index)) p less high r g h
-  whole_called at token name arguments w v xs (Some (meaning.Library library.Getchar)) p less high r g h =
-      called_whole at token name arguments w v xs (Some (meaning.Library library.Getchar)) p less high r g h
-  whole_called at token name arguments w v xs (Some (meaning.Library library.Putchar)) p less high r g h =
-      called_whole at token name arguments w v xs (Some (meaning.Library library.Putchar)) p less high r g h
-  whole_called at token name arguments w v xs (Some (meaning.Library library.Puts)) p less high r g h =
-      called_whole at token name arguments w v xs (Some (meaning.Library library.Puts)) p less high r g h
-  whole_called at token name arguments w v xs (Some (meaning.Library library.Malloc)) p less high r g h =
-      called_whole at token name arguments w v xs (Some (meaning.Library library.Malloc)) p less high r g h
-  whole_called at token name arguments w v xs (Some (meaning.Library library.Free)) p less high r g h =
-      called_whole at token name arguments w v xs (Some (meaning.Library library.Free)) p less high r g h
-  whole_called at token name arguments w v xs (Some (meaning.Library library.Exit)) p less high r g h =
-      called_whole at token name arguments w v xs (Some (meaning.Library library.Exit)) p less high r g h
-  whole_called at token name arguments w v xs (Some (meaning.Library library.Abort)) p less high r g h =
-      called_whole at token name arguments w v xs (Some (meaning.Library library.Abort)) p less high r g h
-  whole_called at token name arguments w v xs (Some (meaning.Library library.Assert)) p less high r g h =
-      called_whole at token name arguments w v xs (Some (meaning.Library library.Assert)) p less high r g h
+  whole_called at token name arguments w v xs m p less high r g h = called_whole at token name arguments w v xs m p less high r g h
 
   pub whole_leads : (x : ExprTree) (at : ℕ) (w : Walk) → ShapedExpr x → ExprAt at x → Ready at (at + length (expr_kinds x)) w
       → Gives (walk_whole x w) (Leads z true at (at + length (expr_kinds x)) w (WholeGood x))
@@ -335,17 +308,4 @@ module _ (z : Walk) where
       (ready_in r (at + 2) (at + 2 + length (exprs_kinds arguments)) (omega arith) (omega (arith, long)))) (omega arith) (omega (arith, long)))
       (λ xs v g. whole_called at token name arguments w v xs (meaning_of name v.names) p.0 (omega arith) (omega (arith, long)) r g
       (means_after z at (at + length (expr_kinds (e.Call token name arguments))) name w v r g.kept))
-  whole_leads (e.Comma token operands) at w s p r = expr_leads (e.Comma token operands) at w s p r
-  whole_leads (e.Assign token sign target value) at w s p r = expr_leads (e.Assign token sign target value) at w s p r
-  whole_leads (e.Conditional token condition first second) at w s p r = expr_leads (e.Conditional token condition first second) at w s p r
-  whole_leads (e.Chain level first links) at w s p r = expr_leads (e.Chain level first links) at w s p r
-  whole_leads (e.Cast token b stars operand) at w s p r = expr_leads (e.Cast token b stars operand) at w s p r
-  whole_leads (e.Prefix token operator operand) at w s p r = expr_leads (e.Prefix token operator operand) at w s p r
-  whole_leads (e.SizeOfType token b stars) at w s p r = expr_leads (e.SizeOfType token b stars) at w s p r
-  whole_leads (e.Postfix primary operators) at w s p r = expr_leads (e.Postfix primary operators) at w s p r
-  whole_leads (e.Name token name) at w s p r = expr_leads (e.Name token name) at w s p r
-  whole_leads (e.Constant token kind value) at w s p r = expr_leads (e.Constant token kind value) at w s p r
-  whole_leads (e.Strings token parts) at w s p r = expr_leads (e.Strings token parts) at w s p r
-  whole_leads (e.Paren token inner) at w s p r = expr_leads (e.Paren token inner) at w s p r
-  whole_leads (e.Null token) at w s p r = expr_leads (e.Null token) at w s p r
-  whole_leads (e.EndOfFile token) at w s p r = expr_leads (e.EndOfFile token) at w s p r
+  whole_leads x at w s p r = expr_leads x at w s p r

@@ -4,6 +4,9 @@ use Rattle.std.proofs.Common.{Err, Bool, true, false, length, length-append}
 use Rattle.std.specs.Prelude.{Option, Result, option_map, slice_get, if◌then◌else◌, MatchOption}
 use Rattle.std.proofs.lemmas.Bool.{and_parts, eqb-true, false≢true}
 use Rattle.std.proofs.Math.Nat.{le-max_right}
+use Rattle.c_types_expressions.proofs.Given.{Gives, looks}
+use Rattle.c_types.proofs.Replaced.{noted_same}
+use Rattle.base_lists.proofs.Lists.{Stays}
 use Rattle.c_syntax.specs.declared.token.Sign.{Sign}
 use Rattle.c_syntax.specs.declared.token.Sign.TheVariants as sign
 use Rattle.c_syntax.specs.declared.parts.Base.{Base}
@@ -11,45 +14,35 @@ use Rattle.c_syntax.specs.declared.parts.Base.TheVariants as base
 use Rattle.c_syntax.specs.declared.expr.PrefixOperator.{PrefixOperator}
 use Rattle.c_syntax.specs.declared.expr.PrefixOperator.TheVariants as prefix
 use Rattle.c_syntax.specs.ExprTree as e
-use Rattle.c_syntax.specs.ExprTree.{ExprTree, ExprList, LinkList, PostfixList}
-use Rattle.c_syntax.specs.Shape.{HasLink, HasOne, HasPostfix}
-use Rattle.c_syntax.specs.Spelling.{Kinds, a_sign, expr_kinds, exprs_kinds, parenthesized, text_kinds}
+use Rattle.c_syntax.specs.Words.{ExprTree, ExprList, LinkList, PostfixList, HasLink, HasOne, HasPostfix, Kinds, a_sign, expr_kinds, exprs_kinds, parenthesized}
+use Rattle.c_syntax.specs.Words.{text_kinds}
 use Rattle.c_types_rules.specs.declared.fault.FaultKind.{FaultKind}
 use Rattle.c_types_rules.specs.declared.fault.FaultKind.TheVariants as fault
 use Rattle.c_types_rules.specs.declared.library.Library.{Library}
 use Rattle.c_types_rules.specs.declared.library.Library.TheVariants as library
-use Rattle.c_types_rules.specs.Assigning.{assignable, fits_parameters}
-use Rattle.c_meaning.specs.Conversions.{is_null_constant}
-use Rattle.c_meaning.specs.Trees.{link_token, postfix_token, token_of}
+use Rattle.c_types_rules.specs.Words.{assignable, fits_parameters, TypeTree, constant_of, enclosed, is_struct, null_of, place_of, string_of, value_of, Looked}
+use Rattle.c_types_rules.specs.Words.{library_called, library_named, one_scalar, cast_to, measured, chosen, indexed, member_behind, member_of, sequenced}
+use Rattle.c_meaning.specs.Words.{is_null_constant, link_token, postfix_token, token_of}
 use Rattle.c_types_rules.specs.declared.layout.Member.{Member}
 use Rattle.c_types_rules.specs.declared.operand.Operand.{Operand}
 use Rattle.c_types_rules.specs.TypeTree as t
-use Rattle.c_types_rules.specs.TypeTree.{TypeTree}
 use Rattle.c_types_rules.specs.Conversions as rule
-use Rattle.c_types_rules.specs.Conversions.{constant_of, enclosed, is_struct, null_of, place_of, string_of, value_of}
-use Rattle.c_types_rules.specs.Faults.{Looked}
 use Rattle.c_types_rules.specs.Functions as functions
-use Rattle.c_types_rules.specs.Library.{library_called, library_named, one_scalar}
-use Rattle.c_types_rules.specs.Operators.{cast_to, measured}
-use Rattle.c_types_rules.specs.Selecting.{chosen, indexed, member_behind, member_of, sequenced}
 use Rattle.c_types_expressions.specs.declared.names.Meaning.{Meaning}
 use Rattle.c_types_expressions.specs.declared.names.Meaning.TheVariants as meaning
 use Rattle.c_types_expressions.specs.declared.walk.FunctionEntry.{FunctionEntry}
 use Rattle.c_types_expressions.specs.declared.walk.Walk.{Walk}
 use Rattle.c_types.specs.Answers.{noted, type_at}
-use Rattle.c_types_expressions.specs.ExprWalk.{assigning, base_type, binary_of, called_name, chained, compound_of, looked, named, of_function, of_variable}
-use Rattle.c_types_expressions.specs.ExprWalk.{prefixed, selected, tagged_type}
-use Rattle.c_types_expressions.specs.ExprWalk.{with_call}
-use Rattle.c_types_expressions.specs.Names.{found, meaning_of}
-use Rattle.c_types_expressions.specs.Walked.{with_type}
+use Rattle.c_types_expressions.specs.Words.{assigning, base_type, binary_of, called_name, chained, compound_of, looked, named, of_function, of_variable}
+use Rattle.c_types_expressions.specs.Words.{prefixed, selected, tagged_type, with_call, found, meaning_of, with_type}
 use Rattle.c_types_laws.specs.Naming.{IsInnermost, NamesNone}
 use Rattle.c_types_laws.specs.Fits.{ArgumentsFit, CallFits, CalleeFits, ExprFits, ExprsFit, Gives as GivesType, IsSequence, LinksFit, Of, Operands}
 use Rattle.c_types_laws.specs.Fits.{PostfixFits, ends_as_lvalue, is_lvalue, lvalue_at, operand, selected_operand, value_at}
 use Rattle.c_types_laws.specs.Operands.{Accepts, Assigns, Casts, Chooses, Indexes, Joins, Prefixes, Selects, SelectsBehind, Steps}
 use Rattle.c_types_laws.proofs.Ruled.{Is, IsPlace, IsValue, accepts, assigning_is, behind_stays, cast_is, chained_is, chosen_is, indexed_is, is_value}
 use Rattle.c_types_laws.proofs.Ruled.{leads_to_place, measured_is, member_stays, prefixed_is, value_is}
-use Rattle.c_types_laws.proofs.Scenes.{FunctionNamed, IsTop, Means, NoneOn, Scene, Stays, means, scene}
-use Rattle.c_types_laws.proofs.Steps.{Agrees, Gives, Ready, call_marks, later_from, looks, mark, marked, noted_same, offset_marks, so}
+use Rattle.c_types_laws.proofs.Scenes.{FunctionNamed, IsTop, Means, NoneOn, Scene, means, scene}
+use Rattle.c_types_laws.proofs.Steps.{Agrees, Ready, call_marks, later_from, mark, marked, offset_marks, so}
 use Rattle.c_types_laws.proofs.Steps.{sound_later, type_marks, use_marks, wider}
 use Rattle.c_types_laws.proofs.Used.{innermost, names_none}
 use Rattle.c_types_laws.proofs.Leading.{Leads, leads_so, nothing}
@@ -78,11 +71,8 @@ conditional_long condition first second = omega (
 module _ (z : Walk) where
   -- the base of a type notes nothing
   pub tagged_leads : (token lo hi : ℕ) (m : Option Meaning) (w : Walk) → Ready lo hi w → Gives (tagged_type token m w) (Leads z true lo lo w (λ t. Unit {0}))
-  tagged_leads token lo hi None w r = record { by = tt }
-  tagged_leads token lo hi (Some (meaning.Variable index)) w r = record { by = tt }
-  tagged_leads token lo hi (Some (meaning.Function index)) w r = record { by = tt }
-  tagged_leads token lo hi (Some (meaning.Library function)) w r = record { by = tt }
   tagged_leads token lo hi (Some (meaning.Struct index)) w r = nothing (t.Struct index) r (omega arith) tt
+  tagged_leads token lo hi m w r = record { by = tt }
 
   pub base_leads : (b : Base) (lo hi : ℕ) (w : Walk) → Ready lo hi w → Gives (base_type b w) (Leads z true lo lo w (λ t. Unit {0}))
   base_leads (base.Void token) lo hi w r = nothing t.Void r (omega arith) tt
@@ -134,15 +124,15 @@ module _ (z : Walk) where
 
   pub passes : (ts : List TypeTree) (xs : ExprList) (own : List Operand) → Operands z xs own → fits_parameters ts own ≡ true → ArgumentsFit z ts xs
   passes [] e.no_exprs [] h k = tt
-  passes [] e.no_exprs (a ∷ own) h k = absurd h
-  passes [] (e.more_exprs x rest) [] h k = absurd h
   passes [] (e.more_exprs x rest) (a ∷ own) h k = absurd (omega (arith, eqb-true (suc (length own)) 0 k))
   passes (t ∷ ts) e.no_exprs [] h k = absurd (false≢true k)
-  passes (t ∷ ts) e.no_exprs (a ∷ own) h k = absurd h
-  passes (t ∷ ts) (e.more_exprs x rest) [] h k = absurd h
   passes (t ∷ ts) (e.more_exprs x rest) (a ∷ own) h k =
       let l = and_parts (assignable t a) (fits_parameters ts own) k in
       (of_is (Accepts t) (operand z x) a h.0 (accepts t a l.0), passes ts rest own h.1 l.1)
+  passes [] e.no_exprs (a ∷ own) h k = absurd h
+  passes [] (e.more_exprs x rest) [] h k = absurd h
+  passes (t ∷ ts) e.no_exprs (a ∷ own) h k = absurd h
+  passes (t ∷ ts) (e.more_exprs x rest) [] h k = absurd h
 
   pub no_struct : (b : Bool) (r : Looked) (d : Operand) → Is (if b then Err fault.Operands else r) d → (b ≡ false) × Is r d
   no_struct true r d h = absurd (cc)
@@ -185,11 +175,8 @@ module _ (z : Walk) where
 
   pub name_leads : (at token : ℕ) (name : List ℕ) (m : Option Meaning) (w : Walk) → token ≡ at → Ready at (at + 1) w
       → Means w.functions w.variables w.ends at name m w.names → Gives (named token m w) (Leads z true at (at + 1) w (Good (e.Name token name)))
-  name_leads at token name None w p r h = record { by = tt }
   name_leads at token name (Some (meaning.Variable index)) w p r h = variable_leads at token index name (slice_get w.declared_types index) w p r h
-  name_leads at token name (Some (meaning.Function index)) w p r h = record { by = tt }
-  name_leads at token name (Some (meaning.Library function)) w p r h = record { by = tt }
-  name_leads at token name (Some (meaning.Struct index)) w p r h = record { by = tt }
+  name_leads at token name m w p r h = record { by = tt }
 
   pub none_named : (at hi token : ℕ) (name : List ℕ) (w v u : Walk) → token ≡ at → at < hi → Ready at hi w → scene v ≡ scene w → scene u ≡ scene v
       → token ≤ u.latest

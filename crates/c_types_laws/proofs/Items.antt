@@ -6,6 +6,10 @@ use Rattle.std.specs.List.{AllByRecursion, flat_map}
 use Rattle.std.specs.Str.{bytes_eq}
 use Rattle.std.proofs.lemmas.Bool.{and_parts, false≢true}
 use Rattle.std.proofs.lemmas.List.{append-nil, length-replicate}
+use Rattle.c_types_expressions.proofs.Giving.{Gives as GivesIn}
+use Rattle.c_types_expressions.proofs.Given.{Gives, and_then, weaker}
+use Rattle.base_lists.proofs.Tests.{or_first_false, or_second_false}
+use Rattle.base_lists.proofs.Lists.{get_last, Stays}
 use Rattle.c_syntax.specs.declared.token.Sign.TheVariants as sign
 use Rattle.c_syntax.specs.declared.parts.Base.{Base}
 use Rattle.c_syntax.specs.declared.parts.Base.TheVariants as base
@@ -16,22 +20,15 @@ use Rattle.c_syntax.specs.declared.parts.Param.{Param}
 use Rattle.c_syntax.specs.declared.parts.ParamName.{ParamName}
 use Rattle.c_syntax.specs.declared.parts.Params.{Params}
 use Rattle.c_syntax.specs.declared.parts.Params.TheVariants as params
-use Rattle.c_syntax.specs.StatementTree.{EntryList}
+use Rattle.c_syntax.specs.Words.{EntryList, ItemTree, SourceTree, EachAt, EntriesAt, ItemAt, NameAt, ParamAt, ParamsAt, ShapedEntries, ShapedItem, a_name}
+use Rattle.c_syntax.specs.Words.{a_sign, body_kinds, entry_kinds, item_kinds, optional, param_kinds, param_name_kinds, params_kinds, parenthesized, type_kinds}
+use Rattle.c_syntax.specs.Words.{with_commas, IsShaped}
 use Rattle.c_syntax.specs.ItemTree as i
-use Rattle.c_syntax.specs.ItemTree.{ItemTree, SourceTree}
-use Rattle.c_syntax.specs.Place.{EachAt, EntriesAt, ItemAt, NameAt, ParamAt, ParamsAt}
-use Rattle.c_syntax.specs.Shape.{ShapedEntries, ShapedItem}
-use Rattle.c_syntax.specs.Spelling.{a_name, a_sign, body_kinds, entry_kinds, item_kinds, optional, param_kinds, param_name_kinds, params_kinds}
-use Rattle.c_syntax.specs.Spelling.{parenthesized, type_kinds, with_commas}
-use Rattle.c_syntax.specs.WellFormed.{IsShaped}
 use Rattle.c_types_rules.specs.declared.fault.FaultKind.{FaultKind}
 use Rattle.c_types_rules.specs.declared.fault.FaultKind.TheVariants as fault
 use Rattle.c_types_rules.specs.declared.function.FunctionType.{FunctionType}
 use Rattle.c_types_rules.specs.declared.layout.StructType.{StructType}
-use Rattle.c_types_rules.specs.TypeTree.{TypeTree, same_type, same_types}
-use Rattle.c_types_rules.specs.Conversions.{is_scalar, is_struct}
-use Rattle.c_types_rules.specs.Selecting.{member_named}
-use Rattle.c_types_rules.specs.Sizes.{empty_struct, is_object, most_cells, with_member}
+use Rattle.c_types_rules.specs.Words.{TypeTree, same_type, same_types, is_scalar, is_struct, member_named, empty_struct, is_object, most_cells, with_member}
 use Rattle.c_types_rules.proofs.Same.{equal}
 use Rattle.c_types_expressions.specs.declared.names.Meaning.{Meaning}
 use Rattle.c_types_expressions.specs.declared.names.Meaning.TheVariants as meaning
@@ -42,21 +39,19 @@ use Rattle.c_types_expressions.specs.declared.walk.FunctionEntry.{FunctionEntry}
 use Rattle.c_types_expressions.specs.declared.walk.Parameter.{Parameter}
 use Rattle.c_types_expressions.specs.declared.walk.Walk.{Walk}
 use Rattle.c_types_walk.specs.Declarators.{declared_type}
-use Rattle.c_types_expressions.specs.ExprWalk.{base_type, tagged_type, with_stars}
-use Rattle.c_types_expressions.specs.Beginning.{beginning}
+use Rattle.c_types_expressions.specs.Words.{base_type, tagged_type, with_stars, beginning, found, is_here, is_reserved, Walked, Fine, Faulty, ◌>>=◌, Done}
+use Rattle.c_types_expressions.specs.Words.{closing, opened, with_variable}
 use Rattle.c_types.specs.Fault.{ends_with, last_fault, walk_tree}
 use Rattle.c_types_walk.specs.ItemWalk.{clashes, has_type, declares, defined, entered, has_length, is_among, is_defined, known_as, listed_params, looked_param}
 use Rattle.c_types_walk.specs.ItemWalk.{param_type, scalar_param, typed_function, typed_member, types_of, walk_body, walk_declarators, walk_item, walk_items}
 use Rattle.c_types_walk.specs.ItemWalk.{walk_members, walk_param, walk_params, walk_struct, with_definition, with_function, with_param, with_params, with_tag}
-use Rattle.c_types_expressions.specs.Names.{found, is_here, is_reserved}
 use Rattle.c_types_walk.specs.StatementWalk.{walk_entries}
-use Rattle.c_types_expressions.specs.Walked.{Walked, Fine, Faulty, ◌>>=◌, Done, closing, opened, with_variable}
 use Rattle.c_types_laws.specs.Naming.{DeclaresVariable}
 use Rattle.c_types_laws.specs.Fits.{BodyFits, CalleeFits, EntriesFit, ItemFits, ParamFits, ParamNameFits, TextFits}
-use Rattle.c_types_laws.proofs.Scenes.{Finds, FunctionNamed, NoVariable, Sound, Stays, finds, other_bytes, scene, stack_same}
-use Rattle.c_types_laws.proofs.Steps.{Gives, GivesIn, IsFlat, Part, Ready, and_then, knowing, later_here, nothing_noted, ready_after, ready_in, rightwards}
-use Rattle.c_types_laws.proofs.Steps.{same_here, so, sound_later, weaker, wider}
-use Rattle.c_types_laws.proofs.Declaring.{declared, enclosed, get_last, more_stays, ready_opened}
+use Rattle.c_types_laws.proofs.Scenes.{Finds, FunctionNamed, NoVariable, Sound, finds, other_bytes, scene, stack_same}
+use Rattle.c_types_laws.proofs.Steps.{IsFlat, Part, Ready, knowing, later_here, nothing_noted, ready_after, ready_in, rightwards}
+use Rattle.c_types_laws.proofs.Steps.{same_here, so, sound_later, wider}
+use Rattle.c_types_laws.proofs.Declaring.{declared, enclosed, more_stays, ready_opened}
 use Rattle.c_types_laws.proofs.Leading.{Leads, allowed, anything, nothing, refused, seq}
 use Rattle.c_types_laws.proofs.Goods.{around}
 use Rattle.c_types_laws.proofs.Statements.{commas_long, commas_one, declaration_leads, entries_leads, quiet}
@@ -66,18 +61,12 @@ abbrev Keeping : {A : Type 0} → Walk → (A → Type 0) → A → Walk → Typ
 Keeping w P a v = (v ≡ w) × P a
 
 tagged_keeps : (token : ℕ) (m : Option Meaning) (w : Walk) → Gives (tagged_type token m w) (Keeping w (λ t. Unit {0}))
-tagged_keeps token None w = record { by = tt }
-tagged_keeps token (Some (meaning.Variable index)) w = record { by = tt }
-tagged_keeps token (Some (meaning.Function index)) w = record { by = tt }
-tagged_keeps token (Some (meaning.Library function)) w = record { by = tt }
 tagged_keeps token (Some (meaning.Struct index)) w = record { by = (refl, tt) }
+tagged_keeps token m w = record { by = tt }
 
 base_keeps : (b : Base) (w : Walk) → Gives (base_type b w) (Keeping w (λ t. Unit {0}))
-base_keeps (base.Void token) w = record { by = (refl, tt) }
-base_keeps (base.Char token) w = record { by = (refl, tt) }
-base_keeps (base.Int token) w = record { by = (refl, tt) }
-base_keeps (base.Unsigned token int) w = record { by = (refl, tt) }
 base_keeps (base.Struct token tag) w = tagged_keeps token (found tag w.tags) w
+base_keeps b w = record { by = (refl, tt) }
 
 -- parameters
 
@@ -120,26 +109,18 @@ params_keep body (p ∷ ps) before w = and_then (param_keeps body p before w) (�
 
 -- functions
 
-first_false : (a b : Bool) → (a || b) ≡ false → a ≡ false
-first_false true b h = h
-first_false false b h = refl
-
-second_false : (a b : Bool) → (a || b) ≡ false → b ≡ false
-second_false true b h = absurd (false≢true (sym h))
-second_false false b h = h
-
 no_variable : (name : List ℕ) (names : List ScopeEntry) → IsFlat names → is_here name names ≡ false → NoVariable name names
 no_variable name [] f h = tt
 no_variable name (Opens ∷ rest) f h = absurd f
 no_variable name (entry.Declares other (meaning.Variable place) ∷ rest) f h = (
-  other_bytes other name (first_false (bytes_eq other name) (is_here name rest) h),
+  other_bytes other name (or_first_false (bytes_eq other name) (is_here name rest) h),
   no_variable name rest f
-      (second_false (bytes_eq other name) (is_here name rest) h),
+      (or_second_false (bytes_eq other name) (is_here name rest) h),
 )
-no_variable name (entry.Declares other (meaning.Function place) ∷ rest) f h = no_variable name rest f (second_false (bytes_eq other name) (is_here name rest) h)
+no_variable name (entry.Declares other (meaning.Function place) ∷ rest) f h = no_variable name rest f (or_second_false (bytes_eq other name) (is_here name rest) h)
 no_variable name (entry.Declares other (meaning.Library function) ∷ rest) f h =
-    no_variable name rest f (second_false (bytes_eq other name) (is_here name rest) h)
-no_variable name (entry.Declares other (meaning.Struct place) ∷ rest) f h = no_variable name rest f (second_false (bytes_eq other name) (is_here name rest) h)
+    no_variable name rest f (or_second_false (bytes_eq other name) (is_here name rest) h)
+no_variable name (entry.Declares other (meaning.Struct place) ∷ rest) f h = no_variable name rest f (or_second_false (bytes_eq other name) (is_here name rest) h)
 
 not_here : (reserved here : Bool) → (reserved || (here && true)) ≡ false → here ≡ false
 not_here true here h = absurd (false≢true (sym h))
@@ -178,12 +159,12 @@ members_keep (m ∷ ms) s w = and_then (base_keeps m.base w) (λ b v h. and_then
 
 -- where the parts of an item stand
 
-params_within : (ps : Params) → length (with_commas param_kinds (listed_params ps)) ≤ length (params_kinds ps)
+pub params_within : (ps : Params) → length (with_commas param_kinds (listed_params ps)) ≤ length (params_kinds ps)
 params_within params.Empty = omega arith
 params_within params.Void = omega arith
 params_within (params.List list) = omega arith
 
-params_at : (ps : Params) (at : ℕ) → ParamsAt at ps → EachAt ParamAt param_kinds 1 at (listed_params ps)
+pub params_at : (ps : Params) (at : ℕ) → ParamsAt at ps → EachAt ParamAt param_kinds 1 at (listed_params ps)
 params_at params.Empty at h = tt
 params_at params.Void at h = tt
 params_at (params.List list) at h = h
@@ -219,11 +200,8 @@ knows_by name f index w false h k = tt
 
 knows : (at : ℕ) (name : List ℕ) (f : FunctionType) (m : Option Meaning) (w : Walk) → Finds w.functions w.variables w.ends at name m w.names
     → Knows name f w (known_as f m w)
-knows at name f None w h = tt
-knows at name f (Some (meaning.Variable index)) w h = tt
 knows at name f (Some (meaning.Function index)) w h = knows_by name f index w (has_type f (slice_get w.functions index)) refl h.0
-knows at name f (Some (meaning.Library function)) w h = tt
-knows at name f (Some (meaning.Struct index)) w h = tt
+knows at name f m w h = tt
 
 callee_stays : (name : List ℕ) (f : FunctionType) (fs gs : List FunctionEntry) (index : ℕ) → Stays fs gs → (g : Option FunctionEntry) → slice_get fs index ≡ g
     → CalleeFits g name (λ h. h.gives ≡ f.gives) → CalleeFits (slice_get gs index) name (λ h. h.gives ≡ f.gives)

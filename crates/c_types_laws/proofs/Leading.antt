@@ -1,16 +1,19 @@
 -- How one part of the walk comes after another.
 use Rattle.std.proofs.Common.{◌≡◌, ℕ, ◌≤◌, ◌<◌, refl, ◌∙◌, arith, Some, Ok, Bool, true, false}
 use Rattle.std.specs.Prelude.{if◌then◌else◌}
+use Rattle.c_types_expressions.proofs.Giving.{Gives as GivesIn}
+use Rattle.c_types_expressions.proofs.Given.{Gives, and_then, looks, weaker}
+use Rattle.c_types.proofs.Replaced.{noted_same}
+use Rattle.base_lists.proofs.Lists.{Stays}
 use Rattle.c_types_rules.specs.declared.fault.FaultKind.{FaultKind}
 use Rattle.c_types_rules.specs.declared.operand.Operand.{Operand}
 use Rattle.c_types_rules.specs.Faults.{Looked}
 use Rattle.c_types_expressions.specs.declared.walk.Walk.{Walk}
 use Rattle.c_types.specs.Answers.{noted}
-use Rattle.c_types_expressions.specs.ExprWalk.{looked}
-use Rattle.c_types_expressions.specs.Walked.{Walked, Fine, Faulty, ◌>>=◌, with_type}
-use Rattle.c_types_laws.proofs.Scenes.{Stays, scene}
-use Rattle.c_types_laws.proofs.Steps.{Gives, GivesIn, Part, Ready, and_then, looks, mark, marked, nothing_noted, noted_same, ready_after, rightwards, so}
-use Rattle.c_types_laws.proofs.Steps.{sound_later, type_marks, weaker, wider}
+use Rattle.c_types_expressions.specs.Words.{looked, Walked, Fine, Faulty, ◌>>=◌, with_type}
+use Rattle.c_types_laws.proofs.Scenes.{scene}
+use Rattle.c_types_laws.proofs.Steps.{Part, Ready, mark, marked, nothing_noted, ready_after, rightwards, so}
+use Rattle.c_types_laws.proofs.Steps.{sound_later, type_marks, wider}
 
 -- where nothing is declared and no scope ends, names mean the same
 abbrev pub Still : Bool → Walk → Walk → Type 0

@@ -2,9 +2,11 @@
 use Rattle.std.proofs.Common.{◌⊎◌, inl, inr, ⊎_elim, ◌≡◌, ℕ, zero, suc, ◌<◌, refl, ap, subst, sym, ◌∙◌, arith, List, [], ◌∷◌, Some, None, Ok, Err, Bool}
 use Rattle.std.proofs.Common.{true, false, length}
 use Rattle.std.specs.Prelude.{Option, Result, slice_get, nat_lt, ◌&&◌, ◌||◌, if◌then◌else◌, not}
-use Rattle.std.proofs.lemmas.Bool.{and_from, and_parts, false≢true}
+use Rattle.std.proofs.lemmas.Bool.{and_from, and_parts, false≢true, not-true, or_cases}
 use Rattle.std.proofs.lemmas.Bool.Decides.{nat_tests}
 use Rattle.std.proofs.lemmas.Option.{slice_get_within}
+use Rattle.base_lists.proofs.Lists.{Stays}
+use Rattle.base_lists.proofs.Tests.{three_and, three_or}
 use Rattle.cbi_base.specs.declared.operators.Binary.{Binary}
 use Rattle.cbi_base.specs.declared.operators.Binary.TheVariants as op
 use Rattle.c_syntax.specs.declared.expr.PrefixOperator.{PrefixOperator}
@@ -14,21 +16,16 @@ use Rattle.c_types_rules.specs.declared.fault.FaultKind.TheVariants as fault
 use Rattle.c_types_rules.specs.declared.layout.Member.{Member}
 use Rattle.c_types_rules.specs.declared.layout.StructType.{StructType}
 use Rattle.c_types_rules.specs.declared.operand.Operand.{Operand}
-use Rattle.c_types_rules.specs.TypeTree.{TypeTree, Void, Char, Int, Unsigned, Pointer, Array, Struct, same_type}
-use Rattle.c_types_rules.specs.Assigning.{assignable, assigned, is_left_side, pointers_join, pointers_meet}
-use Rattle.c_types_rules.specs.Conversions.{common, decayed, is_arithmetic, is_array, is_pointer, is_unsigned, is_void, is_void_pointer, place_of, promoted}
-use Rattle.c_types_rules.specs.Conversions.{value_of, value_type}
-use Rattle.c_types_rules.specs.Faults.{Looked, ◌>>=◌}
-use Rattle.c_types_rules.specs.Operators.{added, both_arithmetic, cast_to, combined, equated, gives, is_movable, is_scalar_value, measured, ordered, signed}
-use Rattle.c_types_rules.specs.Operators.{stepped, subtracted}
-use Rattle.c_types_rules.specs.Selecting.{addressed, chosen, indexed, joined_pointer, member_behind, member_in, member_of, pointed, pointed_type}
-use Rattle.c_types_rules.specs.Sizes.{is_complete}
+use Rattle.c_types_rules.specs.Words.{TypeTree, Void, Char, Int, Unsigned, Pointer, Array, Struct, same_type, assignable, assigned, is_left_side, pointers_join}
+use Rattle.c_types_rules.specs.Words.{pointers_meet, common, decayed, is_arithmetic, is_array, is_pointer, is_unsigned, is_void, is_void_pointer, place_of}
+use Rattle.c_types_rules.specs.Words.{promoted, value_of, value_type, Looked, ◌>>=◌, added, both_arithmetic, cast_to, combined, equated, gives, is_movable}
+use Rattle.c_types_rules.specs.Words.{is_scalar_value, measured, ordered, signed, stepped, subtracted, addressed, chosen, indexed, joined_pointer}
+use Rattle.c_types_rules.specs.Words.{member_behind, member_in, member_of, pointed, pointed_type, is_complete}
 use Rattle.c_types_rules.proofs.Same.{equal}
 use Rattle.c_types_expressions.specs.ExprWalk.{assigning, chained, prefixed}
 use Rattle.c_types_laws.specs.Operands.{Accepts, Adds, Assigns, Calculates, Casts, Chooses, Equates, Indexes, IsArithmetic, IsModifiable, IsScalar, Joins}
 use Rattle.c_types_laws.specs.Operands.{LeadsToObject, Operates, Orders, PointersJoin, PointersMeet, PointsToObject, Prefixes, Selects, SelectsBehind, Shifts, Steps}
 use Rattle.c_types_laws.specs.Operands.{Subtracts}
-use Rattle.c_types_laws.proofs.Scenes.{Stays}
 
 abbrev pub Is : Looked → Operand → Type 0
 Is r d = r ≡ Ok d
@@ -55,24 +52,6 @@ gives_is P false t d f h = no_ok fault.Operands d h
 
 -- tests
 
-either_true : (a b : Bool) → (a || b) ≡ true → (a ≡ true) ⊎ (b ≡ true)
-either_true true b h = inl refl
-either_true false b h = inr h
-
-three_or : (a b c : Bool) → (a || b || c) ≡ true → (a ≡ true) ⊎ ((b ≡ true) ⊎ (c ≡ true))
-three_or true b c h = inl refl
-three_or false true c h = inr (inl refl)
-three_or false false c h = inr (inr h)
-
-three_and : (a b c : Bool) → (a && b && c) ≡ true → (a ≡ true) × (b ≡ true) × (c ≡ true)
-three_and true true c h = (refl, refl, h)
-three_and true false c h = absurd (false≢true h)
-three_and false b c h = absurd (false≢true h)
-
-is_not : (b : Bool) → not b ≡ true → b ≡ false
-is_not false h = refl
-is_not true h = absurd (false≢true h)
-
 -- types that are known whole stay so
 
 struct_stays : (ss zs : List StructType) (tag : ℕ) → Stays ss zs → nat_lt tag (length ss) ≡ true → nat_lt tag (length zs) ≡ true
@@ -90,14 +69,10 @@ struct_stays ss zs tag f h = grind (arith, nat_tests, h, within)
     within = slice_get_within zs tag (has ss tag less).0 (f tag (has ss tag less).0 (has ss tag less).1)
 
 pub complete_stays : (ss zs : List StructType) (t : TypeTree) → Stays ss zs → is_complete ss t ≡ true → is_complete zs t ≡ true
-complete_stays ss zs Void f h = h
-complete_stays ss zs Char f h = h
-complete_stays ss zs Int f h = h
-complete_stays ss zs Unsigned f h = h
-complete_stays ss zs (Pointer to) f h = h
 complete_stays ss zs (Struct tag) f h = struct_stays ss zs tag f h
 complete_stays ss zs (Array element size) f h =
     let k = and_parts (nat_lt 0 size) (is_complete ss element) h in and_from (nat_lt 0 size) (is_complete zs element) k.0 (complete_stays ss zs element f k.1)
+complete_stays ss zs t f h = h
 
 pub meets : (a b : TypeTree) → pointers_meet a b ≡ true → PointersMeet a b
 meets a b h =
@@ -115,7 +90,7 @@ accepts t x h = ⊎_elim (λ e. inl (and_parts (is_arithmetic t) (is_arithmetic 
     (three_or (is_arithmetic t && is_arithmetic (value_type x)) (is_pointer t && x.null) (pointers_meet t (value_type x)) h)
 
 modifiable : (x : Operand) → is_left_side x ≡ true → IsModifiable x
-modifiable x h = let k = and_parts x.place (not (is_array x.ctype)) h in (k.0, is_not (is_array x.ctype) k.1)
+modifiable x h = let k = and_parts x.place (not (is_array x.ctype)) h in (k.0, not-true (is_array x.ctype) k.1)
 
 pub is_value : (m : Operand) → m.place ≡ false → m.null ≡ false → m ≡ value_of m.ctype
 is_value m p n = ap (λ b. made m.ctype b m.null) p ∙ ap (λ b. made m.ctype false b) n
@@ -131,12 +106,7 @@ leads_to_place o = false
 module _ (ss zs : List StructType) (f : Stays ss zs) where
   points : (t : TypeTree) → is_movable ss t ≡ true → PointsToObject zs t
   points (Pointer to) h = complete_stays ss zs to f h
-  points Void h = absurd (false≢true h)
-  points Char h = absurd (false≢true h)
-  points Int h = absurd (false≢true h)
-  points Unsigned h = absurd (false≢true h)
-  points (Array element size) h = absurd (false≢true h)
-  points (Struct tag) h = absurd (false≢true h)
+  points t h = absurd (false≢true h)
 
   added_is : (a b : TypeTree) (d : Operand) → Is (added ss a b) d → IsValue (Adds zs a b) d
   added_is a b d h = by (both_arithmetic a b) (is_arithmetic b) refl refl h
@@ -171,7 +141,7 @@ module _ (ss zs : List StructType) (f : Stays ss zs) where
     ⊎_elim
         (λ e. inl (and_parts (is_arithmetic a) (is_arithmetic b) e))
         (λ e. let l = and_parts (is_pointer a) (same_type a b) e in inr (l.0, sym (equal a b l.1)))
-        (either_true (both_arithmetic a b) (is_pointer a && same_type a b) k),
+        (or_cases (both_arithmetic a b) (is_pointer a && same_type a b) k),
     refl,
   )) h
 
@@ -179,7 +149,7 @@ module _ (ss zs : List StructType) (f : Stays ss zs) where
   equated_is x y d h = gives_is (Equates x y) (both_arithmetic (value_type x) (value_type y) || pointers_join x y) Int d (λ k. (
     ⊎_elim
         (λ e. inl (and_parts (is_arithmetic (value_type x)) (is_arithmetic (value_type y)) e)) (λ e. inr (joins x y e))
-        (either_true (both_arithmetic (value_type x) (value_type y)) (pointers_join x y) k),
+        (or_cases (both_arithmetic (value_type x) (value_type y)) (pointers_join x y) k),
     refl,
   )) h
 
@@ -194,12 +164,7 @@ module _ (ss zs : List StructType) (f : Stays ss zs) where
   combined_is op.Ge x y d h = ordered_is (value_type x) (value_type y) d h
   combined_is op.Eq x y d h = equated_is x y d h
   combined_is op.Ne x y d h = equated_is x y d h
-  combined_is op.Mul x y d h = calculated (value_type x) (value_type y) d h
-  combined_is op.Div x y d h = calculated (value_type x) (value_type y) d h
-  combined_is op.Rem x y d h = calculated (value_type x) (value_type y) d h
-  combined_is op.And x y d h = calculated (value_type x) (value_type y) d h
-  combined_is op.Or x y d h = calculated (value_type x) (value_type y) d h
-  combined_is op.Xor x y d h = calculated (value_type x) (value_type y) d h
+  combined_is o x y d h = calculated (value_type x) (value_type y) d h
 
   pub chained_is : (o : Option Binary) (x y d : Operand) → Is (chained ss o x y) d → IsValue (Joins zs o x y) d
   chained_is None x y d h = gives_is (Joins zs None x y) (is_scalar_value x && is_scalar_value y) Int d
@@ -237,7 +202,7 @@ module _ (ss zs : List StructType) (f : Stays ss zs) where
       by true true i j h = value_is (Steps zs x) (value_type x) d (
         modifiable x j,
         ⊎_elim (λ e. inl e) (λ e. inr (points (value_type x) e))
-            (either_true (is_arithmetic (value_type x)) (is_movable ss (value_type x)) i),
+            (or_cases (is_arithmetic (value_type x)) (is_movable ss (value_type x)) i),
         refl,
       ) h
       by true false i j h = no_ok fault.NoPlace d h
@@ -278,14 +243,12 @@ module _ (ss zs : List StructType) (f : Stays ss zs) where
   prefixed_is prefix.SizeOf x d h = measured_is x.ctype d h
   prefixed_is prefix.Address x d h = addressed_is x d h
   prefixed_is prefix.Indirection x d h = pointed_is (value_type x) d h
-  prefixed_is prefix.Plus x d h = signed_is x d h
-  prefixed_is prefix.Minus x d h = signed_is x d h
-  prefixed_is prefix.Complement x d h = signed_is x d h
   prefixed_is prefix.Not x d h = gives_is (λ t. IsScalar x × (t ≡ Int)) (is_scalar_value x) Int d (λ k. (k, refl)) h
+  prefixed_is o x d h = signed_is x d h
 
   pub cast_is : (t : TypeTree) (x d : Operand) → Is (cast_to t x) d → IsValue (Casts t x) d
   cast_is t x d h = gives_is (Casts t x) (is_void t || assignable t x) t d
-      (λ k. (⊎_elim (λ e. inl e) (λ e. inr (accepts t x e)) (either_true (is_void t) (assignable t x) k), refl)) h
+      (λ k. (⊎_elim (λ e. inl e) (λ e. inr (accepts t x e)) (or_cases (is_void t) (assignable t x) k), refl)) h
 
   pub chosen_is : (c x y d : Operand) → Is (chosen c x y) d → IsValue (Chooses c x y) d
   chosen_is c x y d h = by (is_scalar_value c) (both_arithmetic (value_type x) (value_type y))
@@ -344,18 +307,8 @@ module _ (ss zs : List StructType) (f : Stays ss zs) where
 
   pub member_stays : (name : List ℕ) (t : TypeTree) (m : Member) → member_of ss name t ≡ Ok m → Selects zs name t m.ctype
   member_stays name (Struct tag) m h = (m, (in_stays name tag m (slice_get ss tag) refl h, refl))
-  member_stays name Void m h = no_member fault.Operands m h
-  member_stays name Char m h = no_member fault.Operands m h
-  member_stays name Int m h = no_member fault.Operands m h
-  member_stays name Unsigned m h = no_member fault.Operands m h
-  member_stays name (Pointer to) m h = no_member fault.Operands m h
-  member_stays name (Array element size) m h = no_member fault.Operands m h
+  member_stays name t m h = no_member fault.Operands m h
 
   pub behind_stays : (name : List ℕ) (t : TypeTree) (m : Member) → member_behind ss name t ≡ Ok m → SelectsBehind zs name t m.ctype
   behind_stays name (Pointer to) m h = member_stays name to m h
-  behind_stays name (Struct tag) m h = no_member fault.Operands m h
-  behind_stays name Void m h = no_member fault.Operands m h
-  behind_stays name Char m h = no_member fault.Operands m h
-  behind_stays name Int m h = no_member fault.Operands m h
-  behind_stays name Unsigned m h = no_member fault.Operands m h
-  behind_stays name (Array element size) m h = no_member fault.Operands m h
+  behind_stays name t m h = no_member fault.Operands m h

@@ -7,7 +7,11 @@ use Rattle.std.specs.Str.{bytes_eq}
 use Rattle.std.proofs.lemmas.Bool.{false≢true, cases_eq}
 use Rattle.std.proofs.lemmas.Bool.Decides.{nat_tests}
 use Rattle.std.proofs.lemmas.Slice.Eq.{bytes_eq-Decides}
-use Rattle.std.proofs.lemmas.Option.{slice_get_within}
+use Rattle.std.proofs.lemmas.Option.{slice_get_within, same_Some}
+use Rattle.c_types.proofs.Replaced.{replaced_other, replaced_same}
+use Rattle.c_types.proofs.Noted.{length_replaced}
+use Rattle.base_lists.proofs.Numbers.{less_is}
+use Rattle.base_lists.proofs.Lists.{same_bytes, set_here, set_long, set_other, Stays}
 use Rattle.c_types_rules.specs.declared.layout.StructType.{StructType}
 use Rattle.c_types_rules.specs.declared.library.Library.{Library}
 use Rattle.c_types_rules.specs.Library.{library_named}
@@ -18,8 +22,7 @@ use Rattle.c_types_expressions.specs.declared.names.ScopeEntry.TheVariants.{Open
 use Rattle.c_types_expressions.specs.declared.walk.FunctionEntry.{FunctionEntry}
 use Rattle.c_types_expressions.specs.declared.walk.VariableEntry.{VariableEntry}
 use Rattle.c_types_expressions.specs.declared.walk.Walk.{Walk}
-use Rattle.c_types_expressions.specs.Names.{closed, found, meaning_of, or_before}
-use Rattle.c_types_expressions.specs.Walked.{ended_scopes, replaced}
+use Rattle.c_types_expressions.specs.Words.{closed, found, meaning_of, or_before, ended_scopes, replaced}
 use Rattle.c_types_laws.specs.Naming.{IsNamed}
 
 -- the parts of what is known that tell which variables names mean
@@ -32,10 +35,6 @@ pub record Scene : Type 0 where
 
 abbrev pub scene : Walk → Scene
 scene w = record { names = w.names; variables = w.variables; ends = w.ends; functions = w.functions; structs = w.structs }
-
--- what stands in the first list stands there in the second
-abbrev pub Stays : {A : Type 0} → List A → List A → Type 0
-Stays {A = A} xs ys = (i : ℕ) (x : A) → slice_get xs i ≡ Some x → slice_get ys i ≡ Some x
 
 -- the variable was declared before the token
 abbrev pub IsBefore : ℕ → Option VariableEntry → Type 0
@@ -78,53 +77,8 @@ pub record Sound (at l : ℕ) (s : Scene) : Type 0 where
   pub long : length s.ends ≡ length s.variables
   pub latest : l ≤ at - 1
 
--- notes by place
-pub set_same : {A : Type 0} (xs : List A) (i : ℕ) (x : A) → i < length xs → slice_get (slice_set xs i x) i ≡ Some x
-set_same [] i x h = absurd (omega (arith, h))
-set_same (y ∷ ys) zero x h = refl
-set_same (y ∷ ys) (suc i) x h = set_same ys i x (omega (arith, h))
-
-set_other : {A : Type 0} (xs : List A) (i j : ℕ) (x : A) → (i ≡ j → ⊥) → slice_get (slice_set xs i x) j ≡ slice_get xs j
-set_other [] i j x h = refl
-set_other (y ∷ ys) zero zero x h = absurd (h refl)
-set_other (y ∷ ys) zero (suc j) x h = refl
-set_other (y ∷ ys) (suc i) zero x h = refl
-set_other (y ∷ ys) (suc i) (suc j) x h = set_other ys i j x (λ q. h (ap suc q))
-
-set_long : {A : Type 0} (xs : List A) (i : ℕ) (x : A) → length (slice_set xs i x) ≡ length xs
-set_long [] i x = refl
-set_long (y ∷ ys) zero x = refl
-set_long (y ∷ ys) (suc i) x = ap suc (set_long ys i x)
-
-if_long : {A : Type 0} (b : Bool) (xs ys : List A) → length xs ≡ length ys → length (if b then xs else ys) ≡ length ys
-if_long true xs ys h = h
-if_long false xs ys h = refl
-
-pub replaced_long : {A : Type 0} (xs : List A) (i : ℕ) (x : A) → length (replaced xs i x) ≡ length xs
-replaced_long xs i x = if_long (nat_lt i (length xs)) (slice_set xs i x) xs (set_long xs i x)
-
-if_other : {A : Type 0} (b : Bool) (xs ys : List A) (j : ℕ) → slice_get xs j ≡ slice_get ys j → slice_get (if b then xs else ys) j ≡ slice_get ys j
-if_other true xs ys j h = h
-if_other false xs ys j h = refl
-
-pub replaced_other : {A : Type 0} (xs : List A) (i j : ℕ) (x : A) → (i ≡ j → ⊥) → slice_get (replaced xs i x) j ≡ slice_get xs j
-replaced_other xs i j x h = if_other (nat_lt i (length xs)) (slice_set xs i x) xs j (set_other xs i j x h)
-
-within : (i n : ℕ) → i < n → nat_lt i n ≡ true
-within i n h = grind (arith, nat_tests, h)
-
-pub replaced_same : {A : Type 0} (xs : List A) (i : ℕ) (x : A) → i < length xs → slice_get (replaced xs i x) i ≡ Some x
-replaced_same xs i x h = rw (within i (length xs) h) (set_same xs i x h)
-
--- two names
-same_bytes : (xs ys : List ℕ) → bytes_eq xs ys ≡ true → xs ≡ ys
-same_bytes xs ys h = (bytes_eq-Decides xs ys).0 h
-
 pub other_bytes : (xs ys : List ℕ) → bytes_eq xs ys ≡ false → xs ≡ ys → ⊥
 other_bytes xs ys h e = false≢true (sym h ∙ (bytes_eq-Decides xs ys).1 e)
-
-pub some_is : {A : Type 0} (x y : A) → Some x ≡ Some y → x ≡ y
-some_is x y h = cc
 
 pub some_none : {B : Type 0} (l : ℕ) → Some (Some l) ≡ Some None → B
 some_none l h = absurd (cc)
@@ -306,7 +260,7 @@ replaced_at : (xs : List (Option ℕ)) (i l : ℕ) → slice_get (replaced xs i 
 replaced_at xs i l h = by (nat_lt i (length xs)) refl h
   where
     by : (b : Bool) → nat_lt i (length xs) ≡ b → slice_get (if b then slice_set xs i (Some l) else xs) i ≡ Some None → ⊥
-    by true e h = some_none l (sym (set_same xs i (Some l) (grind (arith, nat_tests, e))) ∙ h)
+    by true e h = some_none l (sym (set_here xs i (Some l) (grind (arith, nat_tests, e))) ∙ h)
     by false e h = absurd (false≢true (sym e ∙ grind (arith, nat_tests, slice_get_within xs i None h)))
 
 replaced_here : (xs : List (Option ℕ)) (i l e : ℕ) → slice_get (replaced xs i (Some l)) i ≡ Some (Some e) → (e ≡ l) ⊎ (slice_get xs i ≡ Some (Some e))
@@ -314,13 +268,13 @@ replaced_here xs i l e h = by (nat_lt i (length xs)) refl h
   where
     by : (b : Bool) → nat_lt i (length xs) ≡ b → slice_get (if b then slice_set xs i (Some l) else xs) i ≡ Some (Some e)
         → (e ≡ l) ⊎ (slice_get xs i ≡ Some (Some e))
-    by true n h = inl (some_is e l (some_is (Some e) (Some l) (sym h ∙ set_same xs i (Some l) (grind (arith, nat_tests, n)))))
+    by true n h = inl (same_Some e l (same_Some (Some e) (Some l) (sym h ∙ set_here xs i (Some l) (grind (arith, nat_tests, n)))))
     by false n h = inr h
 
 pub ended_long : (l : ℕ) (names : List ScopeEntry) (es : List (Option ℕ)) → length (ended_scopes l names es) ≡ length es
 ended_long l [] es = refl
 ended_long l (Opens ∷ rest) es = refl
-ended_long l (Declares name (meaning.Variable place) ∷ rest) es = ended_long l rest (replaced es place (Some l)) ∙ replaced_long es place (Some l)
+ended_long l (Declares name (meaning.Variable place) ∷ rest) es = ended_long l rest (replaced es place (Some l)) ∙ length_replaced es place (Some l)
 ended_long l (Declares name (meaning.Function place) ∷ rest) es = ended_long l rest es
 ended_long l (Declares name (meaning.Library function) ∷ rest) es = ended_long l rest es
 ended_long l (Declares name (meaning.Struct place) ∷ rest) es = ended_long l rest es

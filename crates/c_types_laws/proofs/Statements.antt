@@ -3,45 +3,39 @@ use Rattle.std.proofs.Common.{◌≡◌, ℕ, ◌≤◌, ◌<◌, refl, ap, subs
 use Rattle.std.proofs.Common.{not, ◌&&◌, ◌||◌}
 use Rattle.std.specs.Prelude.{Option, is_some, nat_le, IfSome}
 use Rattle.std.specs.List.{AllByRecursion, flat_map}
-use Rattle.std.proofs.lemmas.Bool.{false≢true}
+use Rattle.std.proofs.lemmas.Bool.{false≢true, not-false}
 use Rattle.std.proofs.lemmas.List.{length-replicate}
+use Rattle.c_types_expressions.proofs.Given.{Gives, and_then, weaker}
+use Rattle.base_lists.proofs.Tests.{three_or_false}
 use Rattle.c_syntax.specs.declared.token.TokenKind.TheVariants as kind
 use Rattle.c_syntax.specs.declared.token.Sign.TheVariants as sign
 use Rattle.c_syntax.specs.declared.token.Word.TheVariants as word
 use Rattle.c_syntax.specs.declared.parts.Declarator.{Declarator}
-use Rattle.c_syntax.specs.FirstToken.{first_token}
-use Rattle.c_syntax.specs.ExprTree.{ExprTree}
+use Rattle.c_syntax.specs.Words.{first_token, ExprTree, InitialTree, StartTree, DeclarationTree, ForStartTree, StatementTree, EntryList, DeclarationAt, EachAt}
+use Rattle.c_syntax.specs.Words.{EntriesAt, ExprAt, ForStartAt, InitialAt, StartAt, StatementAt, ShapedDeclaration, ShapedEntries, ShapedExpr, ShapedForStart}
+use Rattle.c_syntax.specs.Words.{ShapedInitial, ShapedStart, ShapedStatement, Kinds, a_name, a_sign, a_word, after_commas, base_kinds, bound_kinds, comma_kinds}
+use Rattle.c_syntax.specs.Words.{declaration_kinds, declarator_kinds, entry_kinds, expr_kinds, exprs_kinds, for_start_kinds, initial_kinds, optional}
+use Rattle.c_syntax.specs.Words.{parenthesized, star_kinds, start_kinds, statement_kinds, with_commas}
 use Rattle.c_syntax.specs.StatementTree as s
-use Rattle.c_syntax.specs.StatementTree.{InitialTree, StartTree, DeclarationTree, ForStartTree, StatementTree, EntryList}
-use Rattle.c_syntax.specs.Place.{DeclarationAt, EachAt, EntriesAt, ExprAt, ForStartAt, InitialAt, StartAt, StatementAt}
-use Rattle.c_syntax.specs.Shape.{ShapedDeclaration, ShapedEntries, ShapedExpr, ShapedForStart, ShapedInitial, ShapedStart, ShapedStatement}
-use Rattle.c_syntax.specs.Spelling.{Kinds, a_name, a_sign, a_word, after_commas, base_kinds, bound_kinds, comma_kinds, declaration_kinds, declarator_kinds}
-use Rattle.c_syntax.specs.Spelling.{entry_kinds, expr_kinds, exprs_kinds, for_start_kinds, initial_kinds, optional, parenthesized, star_kinds, start_kinds}
-use Rattle.c_syntax.specs.Spelling.{statement_kinds, with_commas}
 use Rattle.c_types_rules.specs.declared.fault.FaultKind.{FaultKind}
 use Rattle.c_types_rules.specs.declared.fault.FaultKind.TheVariants as fault
 use Rattle.c_types_rules.specs.declared.operand.Operand.{Operand}
-use Rattle.c_types_rules.specs.TypeTree.{TypeTree}
-use Rattle.c_types_rules.specs.Assigning.{assignable}
-use Rattle.c_types_rules.specs.Conversions.{is_struct, is_void}
-use Rattle.c_types_rules.specs.Operators.{is_scalar_value}
-use Rattle.c_types_rules.specs.Sizes.{cells_of, is_object, most_cells}
+use Rattle.c_types_rules.specs.Words.{TypeTree, assignable, is_struct, is_void, is_scalar_value, cells_of, is_object, most_cells}
 use Rattle.c_types_expressions.specs.declared.walk.Walk.{Walk}
 use Rattle.c_types_walk.specs.Declarators.{declared_type, is_open}
 use Rattle.c_types_walk.specs.Initialisers.{cells_of_string, completes, listed_type, valued, walk_initial}
 use Rattle.c_types.specs.Answers.{noted}
-use Rattle.c_types_expressions.specs.Names.{closed, is_name_taken}
+use Rattle.c_types_expressions.specs.Words.{closed, is_name_taken, Walked, Fine, Done, opened, unless, with_variable}
 use Rattle.c_types_walk.specs.StatementWalk.{counted_cells, is_condition_part, is_struct_part, sized, walk_closed, walk_declaration, walk_entries, walk_for_start}
 use Rattle.c_types_walk.specs.StatementWalk.{walk_open, walk_optional, walk_start, walk_starts, walk_statement, walk_typed, with_declared_type}
-use Rattle.c_types_expressions.specs.Walked.{Walked, Fine, Done, opened, unless, with_variable}
 use Rattle.c_types_laws.specs.Naming.{DeclaresVariable}
 use Rattle.c_types_laws.specs.Fits.{DeclarationFits, EntriesFit, ExprFits, ConditionFits, ForStartFits, InitialFits, ConditionIsScalar, PartFits, StartFits}
 use Rattle.c_types_laws.specs.Fits.{StatementFits, operand}
 use Rattle.c_types_laws.specs.Operands.{Accepts, IsScalar}
 use Rattle.c_types_laws.proofs.Ruled.{accepts}
 use Rattle.c_types_laws.proofs.Scenes.{Scene, Sound, scene}
-use Rattle.c_types_laws.proofs.Steps.{Gives, IsFlat, Later, Part, Ready, Same, and_then, later_here, ready_after, ready_in, rightwards, so, sound_later}
-use Rattle.c_types_laws.proofs.Steps.{weaker, wider}
+use Rattle.c_types_laws.proofs.Steps.{IsFlat, Later, Part, Ready, Same, later_here, ready_after, ready_in, rightwards, so, sound_later}
+use Rattle.c_types_laws.proofs.Steps.{wider}
 use Rattle.c_types_laws.proofs.Declaring.{declared, enclosed, ready_opened}
 use Rattle.c_types_laws.proofs.Leading.{Leads, at_large, either, leads_so, nothing, refused, allowed, seq, widely}
 use Rattle.c_types_laws.proofs.Exprs.{expr_leads, exprs_leads, whole_leads}
@@ -54,22 +48,13 @@ commas_long f x y ys = omega (arith, length-append (f x) (after_commas f (y ∷ 
 pub commas_one : {A : Type 0} (f : A → Kinds) (x : A) → length (with_commas f (x ∷ [])) ≡ length (f x)
 commas_one f x = omega (arith, length-append (f x) [])
 
-declarator_long : (d : Declarator) → d.stars < length (declarator_kinds d)
+pub declarator_long : (d : Declarator) → d.stars < length (declarator_kinds d)
 declarator_long d = omega (
   arith,
   length-append (star_kinds d.stars ++ a_name d.name) (flat_map bound_kinds d.bounds),
   length-append (star_kinds d.stars) (a_name d.name),
   length-replicate d.stars (kind.Punctuator sign.Star),
 )
-
-is_so : (b : Bool) → not b ≡ false → b ≡ true
-is_so true h = refl
-is_so false h = absurd (false≢true (sym h))
-
-three_false : (a b c : Bool) → (a || b || c) ≡ false → (a ≡ false) × (b ≡ false) × (c ≡ false)
-three_false false false c h = (refl, refl, h)
-three_false false true c h = absurd (false≢true (sym h))
-three_false true b c h = absurd (false≢true (sym h))
 
 module _ {z : Walk} where
   -- what changes nothing that names depend on
@@ -273,7 +258,7 @@ module _ (z : Walk) where
       (h.1.1.0, of_is z (λ b. is_struct b.ctype ≡ false) (operand z x) h.0 (operand_is z x h.0 h.1.1.1) (subst (λ c. is_struct_part c ≡ false) h.1.0 k))
 
   condition_is : (x : ExprTree) (a : Operand) → Known z x a → not (is_scalar_value a) ≡ false → ConditionIsScalar z x
-  condition_is x a h k = of_is z IsScalar (operand z x) a (operand_is z x a h) (is_so (is_scalar_value a) k)
+  condition_is x a h k = of_is z IsScalar (operand z x) a (operand_is z x a h) (not-false (is_scalar_value a) k)
 
   condition_fits : (o : Option ExprTree) (a : Option Operand) → GoodOption o a → not (is_condition_part a) ≡ false → ConditionFits z o
   condition_fits None a h k = tt
@@ -428,14 +413,14 @@ module _ (z : Walk) where
             part = so (wider at hi (enclosed
                 (rightwards g1.part (rightwards g2.part (rightwards g3.part (rightwards g4.part g5.part (omega (arith, long)) (omega arith))
                 (omega arith) (omega (arith, long))) (omega arith) (omega (arith, long))) (omega arith) (omega (arith, long)))) (omega arith) (omega arith))
-                (λ f. let n = three_false (is_struct_part x1) (not (is_condition_part x2)) (is_struct_part x3) f.1.1.1.1 in
+                (λ f. let n = three_or_false (is_struct_part x1) (not (is_condition_part x2)) (is_struct_part x3) f.1.1.1.1 in
                 (start_fits b x1 f.0 n.0, condition_fits c x2 f.1.0 n.1, part_fits d x3 f.1.1.0 n.2, f.1.1.1.0));
             kept = tt;
           };
         })))))
     statement_leads gives looping (s.Return token None) at w h p r =
         leads_so (asked at (at + length (statement_kinds (s.Return token None))) (not (is_void gives)) fault.Jump token w r (omega arith))
-        (λ d h. is_so (is_void gives) h)
+        (λ d h. not-false (is_void gives) h)
     statement_leads gives looping (s.Return token (Some x)) at w h p r =
         let long : length (statement_kinds (s.Return token (Some x))) ≡ length (expr_kinds x) + 2 =
         omega (arith, length-append (a_word word.Return ++ expr_kinds x) (a_sign sign.Semicolon)) in
@@ -445,11 +430,11 @@ module _ (z : Walk) where
         (ready_in r (at + 1) (at + 1 + length (expr_kinds x)) (omega arith) (omega (arith, long))))) (omega arith) (omega (arith, long)))
         (λ a v r2. refused (is_void gives) fault.Jump token (unless (not (assignable gives a)) fault.Operands token v)
         (λ k. leads_so (asked hi hi (not (assignable gives a)) fault.Operands token v r2 (omega arith)) (λ d h. (k, h))))
-        (λ a d f g. (f.0, g.0, of_is z (Accepts gives) (operand z x) a (operand_is z x a f.1) (accepts gives a (is_so (assignable gives a) g.1))))
+        (λ a d f g. (f.0, g.0, of_is z (Accepts gives) (operand z x) a (operand_is z x a f.1) (accepts gives a (not-false (assignable gives a) g.1))))
     statement_leads gives looping (s.Break token) at w h p r =
-        leads_so (asked at (at + length (statement_kinds (s.Break token))) (not looping) fault.Jump token w r (omega arith)) (λ d h. is_so looping h)
+        leads_so (asked at (at + length (statement_kinds (s.Break token))) (not looping) fault.Jump token w r (omega arith)) (λ d h. not-false looping h)
     statement_leads gives looping (s.Continue token) at w h p r =
-        leads_so (asked at (at + length (statement_kinds (s.Continue token))) (not looping) fault.Jump token w r (omega arith)) (λ d h. is_so looping h)
+        leads_so (asked at (at + length (statement_kinds (s.Continue token))) (not looping) fault.Jump token w r (omega arith)) (λ d h. not-false looping h)
 
     pub entries_leads : (gives : TypeTree) (looping : Bool) (xs : EntryList) (at : ℕ) (w : Walk) → ShapedEntries xs → EntriesAt at xs
         → Ready at (at + length (entry_kinds xs)) w

@@ -4,52 +4,20 @@ use Rattle.std.specs.Prelude.{Option, slice_get, max}
 use Rattle.std.specs.Option.{unwrap_or}
 use Rattle.std.proofs.Math.Nat.{le-max_left}
 use Rattle.std.proofs.lemmas.Bool.Decides.{nat_tests}
+use Rattle.c_types.proofs.Replaced.{noted_other}
+use Rattle.base_lists.proofs.Lists.{Stays}
+use Rattle.c_types.proofs.Noted.{length_replaced}
+use Rattle.base_lists.proofs.Numbers.{max_most}
 use Rattle.c_types_rules.specs.declared.operand.Operand.{Operand}
-use Rattle.c_types_rules.specs.Faults.{Looked}
-use Rattle.c_types_rules.specs.TypeTree.{TypeTree}
+use Rattle.c_types_rules.specs.Words.{Looked, TypeTree}
 use Rattle.c_types_expressions.specs.declared.names.ScopeEntry.{ScopeEntry}
 use Rattle.c_types_expressions.specs.declared.names.ScopeEntry.TheVariants.{Opens}
 use Rattle.c_types_expressions.specs.declared.names.ScopeEntry.TheVariants as entry
 use Rattle.c_types_expressions.specs.declared.walk.VariableEntry.{VariableEntry}
 use Rattle.c_types_expressions.specs.declared.walk.Walk.{Walk}
 use Rattle.c_types.specs.Answers.{noted}
-use Rattle.c_types_expressions.specs.ExprWalk.{looked, with_call, with_offset, with_use}
-use Rattle.c_types_expressions.specs.Names.{closed}
-use Rattle.c_types_expressions.specs.Walked.{Walked, Fine, Faulty, ◌>>=◌, replaced, with_type}
-use Rattle.c_types_laws.proofs.Scenes.{EndsOn, Scene, Sound, Stays, ends_here, ends_then, replaced_long, replaced_other, replaced_same, scene, stack_later}
-
--- of what a part of the walk gives, where it meets no fault
-abbrev pub GivesIn : {A : Type 0} → (A → Walk → Type 0) → Walked A → Type 0
-GivesIn Q (Fine a v) = Q a v
-GivesIn Q (Faulty kind index) = Unit {0}
-
-pub record Gives {A : Type 0} (m : Walked A) (Q : A → Walk → Type 0) : Type 0 where
-  pub by : GivesIn Q m
-
-then_in : {A B : Type 0} (P : A → Walk → Type 0) (Q : B → Walk → Type 0) (m : Walked A) (k : A → Walk → Walked B) → GivesIn P m
-    → ((a : A) (v : Walk) → P a v → Gives (k a v) Q) → GivesIn Q (m >>= k)
-then_in P Q (Fine a v) k h g = (g a v h).by
-then_in P Q (Faulty i j) k h g = tt
-
-pub and_then : {A B : Type 0} {P : A → Walk → Type 0} {Q : B → Walk → Type 0} {m : Walked A} {k : A → Walk → Walked B} → Gives m P
-    → ((a : A) (v : Walk) → P a v → Gives (k a v) Q) → Gives (m >>= k) Q
-and_then {P = P} {Q = Q} {m = m} {k = k} h g = record { by = then_in P Q m k h.by g }
-
-weaker_in : {A : Type 0} (P Q : A → Walk → Type 0) (m : Walked A) → GivesIn P m → ((a : A) (v : Walk) → P a v → Q a v) → GivesIn Q m
-weaker_in P Q (Fine a v) h g = g a v h
-weaker_in P Q (Faulty i j) h g = tt
-
-pub weaker : {A : Type 0} {P Q : A → Walk → Type 0} {m : Walked A} → Gives m P → ((a : A) (v : Walk) → P a v → Q a v) → Gives m Q
-weaker {P = P} {Q = Q} {m = m} h g = record { by = weaker_in P Q m h.by g }
-
-looked_in : (Q : Operand → Walk → Type 0) (token : ℕ) (r : Looked) (w : Walk) → ((x : Operand) → r ≡ Ok x → Q x (with_type token x.ctype w))
-    → GivesIn Q (looked token r w)
-looked_in Q token (Ok x) w h = h x refl
-looked_in Q token (Err kind) w h = tt
-
-pub looks : {Q : Operand → Walk → Type 0} (token : ℕ) (r : Looked) (w : Walk) → ((x : Operand) → r ≡ Ok x → Q x (with_type token x.ctype w))
-    → Gives (looked token r w) Q
-looks {Q = Q} token r w h = record { by = looked_in Q token r w h }
+use Rattle.c_types_expressions.specs.Words.{looked, with_call, with_offset, with_use, closed, Walked, Fine, Faulty, ◌>>=◌, replaced, with_type}
+use Rattle.c_types_laws.proofs.Scenes.{EndsOn, Scene, Sound, ends_here, ends_then, scene, stack_later}
 
 -- the notes at a token are the same
 pub record Same (w v : Walk) (token : ℕ) : Type 0 where
@@ -62,12 +30,6 @@ same_here w token = record { types = refl; variables = refl; functions = refl }
 
 pub same_then : {w u v : Walk} {token : ℕ} → Same w u token → Same u v token → Same w v token
 same_then a b = record { types = b.types ∙ a.types; variables = b.variables ∙ a.variables; functions = b.functions ∙ a.functions }
-
-pub noted_other : {A : Type 0} (notes : List (Option A)) (i j : ℕ) (x : Option A) → (i ≡ j → ⊥) → noted (replaced notes i x) j ≡ noted notes j
-noted_other notes i j x h = ap (λ o. unwrap_or o None) (replaced_other notes i j x h)
-
-pub noted_same : {A : Type 0} (notes : List (Option A)) (i : ℕ) (x : A) → i < length notes → noted (replaced notes i (Some x)) i ≡ Some x
-noted_same notes i x h = ap (λ o. unwrap_or o None) (replaced_same notes i (Some x) h)
 
 -- What is known stays known, and each new variable is declared at this token or behind it.
 pub record Later (at : ℕ) (s : Scene) (l : ℕ) (r : Scene) (m : ℕ) : Type 0 where
@@ -144,7 +106,7 @@ pub record Marks (token : ℕ) (w v : Walk) : Type 0 where
 
 pub type_marks : (token : ℕ) (of : TypeTree) (w : Walk) → Marks token w (with_type token of w)
 type_marks token of w = record {
-  types = replaced_long w.types token (Some of);
+  types = length_replaced w.types token (Some of);
   variables_at = refl;
   functions_at = refl;
   apart = λ q h. record { types = noted_other w.types token q (Some of) h; variables = refl; functions = refl };
@@ -154,8 +116,8 @@ type_marks token of w = record {
 
 pub use_marks : (token index : ℕ) (of : TypeTree) (w : Walk) → Marks token w (with_type token of (with_use token index w))
 use_marks token index of w = record {
-  types = replaced_long w.types token (Some of);
-  variables_at = replaced_long w.variables_at token (Some index);
+  types = length_replaced w.types token (Some of);
+  variables_at = length_replaced w.variables_at token (Some index);
   functions_at = refl;
   apart = λ q h. record { types = noted_other w.types token q (Some of) h; variables = noted_other w.variables_at token q (Some index) h; functions = refl };
   scene = refl;
@@ -164,9 +126,9 @@ use_marks token index of w = record {
 
 pub call_marks : (token index : ℕ) (of : TypeTree) (w : Walk) → Marks token w (with_type token of (with_call token index w))
 call_marks token index of w = record {
-  types = replaced_long w.types token (Some of);
+  types = length_replaced w.types token (Some of);
   variables_at = refl;
-  functions_at = replaced_long w.functions_at token (Some index);
+  functions_at = length_replaced w.functions_at token (Some index);
   apart = λ q h. record { types = noted_other w.types token q (Some of) h; variables = refl; functions = noted_other w.functions_at token q (Some index) h };
   scene = refl;
   latest = refl;
@@ -174,7 +136,7 @@ call_marks token index of w = record {
 
 pub offset_marks : (token offset : ℕ) (of : TypeTree) (w : Walk) → Marks token w (with_type token of (with_offset token offset w))
 offset_marks token offset of w = record {
-  types = replaced_long w.types token (Some of);
+  types = length_replaced w.types token (Some of);
   variables_at = refl;
   functions_at = refl;
   apart = λ q h. record { types = noted_other w.types token q (Some of) h; variables = refl; functions = refl };
@@ -182,13 +144,10 @@ offset_marks token offset of w = record {
   latest = refl;
 }
 
-most : (a b c : ℕ) → a ≤ c → b ≤ c → max a b ≤ c
-most a b c h k = grind (arith, nat_tests, h, k)
-
 pub marks_sound : {at token : ℕ} {w v : Walk} → Marks token w v → token < at → Sound at w.latest (scene w) → Sound at v.latest (scene v)
 marks_sound {at = at} {token = token} {w = w} {v = v} m h k =
     subst (λ s. Sound at v.latest s) (sym m.scene)
-    (sound_latest (subst (λ n. n ≤ at - 1) (sym m.latest) (most w.latest token (at - 1) k.latest (omega (arith, h)))) k)
+    (sound_latest (subst (λ n. n ≤ at - 1) (sym m.latest) (max_most w.latest token (at - 1) k.latest (omega (arith, h)))) k)
 
 pub marks_later : {token : ℕ} {w v : Walk} → Marks token w v → (at : ℕ) → Later at (scene w) w.latest (scene v) v.latest
 marks_later {token = token} {w = w} {v = v} m at =

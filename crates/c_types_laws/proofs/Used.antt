@@ -4,11 +4,12 @@ use Rattle.std.specs.Prelude.{Option, slice_get}
 use Rattle.std.proofs.lemmas.Bool.{false≢true}
 use Rattle.std.proofs.lemmas.Bool.Decides.{nat_tests}
 use Rattle.std.proofs.lemmas.Option.{slice_get_within}
+use Rattle.base_lists.proofs.Lists.{Stays}
 use Rattle.c_types_expressions.specs.declared.walk.VariableEntry.{VariableEntry}
 use Rattle.c_types_expressions.specs.declared.walk.Walk.{Walk}
 use Rattle.c_types.specs.Answers.{scope_holds, span_holds}
 use Rattle.c_types_laws.specs.Naming.{IsInnermost, IsNamed, NamesNone}
-use Rattle.c_types_laws.proofs.Scenes.{EndsOn, IsBefore, IsTop, NoneOn, OnStack, Scene, Sound, Stays, scene}
+use Rattle.c_types_laws.proofs.Scenes.{EndsOn, IsBefore, IsTop, NoneOn, OnStack, Scene, Sound, scene}
 use Rattle.c_types_laws.proofs.Steps.{Later}
 
 named_stays : (name : List ℕ) (place : ℕ) (vs us : List VariableEntry) → Stays vs us → (v : Option VariableEntry) → slice_get vs place ≡ v → IsNamed name v

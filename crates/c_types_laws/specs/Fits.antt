@@ -5,25 +5,22 @@ use Rattle.c_syntax.specs.declared.parts.Param.{Param}
 use Rattle.c_syntax.specs.declared.parts.ParamName.{ParamName}
 use Rattle.c_syntax.specs.declared.expr.PrefixOperator.TheVariants as prefix
 use Rattle.c_syntax.specs.ExprTree as e
-use Rattle.c_syntax.specs.ExprTree.{ExprTree, ExprList, LinkList, PostfixList}
+use Rattle.c_syntax.specs.Words.{ExprTree, ExprList, LinkList, PostfixList, InitialTree, StartTree, DeclarationTree, ForStartTree, StatementTree, EntryList}
+use Rattle.c_syntax.specs.Words.{ItemTree, SourceTree}
 use Rattle.c_syntax.specs.StatementTree as s
-use Rattle.c_syntax.specs.StatementTree.{InitialTree, StartTree, DeclarationTree, ForStartTree, StatementTree, EntryList}
 use Rattle.c_syntax.specs.ItemTree as i
-use Rattle.c_syntax.specs.ItemTree.{ItemTree, SourceTree}
 use Rattle.c_types_rules.specs.declared.function.FunctionType.{FunctionType}
 use Rattle.c_types_rules.specs.declared.library.Library.{Library}
 use Rattle.c_types_rules.specs.declared.library.Library.TheVariants as library
 use Rattle.c_types_rules.specs.declared.operand.Operand.{Operand}
-use Rattle.c_types_rules.specs.TypeTree.{TypeTree, Void, Char, Int, Unsigned, Pointer, Array}
-use Rattle.c_types_rules.specs.Conversions.{is_struct, is_void, of_kind, place_of, value_of, value_type}
-use Rattle.c_types_rules.specs.Library.{fits_format, library_called, library_named}
+use Rattle.c_types_rules.specs.Words.{TypeTree, Void, Char, Int, Unsigned, Pointer, Array, is_struct, is_void, of_kind, place_of, value_of, value_type}
+use Rattle.c_types_rules.specs.Words.{fits_format, library_called, library_named}
 use Rattle.c_types_expressions.specs.declared.walk.FunctionEntry.{FunctionEntry}
 use Rattle.c_types_expressions.specs.declared.walk.Walk.{Walk}
 use Rattle.c_types.specs.Answers.{noted, type_at}
 use Rattle.c_types_expressions.specs.ExprWalk.{binary_of, compound_of, flat, string_cells}
 use Rattle.c_types_walk.specs.ItemWalk.{listed_params}
-use Rattle.c_meaning.specs.Conversions.{is_null_constant}
-use Rattle.c_meaning.specs.Trees.{token_of}
+use Rattle.c_meaning.specs.Words.{is_null_constant, token_of}
 use Rattle.c_types_laws.specs.Naming.{DeclaresVariable, NamesNone, NamesVariable}
 use Rattle.c_types_laws.specs.Operands.{Accepts, Assigns, Casts, Chooses, Indexes, IsScalar, Joins, Prefixes, Selects, SelectsBehind, Steps}
 

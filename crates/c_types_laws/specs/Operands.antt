@@ -9,10 +9,8 @@ use Rattle.c_syntax.specs.declared.expr.PrefixOperator.TheVariants as prefix
 use Rattle.c_types_rules.specs.declared.layout.Member.{Member}
 use Rattle.c_types_rules.specs.declared.layout.StructType.{StructType}
 use Rattle.c_types_rules.specs.declared.operand.Operand.{Operand}
-use Rattle.c_types_rules.specs.TypeTree.{TypeTree, Void, Int, Unsigned, Pointer}
-use Rattle.c_types_rules.specs.Conversions.{common, is_arithmetic, is_array, is_pointer, is_scalar, is_void, is_void_pointer, promoted, value_of, value_type}
-use Rattle.c_types_rules.specs.Selecting.{joined_pointer, member_of}
-use Rattle.c_types_rules.specs.Sizes.{is_complete}
+use Rattle.c_types_rules.specs.Words.{TypeTree, Void, Int, Unsigned, Pointer, common, is_arithmetic, is_array, is_pointer, is_scalar, is_void, is_void_pointer}
+use Rattle.c_types_rules.specs.Words.{promoted, value_of, value_type, joined_pointer, member_of, is_complete}
 
 abbrev pub IsArithmetic : TypeTree → Type 0
 IsArithmetic t = is_arithmetic t ≡ true

@@ -1,6 +1,5 @@
 ghost use Rattle.std.specs.Prelude.{◌≡◌};
-ghost use Rattle.c_syntax.specs.ItemTree.{SourceTree};
-ghost use Rattle.c_syntax.specs.WellFormed.{IsShaped};
+ghost use Rattle.c_syntax.specs.Words.{SourceTree, IsShaped};
 ghost use Rattle.c_types.specs.Fault.{walk_tree};
 ghost use Rattle.c_types_expressions.specs.Walked.{Fine};
 ghost use Rattle.c_types_expressions.specs.declared.walk.Walk.{Walk};

@@ -16,10 +16,7 @@ equal (Struct k) (Struct l) is = ap Struct (eqb-true k l is)
 equal a b is = absurd (true≢false (sym is))
 
 pub same_self : (t : TypeTree) → same_type t t ≡ true
-same_self Void = refl
-same_self Char = refl
-same_self Int = refl
-same_self Unsigned = refl
 same_self (Pointer to) = same_self to
 same_self (Array element n) = and_from (nat_eq n n) (same_type element element) (eq-eqb n n refl) (same_self element)
 same_self (Struct tag) = eq-eqb tag tag refl
+same_self t = refl

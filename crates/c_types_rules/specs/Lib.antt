@@ -9,3 +9,4 @@ pub mod Selecting
 pub mod Functions
 pub mod Library
 pub mod Laws
+pub mod Words

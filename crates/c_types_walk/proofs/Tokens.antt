@@ -5,12 +5,11 @@ use Rattle.c_syntax.specs.declared.parts.Params.{Params}
 use Rattle.c_syntax.specs.declared.parts.Params.TheVariants as params
 use Rattle.c_syntax.specs.declared.token.Sign.TheVariants as sign
 use Rattle.c_syntax.specs.ExprTree as e
-use Rattle.c_syntax.specs.ExprTree.{ExprTree, ExprList}
+use Rattle.c_syntax.specs.Words.{ExprTree, ExprList, InitialTree, StartTree, DeclarationTree, ForStartTree, StatementTree, EntryList, ItemTree, Kinds, a_sign}
+use Rattle.c_syntax.specs.Words.{after_commas, body_kinds, declaration_kinds, entry_kinds, expr_kinds, exprs_kinds, for_start_kinds, initial_kinds, item_kinds}
+use Rattle.c_syntax.specs.Words.{more_exprs_kinds, optional, param_kinds, params_kinds, parenthesized, start_kinds, statement_kinds, with_commas}
 use Rattle.c_syntax.specs.StatementTree as s
-use Rattle.c_syntax.specs.StatementTree.{InitialTree, StartTree, DeclarationTree, ForStartTree, StatementTree, EntryList}
 use Rattle.c_syntax.specs.ItemTree as i
-use Rattle.c_syntax.specs.ItemTree.{ItemTree}
-use Rattle.c_syntax.specs.Spelling.{Kinds, a_sign, after_commas, body_kinds, declaration_kinds, entry_kinds, expr_kinds, exprs_kinds, for_start_kinds, initial_kinds, item_kinds, more_exprs_kinds, optional, param_kinds, params_kinds, parenthesized, start_kinds, statement_kinds, with_commas}
 use Rattle.c_types_expressions.specs.Room.{items_in}
 use Rattle.c_types_expressions.proofs.Texts.{bytes_both, bytes_in, expr_bytes, exprs_bytes}
 use Rattle.c_types_walk.specs.ItemWalk.{listed_params}
@@ -57,16 +56,12 @@ for_start_long (s.Computes x) = omega arith
 mutual
   statement_long : (x : StatementTree) → statement_needs x ≤ length (statement_kinds x)
   statement_long (s.Block token entries) = simp length-append (omega (arith, entries_long entries))
-  statement_long (s.Empty token) = omega arith
-  statement_long (s.Expr token x) = omega arith
   statement_long (s.If token condition first) = simp length-append (omega (arith, statement_long first))
   statement_long (s.IfElse token condition first second) = simp length-append (omega (arith, statement_long first, statement_long second))
   statement_long (s.While token condition body) = simp length-append (omega (arith, statement_long body))
   statement_long (s.Do token body condition) = simp length-append (omega (arith, statement_long body))
   statement_long (s.For token start condition step body) = simp length-append (omega (arith, for_start_long start, statement_long body))
-  statement_long (s.Return token value) = omega arith
-  statement_long (s.Break token) = omega arith
-  statement_long (s.Continue token) = omega arith
+  statement_long x = omega arith
 
   entries_long : (xs : EntryList) → entries_need xs ≤ length (entry_kinds xs)
   entries_long s.no_entries = omega arith
@@ -140,7 +135,6 @@ for_start_bytes (s.Computes x) = simp bytes_both (omega (arith, part_bytes x))
 mutual
   statement_bytes : (x : StatementTree) → statement_text x ≤ bytes_in (statement_kinds x)
   statement_bytes (s.Block token entries) = simp bytes_both (omega (arith, entries_bytes entries))
-  statement_bytes (s.Empty token) = omega arith
   statement_bytes (s.Expr token x) = simp bytes_both (omega (arith, expr_bytes x))
   statement_bytes (s.If token condition first) = simp bytes_both (omega (arith, expr_bytes condition, statement_bytes first))
   statement_bytes (s.IfElse token condition first second) =
@@ -150,8 +144,7 @@ mutual
   statement_bytes (s.For token start condition step body) =
       simp bytes_both (omega (arith, for_start_bytes start, part_bytes condition, part_bytes step, statement_bytes body))
   statement_bytes (s.Return token value) = simp bytes_both (omega (arith, part_bytes value))
-  statement_bytes (s.Break token) = omega arith
-  statement_bytes (s.Continue token) = omega arith
+  statement_bytes x = omega arith
 
   entries_bytes : (xs : EntryList) → entries_text xs ≤ bytes_in (entry_kinds xs)
   entries_bytes s.no_entries = omega arith

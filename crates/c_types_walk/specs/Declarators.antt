@@ -4,8 +4,7 @@ use Rattle.c_syntax.specs.declared.parts.Bound.{Bound}
 use Rattle.c_syntax.specs.declared.parts.Constant.{Constant}
 use Rattle.c_syntax.specs.declared.parts.Declarator.{Declarator}
 use Rattle.c_types_rules.specs.declared.layout.StructType.{StructType}
-use Rattle.c_types_rules.specs.TypeTree.{TypeTree, Array}
-use Rattle.c_types_rules.specs.Sizes.{is_object, most_cells}
+use Rattle.c_types_rules.specs.Words.{TypeTree, Array, is_object, most_cells}
 use Rattle.c_types_expressions.specs.ExprWalk.{with_stars}
 
 -- A bound is from 1 on. A longer array than the greatest object has more cells than fit, whatever its elements are.

@@ -3,18 +3,13 @@ use Rattle.std.specs.Prelude.{ℕ, ◌+◌, nat_le, Bool, true, false, not, ◌&
 use Rattle.c_syntax.specs.declared.expr.PrefixOperator.{PrefixOperator}
 use Rattle.c_syntax.specs.declared.expr.PrefixOperator.TheVariants as prefix
 use Rattle.c_syntax.specs.ExprTree as e
-use Rattle.c_syntax.specs.ExprTree.{ExprTree, ExprList}
-use Rattle.c_syntax.specs.FirstToken.{first_token}
+use Rattle.c_syntax.specs.Words.{ExprTree, ExprList, first_token, InitialTree}
 use Rattle.c_syntax.specs.StatementTree as s
-use Rattle.c_syntax.specs.StatementTree.{InitialTree}
 use Rattle.c_types_rules.specs.declared.fault.FaultKind.TheVariants as fault
 use Rattle.c_types_rules.specs.declared.operand.Operand.{Operand}
-use Rattle.c_types_rules.specs.TypeTree.{TypeTree, Char, Array}
-use Rattle.c_types_rules.specs.Assigning.{assignable}
-use Rattle.c_types_rules.specs.Conversions.{is_scalar}
+use Rattle.c_types_rules.specs.Words.{TypeTree, Char, Array, assignable, is_scalar}
 use Rattle.c_types_expressions.specs.declared.walk.Walk.{Walk}
-use Rattle.c_types_expressions.specs.Walked.{Walked, Fine, Faulty, ◌>>=◌}
-use Rattle.c_types_expressions.specs.ExprWalk.{walk_expr, walk_exprs, string_cells}
+use Rattle.c_types_expressions.specs.Words.{Walked, Fine, Faulty, ◌>>=◌, walk_expr, walk_exprs, string_cells}
 
 abbrev pub is_number : ExprTree → Bool
 is_number (e.Constant token kind value) = true

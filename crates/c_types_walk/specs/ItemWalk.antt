@@ -10,26 +10,20 @@ use Rattle.c_syntax.specs.declared.parts.Param.{Param}
 use Rattle.c_syntax.specs.declared.parts.ParamName.{ParamName}
 use Rattle.c_syntax.specs.declared.parts.Params.{Params}
 use Rattle.c_syntax.specs.declared.parts.Params.TheVariants as params
-use Rattle.c_syntax.specs.StatementTree.{EntryList}
+use Rattle.c_syntax.specs.Words.{EntryList, ItemTree}
 use Rattle.c_syntax.specs.ItemTree as i
-use Rattle.c_syntax.specs.ItemTree.{ItemTree}
 use Rattle.c_types_rules.specs.declared.fault.FaultKind.TheVariants as fault
 use Rattle.c_types_rules.specs.declared.function.FunctionType.{FunctionType}
 use Rattle.c_types_rules.specs.declared.layout.StructType.{StructType}
-use Rattle.c_types_rules.specs.TypeTree.{TypeTree, Pointer}
-use Rattle.c_types_rules.specs.Conversions.{is_scalar, is_struct}
-use Rattle.c_types_rules.specs.Functions.{same_function}
-use Rattle.c_types_rules.specs.Selecting.{member_named}
-use Rattle.c_types_rules.specs.Sizes.{is_object, most_cells, empty_struct, with_member}
+use Rattle.c_types_rules.specs.Words.{TypeTree, Pointer, is_scalar, is_struct, same_function, member_named, is_object, most_cells, empty_struct, with_member}
 use Rattle.c_types_expressions.specs.declared.names.Meaning.{Meaning}
 use Rattle.c_types_expressions.specs.declared.names.Meaning.TheVariants as meaning
 use Rattle.c_types_expressions.specs.declared.names.ScopeEntry.TheVariants.{Declares}
 use Rattle.c_types_expressions.specs.declared.walk.FunctionEntry.{FunctionEntry}
 use Rattle.c_types_expressions.specs.declared.walk.Parameter.{Parameter}
 use Rattle.c_types_expressions.specs.declared.walk.Walk.{Walk}
-use Rattle.c_types_expressions.specs.Names.{found, is_here, is_reserved}
-use Rattle.c_types_expressions.specs.Walked.{Walked, Fine, Faulty, ◌>>=◌, Done, replaced, with_variable, opened, closing}
-use Rattle.c_types_expressions.specs.ExprWalk.{base_type, with_stars}
+use Rattle.c_types_expressions.specs.Words.{found, is_here, is_reserved, Walked, Fine, Faulty, ◌>>=◌, Done, replaced, with_variable, opened, closing, base_type}
+use Rattle.c_types_expressions.specs.Words.{with_stars}
 use Rattle.c_types_walk.specs.Declarators.{declared_type}
 use Rattle.c_types_walk.specs.StatementWalk.{walk_declaration, walk_entries}
 

@@ -1,19 +1,13 @@
 -- The walk through declarations and statements: their parts from left to right, and then the construct itself.
 use Rattle.std.specs.Prelude.{ℕ, ◌+◌, nat_le, Bool, true, false, not, ◌&&◌, ◌||◌, if◌then◌else◌, List, [], ◌∷◌, length, Option, Some, None, is_some}
-use Rattle.c_syntax.specs.ExprTree.{ExprTree}
+use Rattle.c_syntax.specs.Words.{ExprTree, InitialTree, StartTree, DeclarationTree, ForStartTree, StatementTree, EntryList}
 use Rattle.c_syntax.specs.StatementTree as s
-use Rattle.c_syntax.specs.StatementTree.{InitialTree, StartTree, DeclarationTree, ForStartTree, StatementTree, EntryList}
 use Rattle.c_types_rules.specs.declared.fault.FaultKind.TheVariants as fault
 use Rattle.c_types_rules.specs.declared.operand.Operand.{Operand}
-use Rattle.c_types_rules.specs.TypeTree.{TypeTree}
-use Rattle.c_types_rules.specs.Assigning.{assignable}
-use Rattle.c_types_rules.specs.Conversions.{is_void, is_struct}
-use Rattle.c_types_rules.specs.Operators.{is_scalar_value}
-use Rattle.c_types_rules.specs.Sizes.{is_object, cells_of, most_cells}
+use Rattle.c_types_rules.specs.Words.{TypeTree, assignable, is_void, is_struct, is_scalar_value, is_object, cells_of, most_cells}
 use Rattle.c_types_expressions.specs.declared.walk.Walk.{Walk}
-use Rattle.c_types_expressions.specs.Names.{is_name_taken}
-use Rattle.c_types_expressions.specs.Walked.{Walked, Fine, Faulty, ◌>>=◌, Done, unless, replaced, with_variable, opened, closing}
-use Rattle.c_types_expressions.specs.ExprWalk.{base_type, walk_expr, walk_whole}
+use Rattle.c_types_expressions.specs.Words.{is_name_taken, Walked, Fine, Faulty, ◌>>=◌, Done, unless, replaced, with_variable, opened, closing, base_type}
+use Rattle.c_types_expressions.specs.Words.{walk_expr, walk_whole}
 use Rattle.c_types_walk.specs.Declarators.{declared_type, is_open}
 use Rattle.c_types_walk.specs.Initialisers.{walk_initial}
 

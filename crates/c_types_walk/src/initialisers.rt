@@ -1,13 +1,11 @@
 ghost use Rattle.std.specs.Prelude.{◌≡◌, ◌<◌, ◌≤◌, IfOk, OnOk, option_map, length};
-ghost use Rattle.c_syntax.specs.Limits.{most_bytes, most_tokens};
-ghost use Rattle.c_syntax.specs.Plain.{plain_expr, plain_exprs, plain_initial};
+ghost use Rattle.c_syntax.specs.Words.{most_bytes, most_tokens, plain_expr, plain_exprs, plain_initial};
 ghost use Rattle.c_types_rules.specs.Plain.{plain_type};
 ghost use Rattle.c_types_walk.specs.Initialisers.{all_initialise, cells_of_string, completes, expressed, initialises, is_char, is_char_array, is_constant};
 ghost use Rattle.c_types_walk.specs.Initialisers.{is_number, known_length, length_of, listed_type, spelled, takes_items, valued, walk_initial};
 ghost use Rattle.c_types_walk.specs.Initialisers.{with_length};
 ghost use Rattle.c_types_walk.specs.Room.{initial_needs, initial_text};
-ghost use Rattle.c_types_expressions.specs.Room.{HasLeft, expr_text};
-ghost use Rattle.c_types_expressions.specs.Walked.{IsWalked};
+ghost use Rattle.c_types_expressions.specs.Words.{HasLeft, expr_text, IsWalked};
 
 use c_syntax::{Expr, Initial, PrefixOperator};
 use c_types_expressions::{Stop, Walk, string_cells, walk_expr, walk_exprs};

@@ -1,16 +1,10 @@
 ghost use Rattle.std.specs.Prelude.{◌≡◌, ◌<◌, ◌||◌, IfOk, OnOk, map, option_map, unwrap_or, length, sum_by, true};
 ghost use Rattle.std.specs.List.{flat_map};
-ghost use Rattle.c_syntax.specs.Limits.{most_bytes};
-ghost use Rattle.c_syntax.specs.Plain.{plain_entries, plain_item};
-ghost use Rattle.c_syntax.specs.Spelling.{item_kinds};
-ghost use Rattle.c_syntax.specs.Tokens.{kind_text_len};
+ghost use Rattle.c_syntax.specs.Words.{most_bytes, plain_entries, plain_item, item_kinds, kind_text_len};
 ghost use Rattle.c_types_walk.specs.ItemWalk.{clashes, declares, entered, is_defined, known_as, typed_function, types_of, walk_body, walk_function};
 ghost use Rattle.c_types_walk.specs.ItemWalk.{walk_item, walk_items, with_definition, with_function};
 ghost use Rattle.c_types_walk.specs.Room.{body_text, entries_text, function_needs, item_needs, item_text};
-ghost use Rattle.c_types_expressions.specs.ExprWalk.{with_stars};
-ghost use Rattle.c_types_expressions.specs.Names.{found};
-ghost use Rattle.c_types_expressions.specs.Room.{HasLeft, HasRoom};
-ghost use Rattle.c_types_expressions.specs.Walked.{Fine, IsWalked};
+ghost use Rattle.c_types_expressions.specs.Words.{with_stars, found, HasLeft, HasRoom, Fine, IsWalked};
 
 use crate::params::{add_params, listed, types_of, walk_params};
 use crate::statement_walk::{walk_declaration, walk_entries};

@@ -1,8 +1,7 @@
 ghost use Rattle.std.specs.Prelude.{◌≡◌, [], IfOk, OnOk, length};
 ghost use Rattle.c_types_walk.specs.ItemWalk.{has_length, is_among, is_length, is_named, listed_params, looked_param, named_param, param_type};
 ghost use Rattle.c_types_walk.specs.ItemWalk.{scalar_param, types_of, walk_param, walk_params, with_param, with_params};
-ghost use Rattle.c_types_expressions.specs.Room.{HasLeft, HasRoom};
-ghost use Rattle.c_types_expressions.specs.Walked.{Fine, IsWalked};
+ghost use Rattle.c_types_expressions.specs.Words.{HasLeft, HasRoom, Fine, IsWalked};
 
 use c_syntax::{Bound, Constant, Param, ParamName, Params};
 use c_types_expressions::{

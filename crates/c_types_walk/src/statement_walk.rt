@@ -1,16 +1,13 @@
 ghost use Rattle.std.specs.Prelude.{◌≡◌, ◌<◌, map, option_map, length, true, false, OnOk};
-ghost use Rattle.c_syntax.specs.Limits.{most_bytes};
+ghost use Rattle.c_syntax.specs.Words.{most_bytes, plain_declaration, plain_entries, plain_expr, plain_for_start, plain_start, plain_statement};
 ghost use Rattle.c_syntax.specs.StatementTree as s;
-ghost use Rattle.c_syntax.specs.Plain.{plain_declaration, plain_entries, plain_expr, plain_for_start, plain_start, plain_statement};
 ghost use Rattle.c_types_walk.specs.StatementWalk.{counted_cells, is_condition_part, is_struct_part, returned, sized, walk_closed, walk_condition};
 ghost use Rattle.c_types_walk.specs.StatementWalk.{walk_declaration, walk_entries, walk_for_start, walk_given_up, walk_open, walk_optional, walk_start};
 ghost use Rattle.c_types_walk.specs.StatementWalk.{walk_starts, walk_statement, walk_typed, with_declared_type};
 ghost use Rattle.c_types_walk.specs.Room.{declaration_needs, declaration_text, entries_need, entries_text, for_start_needs, for_start_text, part_text};
 ghost use Rattle.c_types_walk.specs.Room.{start_needs, start_text, starts_need, starts_text, statement_needs, statement_text};
 ghost use Rattle.c_types_rules.specs.Operators.{is_scalar_value};
-ghost use Rattle.c_types_expressions.specs.ExprWalk.{walk_expr, walk_whole};
-ghost use Rattle.c_types_expressions.specs.Room.{HasLeft, HasRoom, expr_text};
-ghost use Rattle.c_types_expressions.specs.Walked.{IsWalked};
+ghost use Rattle.c_types_expressions.specs.Words.{walk_expr, walk_whole, HasLeft, HasRoom, expr_text, IsWalked};
 
 use crate::declarators::{declared_type, is_open};
 use crate::initialisers::walk_initial;

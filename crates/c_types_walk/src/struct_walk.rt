@@ -1,7 +1,6 @@
 ghost use Rattle.std.specs.Prelude.{◌≡◌, OnOk, IfOk};
 ghost use Rattle.c_types_walk.specs.ItemWalk.{defined, typed_member, walk_declarators, walk_member, walk_members, walk_struct, with_tag};
-ghost use Rattle.c_types_expressions.specs.Room.{HasLeft, HasRoom};
-ghost use Rattle.c_types_expressions.specs.Walked.{Fine, IsWalked};
+ghost use Rattle.c_types_expressions.specs.Words.{HasLeft, HasRoom, Fine, IsWalked};
 
 use crate::declarators::declared_type;
 use c_syntax::{Declarator, Members};

@@ -7,9 +7,7 @@ use Rattle.std.specs.Prelude.{bit_and, bit_or, bit_xor, IsTrue}
 use Rattle.std.specs.Int.{w32}
 use Rattle.cbi_base.specs.declared.scalar.Kind.{Kind}
 use Rattle.cbi_base.specs.declared.scalar.Kind.TheVariants.{Char, Int, Unsigned}
-use Rattle.cbi_base.specs.Kind.{least_of, wrapped}
-use Rattle.cbi_base.specs.Arithmetic.{bits_of, bitwise, complement}
-use Rattle.cbi_base.specs.Scalars.{is_promoted}
+use Rattle.cbi_base.specs.Words.{least_of, wrapped, bits_of, bitwise, complement, is_promoted}
 use Rattle.c_values.specs.Laws.{bit_of}
 use Rattle.c_values.proofs.Ranges.{int_rem_euclid-parts}
 

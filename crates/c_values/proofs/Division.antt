@@ -5,8 +5,7 @@ use Rattle.std.proofs.Math.Nat.{div-le_self, mod-le}
 use Rattle.std.specs.Prelude.{int_div, int_rem, unsigned_abs}
 use Rattle.cbi_base.specs.declared.scalar.Kind.{Kind}
 use Rattle.cbi_base.specs.declared.scalar.Kind.TheVariants.{Char, Int, Unsigned}
-use Rattle.cbi_base.specs.Kind.{LiesIn}
-use Rattle.cbi_base.specs.Arithmetic.{is_zero}
+use Rattle.cbi_base.specs.Words.{LiesIn, is_zero}
 use Rattle.c_values.proofs.Ranges.{LiesIn-ends, ends-LiesIn, size_below}
 
 abs-neg : (n : ℕ) → unsigned_abs (neg_ℤ (pos n)) ≡ n

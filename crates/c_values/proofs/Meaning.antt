@@ -9,8 +9,7 @@ use Rattle.cbi_base.specs.declared.scalar.Kind.{Kind}
 use Rattle.cbi_base.specs.declared.scalar.Kind.TheVariants.{Char, Int, Unsigned}
 use Rattle.cbi_base.specs.declared.trap.Trap.{Trap}
 use Rattle.cbi_base.specs.declared.trap.Trap.TheVariants.{Overflow, Divide, Shift}
-use Rattle.cbi_base.specs.Kind.{lies_in, wrapped, LiesIn}
-use Rattle.cbi_base.specs.Arithmetic.{fitted, is_zero, quotient, remainder, is_count, two_to, left_shift, right_shift}
+use Rattle.cbi_base.specs.Words.{lies_in, wrapped, LiesIn, fitted, is_zero, quotient, remainder, is_count, two_to, left_shift, right_shift}
 use Rattle.c_values.specs.Laws.{IsModulo, IsDivision, IsLeastByMinusOne, IsRoundedDown}
 use Rattle.c_values.proofs.Ranges.{LiesIn-ends, ends-LiesIn}
 use Rattle.c_values.proofs.Modulo.{wrapped-IsModulo, wrapped-inside}

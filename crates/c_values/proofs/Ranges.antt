@@ -3,6 +3,7 @@ use Rattle.std.proofs.Common.{◌≡◌, ℕ, ◌+◌, ◌*◌, ◌^◌, ◌<◌
 use Rattle.std.proofs.lemmas.Int.{ints}
 use Rattle.std.specs.Int.{int_div_euclid, int_rem_euclid}
 use Rattle.std.specs.Prelude.{int_le, unsigned_abs, IsTrue}
+use Rattle.base_lists.proofs.Tests.{both_true, true_both}
 use Rattle.cbi_base.specs.declared.scalar.Kind.{Kind}
 use Rattle.cbi_base.specs.declared.scalar.Kind.TheVariants.{Char, Int, Unsigned}
 use Rattle.cbi_base.specs.Kind.{least_of, greatest_of, size_of, wrapped, LiesIn}
@@ -14,22 +15,16 @@ pub int_rem_euclid-parts : (a : ℤ) (k : ℕ) → 0 < k →
 int_rem_euclid-parts (pos a) k h = omega arith
 int_rem_euclid-parts (negsuc a) k h = omega arith
 
-both : (a b : Bool) → IsTrue a → IsTrue b → IsTrue (a && b)
-both a b p q = grind arith
-
-parts : (a b : Bool) → IsTrue (a && b) → IsTrue a × IsTrue b
-parts a b p = grind arith
-
 pub LiesIn-ends : (kind : Kind) (value : ℤ) → LiesIn kind value → (least_of kind ≤ℤ value) × (value ≤ℤ greatest_of kind)
 LiesIn-ends kind value h =
-    let halves = parts (int_le (least_of kind) value) (int_le value (greatest_of kind)) h in
+    let halves = true_both (int_le (least_of kind) value) (int_le value (greatest_of kind)) h in
     let low = halves.0 in
     let high = halves.1 in
     (omega (arith, ints), omega (arith, ints))
 
 pub ends-LiesIn : (kind : Kind) (value : ℤ) → least_of kind ≤ℤ value → value ≤ℤ greatest_of kind → LiesIn kind value
 ends-LiesIn kind value low high =
-    both (int_le (least_of kind) value) (int_le value (greatest_of kind)) (grind (arith, ints)) (grind (arith, ints))
+    both_true (int_le (least_of kind) value) (int_le value (greatest_of kind)) (grind (arith, ints)) (grind (arith, ints))
 
 pub wrapped-LiesIn : (kind : Kind) (value : ℤ) → LiesIn kind (wrapped kind value)
 wrapped-LiesIn Char value =

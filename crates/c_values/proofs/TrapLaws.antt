@@ -10,8 +10,8 @@ use Rattle.cbi_base.specs.declared.operators.Unary.{Unary}
 use Rattle.cbi_base.specs.declared.operators.Unary.TheVariants.{Neg, Com, Not}
 use Rattle.cbi_base.specs.declared.trap.Trap.{Trap}
 use Rattle.cbi_base.specs.declared.trap.Trap.TheVariants as trap
-use Rattle.cbi_base.specs.Arithmetic.{fitted, left_shift, binary_value, kind_given, complement}
-use Rattle.cbi_base.specs.Scalars.{as_number, as_promoted, takes, applied, applied_to_one, converted, truth_of}
+use Rattle.cbi_base.specs.Words.{fitted, left_shift, binary_value, kind_given, complement, as_number, as_promoted, takes, applied, applied_to_one, converted}
+use Rattle.cbi_base.specs.Words.{truth_of}
 
 -- a value, or another trap
 abbrev IsOther : Result ℤ Trap → Type 0
@@ -63,14 +63,7 @@ only op (Place object offset) Undefined e = inr refl
 only op Null Undefined e = inr refl
 only op (Number kind a) (Number other b) e =
     absurd (taken_other (takes op kind other) (kind_given op kind) (binary_value op kind a b) (binary_other op kind a b) e)
-only op (Number kind a) (Place object offset) e = cc
-only op (Number kind a) Null e = cc
-only op (Place object offset) (Number kind b) e = cc
-only op (Place object offset) (Place other offset') e = cc
-only op (Place object offset) Null e = cc
-only op Null (Number kind b) e = cc
-only op Null (Place object offset) e = cc
-only op Null Null e = cc
+only op left right e = cc
 
 undefined_left : (op : Binary) (left right : Scalar) → left ≡ Undefined → applied op left right ≡ Err trap.Undefined
 unfolding applied
@@ -78,10 +71,8 @@ undefined_left op left right e = rw e refl
 
 undefined_right : (op : Binary) (left right : Scalar) → right ≡ Undefined → applied op left right ≡ Err trap.Undefined
 unfolding applied
-undefined_right op (Number kind a) right e = rw e refl
-undefined_right op (Place object offset) right e = rw e refl
-undefined_right op Null right e = rw e refl
 undefined_right op Undefined right e = refl
+undefined_right op left right e = rw e refl
 
 pub applied-Undefined : (op : Binary) (left right : Scalar) →
     (applied op left right ≡ Err trap.Undefined) ↔ ((left ≡ Undefined) ⊎ (right ≡ Undefined))
@@ -100,26 +91,16 @@ pub applied_to_one-Undefined : (op : Unary) (value : Scalar) →
 unfolding applied_to_one
 applied_to_one-Undefined Neg (Number kind a) = (λ e. absurd (promoted_other kind _ (fitted_other kind _) e), λ e. cc)
 applied_to_one-Undefined Com (Number kind a) = (λ e. absurd (promoted_other kind (Ok (complement kind a)) (λ f. cc) e), λ e. cc)
-applied_to_one-Undefined Not (Number kind a) = (λ e. cc, λ e. cc)
-applied_to_one-Undefined Neg (Place object offset) = (λ e. cc, λ e. cc)
-applied_to_one-Undefined Com (Place object offset) = (λ e. cc, λ e. cc)
-applied_to_one-Undefined Not (Place object offset) = (λ e. cc, λ e. cc)
-applied_to_one-Undefined Neg Null = (λ e. cc, λ e. cc)
-applied_to_one-Undefined Com Null = (λ e. cc, λ e. cc)
-applied_to_one-Undefined Not Null = (λ e. cc, λ e. cc)
 applied_to_one-Undefined Neg Undefined = (λ e. refl, λ e. refl)
 applied_to_one-Undefined Com Undefined = (λ e. refl, λ e. refl)
 applied_to_one-Undefined Not Undefined = (λ e. refl, λ e. refl)
+applied_to_one-Undefined op value = (λ e. cc, λ e. cc)
 
 pub converted-Undefined : (kind : Kind) (value : Scalar) → (converted kind value ≡ Err trap.Undefined) ↔ (value ≡ Undefined)
 unfolding converted
-converted-Undefined kind (Number from a) = (λ e. cc, λ e. cc)
-converted-Undefined kind (Place object offset) = (λ e. cc, λ e. cc)
-converted-Undefined kind Null = (λ e. cc, λ e. cc)
 converted-Undefined kind Undefined = (λ e. refl, λ e. refl)
+converted-Undefined kind value = (λ e. cc, λ e. cc)
 
 pub truth_of-Undefined : (value : Scalar) → (truth_of value ≡ Err trap.Undefined) ↔ (value ≡ Undefined)
-truth_of-Undefined (Number kind a) = (λ e. cc, λ e. cc)
-truth_of-Undefined (Place object offset) = (λ e. cc, λ e. cc)
-truth_of-Undefined Null = (λ e. cc, λ e. cc)
 truth_of-Undefined Undefined = (λ e. refl, λ e. refl)
+truth_of-Undefined value = (λ e. cc, λ e. cc)

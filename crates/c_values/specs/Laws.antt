@@ -3,8 +3,7 @@ use Rattle.std.specs.Prelude.{◌≡◌, ◌<◌, ℕ, ℤ, pos, negsuc, ◌+ℤ
 use Rattle.std.specs.Int.{bit_at}
 use Rattle.cbi_base.specs.declared.scalar.Kind.{Kind}
 use Rattle.cbi_base.specs.declared.scalar.Kind.TheVariants.{Int}
-use Rattle.cbi_base.specs.Kind.{least_of, size_of, LiesIn}
-use Rattle.cbi_base.specs.Arithmetic.{bits_of}
+use Rattle.cbi_base.specs.Words.{least_of, size_of, LiesIn, bits_of}
 
 -- the value lies in the kind's range and differs from the exact number by a multiple of the kind's size (C99 6.3.1.3p2)
 pub record IsModulo (kind : Kind) (exact value : ℤ) : Type 0 where

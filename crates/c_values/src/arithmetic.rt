@@ -1,6 +1,5 @@
 ghost use Rattle.std.specs.Prelude.{◌≡◌, ◌+ℤ◌, ◌-ℤ◌, ◌*ℤ◌, IfOk};
-ghost use Rattle.cbi_base.specs.Kind.{LiesIn, wrapped};
-ghost use Rattle.cbi_base.specs.Arithmetic.{fitted, quotient, remainder};
+ghost use Rattle.cbi_base.specs.Words.{LiesIn, wrapped, fitted, quotient, remainder};
 
 use crate::range::{fit, lies_in};
 use cbi_base::{Kind, Trap};

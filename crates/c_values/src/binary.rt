@@ -1,8 +1,6 @@
 ghost use Rattle.std.specs.Prelude.{◌≡◌, IfOk, IsFalse};
 ghost use Rattle.c_values.specs.Shifts.{is_shift};
-ghost use Rattle.cbi_base.specs.Kind.{LiesIn};
-ghost use Rattle.cbi_base.specs.Arithmetic.{binary_value, kind_given};
-ghost use Rattle.cbi_base.specs.Scalars.{IsInRange, applied, takes};
+ghost use Rattle.cbi_base.specs.Words.{LiesIn, binary_value, kind_given, IsInRange, applied, takes};
 
 use crate::arithmetic::{add, divide, multiply, remainder, subtract};
 use crate::bits::{and, or, xor};

@@ -1,6 +1,5 @@
 ghost use Rattle.std.specs.Prelude.{◌≡◌, pos, bit_and, bit_or, bit_xor};
-ghost use Rattle.cbi_base.specs.Kind.{LiesIn, wrapped};
-ghost use Rattle.cbi_base.specs.Arithmetic.{bits_of, bitwise, complement};
+ghost use Rattle.cbi_base.specs.Words.{LiesIn, wrapped, bits_of, bitwise, complement};
 
 use crate::range::wrap;
 use cbi_base::Kind;

@@ -6,9 +6,8 @@ ghost use Rattle.cbi_base.specs.declared.operators.Binary.{Binary};
 ghost use Rattle.cbi_base.specs.declared.operators.Unary.{Unary};
 ghost use Rattle.cbi_base.specs.declared.scalar.Scalar.{Scalar};
 ghost use Rattle.cbi_base.specs.declared.trap.Trap.{Trap};
-ghost use Rattle.cbi_base.specs.Kind.{wrapped, LiesIn};
-ghost use Rattle.cbi_base.specs.Arithmetic.{fitted, quotient, remainder, left_shift, right_shift, two_to, bitwise, complement};
-ghost use Rattle.cbi_base.specs.Scalars.{is_promoted, applied, applied_to_one, converted, truth_of};
+ghost use Rattle.cbi_base.specs.Words.{wrapped, LiesIn, fitted, quotient, remainder, left_shift, right_shift, two_to, bitwise, complement, is_promoted};
+ghost use Rattle.cbi_base.specs.Words.{applied, applied_to_one, converted, truth_of};
 ghost use Rattle.c_values.specs.Laws.{IsModulo, IsDivision, IsLeastByMinusOne, IsRoundedDown, bit_of};
 
 /// A conversion gives the one value of the kind's range that differs from the number by a multiple of the kind's size

@@ -1,6 +1,5 @@
 ghost use Rattle.std.specs.Prelude.{◌≡◌, ℤ, pos, negsuc, ◌≤ℤ◌, ◌^◌, IfOk, Ok, Err};
-ghost use Rattle.cbi_base.specs.Kind.{least_of, greatest_of, size_of, lies_in, wrapped, LiesIn};
-ghost use Rattle.cbi_base.specs.Arithmetic.{fitted, flag};
+ghost use Rattle.cbi_base.specs.Words.{least_of, greatest_of, size_of, lies_in, wrapped, LiesIn, fitted, flag};
 
 use cbi_base::{Kind, Trap};
 

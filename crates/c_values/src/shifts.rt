@@ -1,6 +1,5 @@
 ghost use Rattle.std.specs.Prelude.{◌≡◌, ◌≤◌, ◌^◌, ◌*ℤ◌, unsigned_abs, IsTrue, IfOk};
-ghost use Rattle.cbi_base.specs.Kind.{LiesIn};
-ghost use Rattle.cbi_base.specs.Arithmetic.{is_count, two_to, left_shift, right_shift};
+ghost use Rattle.cbi_base.specs.Words.{LiesIn, is_count, two_to, left_shift, right_shift};
 
 use crate::range::{lies_in, wrap};
 use cbi_base::{Kind, Trap};

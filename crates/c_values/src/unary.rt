@@ -1,7 +1,5 @@
 ghost use Rattle.std.specs.Prelude.{◌≡◌, neg_ℤ, IfOk};
-ghost use Rattle.cbi_base.specs.Kind.{LiesIn};
-ghost use Rattle.cbi_base.specs.Arithmetic.{fitted, complement};
-ghost use Rattle.cbi_base.specs.Scalars.{IsInRange, applied_to_one, opposite, as_promoted, truth_of};
+ghost use Rattle.cbi_base.specs.Words.{LiesIn, fitted, complement, IsInRange, applied_to_one, opposite, as_promoted, truth_of};
 
 use crate::bits::complement;
 use crate::range::{fit, flag};

@@ -13,7 +13,7 @@ fn push_clone(file: &[u8], came: &mut Page) {
     if !may_clone(&program) {
         return came.say("it may not be sampled");
     }
-    if let Some(clone) = came.done(sample(alloc, &program)) {
+    if let Some(clone) = came.done(sample(alloc, program)) {
         if let Some(bytes) = came.done(write_program(alloc, &clone)) {
             came.put(bytes.as_slice());
         }

@@ -182,8 +182,8 @@ fn tell_asked(row: &str, program: &Program, probes: &mut Vec<Box<dyn Probe>>, to
     }
 }
 
-fn tell_sampled(row: &str, program: &Program, probes: &mut Vec<Box<dyn Probe>>, told: &mut Page) {
-    if !may_clone(program) {
+fn tell_sampled(row: &str, program: Program, probes: &mut Vec<Box<dyn Probe>>, told: &mut Page) {
+    if !may_clone(&program) {
         return told.say("\nit may not be sampled");
     }
     if let Some(clone) = told.done(sample(told.alloc(), program)) {
@@ -201,7 +201,7 @@ pub fn tell_program(
 ) {
     let file = piece_of(texts, row, "program", rest, told);
     match read_program(told.alloc(), file.bytes()) {
-        Ok(program) if has_line(row, "sampled") => tell_sampled(row, &program, probes, told),
+        Ok(program) if has_line(row, "sampled") => tell_sampled(row, program, probes, told),
         Ok(program) => tell_asked(row, &program, probes, told),
         Err(_) => told.say("\nno program"),
     }

@@ -1,6 +1,6 @@
 //! What the programs with a part of a text's sites observe, beside the one with all of them.
 ghost use Rattle.std.specs.Prelude.{◌≤◌};
-ghost use Rattle.compiler.specs.Kept.{MayPart};
+ghost use Rattle.flow.specs.Sites.{MayPart};
 ghost use Rattle.compiler.specs.Planned.{part_in};
 
 use crate::plans::{full, parted};

@@ -1,10 +1,10 @@
 //! The plans by which a text is compiled.
-ghost use Rattle.compiler.specs.Kept.{MayPart};
+ghost use Rattle.flow.specs.Sites.{MayPart};
 ghost use Rattle.compiler.specs.Planned.{part_in};
 
 use crate::sited::schemes_of;
 use compiler::Plan;
-use site_parts::Part;
+use flow::Part;
 
 /// The program that observes each visit of these schemes.
 pub(crate) fn full(schemes: &str) -> Plan

@@ -1,7 +1,6 @@
 //! How far a text is read, with an answer where it isn't.
 ghost use Rattle.std.specs.Prelude.{IfSome};
-ghost use Rattle.c_syntax.specs.Kept.{IsKeptTree};
-ghost use Rattle.c_syntax.specs.Plain.{plain_tree};
+ghost use Rattle.c_syntax.specs.Words.{IsKeptTree, plain_tree};
 
 use c_lexer::lex;
 use c_parser::{ParseError, parse};

@@ -1,5 +1,5 @@
 //! What the programs of a text do.
-ghost use Rattle.compiler.specs.Kept.{MayPart};
+ghost use Rattle.flow.specs.Sites.{MayPart};
 ghost use Rattle.compiler.specs.Planned.{part_in};
 
 use crate::parts::push_parts;

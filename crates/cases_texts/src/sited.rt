@@ -1,8 +1,8 @@
 //! The sites of an accepted text.
 use c_types::Checked;
 use cases_rows::Page;
-use flow::{Partner, Site, SiteKind, SiteTable, Slot, predicate_count};
-use sites::{Schemes, SiteError, site_table};
+use flow::{Partner, Schemes, Site, SiteKind, SiteTable, Slot, predicate_count};
+use sites::{SiteError, site_table};
 
 /// The schemes with these first letters.
 pub(crate) fn schemes_of(letters: &str) -> Schemes {

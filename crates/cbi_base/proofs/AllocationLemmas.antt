@@ -2,6 +2,7 @@
 use Rattle.std.proofs.Common.{◌≡◌, ◌⊎◌, inl, inr, ℕ, ◌+◌, ◌<◌, ◌≤◌, Bool, true, false, cond, ◌&&◌, ◌==◌, nat_le, nat_lt, Some, None, refl, arith, ap, ◌∙◌}
 use Rattle.std.proofs.lemmas.Bool.Decides.{nat_tests}
 use Rattle.std.proofs.lemmas.List.{length-replicate}
+use Rattle.base_lists.proofs.Numbers.{not_zero}
 use Rattle.cbi_base.specs.declared.scalar.Scalar.{Scalar}
 use Rattle.cbi_base.specs.declared.scalar.Scalar.TheVariants.{Null, Place, Undefined}
 use Rattle.cbi_base.specs.Objects.{Objects, GivesNull, allocated, has_room, live_cells, new_undefined, place_or_null, cell_limit, object_limit}
@@ -34,9 +35,6 @@ null-test cells o (inr full) = inr (room-none (live_cells o) cells o.made cell_l
 pub allocated-null : (cells : ℕ) (o : Objects) → GivesNull cells o → allocated cells o ≡ (Null, o)
 allocated-null cells o h = is-by-tests cells o ∙ null-by-tests cells o (cells == 0) (has_room cells o) (null-test cells o h)
 
-some-test : (cells : ℕ) → (cells ≡ 0 → ⊥) → (cells == 0) ≡ false
-some-test cells some = grind (arith, nat_tests)
-
 room-test : (cells : ℕ) (o : Objects) → (GivesNull cells o → ⊥) → has_room cells o ≡ true
 room-test cells o h =
     room-some (live_cells o) cells o.made cell_limit object_limit (below (live_cells o + cells) cell_limit (λ full. h (inr (inl full)))) (above o.made object_limit (λ most. h (inr (inr most))))
@@ -50,5 +48,5 @@ room-test cells o h =
 pub allocated-new : (cells : ℕ) (o : Objects) → (GivesNull cells o → ⊥) → allocated cells o ≡ (Place o.made 0, new_undefined cells o)
 unfolding by-tests
 allocated-new cells o h =
-    let none = some-test cells (λ is. h (inl is)) in
+    let none = not_zero cells (λ is. h (inl is)) in
     is-by-tests cells o ∙ ap (λ b. by-tests cells o b (has_room cells o)) none ∙ ap (λ b. by-tests cells o false b) (room-test cells o h)

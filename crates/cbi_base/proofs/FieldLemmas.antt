@@ -4,32 +4,23 @@ use Rattle.std.specs.Fmt.{signed_decimal}
 use Rattle.std.specs.Int.{w64}
 use Rattle.std.specs.List.{list_all, AllByRecursion}
 use Rattle.std.proofs.lemmas.Bool.Decides.{nat_tests}
-use Rattle.std.proofs.lemmas.Bool.{false≢true}
+use Rattle.std.proofs.lemmas.Bool.{false≢true, and_parts, not-true}
 use Rattle.std.proofs.lemmas.Fmt.{decimal_by_steps}
 use Rattle.cbi_base.specs.Text.{Lacks, IsField, is_field_byte, is_newline, is_space, fields_of, spaced}
 use Rattle.cbi_base.specs.Name.{IsName, is_name_byte}
 use Rattle.cbi_base.proofs.TextLemmas.{split-lacks, split-at}
 
--- both parts of a test
-and-parts : (a b : Bool) → (a && b) ≡ true → (a ≡ true) × (b ≡ true)
-and-parts true b h = (refl, h)
-and-parts false b h = cc
-
-not-is : (a : Bool) → not a ≡ true → a ≡ false
-not-is true h = cc
-not-is false h = refl
-
 pub field-lacks-space : (field : List ℕ) → IsField field → Lacks is_space field
 field-lacks-space [] h = tt
 field-lacks-space (b ∷ bs) h =
-    let parts = and-parts (is_field_byte b) (list_all is_field_byte bs) h in
-    (not-is (is_space b) (and-parts _ _ parts.0).0, field-lacks-space bs parts.1)
+    let parts = and_parts (is_field_byte b) (list_all is_field_byte bs) h in
+    (not-true (is_space b) (and_parts _ _ parts.0).0, field-lacks-space bs parts.1)
 
 pub field-lacks-newline : (field : List ℕ) → IsField field → Lacks is_newline field
 field-lacks-newline [] h = tt
 field-lacks-newline (b ∷ bs) h =
-    let parts = and-parts (is_field_byte b) (list_all is_field_byte bs) h in
-    (not-is (is_newline b) (and-parts _ _ parts.0).1, field-lacks-newline bs parts.1)
+    let parts = and_parts (is_field_byte b) (list_all is_field_byte bs) h in
+    (not-true (is_newline b) (and_parts _ _ parts.0).1, field-lacks-newline bs parts.1)
 
 -- the fields of a line are those it was made of
 pub fields_of-spaced : (field : List ℕ) (fields : List (List ℕ)) → IsField field → AllByRecursion IsField fields → fields_of (spaced (field ∷ fields)) ≡ field ∷ fields
@@ -54,7 +45,7 @@ field-byte b space newline = grind (arith, nat_tests)
 test-append : (p : ℕ → Bool) (a b : List ℕ) → list_all p a ≡ true → list_all p b ≡ true → list_all p (a ++ b) ≡ true
 test-append p [] b ha hb = hb
 test-append p (x ∷ xs) b ha hb =
-    let parts = and-parts (p x) (list_all p xs) ha in rw (parts.0, test-append p xs b parts.1 hb) refl
+    let parts = and_parts (p x) (list_all p xs) ha in rw (parts.0, test-append p xs b parts.1 hb) refl
 
 -- what holds of each digit holds of each byte of a decimal
 pub decimal-all : (p : ℕ → Bool) → ((d : ℕ) → d < 10 → p (48 + d) ≡ true) → (n : ℕ) → n < 2 ^ 64 → list_all p (decimal n) ≡ true
@@ -75,7 +66,7 @@ name-byte b h =
 names-are : (name : List ℕ) → list_all is_name_byte name ≡ true → IsField name
 names-are [] h = refl
 names-are (b ∷ bs) h =
-    let parts = and-parts (is_name_byte b) (list_all is_name_byte bs) h in
+    let parts = and_parts (is_name_byte b) (list_all is_name_byte bs) h in
     let rest : list_all is_field_byte bs ≡ true = names-are bs parts.1 in
     rw (name-byte b parts.0, rest) refl
 

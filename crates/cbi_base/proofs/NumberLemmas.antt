@@ -5,37 +5,16 @@ use Rattle.std.specs.Int.{w64}
 use Rattle.std.specs.Option.{option_and_then, option_map}
 use Rattle.std.specs.Str.Parse.{digits_value}
 use Rattle.std.specs.List.{list_all}
-use Rattle.std.proofs.lemmas.Bool.{leb-true, le-leb, eqb-true, false≢true}
+use Rattle.std.proofs.lemmas.Bool.{leb-true, le-leb, eqb-true, false≢true, and_parts}
 use Rattle.std.proofs.lemmas.Bool.Decides.{nat_tests}
 use Rattle.std.proofs.lemmas.Fmt.{decimal_is_IsNumeral, decimal_nonempty}
 use Rattle.std.specs.Prelude.{is_some}
+use Rattle.std.proofs.lemmas.Option.{option_and_then_some}
+use Rattle.base_lists.proofs.Tests.{some_choice}
+use Rattle.base_lists.proofs.Options.{answers_none, mapped, none_some}
 use lib.Pointwise.{bytes_decides}
 use Rattle.cbi_base.proofs.FieldLemmas.{decimal-all}
 use Rattle.cbi_base.specs.Numbers.{is_word, number_of, negative_of, signed_of, one_number, two_numbers}
-
--- an answer is not both
-pub none-some : {A : Type 0} {x : A} → None ≡ Some x → ⊥
-none-some e = false≢true (ap is_some e)
-
--- how a chosen answer was chosen
-pub chosen : {A P : Type 0} (b : Bool) (x y : Option A) (z : A) → cond b x y ≡ Some z → (b ≡ true → x ≡ Some z → P) → (b ≡ false → y ≡ Some z → P) → P
-chosen true x y z h then otherwise = then refl h
-chosen false x y z h then otherwise = otherwise refl h
-
-pub mapped : {A B P : Type 0} (f : A → B) (o : Option A) (y : B) → option_map f o ≡ Some y → ((x : A) → o ≡ Some x → f x ≡ y → P) → P
-mapped f None y h k = absurd cc
-mapped f (Some x) y h k = k x refl cc
-
-pub bound : {A B P : Type 0} (f : A → Option B) (o : Option A) (y : B) → option_and_then f o ≡ Some y → ((x : A) → o ≡ Some x → f x ≡ Some y → P) → P
-bound f None y h k = absurd cc
-bound f (Some x) y h k = k x refl h
-
-pub some-is : {A : Type 0} {x y : A} → Some x ≡ Some y → x ≡ y
-some-is e = cc
-
-pub both : (a b : Bool) → (a && b) ≡ true → (a ≡ true) × (b ≡ true)
-both true b h = (refl, h)
-both false b h = cc
 
 pub is_word-same : (word : List ℕ) → is_word word word ≡ true
 is_word-same word = (bytes_decides word word).1 refl
@@ -52,8 +31,8 @@ number_of-decimal most n h small =
 pub number_of-spelled : (most : ℕ) (field : List ℕ) (n : ℕ) → number_of most field ≡ Some n → (field ≡ decimal n) × (n ≤ most)
 unfolding number_of
 number_of-spelled most field n h =
-    chosen _ _ _ n h (λ test is.
-    let parts = both _ _ test in
+    some_choice _ _ _ n h (λ test is.
+    let parts = and_parts _ _ test in
     let value : digits_value 10 field ≡ n = cc in
     (sym (same-word _ _ parts.0) ∙ ap decimal value, subst (λ k. k ≤ most) value (leb-true _ most parts.1)))
     (λ test is. absurd cc)
@@ -62,13 +41,9 @@ number_of-spelled most field n h =
 pub answers-number : (most : ℕ) (field : List ℕ) → most < 2 ^ 64 → (n : ℕ) → (field ≡ decimal n) × (n ≤ most) → Some n ≡ number_of most field
 answers-number most field small n h = sym (ap (number_of most) h.0 ∙ number_of-decimal most n h.1 small)
 
-pub answers-none : {A : Type 0} (o : Option A) → ((x : A) → o ≡ Some x → ⊥) → None ≡ o
-answers-none None never = refl
-answers-none (Some x) never = absurd (never x refl)
-
 pub answers-no-number : (most : ℕ) (field : List ℕ) → ((n : ℕ) → field ≡ decimal n → n ≤ most → ⊥) → None ≡ number_of most field
 answers-no-number most field never =
-    answers-none (number_of most field) (λ n is. let h = number_of-spelled most field n is in never n h.0 h.1)
+    answers_none (number_of most field) (λ n is. let h = number_of-spelled most field n is in never n h.0 h.1)
 
 is_digit : ℕ → Bool
 is_digit b = nat_le 48 b && nat_le b 57
@@ -78,7 +53,7 @@ first-no-sign : (b : ℕ) (digits : List ℕ) (n : ℕ) → n < 2 ^ 64 → decim
 unfolding is_digit
 first-no-sign b digits n h is =
     let all = subst (λ ds. list_all is_digit ds ≡ true) is (decimal-all is_digit (λ d small. grind (arith, nat_tests)) n h) in
-    let first : (nat_le 48 b && nat_le b 57) ≡ true = (both _ _ all).0 in
+    let first : (nat_le 48 b && nat_le b 57) ≡ true = (and_parts _ _ all).0 in
     grind (arith, nat_tests)
 
 spelled-decimal : (n : ℕ) → n ≤ 9223372036854775807 → (field : List ℕ) → decimal n ≡ field → signed_of field ≡ Some (pos n)
@@ -100,7 +75,7 @@ pub signed_of-spelled : (field : List ℕ) (z : ℤ) → signed_of field ≡ Som
 unfolding signed_of
 signed_of-spelled [] z h = absurd cc
 signed_of-spelled (b ∷ digits) z h =
-    chosen _ _ _ z h (λ test is. bound negative_of _ z is (λ n read sign.
+    some_choice _ _ _ z h (λ test is. option_and_then_some negative_of _ z is (λ n read sign.
     let minus : b ≡ 45 = eqb-true b 45 test in
     rw minus (negative-spelled n z digits (number_of-spelled _ digits n read) sign)))
     (λ test is. mapped pos _ z is (λ n read same.
@@ -114,7 +89,7 @@ one_number-spelled (field ∷ next ∷ more) n h = absurd cc
 
 pub answers-signed : (field : List ℕ) (answer : Option ℤ) → IfSome answer (λ z. field ≡ signed_decimal z) → IfSome answer (FitsSigned w64) → ((z : ℤ) → FitsSigned w64 z → field ≡ signed_decimal z → answer ≡ Some z) → answer ≡ signed_of field
 answers-signed field None found fits only =
-    answers-none (signed_of field) (λ z is. let h = signed_of-spelled field z is in let e = only z h.1 h.0 in cc)
+    answers_none (signed_of field) (λ z is. let h = signed_of-spelled field z is in let e = only z h.1 h.0 in cc)
 answers-signed field (Some z) found fits only = sym (ap signed_of found ∙ signed_of-signed z fits)
 
 -- a number of 32 bits is read
@@ -124,12 +99,12 @@ small-read n h = number_of-decimal 4294967295 n h (omega arith)
 pub two_numbers-spelled : (fields : List (List ℕ)) (pair : ℕ × ℕ) → two_numbers fields ≡ Some pair → fields ≡ decimal pair.0 ∷ decimal pair.1 ∷ []
 two_numbers-spelled [] pair h = absurd cc
 two_numbers-spelled (field ∷ rest) pair h =
-    bound _ (number_of 4294967295 field) pair h (λ first is_first h.
+    option_and_then_some _ (number_of 4294967295 field) pair h (λ first is_first h.
     mapped _ (one_number rest) pair h (λ second is_second same.
     ap (λ f. f ∷ rest) (number_of-spelled _ field first is_first).0 ∙ ap (λ fs. decimal first ∷ fs) (one_number-spelled rest second is_second)
     ∙ ap (λ (x : ℕ × ℕ). decimal x.0 ∷ decimal x.1 ∷ []) same))
 
 -- a reader that finds what is spelled, and nothing else, answers what the plain body does
 pub reads-number : (most : ℕ) (field : List ℕ) (answer : Option ℕ) → most < 2 ^ 64 → IfSome answer (λ n. (field ≡ decimal n) × (n ≤ most)) → ((n : ℕ) → field ≡ decimal n → n ≤ most → answer ≡ Some n) → answer ≡ number_of most field
-reads-number most field None small found only = answers-no-number most field (λ n is fits. none-some (only n is fits))
+reads-number most field None small found only = answers-no-number most field (λ n is fits. none_some (only n is fits))
 reads-number most field (Some n) small found only = answers-number most field small n found

@@ -5,6 +5,7 @@ use Rattle.std.proofs.lemmas.List.{append-nil, get_or-drop, get_or_append_left, 
 use Rattle.std.proofs.Math.Seq.{get_or-append_seam}
 use Rattle.std.proofs.lemmas.List.Elements.{All-from_recursion}
 use Rattle.std.proofs.lemmas.List.Splits.{slice_split_none, slice_split_at, length-slice_split}
+use Rattle.base_lists.proofs.Lists.{take_from}
 use Rattle.cbi_base.specs.Text.{Lacks, AreLines, fields_of, is_newline, is_space, ended, text_of, IsLineEnd}
 
 -- a list that lacks the mark is one piece
@@ -59,19 +60,15 @@ lacks-within bytes line rest from is lacks = λ k d low high.
     let same : get_or bytes k d ≡ get_or line (k - from) d = sym (get_or-drop from bytes (k - from) d ∙ ap (λ i. get_or bytes i d) place) ∙ ap (λ l. get_or l (k - from) d) is ∙ get_or_append_left line rest d (k - from) near in
     λ ten. lacks-at line lacks (k - from) d near (sym same ∙ ten)
 
--- the bytes from a place on, as a slice gives them
-slice-from : (bytes : List ℕ) (from : ℕ) → take (length bytes - from) (drop from bytes) ≡ drop from bytes
-slice-from bytes from = take_all (length bytes - from) (drop from bytes) (omega (arith, length-drop from bytes))
-
 pub lacks-to-end : (bytes : List ℕ) (from : ℕ) → from ≤ length bytes → Lacks is_newline (take (length bytes - from) (drop from bytes)) → AllWithin (λ b. b ≢ 10) bytes from (length bytes)
 lacks-to-end bytes from h lacks =
     let whole : from + length (drop from bytes) ≡ length bytes = omega (arith, length-drop from bytes) in
-    let tail : Lacks is_newline (drop from bytes) = subst (Lacks is_newline) (slice-from bytes from) lacks in
+    let tail : Lacks is_newline (drop from bytes) = subst (Lacks is_newline) (take_from bytes from) lacks in
     subst (AllWithin (λ b. b ≢ 10) bytes from) whole (lacks-within bytes (drop from bytes) [] from (sym (append-nil (drop from bytes))) tail)
 
 pub IsLineEnd-cut : (bytes line rest : List ℕ) (from : ℕ) → from ≤ length bytes → take (length bytes - from) (drop from bytes) ≡ line ++ 10 ∷ rest → Lacks is_newline line → IsLineEnd bytes from (from + length line)
 IsLineEnd-cut bytes line rest from h cut lacks =
-    let is : drop from bytes ≡ line ++ 10 ∷ rest = sym (slice-from bytes from) ∙ cut in record {
+    let is : drop from bytes ≡ line ++ 10 ∷ rest = sym (take_from bytes from) ∙ cut in record {
       after = omega arith;
       inside = omega (arith, length-drop from bytes, ap length is, length-append line (10 ∷ rest));
       stands = sym (get_or-drop from bytes (length line) 0) ∙ ap (λ l. get_or l (length line) 0) is ∙ get_or-append_seam line 10 rest 0;

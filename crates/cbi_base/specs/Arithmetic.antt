@@ -1,7 +1,7 @@
 -- What an operation gives of two numbers of one kind, as whole numbers, or the trap that stops the run (C99 6.5.5 to
 -- 6.5.14).
-use Rattle.std.specs.Prelude.{ℕ, ◌^◌, ◌-◌, Bool, not, ◌&&◌, if◌then◌else◌, ℤ, pos, ◌+ℤ◌, ◌-ℤ◌, ◌*ℤ◌, int_lt, int_le, int_div, int_rem, unsigned_abs}
-use Rattle.std.specs.Prelude.{bit_and, bit_or, bit_xor, Result, Ok, Err}
+use Rattle.std.specs.Prelude.{ℕ, ◌^◌, ◌-◌, ◌%◌, Bool, not, ◌&&◌, if◌then◌else◌, ℤ, pos, negsuc, ◌+ℤ◌, ◌-ℤ◌, ◌*ℤ◌, int_lt, int_le, int_div, int_rem}
+use Rattle.std.specs.Prelude.{unsigned_abs, bit_and, bit_or, bit_xor, Result, Ok, Err}
 use Rattle.std.specs.Int.{int_rem_euclid, int_div_euclid}
 use Rattle.std.specs.Ordering.{int_eq}
 use Rattle.cbi_base.specs.declared.scalar.Kind.{Kind}
@@ -96,3 +96,8 @@ kind_given Ge kind = Int
 kind_given Eq kind = Int
 kind_given Ne kind = Int
 kind_given op kind = kind
+
+-- a number modulo 256
+abbrev pub low_byte : ℤ → ℕ
+low_byte (pos n) = n % 256
+low_byte (negsuc n) = 255 - n % 256

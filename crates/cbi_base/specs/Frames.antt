@@ -1,11 +1,20 @@
 -- The objects of a function's variables: they are made as it is entered, filled and die as it is left.
-use Rattle.std.specs.Prelude.{ℕ, zero, suc, ◌+◌, ◌-◌, List, [], ◌∷◌, map, replicate, Option, None, Some}
+use Rattle.std.specs.Prelude.{ℕ, zero, suc, ◌+◌, ◌-◌, nat_lt, if◌then◌else◌, List, [], ◌∷◌, map, replicate, Option, None, Some}
 use Rattle.std.specs.FinMap.{get}
 use Rattle.std.specs.Option.{option_and_then}
 use Rattle.cbi_base.specs.declared.scalar.Class.TheVariants.{Local}
 use Rattle.cbi_base.specs.declared.scalar.Scalar.{Scalar}
 use Rattle.cbi_base.specs.declared.scalar.Scalar.TheVariants.{Undefined}
 use Rattle.cbi_base.specs.Objects.{Object, Objects, made_with, with_object, killed}
+
+-- the objects of a function's locals: so many, with the numbers from this one on
+pub record Locals : Type 0 where
+  pub first : ℕ
+  pub count : ℕ
+
+-- the object of a local
+abbrev pub local_at : ℕ → Locals → Option ℕ
+local_at index locals = if nat_lt index locals.count then Some (locals.first + index) else None
 
 -- the cells of each variable at the start: an argument in the first cell of each of the first ones, and undefined cells
 abbrev pub first_cells : List Scalar → List ℕ → List (List Scalar)
@@ -30,3 +39,8 @@ filled_in o number value (Some object) = with_object o number (record object { c
 -- each cell of the object, where it lives, has this value
 abbrev pub filled : ℕ → Scalar → Objects → Objects
 filled number value o = filled_in o number value (get o.live number)
+
+-- these objects, made one after another; None where there is no room for one of them
+abbrev pub each_made : List Object → Objects → Option Objects
+each_made [] o = Some o
+each_made (object ∷ rest) o = option_and_then (each_made rest) (made_with object.class object.cells o)

@@ -20,3 +20,6 @@ pub mod MemSink
 pub mod StdSink
 pub mod Objects
 pub mod Frames
+pub mod Limits
+pub mod Printing
+pub mod Words

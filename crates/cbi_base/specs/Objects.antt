@@ -1,7 +1,7 @@
 -- Objects of cells: what memory is to a program (C99 3.14 and 6.2.4, with sizes counted in cells). A cell keeps the kind that was stored.
 use Rattle.std.specs.Prelude.{◌≡◌, ◌⊎◌, ◌<◌, ◌≤◌, ℕ, ◌+◌, ◌^◌, Bool, true, false, not, ◌&&◌, ◌==◌, nat_le, nat_lt, if◌then◌else◌, ℤ, pos, ◌+ℤ◌, ◌-ℤ◌}
-use Rattle.std.specs.Prelude.{int_le, int_div, int_rem, List, length, map, Option, None, Some, Result, Ok, Err, slice_get, slice_set, unsigned_abs}
-use Rattle.std.specs.Prelude.{replicate}
+use Rattle.std.specs.Prelude.{int_le, int_div, int_rem, ◌*ℤ◌, List, [], ◌∷◌, length, map, Option, None, Some, Result, Ok, Err, slice_get, slice_set}
+use Rattle.std.specs.Prelude.{replicate, unsigned_abs}
 use Rattle.std.specs.List.{sum_by}
 use Rattle.std.specs.Ordering.{nat_cmp, int_eq}
 use Rattle.std.specs.FinMap.{FinMap, get, insert, remove, values, empty}
@@ -12,6 +12,7 @@ use Rattle.cbi_base.specs.declared.scalar.Class.{Class}
 use Rattle.cbi_base.specs.declared.scalar.Class.TheVariants.{Text, Heap}
 use Rattle.cbi_base.specs.declared.scalar.Want.{Want}
 use Rattle.cbi_base.specs.declared.scalar.Want.TheVariants as want
+use Rattle.cbi_base.specs.Scalars.{char_of}
 use Rattle.cbi_base.specs.declared.operators.Order.{Order}
 use Rattle.cbi_base.specs.declared.operators.Order.TheVariants.{Lt, Le, Gt, Ge, Eq, Ne}
 use Rattle.cbi_base.specs.declared.trap.Trap.{Trap}
@@ -195,3 +196,15 @@ elements size cells = if int_eq (int_rem cells (pos size)) (pos 0) then Ok (int_
 
 unfoldable pub difference : Scalar → Scalar → ℕ → Objects → Result ℤ Trap
 difference left right size o = of_pointers left right (within_one left right o (λ i j. elements size (pos i -ℤ pos j)))
+
+-- a pointer moved by a number times so many cells; an undefined value of the two stops first
+unfoldable pub moved_by : ℤ → Scalar → Scalar → Objects → Result Scalar Trap
+moved_by size Undefined by o = Err trap.Undefined
+moved_by size pointer Undefined o = Err trap.Undefined
+moved_by size pointer (Number kind by) o = moved pointer (by *ℤ size) o
+moved_by size pointer other o = Err trap.Internal
+
+-- bytes are stored as `char` one after another, from this place of an object on
+abbrev pub stored_bytes : ℕ → ℕ → List ℕ → Objects → Result Objects Trap
+stored_bytes number offset [] o = Ok o
+stored_bytes number offset (byte ∷ bytes) o = stored (Place number offset) (char_of byte) o >>= stored_bytes number (offset + 1) bytes

@@ -36,7 +36,7 @@ at_shape s has word rest = elim s [
   | shape.Positional ↦ option_map (with_positional word) (cut None rest)
 ]
 
-cut-option : (word : List ℕ) (rest : List (List ℕ)) → shape_of word ≡ shape.Option → has_value word ≡ true → cut None (word ∷ rest) ≡ option_map (with_option (name_in word) (value_in word)) (cut None rest)
+pub cut-option : (word : List ℕ) (rest : List (List ℕ)) → shape_of word ≡ shape.Option → has_value word ≡ true → cut None (word ∷ rest) ≡ option_map (with_option (name_in word) (value_in word)) (cut None rest)
 cut-option word rest is has = ap (λ s. at_shape s (has_value word) word rest) is ∙ ap (λ b. at_shape shape.Option b word rest) has
 
 pub option-step : (front next : Given) (waiting : Option (Bor (List ℕ))) (word name value : List ℕ) (rest : List (List ℕ)) (all : Option Given) → waiting ≡ None → shape_of word ≡ shape.Option → has_value word ≡ true → name ≡ name_in word → value ≡ value_in word → next ≡ record front { options = front.options ++ record { name = name; value = value } ∷ [] } → all ≡ option_map (after front) (cut (option_map (λ n. n.now) waiting) (word ∷ rest)) → all ≡ option_map (after next) (cut (option_map (λ n. n.now) waiting) rest)
@@ -46,7 +46,7 @@ option-step front next None word name value rest all none is has is_name is_valu
     ∙ ap (λ given. option_map (after given) (cut None rest)) (sym (is_next ∙ ap (λ n. record front { options = front.options ++ record { name = n; value = value } ∷ [] }) is_name ∙ ap (λ v. record front { options = front.options ++ record { name = name_in word; value = v } ∷ [] }) is_value))
 
 -- a positional
-cut-positional : (word : List ℕ) (rest : List (List ℕ)) → shape_of word ≡ shape.Positional → cut None (word ∷ rest) ≡ option_map (with_positional word) (cut None rest)
+pub cut-positional : (word : List ℕ) (rest : List (List ℕ)) → shape_of word ≡ shape.Positional → cut None (word ∷ rest) ≡ option_map (with_positional word) (cut None rest)
 cut-positional word rest is = ap (λ s. at_shape s (has_value word) word rest) is
 
 pub positional-step : (front next : Given) (waiting : Option (Bor (List ℕ))) (word : List ℕ) (rest : List (List ℕ)) (all : Option Given) → waiting ≡ None → shape_of word ≡ shape.Positional

@@ -3,7 +3,7 @@ use Rattle.std.specs.List.{after_first, before_first, onto_first, position_or_le
 use Rattle.std.proofs.Common.{◌≡◌, ℕ, ◌+◌, ◌<◌, Bool, true, false, cond, not, List, [], ◌∷◌, length, Option, Some, None, refl, ap, sym, ◌∙◌, arith}
 use Rattle.std.proofs.lemmas.List.Splits.{slice_split_first}
 use Rattle.cbi_base.specs.Numbers.{◌>>=◌}
-use Rattle.cbi_options.specs.declared.schemes.Schemes.{Schemes}
+use Rattle.flow.specs.declared.choice.Schemes.{Schemes}
 use Rattle.cbi_options.specs.Schemes.{is_comma, names_in, with_scheme, with_schemes}
 
 -- a list without a comma is one name

@@ -4,7 +4,7 @@ use Rattle.std.specs.List.{slice_split}
 use Rattle.cbi_base.specs.Numbers.{is_word, ◌>>=◌}
 use Rattle.cbi_options.specs.declared.schemes.Mode.{Mode}
 use Rattle.cbi_options.specs.declared.schemes.Mode.TheVariants.{Plain, Full, Sampled}
-use Rattle.cbi_options.specs.declared.schemes.Schemes.{Schemes}
+use Rattle.flow.specs.declared.choice.Schemes.{Schemes}
 
 -- the mode that a value names
 abbrev pub mode_of : List ℕ → Option Mode

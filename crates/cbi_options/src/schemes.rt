@@ -6,6 +6,7 @@ ghost use Rattle.cbi_options.specs.Schemes.{all_schemes, mode_of, names_in, sche
 
 use crate::fault::Fault;
 use crate::given::Given;
+use flow::Schemes;
 
 /// What a text is compiled to.
 #[derive(Clone, Copy, Debug, PartialEq, Eq)]
@@ -16,14 +17,6 @@ pub enum Mode {
     Full,
     /// One that looks at the visits that a bank samples.
     Sampled,
-}
-
-/// Of which schemes a program has sites.
-#[derive(Clone, Copy, Debug, PartialEq, Eq)]
-pub struct Schemes {
-    pub branches: bool,
-    pub returns: bool,
-    pub pairs: bool,
 }
 
 // The mode that a value names.

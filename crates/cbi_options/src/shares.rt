@@ -2,21 +2,14 @@ ghost use Rattle.std.specs.Prelude.{◌≡◌, false, true, Some, MatchOption, I
 ghost use Rattle.std.specs.List.{before_first, after_first};
 ghost use Rattle.cbi_options.specs.Answers.{ReadAs};
 ghost use Rattle.cbi_options.specs.Options.{value_of};
-ghost use Rattle.cbi_options.specs.Shares.{MayShare, ShareFits, has_slash, is_share, is_slash, share_of, share_or};
+ghost use Rattle.cbi_options.specs.Shares.{has_slash, is_share, is_slash, share_of, share_or};
 ghost use Rattle.cbi_options.specs.Values.{fits};
+ghost use Rattle.flow.specs.Sites.{MayPart, PartFits};
 
 use crate::fault::Fault;
 use crate::given::Given;
 use crate::numbers::number_of;
-
-/// One of so many parts of a program's sites.
-#[derive(Clone, Copy, Debug, PartialEq, Eq)]
-pub struct Share {
-    /// Which of them, from 0.
-    pub index: u32,
-    /// How many there are, from 1 to 65,536.
-    pub count: u32,
-}
+use flow::Part;
 
 // What stands before the first slash, and behind it.
 fn halves_of(value: &str) -> Option<(&str, &str)>
@@ -27,9 +20,9 @@ fn halves_of(value: &str) -> Option<(&str, &str)>
 }
 
 // The share that a value spells.
-fn share_of(value: &str) -> Option<Share>
+fn share_of(value: &str) -> Option<Part>
     ensures value { result ≡ share_of value.now }
-    ensures fits { MayShare result }
+    ensures fits { MayPart result }
 {
     let Some((index, count)) = halves_of(value) else {
         return None;
@@ -41,7 +34,7 @@ fn share_of(value: &str) -> Option<Share>
         return None;
     };
     if index < count {
-        Some(Share {
+        Some(Part {
             index: index as u32,
             count: count as u32,
         })
@@ -51,10 +44,10 @@ fn share_of(value: &str) -> Option<Share>
 }
 
 /// The share that an option's value spells, `I/N`.
-pub fn share_in(option: &'static str, value: &str) -> Result<Share, Fault>
+pub fn share_in(option: &'static str, value: &str) -> Result<Part, Fault>
     ensures reads { ReadAs result (share_of value.now) (Some option.entry.now) }
     ensures takes { is_ok result ≡ is_share value.now }
-    ensures fits { IfOk result ShareFits }
+    ensures fits { IfOk result PartFits }
 {
     match share_of(value) {
         Some(share) => Ok(share),
@@ -63,10 +56,10 @@ pub fn share_in(option: &'static str, value: &str) -> Result<Share, Fault>
 }
 
 /// The share that an option gives, where it is given.
-pub fn share_or(given: &Given, option: &'static str) -> Result<Option<Share>, Fault>
+pub fn share_or(given: &Given, option: &'static str) -> Result<Option<Part>, Fault>
     ensures reads { ReadAs result (share_or (value_of option.entry.now given.now.options)) (Some option.entry.now) }
     ensures fits { is_ok result ≡ fits is_share (value_of option.entry.now given.now.options) }
-    ensures may { IfOk result MayShare }
+    ensures may { IfOk result MayPart }
 {
     match given.value_of(option) {
         None => Ok(None),

@@ -7,7 +7,7 @@ use Rattle.cbi_options.specs.Shares.{is_share}
 use Rattle.cbi_options.specs.Values.{fits, is_mode, is_number, is_policy, is_schemes}
 use Rattle.cbi_options.specs.declared.given.Given.{Given}
 use Rattle.cbi_words.specs.Reading.{bank_options, given_after, no_positional, only, rank_options, run_options, runs_options, session_options}
-use Rattle.cbi_words.specs.Reading.{study_options, transform_options, two, widen_options}
+use Rattle.cbi_words.specs.Reading.{study_options, transform_options, two_words, widen_options}
 
 -- an option that doesn't take every value, and the values that it takes
 pub record Rule : Type 0 where
@@ -50,7 +50,7 @@ bad_runs given = do
 -- of `rank` with its program and its collection
 abbrev pub bad_rank : Given → Option (List ℕ)
 bad_rank given = do
-  files ← two given.positionals
+  files ← two_words given.positionals
   first_bad (record { name = codes "--policy"; takes = is_policy } ∷ []) given.options
 
 -- of `study` with its text and the four options that must be given
@@ -80,10 +80,10 @@ bad_session given = do
   program ← value_of (codes "--program") given.options
   first_bad (record { name = codes "--policy"; takes = is_policy } ∷ []) given.options
 
--- of `widen` with its two programs, its part and its collection
+-- of `widen` with its two_words programs, its part and its collection
 abbrev pub bad_widen : Given → Option (List ℕ)
 bad_widen given = do
-  files ← two given.positionals
+  files ← two_words given.positionals
   whole ← value_of (codes "--whole") given.options
   part ← value_of (codes "--part") given.options
   first_bad (record { name = codes "--part"; takes = is_share } ∷ []) given.options

@@ -27,7 +27,7 @@ transform_of given = do
   schemes ← schemes_or all_schemes (value_of (codes "--schemes") given.options)
   part ← share_or (value_of (codes "--part") given.options)
   text ← only given.positionals
-  Some (Transform mode schemes part text)
+  Some (Transform (record { mode = mode; schemes = schemes; part = part; text = text }))
 
 -- `run [--bank B] [--input I] [--expect FILE] [--turns N] [--run R] [--report F] PROG`
 abbrev pub run_options : List (List ℕ)
@@ -38,8 +38,15 @@ run_of given = do
   turns ← number_or 1000000 0 100000000 (value_of (codes "--turns") given.options)
   run ← number_or 1 1 4294967295 (value_of (codes "--run") given.options)
   program ← only given.positionals
-  Some (Run (value_of (codes "--bank") given.options) (value_of (codes "--input") given.options) (value_of (codes "--expect") given.options) turns run
-      (value_of (codes "--report") given.options) program)
+  Some (Run (record {
+    bank = value_of (codes "--bank") given.options;
+    input = value_of (codes "--input") given.options;
+    expect = value_of (codes "--expect") given.options;
+    turns = turns;
+    run = run;
+    report = value_of (codes "--report") given.options;
+    program = program;
+  }))
 
 -- `bank --rate D --count N --seed S [--stream I]`
 abbrev pub bank_options : List (List ℕ)
@@ -56,7 +63,7 @@ bank_of given = do
   seed ← number_wanted 0 18446744073709551615 (value_of (codes "--seed") given.options)
   stream ← number_or 0 0 18446744073709551615 (value_of (codes "--stream") given.options)
   none ← no_positional given.positionals given
-  Some (Bank rate count seed stream)
+  Some (Bank (record { rate = rate; count = count; seed = seed; stream = stream }))
 
 -- `collect --program PROG FILE...`
 abbrev pub collect_options : List (List ℕ)
@@ -70,7 +77,7 @@ abbrev pub collect_of : Given → Option Command
 collect_of given = do
   program ← value_of (codes "--program") given.options
   files ← one_or_more given.positionals
-  Some (Collect program files)
+  Some (Collect (record { program = program; files = files }))
 
 -- `runs --inputs LIST [--expect LIST] --rate D --seed S [--first R] [--turns N] PROG`
 abbrev pub runs_options : List (List ℕ)
@@ -84,24 +91,32 @@ listed_runs_of given = do
   first ← number_or 1 1 4294967295 (value_of (codes "--first") given.options)
   turns ← number_or 1000000 0 100000000 (value_of (codes "--turns") given.options)
   program ← only given.positionals
-  Some (Runs inputs (value_of (codes "--expect") given.options) rate seed first turns program)
+  Some (Runs (record {
+    inputs = inputs;
+    expect = value_of (codes "--expect") given.options;
+    rate = rate;
+    seed = seed;
+    first = first;
+    turns = turns;
+    program = program;
+  }))
 
 -- `rank [--policy all|failing|relabel] PROG COLL`
 abbrev pub rank_options : List (List ℕ)
 rank_options = codes "--policy" ∷ []
 
--- the two positionals, where there are two alone
-abbrev pub two : List (List ℕ) → Option (List ℕ × List ℕ)
-two [] = None
-two (program ∷ []) = None
-two (program ∷ collection ∷ []) = Some (program, collection)
-two (program ∷ collection ∷ word ∷ more) = None
+-- the two_words positionals, where there are two_words alone
+abbrev pub two_words : List (List ℕ) → Option (List ℕ × List ℕ)
+two_words [] = None
+two_words (program ∷ []) = None
+two_words (program ∷ collection ∷ []) = Some (program, collection)
+two_words (program ∷ collection ∷ word ∷ more) = None
 
 abbrev pub rank_of : Given → Option Command
 rank_of given = do
   policy ← policy_or All (value_of (codes "--policy") given.options)
-  files ← two given.positionals
-  Some (Rank policy files.0 files.1)
+  files ← two_words given.positionals
+  Some (Rank (record { policy = policy; program = files.0; collection = files.1 }))
 
 -- `study --runs N --seed S --rate D --turns T [--policy all|failing|relabel] C`
 abbrev pub study_options : List (List ℕ)
@@ -115,7 +130,7 @@ study_of given = do
   turns ← number_wanted 0 100000000 (value_of (codes "--turns") given.options)
   policy ← policy_or All (value_of (codes "--policy") given.options)
   text ← only given.positionals
-  Some (Study runs seed rate turns policy text)
+  Some (Study (record { runs = runs; seed = seed; rate = rate; turns = turns; policy = policy; text = text }))
 
 -- `session --program PROG [--policy all|failing|relabel] EDITS`
 abbrev pub session_options : List (List ℕ)
@@ -126,7 +141,7 @@ session_of given = do
   program ← value_of (codes "--program") given.options
   policy ← policy_or All (value_of (codes "--policy") given.options)
   edits ← only given.positionals
-  Some (Session program policy edits)
+  Some (Session (record { program = program; policy = policy; edits = edits }))
 
 -- `widen --whole WHOLE --part I/N PARTPROG COLL`
 abbrev pub widen_options : List (List ℕ)
@@ -136,8 +151,8 @@ abbrev pub widen_of : Given → Option Command
 widen_of given = do
   whole ← value_of (codes "--whole") given.options
   part ← share_wanted (value_of (codes "--part") given.options)
-  files ← two given.positionals
-  Some (Widen whole part files.0 files.1)
+  files ← two_words given.positionals
+  Some (Widen (record { whole = whole; part = part; program = files.0; collection = files.1 }))
 
 -- `cards PROG COLL`, and `pairs PROG COLL`
 abbrev pub no_options : List (List ℕ)
@@ -145,13 +160,13 @@ no_options = []
 
 abbrev pub cards_of : Given → Option Command
 cards_of given = do
-  files ← two given.positionals
-  Some (Cards files.0 files.1)
+  files ← two_words given.positionals
+  Some (Cards (record { program = files.0; collection = files.1 }))
 
 abbrev pub pairs_of : Given → Option Command
 pairs_of given = do
-  files ← two given.positionals
-  Some (Pairs files.0 files.1)
+  files ← two_words given.positionals
+  Some (Pairs (record { program = files.0; collection = files.1 }))
 
 -- what is given after a command with these options
 abbrev pub given_after : List (List ℕ) → List (List ℕ) → Option Given

@@ -14,8 +14,9 @@ use crate::command::Command;
 use crate::error::WordsError;
 use cbi_base::{Memory, Policy};
 use cbi_options::{
-    Bounds, Fault, Given, Word, cut, mode_in, number_in, number_or, policy_or, schemes_or,
-    share_in, share_or,
+    BankWords, Bounds, CardsWords, CollectWords, Fault, Given, PairsWords, RankWords, RunWords,
+    RunsWords, SessionWords, StudyWords, TransformWords, WidenWords, Word, cut, mode_in, number_in,
+    number_or, policy_or, schemes_or, share_in, share_or,
 };
 use cbi_usage::{bad_value_line, usage};
 use std::alloc::Global;
@@ -67,12 +68,12 @@ fn transform_of(given: &Given) -> Result<Command, Fault>
     let mode = mode_in("--mode", mode)?;
     let schemes = schemes_or(given, "--schemes")?;
     let part = share_or(given, "--part")?;
-    Ok(Command::Transform {
+    Ok(Command::Transform(TransformWords {
         mode,
         schemes,
         part,
         text: text.try_clone()?,
-    })
+    }))
 }
 
 /// The values of two options, where they are given.
@@ -113,7 +114,7 @@ fn run_of(alloc: Global, given: &Given) -> Result<Command, Fault>
         first: expect,
         second: report,
     } = other;
-    Ok(Command::Run {
+    Ok(Command::Run(RunWords {
         bank,
         input,
         expect,
@@ -121,7 +122,7 @@ fn run_of(alloc: Global, given: &Given) -> Result<Command, Fault>
         run: run as u32,
         report,
         program,
-    })
+    }))
 }
 
 // What is given after `bank`.
@@ -145,12 +146,12 @@ fn bank_of(given: &Given) -> Result<Command, Fault>
     let count = number_in("--count", count, RATES)?;
     let seed = number_in("--seed", seed, SEEDS)?;
     let stream = number_or(given, "--stream", 0, SEEDS)?;
-    Ok(Command::Bank {
+    Ok(Command::Bank(BankWords {
         rate: rate as u32,
         count: count as u32,
         seed,
         stream,
-    })
+    }))
 }
 
 // What is given after `collect`.
@@ -165,10 +166,10 @@ fn collect_of(alloc: Global, given: Given) -> Result<Command, Fault>
     if positionals.is_empty() {
         return Err(Fault::Usage);
     }
-    Ok(Command::Collect {
+    Ok(Command::Collect(CollectWords {
         program,
         files: positionals,
-    })
+    }))
 }
 
 // What is given after `runs`.
@@ -192,7 +193,7 @@ fn listed_runs_of(alloc: Global, given: &Given) -> Result<Command, Fault>
     let seed = number_in("--seed", seed, SEEDS)?;
     let first = number_or(given, "--first", 1, RUN_NUMBERS)?;
     let turns = number_or(given, "--turns", DEFAULT_TURNS, TURNS)?;
-    Ok(Command::Runs {
+    Ok(Command::Runs(RunsWords {
         inputs: Word::new(alloc, inputs)?,
         expect: given.copy_of(alloc, "--expect")?,
         rate: rate as u32,
@@ -200,7 +201,7 @@ fn listed_runs_of(alloc: Global, given: &Given) -> Result<Command, Fault>
         first: first as u32,
         turns: turns as u32,
         program: program.try_clone()?,
-    })
+    }))
 }
 
 // What is given after `rank`.
@@ -212,11 +213,11 @@ fn rank_of(given: &Given) -> Result<Command, Fault>
         return Err(Fault::Usage);
     };
     let policy = policy_or(given, "--policy", Policy::All)?;
-    Ok(Command::Rank {
+    Ok(Command::Rank(RankWords {
         policy,
         program: program.try_clone()?,
         collection: collection.try_clone()?,
-    })
+    }))
 }
 
 // What is given after `study`.
@@ -244,14 +245,14 @@ fn study_of(given: &Given) -> Result<Command, Fault>
     let rate = number_in("--rate", rate, RATES)?;
     let turns = number_in("--turns", turns, TURNS)?;
     let policy = policy_or(given, "--policy", Policy::All)?;
-    Ok(Command::Study {
+    Ok(Command::Study(StudyWords {
         runs: runs as u32,
         seed,
         rate: rate as u32,
         turns: turns as u32,
         policy,
         text: text.try_clone()?,
-    })
+    }))
 }
 
 // What is given after `session`.
@@ -266,11 +267,11 @@ fn session_of(alloc: Global, given: &Given) -> Result<Command, Fault>
         return Err(Fault::Usage);
     };
     let policy = policy_or(given, "--policy", Policy::All)?;
-    Ok(Command::Session {
+    Ok(Command::Session(SessionWords {
         program,
         policy,
         edits: edits.try_clone()?,
-    })
+    }))
 }
 
 // What is given after `widen`.
@@ -288,12 +289,12 @@ fn widen_of(alloc: Global, given: &Given) -> Result<Command, Fault>
         return Err(Fault::Usage);
     };
     let part = share_in("--part", part)?;
-    Ok(Command::Widen {
+    Ok(Command::Widen(WidenWords {
         whole,
         part,
         program: program.try_clone()?,
         collection: collection.try_clone()?,
-    })
+    }))
 }
 
 // What is given after `cards`.
@@ -304,10 +305,10 @@ fn cards_of(given: &Given) -> Result<Command, Fault>
     let [program, collection] = given.positionals.as_slice() else {
         return Err(Fault::Usage);
     };
-    Ok(Command::Cards {
+    Ok(Command::Cards(CardsWords {
         program: program.try_clone()?,
         collection: collection.try_clone()?,
-    })
+    }))
 }
 
 // What is given after `pairs`.
@@ -318,10 +319,10 @@ fn pairs_of(given: &Given) -> Result<Command, Fault>
     let [program, collection] = given.positionals.as_slice() else {
         return Err(Fault::Usage);
     };
-    Ok(Command::Pairs {
+    Ok(Command::Pairs(PairsWords {
         program: program.try_clone()?,
         collection: collection.try_clone()?,
-    })
+    }))
 }
 
 // What the words give after a command with these options.

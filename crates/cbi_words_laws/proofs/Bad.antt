@@ -1,19 +1,20 @@
 -- Words that break the rule by a value alone read as no command.
 use Rattle.std.proofs.Common.{◌≡◌, ℕ, Bool, true, false, if◌then◌else◌, List, [], ◌∷◌, Option, None, Some, inl, inr, refl}
 use Rattle.std.specs.Prelude.{codes, is_some, ◌⊎◌}
+use Rattle.base_lists.proofs.Options.{not_some}
 use Rattle.cbi_base.specs.declared.policy.Policy.{Policy}
 use Rattle.cbi_base.specs.declared.policy.Policy.TheVariants.{All}
 use Rattle.cbi_base.specs.Numbers.{is_word, ◌>>=◌}
 use Rattle.cbi_options.specs.declared.given.Choice.{Choice}
 use Rattle.cbi_options.specs.declared.given.Given.{Given}
-use Rattle.cbi_options.specs.declared.schemes.Schemes.{Schemes}
+use Rattle.flow.specs.declared.choice.Schemes.{Schemes}
 use Rattle.cbi_options.specs.Options.{number_or, number_wanted, policy_or, value_of}
 use Rattle.cbi_options.specs.Schemes.{all_schemes, mode_wanted, schemes_or}
 use Rattle.cbi_options.specs.Shares.{is_share, share_or, share_wanted}
 use Rattle.cbi_options.specs.Values.{fits, is_mode, is_number, is_policy, is_schemes}
 use Rattle.cbi_words.specs.declared.command.Command.{Command}
 use Rattle.cbi_words.specs.BadValue.{Rule, bad_bank, bad_in, bad_rank, bad_run, bad_runs, bad_session, bad_study, bad_transform, bad_widen, first_bad, later_bad_in}
-use Rattle.cbi_words.specs.Reading.{bank_of, bank_options, command_in, given_after, later_command_in, listed_runs_of, no_positional, only, rank_of, rank_options, run_of, run_options, runs_options, session_of, session_options, study_of, study_options, transform_of, transform_options, two, widen_of, widen_options}
+use Rattle.cbi_words.specs.Reading.{bank_of, bank_options, command_in, given_after, later_command_in, listed_runs_of, no_positional, only, rank_of, rank_options, run_of, run_options, runs_options, session_of, session_options, study_of, study_options, transform_of, transform_options, two_words, widen_of, widen_options}
 use Rattle.cbi_words_laws.specs.Laws.{BadValuesAreNoCommand}
 
 -- one of these options is given a value that it doesn't take
@@ -30,30 +31,25 @@ is_bad [] options option e = absurd cc
 is_bad (rule ∷ rules) options option e =
     found (fits rule.takes (value_of rule.name options)) rule (first_bad rules options) option (HasBad rules options) (is_bad rules options option) e
 
--- such a value gives nothing
-is_none : {A : Type 0} (o : Option A) → is_some o ≡ false → o ≡ None
-is_none None e = refl
-is_none (Some a) e = absurd cc
-
 no_number_or : (default least most : ℕ) (value : Option (List ℕ)) → fits (is_number least most) value ≡ false → number_or default least most value ≡ None
 no_number_or default least most None e = absurd cc
-no_number_or default least most (Some value) e = is_none _ e
+no_number_or default least most (Some value) e = not_some _ e
 
 no_number : (least most : ℕ) (value : Option (List ℕ)) → fits (is_number least most) value ≡ false → number_wanted least most value ≡ None
 no_number least most None e = absurd cc
-no_number least most (Some value) e = is_none _ e
+no_number least most (Some value) e = not_some _ e
 
 no_policy : (default : Policy) (value : Option (List ℕ)) → fits is_policy value ≡ false → policy_or default value ≡ None
 no_policy default None e = absurd cc
-no_policy default (Some value) e = is_none _ e
+no_policy default (Some value) e = not_some _ e
 
 no_mode : (value : Option (List ℕ)) → fits is_mode value ≡ false → mode_wanted value ≡ None
 no_mode None e = absurd cc
-no_mode (Some value) e = is_none _ e
+no_mode (Some value) e = not_some _ e
 
 no_schemes : (default : Schemes) (value : Option (List ℕ)) → fits is_schemes value ≡ false → schemes_or default value ≡ None
 no_schemes default None e = absurd cc
-no_schemes default (Some value) e = is_none _ e
+no_schemes default (Some value) e = not_some _ e
 
 first_none : {A B : Type 0} (o : Option A) (k : A → Option B) → o ≡ None → (o >>= k) ≡ None
 first_none None k e = refl
@@ -65,11 +61,11 @@ then_none (Some a) k e = e a
 
 no_share : (value : Option (List ℕ)) → fits is_share value ≡ false → share_or value ≡ None
 no_share None e = absurd cc
-no_share (Some value) e = first_none _ _ (is_none _ e)
+no_share (Some value) e = first_none _ _ (not_some _ e)
 
 no_share_wanted : (value : Option (List ℕ)) → fits is_share value ≡ false → share_wanted value ≡ None
 no_share_wanted None e = absurd cc
-no_share_wanted (Some value) e = is_none _ e
+no_share_wanted (Some value) e = not_some _ e
 
 -- what is asked before the values
 last : {A : Type 0} (o : Option A) (more : Option (List ℕ)) (option : List ℕ) → (o >>= λ a. more) ≡ Some option → more ≡ Some option
@@ -115,7 +111,7 @@ runs_none g option e =
     by (inr (inr (inr (inr none)))) = absurd none
 
 rank_none : (g : Given) (option : List ℕ) → bad_rank g ≡ Some option → rank_of g ≡ None
-rank_none g option e = by (is_bad (record { name = codes "--policy"; takes = is_policy } ∷ []) g.options option (last (two g.positionals) _ option e))
+rank_none g option e = by (is_bad (record { name = codes "--policy"; takes = is_policy } ∷ []) g.options option (last (two_words g.positionals) _ option e))
   where
     by : (fits is_policy (value_of (codes "--policy") g.options) ≡ false) ⊎ ⊥ → rank_of g ≡ None
     by (inl policy) = first_none _ _ (no_policy All (value_of (codes "--policy") g.options) policy)
@@ -153,7 +149,7 @@ session_none g option e = by (is_bad (record { name = codes "--policy"; takes = 
     by (inr none) = absurd none
 
 widen_none : (g : Given) (option : List ℕ) → bad_widen g ≡ Some option → widen_of g ≡ None
-widen_none g option e = by (is_bad (record { name = codes "--part"; takes = is_share } ∷ []) g.options option (last (value_of (codes "--part") g.options) _ option (last (value_of (codes "--whole") g.options) _ option (last (two g.positionals) _ option e))))
+widen_none g option e = by (is_bad (record { name = codes "--part"; takes = is_share } ∷ []) g.options option (last (value_of (codes "--part") g.options) _ option (last (value_of (codes "--whole") g.options) _ option (last (two_words g.positionals) _ option e))))
   where
     by : (fits is_share (value_of (codes "--part") g.options) ≡ false) ⊎ ⊥ → widen_of g ≡ None
     by (inl part) = then_none _ _ (λ whole. first_none _ _ (no_share_wanted (value_of (codes "--part") g.options) part))

@@ -56,7 +56,7 @@ bank_with words given = do
   seed ← number_wanted 0 18446744073709551615 (value_of (codes "--seed") given.options)
   stream ← number_or 0 0 18446744073709551615 (value_of (codes "--stream") given.options)
   none ← no_positional words given
-  Some (Bank rate count seed stream)
+  Some (Bank (record { rate = rate; count = count; seed = seed; stream = stream }))
 
 bank_same : (words : List (List ℕ)) (g h : Given) → SameValues g h → bank_with words g ≡ bank_with words h
 unfolding bank_with

@@ -4,6 +4,8 @@ use Rattle.std.specs.List.{All, position_or_len}
 use Rattle.std.proofs.Common.{◌≡◌, ℕ, suc, ◌+◌, Bool, true, false, not, cond, ◌||◌, if◌then◌else◌, List, [], ◌∷◌, ◌++◌, length, take, drop, Option, None, Some, inl, inr, ap, sym, ◌∙◌, refl, arith}
 use Rattle.std.proofs.lemmas.List.{take_at}
 use Rattle.std.proofs.lemmas.List.Elements.{All-head, All-tail}
+use Rattle.std.proofs.lemmas.Bool.{or_parts}
+use Rattle.cbi_options.proofs.Cutting.{cut-option}
 use Rattle.cbi_options.specs.declared.given.Shape.{Shape}
 use Rattle.cbi_options.specs.declared.given.Shape.TheVariants as shape
 use Rattle.cbi_options.specs.WordRule.{cut, has_value, is_dash, is_equals, is_value, name_in, shape_of, value_in, with_option, with_positional}
@@ -33,11 +35,6 @@ no_value (a ∷ []) e = absurd cc
 no_value (a ∷ b ∷ []) e = absurd (short (is_dash a) (is_dash b) e)
 no_value (a ∷ b ∷ c ∷ name) e = ap not (two_dashes (is_dash a) (is_dash b) e)
 
--- the first `=` of the joined word is the one between
-either : (a b : Bool) → (a || b) ≡ false → (a ≡ false) × (b ≡ false)
-either true b e = absurd cc
-either false b e = (refl, e)
-
 equals_in : (name value : List ℕ) → has_value (joined_option name value) ≡ true
 equals_in [] value = refl
 equals_in (a ∷ name) value = any (is_equals a) (has_value (joined_option name value)) (equals_in name value)
@@ -49,7 +46,7 @@ equals_in (a ∷ name) value = any (is_equals a) (has_value (joined_option name 
 place : (name value : List ℕ) → has_value name ≡ false → position_or_len is_equals (joined_option name value) ≡ length name
 place [] value lacks = refl
 place (a ∷ name) value lacks =
-    let parts = either (is_equals a) (has_value name) lacks in
+    let parts = or_parts (is_equals a) (has_value name) lacks in
     ap (λ b. cond (not b) (1 + position_or_len is_equals (joined_option name value)) 0) parts.0
     ∙ ap (λ n. 1 + n) (place name value parts.1) ∙ omega arith
 
@@ -66,15 +63,10 @@ pub value_of_joined : (name value : List ℕ) → has_value name ≡ false → v
 value_of_joined name value lacks =
     ap (λ n. drop (n + 1) (joined_option name value)) (place name value lacks) ∙ behind name value
 
--- what an option gives, in either form
-cut_option : (word : List ℕ) (rest : List (List ℕ)) → shape_of word ≡ shape.Option → has_value word ≡ true →
-    cut None (word ∷ rest) ≡ option_map (with_option (name_in word) (value_in word)) (cut None rest)
-cut_option word rest is has = ap (λ s. at_shape s (has_value word) word rest) is ∙ ap (λ b. at_shape shape.Option b word rest) has
-
 pub cut_joined : (name value : List ℕ) (rest : List (List ℕ)) → IsOptionName name →
     cut None (joined_option name value ∷ rest) ≡ option_map (with_option name value) (cut None rest)
 cut_joined name value rest is =
-    cut_option (joined_option name value) rest (longer name (61 ∷ value) is.0) (equals_in name value)
+    cut-option (joined_option name value) rest (longer name (61 ∷ value) is.0) (equals_in name value)
     ∙ ap (λ n. option_map (with_option n (value_in (joined_option name value))) (cut None rest)) (name_of_joined name value is.1)
     ∙ ap (λ v. option_map (with_option name v) (cut None rest)) (value_of_joined name value is.1)
 
@@ -118,7 +110,7 @@ alike_joined name value after is may (Some other) =
 pub reads_alike : JoinedReadsAlike
 reads_alike name value before after is may goes_on = alike_behind before (joined_option name value ∷ after) (name ∷ value ∷ after) goes_on (alike_joined name value after is may) None
 
--- an option in either form
+-- an option in or_parts form
 pub cut_given : (name value : List ℕ) (option rest : List (List ℕ)) → IsOption name value option → cut None (option ++ rest) ≡ option_map (with_option name value) (cut None rest)
 cut_given name value option rest (is, inl one) = ap (λ words. cut None (words ++ rest)) one ∙ cut_joined name value rest is
 cut_given name value option rest (is, inr two) = ap (λ words. cut None (words ++ rest)) two.0 ∙ cut_apart name value rest is two.1

@@ -2,6 +2,8 @@
 use Rattle.std.specs.Option.{option_map}
 use Rattle.std.specs.List.{find, list_all}
 use Rattle.std.proofs.Common.{◌≡◌, ℕ, Bool, true, false, not, cond, ◌&&◌, ◌||◌, if◌then◌else◌, List, [], ◌∷◌, ◌++◌, Option, None, Some, ap, sym, ◌∙◌, refl}
+use Rattle.cbi_options.proofs.Cutting.{cut-positional}
+use Rattle.base_lists.proofs.Tests.{and_second, same_tests}
 use Rattle.cbi_base.specs.Numbers.{is_word, ◌>>=◌}
 use Rattle.cbi_base.proofs.NumberLemmas.{is_word-same, same-word}
 use Rattle.cbi_options.specs.declared.given.Choice.{Choice}
@@ -13,9 +15,6 @@ use Rattle.cbi_words_laws.specs.Laws.{AreWhole, IsOption, OptionsChangePlaces, O
 use Rattle.cbi_words_laws.proofs.Reading.{at_shape, in_order}
 use Rattle.cbi_words_laws.proofs.Joining.{cut_given}
 
-cut_positional : (word : List ℕ) (rest : List (List ℕ)) → shape_of word ≡ shape.Positional → cut None (word ∷ rest) ≡ option_map (with_positional word) (cut None rest)
-cut_positional word rest is = ap (λ s. at_shape s (has_value word) word rest) is
-
 commute : (name value word : List ℕ) (o : Option Given) →
     option_map (with_option name value) (option_map (with_positional word) o) ≡ option_map (with_positional word) (option_map (with_option name value) o)
 commute name value word None = refl
@@ -26,10 +25,10 @@ stand_anywhere name value word option before after given is positional whole =
     in_order before (option ++ word ∷ after) given whole
     ∙ ap (option_map (beside given))
     (cut_given name value option (word ∷ after) is
-    ∙ ap (option_map (with_option name value)) (cut_positional word after positional)
+    ∙ ap (option_map (with_option name value)) (cut-positional word after positional)
     ∙ commute name value word (cut None after)
     ∙ ap (option_map (with_positional word)) (sym (cut_given name value option after is))
-    ∙ sym (cut_positional word (option ++ after) positional))
+    ∙ sym (cut-positional word (option ++ after) positional))
     ∙ sym (in_order before (word ∷ (option ++ after)) given whole)
 
 -- two neighbours of a list change places
@@ -51,16 +50,11 @@ has_swap : (name : List ℕ) (front : List Choice) (c d : Choice) (rest : List C
 has_swap name [] c d rest = or_swap (is_word c.name name) (is_word d.name name) (has_name name rest)
 has_swap name (x ∷ front) c d rest = ap (λ b. is_word x.name name || b) (has_swap name front c d rest)
 
-same_truth : (a b : Bool) → (a ≡ true → b ≡ true) → (b ≡ true → a ≡ true) → a ≡ b
-same_truth true b there back = sym (there refl)
-same_truth false true there back = back refl
-same_truth false false there back = refl
-
 turned : (a b : List ℕ) → is_word a b ≡ true → is_word b a ≡ true
 turned a b e = ap (λ w. is_word w a) (sym (same-word a b e)) ∙ is_word-same a
 
 word_turned : (a b : List ℕ) → is_word a b ≡ is_word b a
-word_turned a b = same_truth (is_word a b) (is_word b a) (turned a b) (turned b a)
+word_turned a b = same_tests (is_word a b) (is_word b a) (turned a b) (turned b a)
 
 singles : (w c d s : Bool) → (not (w || c) && (not d && s)) ≡ (not (w || d) && (not c && s))
 singles true c d s = refl
@@ -84,17 +78,13 @@ find_swap : (p : Choice → Bool) (front : List Choice) (c d : Choice) (rest : L
 find_swap p [] c d rest e = found_first (p c) (p d) c d (find p rest) e
 find_swap p (x ∷ front) c d rest e = ap (cond (p x) (Some x)) (find_swap p front c d rest e)
 
-behind_both : (a b : Bool) → (a && b) ≡ true → b ≡ true
-behind_both true b e = e
-behind_both false b e = absurd cc
-
 not_either : (w c s : Bool) → (not (w || c) && s) ≡ true → w ≡ false
 not_either true c s e = absurd cc
 not_either false c s e = refl
 
 differ : (front : List Choice) (c d : Choice) (rest : List Choice) → are_single (front ++ c ∷ d ∷ rest) ≡ true → is_word d.name c.name ≡ false
 differ [] c d rest e = not_either (is_word d.name c.name) (has_name c.name rest) (not (has_name d.name rest) && are_single rest) e
-differ (x ∷ front) c d rest e = differ front c d rest (behind_both (not (has_name x.name (front ++ c ∷ d ∷ rest))) (are_single (front ++ c ∷ d ∷ rest)) e)
+differ (x ∷ front) c d rest e = differ front c d rest (and_second (not (has_name x.name (front ++ c ∷ d ∷ rest))) (are_single (front ++ c ∷ d ∷ rest)) e)
 
 not_both : (a b : Bool) → (a ≡ true → b ≡ true → ⊥) → (a && b) ≡ false
 not_both true true h = absurd (h refl refl)
@@ -135,7 +125,7 @@ swapped names name value other its given (Some rest) =
     let single = single_swap given.options c d rest.options in
     taken g h (are_asked names g) (are_asked names h)
     (ap (λ b. b && are_single (given.options ++ c ∷ d ∷ rest.options)) alls ∙ ap (λ b. list_all (λ option. is_one_of names option.name) (given.options ++ d ∷ c ∷ rest.options) && b) single)
-    (λ e. (refl, λ n. value_swap n given.options c d rest.options (behind_both (list_all (λ option. is_one_of names option.name) g.options) (are_single g.options) e)))
+    (λ e. (refl, λ n. value_swap n given.options c d rest.options (and_second (list_all (λ option. is_one_of names option.name) g.options) (are_single g.options) e)))
 
 read_two : (name value other its : List ℕ) (one two before after : List (List ℕ)) (given : Given) → IsOption name value one → IsOption other its two → AreWhole before given →
     cut None (before ++ (one ++ (two ++ after))) ≡ option_map (beside given) (option_map (with_option name value) (option_map (with_option other its) (cut None after)))

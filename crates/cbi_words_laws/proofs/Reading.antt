@@ -4,6 +4,7 @@ use Rattle.std.specs.List.{All}
 use Rattle.std.proofs.Common.{◌≡◌, ℕ, Bool, true, false, if◌then◌else◌, List, [], ◌∷◌, ◌++◌, Option, None, Some, ap, ◌∙◌, refl}
 use Rattle.std.proofs.lemmas.List.{append-nil}
 use Rattle.std.proofs.lemmas.List.Elements.{All-head, All-tail}
+use Rattle.base_lists.proofs.Options.{some_is}
 use Rattle.cbi_options.specs.declared.given.Choice.{Choice}
 use Rattle.cbi_options.specs.declared.given.Given.{Given}
 use Rattle.cbi_options.specs.declared.given.Shape.{Shape}
@@ -29,9 +30,6 @@ pushed : (f : Given → Given) (g : Given) (o : Option Given) → ((g h : Given)
     option_map f (option_map (beside g) o) ≡ option_map (beside (f g)) o
 pushed f g None same = refl
 pushed f g (Some h) same = ap Some (same g h)
-
-some_is : {A : Type 0} {x y : A} → Some x ≡ Some y → x ≡ y
-some_is e = cc
 
 -- what stands in front of words of which this is known
 onto : (f : Given → Given) (own both rest : Option Given) (given : Given) → ((g h : Given) → f (beside g h) ≡ beside (f g) h) →

@@ -1,13 +1,17 @@
 -- The labels for one node, and that each of them is right.
 use Rattle.std.proofs.Common.{◌≡◌, ◌⊎◌, inl, inr, ℕ, zero, suc, ◌+◌, ◌<◌, Bool, true, false, ◌&&◌, ◌||◌, if◌then◌else◌, nat_lt, List, [], ◌∷◌, ◌++◌, length, Option, Some, None, slice_get, slice_index, refl, sym, ap, ◌∙◌, subst, arith}
 use Rattle.std.specs.List.{Contains}
+use Rattle.std.proofs.lemmas.Bool.{or_right}
+use Rattle.base_lists.proofs.Tests.{and_second}
+use Rattle.base_lists.proofs.Lists.{get_left}
+use Rattle.base_lists.proofs.Every.{only_in}
 use Rattle.flow.specs.declared.node.View.{View}
 use Rattle.flow.specs.declared.node.View.TheVariants.{Row, Halts, Forks, Turns, Calls, Gives, Quits, Marks, Skips, Tests, Picks, Imports, Exports, Nowhere}
 use Rattle.flow.specs.Nodes.{led_to}
 use Rattle.regions.specs.Blocks.{After, NodeLeadsTo}
 use Rattle.regions.specs.Headers.{IsHeader, begun_after}
 use Rattle.regions.specs.Headers as region
-use Rattle.regions.proofs.BlockLemmas.{one_of, shape}
+use Rattle.regions.proofs.BlockLemmas.{shape}
 use Rattle.weights.specs.Paths.{mark_count}
 use Rattle.clone_paths.specs.declared.label.CopyLabel.{CopyLabel}
 use Rattle.clone_paths.specs.declared.label.CopyLabel.TheVariants.{Gate, Back, In, Out}
@@ -20,7 +24,7 @@ use Rattle.clone_paths.specs.Layout.{copy_labels, fast_labels, gate_labels, labe
 use Rattle.clone_paths.specs.Made.{Tables, made, made_out}
 use Rattle.clone_paths.specs.Parts.{is_inside, outlet_of, part_of_node, pays}
 use Rattle.clone_paths.proofs.RightLemmas.{Agrees, Known, cloning, in_right, owed_by, pays_is, pays_zero}
-use Rattle.clone_paths.proofs.SheetLemmas.{in_first, in_joined, in_second, labels_at, owner, placed, start_of}
+use Rattle.clone_paths.proofs.SheetLemmas.{in_joined, in_second, labels_at, owner, placed, start_of}
 
 -- the labels of an outlet
 by_call : (b : Bool) (side : Side) (i next m : ℕ) (l : CopyLabel) → slice_get (out_labels side i (if b then outlet.Calls next else outlet.None)) m ≡ Some l →
@@ -44,33 +48,13 @@ out_cases w side i Quits m l e = (refl, inl (one_label side i m l e))
 out_cases w side i (Calls function next) m l e =
     let r = by_call (w function) side i next m l e in
     (r.0, elim r.1 [ inl x ↦ inl x | inr x ↦ inr (function, next, refl, r.0, x.0, x.1) ])
-out_cases w side i (Row op next) m l e = cc
-out_cases w side i (Halts op) m l e = cc
-out_cases w side i (Forks a b) m l e = cc
-out_cases w side i (Turns next) m l e = cc
-out_cases w side i (Marks site next) m l e = cc
-out_cases w side i (Skips by next) m l e = cc
-out_cases w side i (Tests site next) m l e = cc
-out_cases w side i (Picks weight fast slow) m l e = cc
-out_cases w side i (Imports next) m l e = cc
-out_cases w side i (Exports next) m l e = cc
-out_cases w side i Nowhere m l e = cc
+out_cases w side i v m l e = cc
 
 pub out_first : (w : ℕ → Bool) (side : Side) (i : ℕ) (v : View) → is_outlet w v ≡ true → slice_get (out_labels side i (outlet_of w v)) 0 ≡ Some (Out side i)
 out_first w side i Gives o = refl
 out_first w side i Quits o = refl
 out_first w side i (Calls function next) o = ap (λ (b : Bool). slice_get (out_labels side i (if b then outlet.Calls next else outlet.None)) 0) o
-out_first w side i (Row op next) o = cc
-out_first w side i (Halts op) o = cc
-out_first w side i (Forks a b) o = cc
-out_first w side i (Turns next) o = cc
-out_first w side i (Marks site next) o = cc
-out_first w side i (Skips by next) o = cc
-out_first w side i (Tests site next) o = cc
-out_first w side i (Picks weight fast slow) o = cc
-out_first w side i (Imports next) o = cc
-out_first w side i (Exports next) o = cc
-out_first w side i Nowhere o = cc
+out_first w side i v o = cc
 
 pub out_back : (w : ℕ → Bool) (side : Side) (i function next : ℕ) (v : View) → v ≡ Calls function next → w function ≡ true →
     slice_get (out_labels side i (outlet_of w v)) 1 ≡ Some (Back next)
@@ -80,19 +64,7 @@ out_back w side i function next v e o =
 is_out : (t : Tables) (label : ℕ → Option CopyLabel) (place : ℕ) (v : View) → ((function next : ℕ) → v ≡ Calls function next → label (place + 1) ≡ Some (Back next)) →
     IsOut (cloning t label) v (made_out place v)
 is_out t label place (Calls function next) h = (place + 1, refl, h function next refl)
-is_out t label place (Row op next) h = refl
-is_out t label place (Halts op) h = refl
-is_out t label place (Forks a b) h = refl
-is_out t label place (Turns next) h = refl
-is_out t label place Gives h = refl
-is_out t label place Quits h = refl
-is_out t label place (Marks site next) h = refl
-is_out t label place (Skips by next) h = refl
-is_out t label place (Tests site next) h = refl
-is_out t label place (Picks weight fast slow) h = refl
-is_out t label place (Imports next) h = refl
-is_out t label place (Exports next) h = refl
-is_out t label place Nowhere h = refl
+is_out t label place v h = refl
 
 -- a list of labels stands from a place on
 abbrev pub Stands : (ℕ → Option CopyLabel) → ℕ → List CopyLabel → Type 0
@@ -138,7 +110,7 @@ outs_right t n debt head label k side i base s m l e =
 abbrev pub Flows : Tables → (ℕ → ℕ) → Side → ℕ → ℕ → Type 0
 Flows t debt side i owed = (owed ≡ 0) ⊎ (is_last t.starts (led_to (t.at i)) ≡ false) → mark_count (t.at i) ≡ 0 → (y : ℕ) → NodeLeadsTo t.at i y → owed_by debt side y ≡ owed
 
-may_owe_none : (side : Side) → MayOwe side 0
+pub may_owe_none : (side : Side) → MayOwe side 0
 may_owe_none Fast = tt
 may_owe_none Slow = refl
 
@@ -192,20 +164,12 @@ copy_right t n debt head label k side i owed base true lt may paid last flow flo
     let rest = stands_rest label (base + 1) (In side i 0) outs (stands_rest label base (In side i owed) (In side i 0 ∷ outs) s) in
     subst (λ (q : ℕ). Right t label q l) (sym at) (outs_right t n debt head label k side i (base + 1 + 1) rest m l e)
 
-or_true : (a b : Bool) → b ≡ true → (a || b) ≡ true
-or_true true b e = refl
-or_true false b e = e
-
-and_second : (a b : Bool) → (a && b) ≡ true → b ≡ true
-and_second true b e = e
-and_second false b e = cc
-
 start_is_last : (starts : ℕ → Bool) (xs : List ℕ) (y : ℕ) → Contains xs y → starts y ≡ true → is_last starts xs ≡ true
 start_is_last starts [] y c s = refl
-start_is_last starts (a ∷ []) y c s = ap starts (sym (one_of a y c)) ∙ s
+start_is_last starts (a ∷ []) y c s = ap starts (sym (only_in a y c)) ∙ s
 start_is_last starts (a ∷ b ∷ rest) y (zero, l, e) s = let f : starts a ≡ true = ap starts e ∙ s in ap (λ (x : Bool). x || is_last starts (b ∷ rest)) f
 start_is_last starts (a ∷ b ∷ rest) y (suc m, l, e) s =
-    let r = start_is_last starts (b ∷ rest) y (m, omega arith, e) s in or_true (starts a) (is_last starts (b ∷ rest)) r
+    let r = start_is_last starts (b ∷ rest) y (m, omega arith, e) s in or_right (starts a) (is_last starts (b ∷ rest)) r
 
 last_starts : (t : Tables) (n : ℕ) (debt : ℕ → ℕ) (head : ℕ → Bool) (label : ℕ → Option CopyLabel) → Known t n debt head label → (i y : ℕ) → NodeLeadsTo t.at i y →
     is_last t.starts (led_to (t.at i)) ≡ true → t.starts y ≡ true
@@ -213,7 +177,7 @@ last_starts t n debt head label k i y lead last =
     elim (shape (t.at i)) [
       | inl e ↦ let c = subst (λ (xs : List ℕ). Contains xs y) e lead in absurd (omega (arith, c.1))
       | inr (inl (a, e)) ↦
-          let same = one_of a y (subst (λ (xs : List ℕ). Contains xs y) e lead) in
+          let same = only_in a y (subst (λ (xs : List ℕ). Contains xs y) e lead) in
           ap t.starts same ∙ sym (ap (λ (xs : List ℕ). is_last t.starts xs) e) ∙ last
       | inr (inr (a, b, e, ends)) ↦ k.begins y (After i ends lead)
     ]
@@ -246,7 +210,7 @@ gate_cases true i (suc m) l e = cc
 gate_cases false i m l e = cc
 
 stands_first : (label : ℕ → Option CopyLabel) (base : ℕ) (xs ys : List CopyLabel) → Stands label base (xs ++ ys) → Stands label base xs
-stands_first label base xs ys s = λ k l e. s k l (in_first xs ys k l e)
+stands_first label base xs ys s = λ k l e. s k l (get_left xs ys k l e)
 
 stands_second : (label : ℕ → Option CopyLabel) (base : ℕ) (xs ys : List CopyLabel) → Stands label base (xs ++ ys) → Stands label (base + length xs) ys
 stands_second label base xs ys s = λ k l e. let n : base + length xs + k ≡ base + (length xs + k) = omega arith in ap label n ∙ s (length xs + k) l (in_second xs ys k l e)

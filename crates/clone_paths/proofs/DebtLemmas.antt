@@ -4,13 +4,14 @@ use Rattle.std.specs.List.{Contains}
 use Rattle.std.proofs.lemmas.Bool.{cases_eq, cases_lt}
 use Rattle.std.proofs.lemmas.Grind.{get_or-set_at, common_steps}
 use Rattle.std.proofs.lemmas.List.{length-replicate}
+use Rattle.base_lists.proofs.Every.{only_in}
 use Rattle.flow.specs.declared.node.Node.{Node}
 use Rattle.flow.specs.declared.node.View.{View}
 use Rattle.flow.specs.Nodes.{led_to}
 use Rattle.regions.specs.Blocks.{IsStart, After, Joins, NodeLeadsTo, ends_block}
 use Rattle.regions.specs.Flags.{AreFlags, is_in}
 use Rattle.regions.specs.Weighty.{views_of}
-use Rattle.regions.proofs.BlockLemmas.{one_of, shape}
+use Rattle.regions.proofs.BlockLemmas.{shape}
 use Rattle.regions.proofs.Within.{leads_from}
 use Rattle.weights.specs.Paths.{mark_count}
 use Rattle.weights.proofs.WeightLemmas.{one_mark}
@@ -34,7 +35,7 @@ owed_none nodes starts = record {
   small = λ place. omega (arith, zeros (length nodes) place);
 }
 
-by_start : (b : Bool) (y x : ℕ) → (if b then None else Some y) ≡ Some x → (b ≡ false) × (y ≡ x)
+pub by_start : (b : Bool) (y x : ℕ) → (if b then None else Some y) ≡ Some x → (b ≡ false) × (y ≡ x)
 by_start true y x e = cc
 by_start false y x e = (refl, cc)
 
@@ -60,7 +61,7 @@ outside at starts place next known lead e =
     elim (shape (at place)) [
       | inl none ↦ let c = subst (λ (xs : List ℕ). Contains xs next) none lead in absurd (omega (arith, c.1))
       | inr (inl (a, one)) ↦
-          let same = one_of a next (subst (λ (xs : List ℕ). Contains xs next) one lead) in
+          let same = only_in a next (subst (λ (xs : List ℕ). Contains xs next) one lead) in
           let f : (if is_in starts a then None else Some a) ≡ None = ap (λ (xs : List ℕ). next_inside (is_in starts) xs) (sym one) ∙ e in
           ap (λ (x : ℕ). is_in starts x) same ∙ none_start (is_in starts a) a f
       | inr (inr (a, b, two, ends)) ↦ known next (After place ends lead)
@@ -113,7 +114,7 @@ owed_more nodes starts i x debts order are o e =
             ]
         | inr late ↦
             let same : place ≡ i = omega arith in
-            let only : next ≡ x = one_of x next (subst (λ (xs : List ℕ). Contains xs next) r.0 (subst (λ (k : ℕ). NodeLeadsTo (views_of nodes) k next) same c)) in
+            let only : next ≡ x = only_in x next (subst (λ (xs : List ℕ). Contains xs next) r.0 (subst (λ (k : ℕ). NodeLeadsTo (views_of nodes) k next) same c)) in
             let old : get_or (set debts x new) i 0 ≡ get_or debts i 0 = there i (λ eq. omega (arith, after, eq)) in
             here next only ∙ sym (ap (λ (k : ℕ). get_or (set debts x new) k 0 + mark_count (views_of nodes k)) same ∙ ap (λ (k : ℕ). k + mark_count (views_of nodes i)) old)
       ];
@@ -135,7 +136,3 @@ pub inside_within : (nodes : List Node) (starts : List Bool) (i x : ℕ) → Has
 inside_within nodes starts i x order e =
     let r = inside_cases (is_in starts) (led_to (views_of nodes i)) x e in
     order.within i x (subst (λ (xs : List ℕ). Contains xs x) (sym r.0) (0, omega arith, refl))
-
-pub none_is : (o : Option ℕ) → ((x : ℕ) → o ≡ Some x → ⊥) → o ≡ None
-none_is None h = refl
-none_is (Some x) h = absurd (h x refl)

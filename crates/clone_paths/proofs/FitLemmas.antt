@@ -2,21 +2,21 @@
 use Rattle.std.proofs.Common.{◌≡◌, ◌⊎◌, inl, inr, ℕ, zero, suc, ◌+◌, ◌<◌, ◌≤◌, Bool, true, false, ◌&&◌, ◌||◌, nat_lt, nat_le, if◌then◌else◌, List, [], ◌∷◌, slice_get, slice_index, refl, sym, ap, arith}
 use Rattle.std.specs.List.{Contains, list_all}
 use Rattle.std.proofs.lemmas.Bool.Decides.{nat_tests}
+use Rattle.std.proofs.lemmas.Bool.{and_from, or_right}
+use Rattle.base_lists.proofs.Numbers.{less_is}
+use Rattle.base_lists.proofs.Every.{none_in, only_in}
 use Rattle.flow.specs.declared.node.Node.{Node}
 use Rattle.flow.specs.declared.node.Node.TheVariants.{Push}
 use Rattle.flow.specs.declared.node.View.{View}
 use Rattle.flow.specs.declared.node.View.TheVariants.{Row, Halts, Forks, Turns, Calls, Gives, Quits, Marks, Skips, Tests, Picks, Imports, Exports, Nowhere}
 use Rattle.flow.specs.declared.scope.Bounds.{Bounds}
 use Rattle.flow.specs.declared.scope.Names.{Names}
-use Rattle.flow.specs.Limits.{node_limit}
-use Rattle.flow.specs.Nodes.{is_again, is_own, led_to, leads_rightly, names_fit}
-use Rattle.flow.specs.View.{view}
+use Rattle.flow.specs.Words.{node_limit, is_again, is_own, led_to, leads_rightly, names_fit, view, IsPlain}
 use Rattle.weights.specs.Paths.{mark_count}
 use Rattle.clone_paths.specs.declared.label.CopyLabel.{CopyLabel}
 use Rattle.clone_paths.specs.declared.label.CopyLabel.TheVariants.{Enter, Gate, Back, In, Out}
 use Rattle.clone_paths.specs.declared.label.Side.{Side}
 use Rattle.clone_paths.specs.declared.label.Side.TheVariants.{Fast, Slow}
-use Rattle.flow.specs.Ready.{IsPlain}
 use Rattle.clone_paths.specs.Form.{is_last, is_outlet}
 use Rattle.clone_paths.specs.Layout.{place_in_copy}
 use Rattle.clone_paths.specs.Made.{Tables, made, made_free, made_in, made_out, made_same, made_visit}
@@ -50,11 +50,9 @@ most_ok : (k : ℕ) → k ≤ node_limit → nat_le k node_limit ≡ true
 most_ok k m = grind (arith, nat_tests)
 
 same_names : (names : Names) (bounds : Bounds) (t : Tables) (side : Side) (v : View) → view_names names bounds v ≡ true → view_names names bounds (made_same t side v) ≡ true
-same_names names bounds t side (Row op next) h = h
 same_names names bounds t side (Forks a b) h = refl
 same_names names bounds t side (Turns next) h = refl
-same_names names bounds t side (Calls function next) h = h
-same_names names bounds t side other h = h
+same_names names bounds t side v h = h
 
 free_names : (names : Names) (bounds : Bounds) (t : Tables) (side : Side) (place : ℕ) (v : View) (b : Bool) → view_names names bounds v ≡ true →
     view_names names bounds (if b then Exports (place + 1) else made_same t side v) ≡ true
@@ -72,18 +70,15 @@ some_owed owed b e = grind (arith, nat_tests)
 pays_some : (starts : ℕ → Bool) (owed : ℕ) (v : View) → pays starts owed v ≡ true → 1 ≤ owed
 pays_some starts owed (Marks site next) e = cc
 pays_some starts owed (Row op next) e = some_owed owed (starts next) e
-pays_some starts owed (Halts op) e = some_owed owed true e
 pays_some starts owed (Forks a b) e = some_owed owed (starts a || is_last starts (b ∷ [])) e
 pays_some starts owed (Turns next) e = some_owed owed (starts next) e
 pays_some starts owed (Calls function next) e = some_owed owed (starts next) e
-pays_some starts owed Gives e = some_owed owed true e
-pays_some starts owed Quits e = some_owed owed true e
 pays_some starts owed (Skips by next) e = some_owed owed (starts next) e
 pays_some starts owed (Tests site next) e = some_owed owed (starts next) e
 pays_some starts owed (Picks weight fast slow) e = some_owed owed (starts fast || is_last starts (slow ∷ [])) e
 pays_some starts owed (Imports next) e = some_owed owed (starts next) e
 pays_some starts owed (Exports next) e = some_owed owed (starts next) e
-pays_some starts owed Nowhere e = some_owed owed true e
+pays_some starts owed v e = some_owed owed true e
 
 visit_names : (names : Names) (bounds : Bounds) (t : Tables) (side : Side) (owed site next : ℕ) → view_names names bounds (Marks site next) ≡ true → owed < node_limit →
     view_names names bounds (made_visit t.sheet side owed site next) ≡ true
@@ -93,19 +88,7 @@ visit_names names bounds t Fast owed site next h few = by_ok (owed + 1) (omega a
 in_names : (names : Names) (bounds : Bounds) (t : Tables) (side : Side) (owed place : ℕ) (v : View) → view_names names bounds v ≡ true → owed < node_limit →
     view_names names bounds (made_in t side owed place v) ≡ true
 in_names names bounds t side owed place (Marks site next) h few = visit_names names bounds t side owed site next h few
-in_names names bounds t side owed place (Row op next) h few = paid_names names bounds t side owed place (Row op next) (pays t.starts owed (Row op next)) h (pays_some t.starts owed (Row op next)) few
-in_names names bounds t side owed place (Halts op) h few = paid_names names bounds t side owed place (Halts op) (pays t.starts owed (Halts op)) h (pays_some t.starts owed (Halts op)) few
-in_names names bounds t side owed place (Forks a b) h few = paid_names names bounds t side owed place (Forks a b) (pays t.starts owed (Forks a b)) h (pays_some t.starts owed (Forks a b)) few
-in_names names bounds t side owed place (Turns next) h few = paid_names names bounds t side owed place (Turns next) (pays t.starts owed (Turns next)) h (pays_some t.starts owed (Turns next)) few
-in_names names bounds t side owed place (Calls f next) h few = paid_names names bounds t side owed place (Calls f next) (pays t.starts owed (Calls f next)) h (pays_some t.starts owed (Calls f next)) few
-in_names names bounds t side owed place Gives h few = paid_names names bounds t side owed place Gives (pays t.starts owed Gives) h (pays_some t.starts owed Gives) few
-in_names names bounds t side owed place Quits h few = paid_names names bounds t side owed place Quits (pays t.starts owed Quits) h (pays_some t.starts owed Quits) few
-in_names names bounds t side owed place (Skips by next) h few = paid_names names bounds t side owed place (Skips by next) (pays t.starts owed (Skips by next)) h (pays_some t.starts owed (Skips by next)) few
-in_names names bounds t side owed place (Tests site next) h few = paid_names names bounds t side owed place (Tests site next) (pays t.starts owed (Tests site next)) h (pays_some t.starts owed (Tests site next)) few
-in_names names bounds t side owed place (Picks w f s) h few = paid_names names bounds t side owed place (Picks w f s) (pays t.starts owed (Picks w f s)) h (pays_some t.starts owed (Picks w f s)) few
-in_names names bounds t side owed place (Imports next) h few = paid_names names bounds t side owed place (Imports next) (pays t.starts owed (Imports next)) h (pays_some t.starts owed (Imports next)) few
-in_names names bounds t side owed place (Exports next) h few = paid_names names bounds t side owed place (Exports next) (pays t.starts owed (Exports next)) h (pays_some t.starts owed (Exports next)) few
-in_names names bounds t side owed place Nowhere h few = paid_names names bounds t side owed place Nowhere (pays t.starts owed Nowhere) h (pays_some t.starts owed Nowhere) few
+in_names names bounds t side owed place v h few = paid_names names bounds t side owed place v (pays t.starts owed v) h (pays_some t.starts owed v) few
 
 out_names : (names : Names) (bounds : Bounds) (place : ℕ) (v : View) → view_names names bounds v ≡ true → view_names names bounds (made_out place v) ≡ true
 out_names names bounds place (Calls function next) h = h
@@ -134,13 +117,6 @@ pub record Onward (t : Tables) (v q : View) (x : ℕ) : Type 0 where
   pub stands : Stands t to x
   pub again : (next : ℕ) → v ≡ Turns next → is_again q ≡ true
 
-only_in : (a x : ℕ) → Contains (a ∷ []) x → x ≡ a
-only_in a x (zero, l, e) = sym e
-only_in a x (suc k, l, e) = absurd (omega arith)
-
-not_in : (x : ℕ) → Contains [] x → ⊥
-not_in x c = omega (arith, c.1)
-
 onward_one : (t : Tables) (side : Side) (v q : View) (next x : ℕ) → Contains (led_to v) next → ((k : ℕ) → v ≡ Turns k → is_again q ≡ true) → Contains (place_in_copy t.sheet side next ∷ []) x → Onward t v q x
 onward_one t side v q next x lead again c = record { to = next; leads = lead; stands = stands_in t side next x (only_in (place_in_copy t.sheet side next) x c); again = again }
 
@@ -158,15 +134,11 @@ same_onward t side (Turns next) x p m c =
     record { to = next; leads = (0, omega arith, refl); stands = inr (inr (only_in (slice_index t.sheet.gates next) x c)); again = λ k e. refl }
 same_onward t side (Calls f next) x p m c = onward_one t side (Calls f next) (Calls f (place_in_copy t.sheet side next)) next x (0, omega arith, refl) (λ k e. cc) c
 same_onward t side (Marks site next) x p m c = absurd (omega arith)
-same_onward t side (Halts op) x p m c = absurd (not_in x c)
-same_onward t side Gives x p m c = absurd (not_in x c)
-same_onward t side Quits x p m c = absurd (not_in x c)
-same_onward t side (Skips by next) x p m c = absurd p
-same_onward t side (Tests site next) x p m c = absurd p
-same_onward t side (Picks weight fast slow) x p m c = absurd p
-same_onward t side (Imports next) x p m c = absurd p
-same_onward t side (Exports next) x p m c = absurd p
-same_onward t side Nowhere x p m c = absurd (not_in x c)
+same_onward t side (Halts op) x p m c = absurd (none_in x c)
+same_onward t side Gives x p m c = absurd (none_in x c)
+same_onward t side Quits x p m c = absurd (none_in x c)
+same_onward t side Nowhere x p m c = absurd (none_in x c)
+same_onward t side v x p m c = absurd p
 
 -- control goes on at the next place, where what is owed is paid or before an outlet
 abbrev pub NextCause : Tables → ℕ → View → Type 0
@@ -194,63 +166,35 @@ visit_on t Fast owed place site next x c =
 
 pub in_on : (t : Tables) (side : Side) (owed place : ℕ) (v : View) (x : ℕ) → IsPlain v → Contains (led_to (made_in t side owed place v)) x → GoesOn t owed place v (made_in t side owed place v) x
 in_on t side owed place (Marks site next) x p c = visit_on t side owed place site next x c
-in_on t side owed place (Row op next) x p c = paid_on t side owed place (Row op next) x (pays t.starts owed (Row op next)) p refl refl c
-in_on t side owed place (Halts op) x p c = paid_on t side owed place (Halts op) x (pays t.starts owed (Halts op)) p refl refl c
-in_on t side owed place (Forks a b) x p c = paid_on t side owed place (Forks a b) x (pays t.starts owed (Forks a b)) p refl refl c
-in_on t side owed place (Turns next) x p c = paid_on t side owed place (Turns next) x (pays t.starts owed (Turns next)) p refl refl c
-in_on t side owed place (Calls f next) x p c = paid_on t side owed place (Calls f next) x (pays t.starts owed (Calls f next)) p refl refl c
-in_on t side owed place Gives x p c = paid_on t side owed place Gives x (pays t.starts owed Gives) p refl refl c
-in_on t side owed place Quits x p c = paid_on t side owed place Quits x (pays t.starts owed Quits) p refl refl c
 in_on t side owed place (Skips by next) x p c = absurd p
 in_on t side owed place (Tests site next) x p c = absurd p
 in_on t side owed place (Picks w f s) x p c = absurd p
 in_on t side owed place (Imports next) x p c = absurd p
 in_on t side owed place (Exports next) x p c = absurd p
-in_on t side owed place Nowhere x p c = paid_on t side owed place Nowhere x (pays t.starts owed Nowhere) p refl refl c
+in_on t side owed place v x p c = paid_on t side owed place v x (pays t.starts owed v) p refl refl c
 
 -- an outlet goes on at the next place, where it is a call
 pub out_on : (w : ℕ → Bool) (place : ℕ) (v : View) (x : ℕ) → is_outlet w v ≡ true → Contains (led_to (made_out place v)) x →
     (x ≡ place + 1) × ((function next : ℕ) × (v ≡ Calls function next) × (w function ≡ true))
 out_on w place (Calls function next) x o c = (only_in (place + 1) x c, (function, next, refl, o))
-out_on w place Gives x o c = absurd (not_in x c)
-out_on w place Quits x o c = absurd (not_in x c)
-out_on w place (Row op next) x o c = cc
-out_on w place (Halts op) x o c = cc
-out_on w place (Forks a b) x o c = cc
-out_on w place (Turns next) x o c = cc
-out_on w place (Marks site next) x o c = cc
-out_on w place (Skips by next) x o c = cc
-out_on w place (Tests site next) x o c = cc
-out_on w place (Picks weight fast slow) x o c = cc
-out_on w place (Imports next) x o c = cc
-out_on w place (Exports next) x o c = cc
-out_on w place Nowhere x o c = cc
+out_on w place Gives x o c = absurd (none_in x c)
+out_on w place Quits x o c = absurd (none_in x c)
+out_on w place v x o c = cc
 
 -- a node leads to nodes, to later ones but by a turn
 abbrev pub Goes : ℕ → ℕ → View → Type 0
 Goes place total q = (x : ℕ) → Contains (led_to q) x → (x < total) × ((is_again q ≡ true) ⊎ (place < x))
-
-both : (a b : Bool) → a ≡ true → b ≡ true → (a && b) ≡ true
-both true b e f = f
-both false b e f = e
-
-or_right : (a b : Bool) → b ≡ true → (a || b) ≡ true
-or_right true b e = refl
-or_right false b e = e
-
-lt_ok : (a b : ℕ) → a < b → nat_lt a b ≡ true
-lt_ok a b l = grind (arith, nat_tests)
 
 each_passes : (p : ℕ → Bool) (xs : List ℕ) → ((x : ℕ) → Contains xs x → p x ≡ true) → list_all p xs ≡ true
 each_passes p [] h = refl
 each_passes p (y ∷ ys) h =
     let first = h y (0, omega arith, refl) in
     let rest = each_passes p ys (λ x c. h x (suc c.0, omega (arith, c.1), c.2)) in
-    both (p y) (list_all p ys) first rest
+    and_from (p y) (list_all p ys) first rest
 
 way_ok : (x total place : ℕ) (again : Bool) → x < total → (again ≡ true) ⊎ (place < x) → (nat_lt x total && (again || nat_lt place x)) ≡ true
-way_ok x total place again l (inl e) = let f : (again || nat_lt place x) ≡ true = ap (λ (b : Bool). b || nat_lt place x) e in both (nat_lt x total) (again || nat_lt place x) (lt_ok x total l) f
-way_ok x total place again l (inr m) = both (nat_lt x total) (again || nat_lt place x) (lt_ok x total l) (or_right again (nat_lt place x) (lt_ok place x m))
+way_ok x total place again l (inl e) = let f : (again || nat_lt place x) ≡ true = ap (λ (b : Bool). b || nat_lt place x) e in and_from (nat_lt x total) (again || nat_lt place x) (less_is x total l) f
+way_ok x total place again l (inr m) = and_from (nat_lt x total) (again || nat_lt place x) (less_is x total l) (or_right again (nat_lt place x) (less_is place x m))
 
 pub goes_rightly : (bounds : Bounds) (place : ℕ) (q : View) → Goes place bounds.nodes q → leads_rightly bounds place q ≡ true
 unfolding leads_rightly

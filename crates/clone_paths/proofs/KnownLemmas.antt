@@ -3,14 +3,12 @@ use Rattle.std.proofs.Common.{◌≡◌, ◌⊎◌, inl, inr, ℕ, zero, suc, �
 use Rattle.std.specs.List.{Contains}
 use Rattle.std.proofs.lemmas.List.Elements.{All-get_or}
 use Rattle.std.proofs.lemmas.Option.{get_or_from_slice_get, slice_get-get_or, slice_get_within}
+use Rattle.base_lists.proofs.Lists.{get_left}
 use Rattle.flow.specs.declared.node.Node.{Node}
 use Rattle.flow.specs.declared.node.Node.TheVariants.{Push}
 use Rattle.flow.specs.declared.node.View.{View}
 use Rattle.flow.specs.declared.node.View.TheVariants.{Row, Halts, Forks, Turns, Calls, Gives, Quits, Marks, Skips, Tests, Picks, Imports, Exports, Nowhere}
-use Rattle.flow.specs.Code.{view_at}
-use Rattle.flow.specs.Nodes.{led_to}
-use Rattle.flow.specs.View.{view}
-use Rattle.flow.specs.Ready.{ArePlain, IsPlain}
+use Rattle.flow.specs.Words.{view_at, led_to, view, ArePlain, IsPlain}
 use Rattle.regions.specs.Blocks.{IsStart, NodeLeadsTo, ends_block}
 use Rattle.regions.specs.Blocks as block
 use Rattle.regions.specs.Flags.{AreFlags, is_in}
@@ -34,7 +32,7 @@ use Rattle.clone_paths.specs.Made.{IsMade, Resolved, made, Tables, parts_from, s
 use Rattle.clone_paths.specs.Parts.{AreDebts, HasOrder, is_inside, pays}
 use Rattle.clone_paths.proofs.ChunkLemmas.{each_right}
 use Rattle.clone_paths.proofs.RightLemmas.{Known, cloning, pays_zero}
-use Rattle.clone_paths.proofs.SheetLemmas.{fast_are, fast_at, gates_are, in_first, in_second, kept, labels_at, labels_most, placed, slow_are, slow_at, start_of}
+use Rattle.clone_paths.proofs.SheetLemmas.{fast_are, fast_at, gates_are, in_second, kept, labels_at, labels_most, placed, slow_are, slow_at, start_of}
 
 pub plain_at : (nodes : List Node) (i : ℕ) (found : Option Node) → ArePlain nodes → slice_get nodes i ≡ found → IsPlain (view_at found)
 plain_at nodes i None all e = tt
@@ -52,18 +50,7 @@ there_at nodes i d l e = view_there (get_or nodes i d) (ap view_at (sym (slice_g
 begun_ends : (w : ℕ → Bool) (v : View) (x : ℕ) → begun_after w v ≡ Some x → ends_block v ≡ true
 begun_ends w (Turns next) x e = refl
 begun_ends w (Calls function next) x e = refl
-begun_ends w (Row op next) x e = cc
-begun_ends w (Halts op) x e = cc
-begun_ends w (Forks a b) x e = cc
-begun_ends w Gives x e = cc
-begun_ends w Quits x e = cc
-begun_ends w (Marks site next) x e = cc
-begun_ends w (Skips by next) x e = cc
-begun_ends w (Tests site next) x e = cc
-begun_ends w (Picks weight fast slow) x e = cc
-begun_ends w (Imports next) x e = cc
-begun_ends w (Exports next) x e = cc
-begun_ends w Nowhere x e = cc
+begun_ends w v x e = cc
 
 -- a region begins only where a block begins
 header_starts : (w : ℕ → Bool) (at : ℕ → View) {x : ℕ} → IsHeader w at x → IsStart at x
@@ -75,7 +62,7 @@ gate_there : (head : ℕ → Bool) (part : ℕ → Part) (n i : ℕ) → i < n �
 gate_there head part n i l h =
     let first : slice_get (gate_labels (head i) i) 0 ≡ Some (Gate i) = ap (λ (b : Bool). slice_get (gate_labels b i) 0) h in
     let slow = copy_labels Slow i 0 false (part i).outlet in
-    let there = placed head part n i 0 (Gate i) l (in_first (gate_labels (head i) i ++ slow) (fast_labels i (part i)) 0 (Gate i) (in_first (gate_labels (head i) i) slow 0 (Gate i) first)) in
+    let there = placed head part n i 0 (Gate i) l (get_left (gate_labels (head i) i ++ slow) (fast_labels i (part i)) 0 (Gate i) (get_left (gate_labels (head i) i) slow 0 (Gate i) first)) in
     let at : start_of head part i ≡ start_of head part i + 0 = omega arith in
     ap (λ (k : ℕ). slice_get (labels_at head part n) k) at ∙ there
 
@@ -84,7 +71,7 @@ slow_there head part n i l =
     let gate = gate_labels (head i) i in
     let slow = copy_labels Slow i 0 false (part i).outlet in
     let second : slice_get (gate ++ slow) (length gate + 0) ≡ Some (In Slow i 0) = in_second gate slow 0 (In Slow i 0) refl in
-    let there = placed head part n i (length gate + 0) (In Slow i 0) l (in_first (gate ++ slow) (fast_labels i (part i)) (length gate + 0) (In Slow i 0) second) in
+    let there = placed head part n i (length gate + 0) (In Slow i 0) l (get_left (gate ++ slow) (fast_labels i (part i)) (length gate + 0) (In Slow i 0) second) in
     let at : slow_at head part i ≡ start_of head part i + (length gate + 0) = omega (arith, length-append (labels_at head part i) gate) in
     ap (λ (k : ℕ). slice_get (labels_at head part n) k) at ∙ there
 
@@ -135,19 +122,7 @@ by_inside false = inr refl
 
 pub inside_cases : (starts : ℕ → Bool) (v : View) → InsideCases starts v
 inside_cases starts (Marks site next) = elim (by_inside (starts next)) [ inl e ↦ inl e | inr e ↦ inr (site, next, refl, e) ]
-inside_cases starts (Row op next) = inl refl
-inside_cases starts (Halts op) = inl refl
-inside_cases starts (Forks a b) = inl refl
-inside_cases starts (Turns next) = inl refl
-inside_cases starts (Calls function next) = inl refl
-inside_cases starts Gives = inl refl
-inside_cases starts Quits = inl refl
-inside_cases starts (Skips by next) = inl refl
-inside_cases starts (Tests site next) = inl refl
-inside_cases starts (Picks weight fast slow) = inl refl
-inside_cases starts (Imports next) = inl refl
-inside_cases starts (Exports next) = inl refl
-inside_cases starts Nowhere = inl refl
+inside_cases starts v = inl refl
 
 -- the fast copy of a node stands where the table says; a visit within a block has what stands for the node after it
 fast_labelled : (weighty : List Bool) (nodes : List Node) (starts : List Bool) (weights debts : List ℕ) (headers : List Bool) (fast : List ℕ) →

@@ -1,18 +1,16 @@
 -- Where the labels of each node stand among all, and that a sampled function's nodes fit.
 use Rattle.std.proofs.Common.{◌≡◌, ◌⊎◌, inl, inr, ℕ, zero, suc, ◌+◌, ◌-◌, ◌<◌, ◌≤◌, Bool, true, false, ◌&&◌, if◌then◌else◌, List, [], ◌∷◌, ◌++◌, length, get_or, Option, Some, None, IsTrue, slice_get, slice_index, unwrap_or, refl, sym, ap, ◌∙◌, subst, arith, length-append}
 use Rattle.std.specs.List.{Contains}
-use Rattle.std.proofs.lemmas.Bool.{cases_lt}
+use Rattle.std.proofs.lemmas.Bool.{cases_lt, and_from}
 use Rattle.std.proofs.lemmas.Option.{slice_get-get_or, slice_get_past, slice_get_within, unwrap_or-slice_get}
+use Rattle.base_lists.proofs.Tests.{and_first}
+use Rattle.base_lists.proofs.Every.{only_in, two_in}
 use Rattle.flow.specs.declared.node.Node.{Node}
 use Rattle.flow.specs.declared.node.View.{View}
 use Rattle.flow.specs.declared.node.View.TheVariants.{Imports}
 use Rattle.flow.specs.declared.scope.Bounds.{Bounds}
 use Rattle.flow.specs.declared.scope.Names.{Names}
-use Rattle.flow.specs.Code.{view_at}
-use Rattle.flow.specs.Limits.{node_limit}
-use Rattle.flow.specs.Nodes.{NodesFit, is_again, led_to, leads_rightly, names_fit, node_fits}
-use Rattle.flow.specs.View.{view}
-use Rattle.flow.specs.Ready.{IsPlain}
+use Rattle.flow.specs.Words.{view_at, node_limit, NodesFit, is_again, led_to, leads_rightly, names_fit, node_fits, view, IsPlain}
 use Rattle.regions.specs.Blocks.{NodeLeadsTo}
 use Rattle.regions.specs.Flags.{is_in}
 use Rattle.regions.specs.Rows.{EachFits}
@@ -53,10 +51,6 @@ goes_onward t nodes n total start ps e order i place v q x is l o =
       ],
     )
 
-one_in : (a x : ℕ) → Contains (a ∷ []) x → x ≡ a
-one_in a x (zero, l, e) = sym e
-one_in a x (suc k, l, e) = absurd (omega arith)
-
 -- the labels of an outlet
 outs_go : (t : Tables) (nodes : List Node) (n total : ℕ) (start : ℕ → ℕ) → Places t n total start → n ≡ length nodes → HasOrder nodes → (side : Side) (i base : ℕ) → i < n →
     t.at i ≡ views_of nodes i → base + length (out_labels side i (outlet_of t.weighty (t.at i))) ≤ start (suc i) → (m : ℕ) (l : CopyLabel) →
@@ -72,7 +66,7 @@ outs_go t nodes n total start ps e order side i base lt at end m l f =
           (omega (arith, o.0, z.0, two, end, last, ps.whole), inr (omega (arith, o.0))))
       | inr z ↦ subst (λ (y : CopyLabel). Goes (base + m) total (made t (base + m) y)) (sym z.5) (λ x c.
           let lead : Contains (led_to (t.at i)) z.1 = subst (λ (w : View). Contains (led_to w) z.1) (sym z.2) (0, omega arith, refl) in
-          let only : x ≡ slice_index t.sheet.gates z.1 = one_in (slice_index t.sheet.gates z.1) x c in
+          let only : x ≡ slice_index t.sheet.gates z.1 = only_in (slice_index t.sheet.gates z.1) x c in
           let o : Onward t (t.at i) (Imports (slice_index t.sheet.gates z.1)) x =
           record { to = z.1; leads = lead; stands = inr (inr only); again = λ k turn. (let clash = sym z.2 ∙ turn in cc) }
           in
@@ -213,10 +207,6 @@ places_all weighty nodes starts weights debts headers fast laid =
           ];
     }
 
-two_in : (a b x : ℕ) → Contains (a ∷ b ∷ []) x → (x ≡ a) ⊎ (x ≡ b)
-two_in a b x (zero, l, e) = inl (sym e)
-two_in a b x (suc k, l, e) = inr (one_in b x (k, omega arith, e))
-
 fast_go : (t : Tables) (nodes : List Node) (n total : ℕ) (start : ℕ → ℕ) → Places t n total start → n ≡ length nodes → HasOrder nodes → (debt : ℕ → ℕ) (i base : ℕ) (inside : Bool) → i < n →
     t.at i ≡ views_of nodes i → IsPlain (t.at i) →
     base + length (if inside then [] else copy_labels Fast i (debt i) (pays t.starts (debt i) (t.at i)) (outlet_of t.weighty (t.at i))) ≤ start (suc i) →
@@ -241,7 +231,7 @@ each_goes weighty nodes starts weights debts headers fast laid place l e =
     let debt : ℕ → ℕ = λ i. slice_index debts i in
     elim (owner head part n place l e) [
       | inl z ↦ subst (λ (y : CopyLabel). Goes place total (made t place y)) (sym z.1) (λ x c.
-          let r = ps.from 0 x laid.entry (inr (inr (one_in (slice_index t.sheet.gates 0) x c))) in
+          let r = ps.from 0 x laid.entry (inr (inr (only_in (slice_index t.sheet.gates 0) x c))) in
           let first : start_of head part 0 ≡ 1 = refl in
           (r.1, inr (omega (arith, r.0, first, z.0))))
       | inr (i, k, lt, at, f) ↦
@@ -277,21 +267,13 @@ each_goes weighty nodes starts weights debts headers fast laid place l e =
           ]
     ]
 
-both : (a b : Bool) → a ≡ true → b ≡ true → (a && b) ≡ true
-both true b e f = f
-both false b e f = e
-
-first_true : (a b : Bool) → (a && b) ≡ true → a ≡ true
-first_true true b e = refl
-first_true false b e = e
-
 node_ok : (names : Names) (bounds : Bounds) (place : ℕ) (n : Node) → names_fit names bounds n ≡ true → leads_rightly bounds place (view n) ≡ true → IsTrue (node_fits names bounds place n)
 unfolding node_fits
-node_ok names bounds place n a b = both (names_fit names bounds n) (leads_rightly bounds place (view n)) a b
+node_ok names bounds place n a b = and_from (names_fit names bounds n) (leads_rightly bounds place (view n)) a b
 
 node_names : (names : Names) (bounds : Bounds) (place : ℕ) (n : Node) → IsTrue (node_fits names bounds place n) → names_fit names bounds n ≡ true
 unfolding node_fits
-node_names names bounds place n h = first_true (names_fit names bounds n) (leads_rightly bounds place (view n)) h
+node_names names bounds place n h = and_first (names_fit names bounds n) (leads_rightly bounds place (view n)) h
 
 old_names : (names : Names) (bounds : Bounds) (nodes : List Node) (i : ℕ) (found : Option Node) → NodesFit names bounds nodes → slice_get nodes i ≡ found → view_names names bounds (view_at found) ≡ true
 old_names names bounds nodes i None fit e = refl

@@ -9,11 +9,7 @@ use Rattle.flow.specs.declared.program.Function.{Function}
 use Rattle.flow.specs.declared.program.ProgramParts.{ProgramParts}
 use Rattle.flow.specs.declared.node.View.{View}
 use Rattle.flow.specs.declared.node.View.TheVariants.{Row, Halts, Forks, Turns, Calls, Gives, Quits, Marks, Skips, Tests, Picks, Imports, Exports, Nowhere}
-use Rattle.flow.specs.Code.{code_of, view_in}
-use Rattle.flow.specs.Fits.{LeadsOn}
-use Rattle.flow.specs.Nodes.{led_to}
-use Rattle.flow.specs.Program.{IsProgram}
-use Rattle.flow.specs.Ready.{ArePlain}
+use Rattle.flow.specs.Words.{code_of, view_in, LeadsOn, led_to, IsProgram, ArePlain}
 use Rattle.flow.proofs.Programs.{code_fits}
 use Rattle.regions.specs.Flags.{AreFlags, is_in}
 use Rattle.regions.specs.Headers.{HeadersFit, IsHeader}
@@ -25,19 +21,7 @@ use Rattle.clone_paths.specs.Parts.{HasOrder}
 
 later_view : (place : ℕ) (v : View) (x : ℕ) → LeadsOn place v → Contains (led_to v) x → place < x ⊎ ((again : ℕ) × (v ≡ Turns again))
 later_view place (Turns next) x h c = inr (next, refl)
-later_view place (Calls function next) x h c = inl (path_later (λ g. false) place (Calls function next) x h c)
-later_view place (Row op next) x h c = inl (path_later (λ g. false) place (Row op next) x h c)
-later_view place (Halts op) x h c = inl (path_later (λ g. false) place (Halts op) x h c)
-later_view place (Forks a b) x h c = inl (path_later (λ g. false) place (Forks a b) x h c)
-later_view place Gives x h c = inl (path_later (λ g. false) place Gives x h c)
-later_view place Quits x h c = inl (path_later (λ g. false) place Quits x h c)
-later_view place (Marks site next) x h c = inl (path_later (λ g. false) place (Marks site next) x h c)
-later_view place (Skips by next) x h c = inl (path_later (λ g. false) place (Skips by next) x h c)
-later_view place (Tests site next) x h c = inl (path_later (λ g. false) place (Tests site next) x h c)
-later_view place (Picks weight fast slow) x h c = inl (path_later (λ g. false) place (Picks weight fast slow) x h c)
-later_view place (Imports next) x h c = inl (path_later (λ g. false) place (Imports next) x h c)
-later_view place (Exports next) x h c = inl (path_later (λ g. false) place (Exports next) x h c)
-later_view place Nowhere x h c = inl (path_later (λ g. false) place Nowhere x h c)
+later_view place v x h c = inl (path_later (λ g. false) place v x h c)
 
 pub order_of : (p : ProgramParts) (number : ℕ) (f : Function) → IsProgram p → slice_get p.functions number ≡ Some f → HasOrder f.nodes
 order_of p number f is e = record {

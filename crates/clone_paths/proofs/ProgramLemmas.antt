@@ -8,8 +8,7 @@ use Rattle.flow.specs.declared.program.Function.{Function}
 use Rattle.flow.specs.declared.program.ProgramParts.{ProgramParts}
 use Rattle.flow.specs.declared.scope.Bounds.{Bounds}
 use Rattle.flow.specs.declared.scope.Names.{Names}
-use Rattle.flow.specs.Nodes.{NodesFit}
-use Rattle.flow.specs.Program.{AreLocals, AreSites, IsFunction, IsProgram, bounds_of, names_of}
+use Rattle.flow.specs.Words.{NodesFit, AreLocals, AreSites, IsFunction, IsProgram, bounds_of, names_of}
 use Rattle.regions.specs.Rows.{EachFits}
 use Rattle.clone_paths.specs.Cloned.{FitsLike, FunctionCloned, MayClone, StillFits}
 

@@ -3,11 +3,11 @@ use Rattle.std.proofs.Common.{◌≡◌, inl, inr, ℕ, zero, suc, ◌+◌, ◌<
 use Rattle.std.specs.List.{Contains}
 use Rattle.std.proofs.lemmas.Bool.{cases_eq}
 use Rattle.std.proofs.lemmas.Grind.{get_or-set_at}
+use Rattle.clone_paths.proofs.DebtLemmas.{by_start}
 use Rattle.flow.specs.declared.node.Node.{Node}
 use Rattle.flow.specs.declared.node.View.{View}
 use Rattle.flow.specs.declared.node.View.TheVariants.{Row, Halts, Forks, Turns, Calls, Gives, Quits, Marks, Skips, Tests, Picks, Imports, Exports, Nowhere}
-use Rattle.flow.specs.Limits.{node_limit}
-use Rattle.flow.specs.Nodes.{led_to}
+use Rattle.flow.specs.Words.{node_limit, led_to}
 use Rattle.regions.specs.Blocks.{NodeLeadsTo}
 use Rattle.regions.specs.Flags.{is_in}
 use Rattle.regions.specs.Weighty.{views_of}
@@ -23,27 +23,11 @@ use Rattle.clone_paths.specs.Made.{IsOf, Resolved, next_visited}
 use Rattle.clone_paths.specs.Parts.{HasOrder, is_inside}
 use Rattle.clone_paths.proofs.SheetLemmas.{in_joined, labels_at, owner}
 
-by_start : (b : Bool) (y x : ℕ) → (if b then None else Some y) ≡ Some x → (b ≡ false) × (y ≡ x)
-by_start true y x e = cc
-by_start false y x e = (refl, cc)
-
 visited_cases : (starts : ℕ → Bool) (v : View) (x : ℕ) → next_visited starts v ≡ Some x → (site : ℕ) × (v ≡ Marks site x) × (starts x ≡ false)
 visited_cases starts (Marks site next) x e =
     let r = by_start (starts next) next x e in
     (site, ap (λ (n : ℕ). Marks site n) r.1, ap starts (sym r.1) ∙ r.0)
-visited_cases starts (Row op next) x e = cc
-visited_cases starts (Halts op) x e = cc
-visited_cases starts (Forks a b) x e = cc
-visited_cases starts (Turns next) x e = cc
-visited_cases starts (Calls function next) x e = cc
-visited_cases starts Gives x e = cc
-visited_cases starts Quits x e = cc
-visited_cases starts (Skips by next) x e = cc
-visited_cases starts (Tests site next) x e = cc
-visited_cases starts (Picks weight fast slow) x e = cc
-visited_cases starts (Imports next) x e = cc
-visited_cases starts (Exports next) x e = cc
-visited_cases starts Nowhere x e = cc
+visited_cases starts v x e = cc
 
 -- the nodes from this place on have their places
 pub record ResolvedFrom (starts : List Bool) (nodes : List Node) (old new : List ℕ) (from : ℕ) : Type 0 where
@@ -118,11 +102,11 @@ resolved_all starts nodes old new e r = record {
 
 -- each label is that of a node
 out_of : (n : ℕ) (side : Side) (i : ℕ) (o : Outlet) (m : ℕ) (l : CopyLabel) → i < n → slice_get (out_labels side i o) m ≡ Some l → IsOf n l
-out_of n side i outlet.None m l lt e = cc
 out_of n side i outlet.Leaves zero l lt e = let same : Out side i ≡ l = cc in subst (λ (y : CopyLabel). IsOf n y) same lt
-out_of n side i outlet.Leaves (suc m) l lt e = cc
 out_of n side i (outlet.Calls next) zero l lt e = let same : Out side i ≡ l = cc in subst (λ (y : CopyLabel). IsOf n y) same lt
 out_of n side i (outlet.Calls next) (suc zero) l lt e = let same : Back next ≡ l = cc in subst (λ (y : CopyLabel). IsOf n y) same tt
+out_of n side i outlet.None m l lt e = cc
+out_of n side i outlet.Leaves (suc m) l lt e = cc
 out_of n side i (outlet.Calls next) (suc (suc m)) l lt e = cc
 
 copy_of : (n : ℕ) (side : Side) (i owed : ℕ) (p : Bool) (o : Outlet) (m : ℕ) (l : CopyLabel) → i < n → owed < node_limit → slice_get (copy_labels side i owed p o) m ≡ Some l → IsOf n l

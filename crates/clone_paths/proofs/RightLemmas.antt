@@ -3,9 +3,11 @@ use Rattle.std.proofs.Common.{◌≡◌, ◌⊎◌, inl, inr, ℕ, zero, suc, �
 use Rattle.std.specs.Bool.{MatchBool}
 use Rattle.std.specs.List.{Contains}
 use Rattle.std.proofs.lemmas.Bool.Decides.{nat_tests}
+use Rattle.std.proofs.lemmas.Bool.{not-false}
+use Rattle.base_lists.proofs.Every.{first_in, second_in}
 use Rattle.flow.specs.declared.node.View.{View}
 use Rattle.flow.specs.declared.node.View.TheVariants.{Row, Halts, Forks, Turns, Calls, Gives, Quits, Marks, Skips, Tests, Picks, Imports, Exports, Nowhere}
-use Rattle.flow.specs.Nodes.{led_to}
+use Rattle.flow.specs.Words.{led_to, IsPlain}
 use Rattle.regions.specs.Blocks.{IsStart, After, NodeLeadsTo, ends_block}
 use Rattle.regions.specs.Headers.{IsHeader, begun_after}
 use Rattle.regions.specs.Headers as region
@@ -15,7 +17,6 @@ use Rattle.clone_paths.specs.declared.label.CopyLabel.{CopyLabel}
 use Rattle.clone_paths.specs.declared.label.CopyLabel.TheVariants.{Gate, In, Out}
 use Rattle.clone_paths.specs.declared.label.Side.{Side}
 use Rattle.clone_paths.specs.declared.label.Side.TheVariants.{Fast, Slow}
-use Rattle.flow.specs.Ready.{IsPlain}
 use Rattle.clone_paths.specs.Form.{Cloning, Labelled, Here, IsFree, IsIn, IsOwing, IsSame, is_last, is_outlet}
 use Rattle.clone_paths.specs.Layout.{place_in_copy}
 use Rattle.clone_paths.specs.Made.{Tables, made_free, made_in, made_paid, made_same}
@@ -53,12 +54,6 @@ labelled t n debt header label k Slow i l = Here (k.slow i l)
 -- the node at the place leads to these
 leads : (t : Tables) (node x : ℕ) (v : View) → t.at node ≡ v → Contains (led_to v) x → NodeLeadsTo t.at node x
 leads t node x v e c = subst (λ (w : View). Contains (led_to w) x) (sym e) c
-
-first_in : (a : ℕ) (xs : List ℕ) → Contains (a ∷ xs) a
-first_in a xs = (0, omega arith, refl)
-
-second_in : (a b : ℕ) (xs : List ℕ) → Contains (a ∷ b ∷ xs) b
-second_in a b xs = (1, omega arith, refl)
 
 one_leads : (t : Tables) (n : ℕ) (debt : ℕ → ℕ) (header : ℕ → Bool) (label : ℕ → Option CopyLabel) → Known t n debt header label → (side : Side) (owed node x : ℕ) →
     ((y : ℕ) → NodeLeadsTo t.at node y → owed_by debt side y ≡ owed) → NodeLeadsTo t.at node x → Labelled (cloning t label) side (place_in_copy t.sheet side x) x owed
@@ -117,19 +112,7 @@ some_debt owed b = grind (arith, nat_tests)
 
 pub pays_is : (starts : ℕ → Bool) (owed : ℕ) (v : View) → mark_count v ≡ 0 → pays starts owed v ≡ (nat_lt 0 owed && is_last starts (led_to v))
 pays_is starts owed (Marks site next) m = absurd (omega arith)
-pays_is starts owed (Row op next) m = refl
-pays_is starts owed (Halts op) m = refl
-pays_is starts owed (Forks a b) m = refl
-pays_is starts owed (Turns next) m = refl
-pays_is starts owed (Calls function next) m = refl
-pays_is starts owed Gives m = refl
-pays_is starts owed Quits m = refl
-pays_is starts owed (Skips by next) m = refl
-pays_is starts owed (Tests site next) m = refl
-pays_is starts owed (Picks weight fast slow) m = refl
-pays_is starts owed (Imports next) m = refl
-pays_is starts owed (Exports next) m = refl
-pays_is starts owed Nowhere m = refl
+pays_is starts owed v m = refl
 
 pub pays_zero : (starts : ℕ → Bool) (v : View) → pays starts 0 v ≡ false
 pays_zero starts (Marks site next) = refl
@@ -154,17 +137,7 @@ not_outlet t n debt header label k node Gives e last = cc
 not_outlet t n debt header label k node Quits e last = cc
 not_outlet t n debt header label k node (Calls function next) e last =
     let begins = k.begins next (After node (ap ends_block e) (leads t node next (Calls function next) e (first_in next []))) in cc
-not_outlet t n debt header label k node (Row op next) e last = refl
-not_outlet t n debt header label k node (Halts op) e last = refl
-not_outlet t n debt header label k node (Forks a b) e last = refl
-not_outlet t n debt header label k node (Turns next) e last = refl
-not_outlet t n debt header label k node (Marks site next) e last = refl
-not_outlet t n debt header label k node (Skips by next) e last = refl
-not_outlet t n debt header label k node (Tests site next) e last = refl
-not_outlet t n debt header label k node (Picks weight fast slow) e last = refl
-not_outlet t n debt header label k node (Imports next) e last = refl
-not_outlet t n debt header label k node (Exports next) e last = refl
-not_outlet t n debt header label k node Nowhere e last = refl
+not_outlet t n debt header label k node v e last = refl
 
 -- what a copy owes at a node and after it agree: what it owes is what its block owes, or it was paid at the end of the block
 pub record Agrees (t : Tables) (debt : ℕ → ℕ) (label : ℕ → Option CopyLabel) (side : Side) (node owed place : ℕ) : Type 0 where
@@ -199,10 +172,6 @@ owing_right t n debt header label k side node (suc owed) place v e l m a =
     in
     subst (λ (w : View). IsOwing (cloning t label) side node (suc owed) v w) (sym q) owing
 
-not_not : (b : Bool) → not b ≡ false → b ≡ true
-not_not true e = refl
-not_not false e = cc
-
 visit_right : (t : Tables) (n : ℕ) (debt : ℕ → ℕ) (header : ℕ → Bool) (label : ℕ → Option CopyLabel) → Known t n debt header label → (side : Side) (node owed place site next : ℕ) →
     t.at node ≡ Marks site next → node < n → Agrees t debt label side node owed place → IsIn (cloning t label) side node owed (Marks site next) (made_in t side owed place (Marks site next))
 visit_right t n debt header label k Slow node owed place site next e l a =
@@ -210,7 +179,7 @@ visit_right t n debt header label k Slow node owed place site next e l a =
     (place_in_copy t.sheet Slow next, refl, Here (k.slow next inside))
 visit_right t n debt header label k Fast node owed place site next e l a =
     let inside = k.within node next (leads t node next (Marks site next) e (first_in next [])) in
-    let begins : t.starts next ≡ true = not_not (t.starts next) (ap (is_inside t.starts) (sym e) ∙ a.last refl) in (
+    let begins : t.starts next ≡ true = not-false (t.starts next) (ap (is_inside t.starts) (sym e) ∙ a.last refl) in (
       place_in_copy t.sheet Fast next,
       begins,
       refl,
@@ -220,16 +189,4 @@ visit_right t n debt header label k Fast node owed place site next e l a =
 pub in_right : (t : Tables) (n : ℕ) (debt : ℕ → ℕ) (header : ℕ → Bool) (label : ℕ → Option CopyLabel) → Known t n debt header label → (side : Side) (node owed place : ℕ) (v : View) →
     t.at node ≡ v → node < n → Agrees t debt label side node owed place → IsIn (cloning t label) side node owed v (made_in t side owed place v)
 in_right t n debt header label k side node owed place (Marks site next) e l a = visit_right t n debt header label k side node owed place site next e l a
-in_right t n debt header label k side node owed place (Row op next) e l a = owing_right t n debt header label k side node owed place (Row op next) e l refl a
-in_right t n debt header label k side node owed place (Halts op) e l a = owing_right t n debt header label k side node owed place (Halts op) e l refl a
-in_right t n debt header label k side node owed place (Forks x y) e l a = owing_right t n debt header label k side node owed place (Forks x y) e l refl a
-in_right t n debt header label k side node owed place (Turns next) e l a = owing_right t n debt header label k side node owed place (Turns next) e l refl a
-in_right t n debt header label k side node owed place (Calls function next) e l a = owing_right t n debt header label k side node owed place (Calls function next) e l refl a
-in_right t n debt header label k side node owed place Gives e l a = owing_right t n debt header label k side node owed place Gives e l refl a
-in_right t n debt header label k side node owed place Quits e l a = owing_right t n debt header label k side node owed place Quits e l refl a
-in_right t n debt header label k side node owed place (Skips by next) e l a = owing_right t n debt header label k side node owed place (Skips by next) e l refl a
-in_right t n debt header label k side node owed place (Tests site next) e l a = owing_right t n debt header label k side node owed place (Tests site next) e l refl a
-in_right t n debt header label k side node owed place (Picks w f s) e l a = owing_right t n debt header label k side node owed place (Picks w f s) e l refl a
-in_right t n debt header label k side node owed place (Imports next) e l a = owing_right t n debt header label k side node owed place (Imports next) e l refl a
-in_right t n debt header label k side node owed place (Exports next) e l a = owing_right t n debt header label k side node owed place (Exports next) e l refl a
-in_right t n debt header label k side node owed place Nowhere e l a = owing_right t n debt header label k side node owed place Nowhere e l refl a
+in_right t n debt header label k side node owed place v e l a = owing_right t n debt header label k side node owed place v e l refl a

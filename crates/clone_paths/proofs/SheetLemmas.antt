@@ -3,6 +3,7 @@ use Rattle.std.proofs.Common.{◌≡◌, ◌⊎◌, inl, inr, ℕ, zero, suc, �
 use Rattle.std.proofs.Math.ListN.{get_or-append}
 use Rattle.std.proofs.Math.Seq.{get_or-append_seam}
 use Rattle.std.proofs.lemmas.Bool.{cases_eq, cases_lt}
+use Rattle.base_lists.proofs.Lists.{get_left}
 use Rattle.clone_paths.specs.declared.label.CopyLabel.{CopyLabel}
 use Rattle.clone_paths.specs.declared.label.CopyLabel.TheVariants.{Enter}
 use Rattle.clone_paths.specs.declared.label.Side.{Side}
@@ -12,12 +13,6 @@ use Rattle.clone_paths.specs.declared.parts.Outlet.TheVariants as outlet
 use Rattle.clone_paths.specs.declared.parts.Part.{Part}
 use Rattle.clone_paths.specs.Layout.{copy_labels, fast_labels, gate_labels, labels_for, out_labels}
 use Rattle.clone_paths.specs.Made.{sheet_at}
-
--- what stands in the first list stands in both joined
-pub in_first : {X : Type 0} (xs ys : List X) (k : ℕ) (x : X) → slice_get xs k ≡ Some x → slice_get (xs ++ ys) k ≡ Some x
-in_first [] ys k x e = cc
-in_first (z ∷ zs) ys zero x e = e
-in_first (z ∷ zs) ys (suc k) x e = in_first zs ys k x e
 
 pub in_second : {X : Type 0} (xs ys : List X) (k : ℕ) (x : X) → slice_get ys k ≡ Some x → slice_get (xs ++ ys) (length xs + k) ≡ Some x
 in_second {X} [] ys k x e = let z : length {A = X} [] + k ≡ k = omega arith in ap (λ (n : ℕ). slice_get ys n) z ∙ e
@@ -78,7 +73,7 @@ kept header part zero i j l le e = let z : i ≡ 0 = omega arith in ap (λ (k : 
 kept header part (suc n) i j l le e =
     elim (cases_eq i (suc n)) [
       | inl same ↦ ap (λ (k : ℕ). slice_get (labels_at header part k) j) (sym same) ∙ e
-      | inr ne ↦ in_first (labels_at header part n) (chunk header part n) j l (kept header part n i j l (omega arith) e)
+      | inr ne ↦ get_left (labels_at header part n) (chunk header part n) j l (kept header part n i j l (omega arith) e)
     ]
 
 -- the labels for a node stand from its place on

@@ -8,9 +8,7 @@ use Rattle.flow.specs.declared.program.Function.{Function}
 use Rattle.flow.specs.declared.program.ProgramParts.{ProgramParts}
 use Rattle.flow.specs.declared.scope.Bounds.{Bounds}
 use Rattle.flow.specs.declared.scope.Names.{Names}
-use Rattle.flow.specs.Nodes.{NodesFit}
-use Rattle.flow.specs.View.{view}
-use Rattle.flow.specs.Ready.{ArePlain}
+use Rattle.flow.specs.Words.{NodesFit, view, ArePlain}
 use Rattle.regions.specs.Blocks.{IsStart}
 use Rattle.regions.specs.Flags.{AreFlags, is_in}
 use Rattle.regions.specs.Rows.{EachFits}

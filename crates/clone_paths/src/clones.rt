@@ -8,7 +8,7 @@ ghost use Rattle.clone_paths.specs.Cloned.{Cloned, FunctionCloned, IsSmall, MayC
 use crate::function::clone_function;
 use crate::nodes::Source;
 use cbi_base::{Memory, Seq};
-use flow::{Function, Program, ProgramParts, copy_globals, copy_sites, copy_texts};
+use flow::{Function, Program, ProgramParts};
 use regions::{blocks, headers, weighty};
 use std::alloc::Global;
 use weights::weights;
@@ -44,18 +44,26 @@ fn clone_functions(
 }
 
 /// The sampled program: each weighty function in a fast and a slow copy, the weightless ones as they are.
-pub fn clone_program(alloc: Global, program: &Program) -> Result<Program, Memory>
-    requires { MayClone program.now }
-    ensures cloned { IfOk result (λ q. Cloned program.now q) }
-    ensures small { IfOk result (λ q. IsSmall program.now q) }
+pub fn clone_program(alloc: Global, program: Program) -> Result<Program, Memory>
+    requires { MayClone program }
+    ensures cloned { IfOk result (λ q. Cloned program q) }
+    ensures small { IfOk result (λ q. IsSmall program q) }
 {
-    let weighty = weighty(alloc, program)?;
+    let weighty = weighty(alloc, &program)?;
+    let functions = clone_functions(alloc, &program, &weighty)?;
+    let ProgramParts {
+        texts,
+        globals,
+        functions: _,
+        main,
+        sites,
+    } = program.into_parts();
     let parts = ProgramParts {
-        texts: copy_texts(alloc, program.texts())?,
-        globals: copy_globals(alloc, program.globals())?,
-        functions: clone_functions(alloc, program, &weighty)?,
-        main: program.main(),
-        sites: copy_sites(alloc, program.table().sites())?,
+        texts,
+        globals,
+        functions,
+        main,
+        sites,
     };
     let clone = Program::of(alloc, parts)?;
     Ok(clone)

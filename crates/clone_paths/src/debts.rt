@@ -1,7 +1,5 @@
 ghost use Rattle.std.specs.Prelude.{◌≡◌, ◌≤◌, IfOk, length};
-ghost use Rattle.flow.specs.Limits.{node_limit};
-ghost use Rattle.flow.specs.Nodes.{led_to};
-ghost use Rattle.flow.specs.View.{view};
+ghost use Rattle.flow.specs.Words.{node_limit, led_to, view};
 ghost use Rattle.regions.specs.Blocks.{IsStart};
 ghost use Rattle.regions.specs.Flags.{AreFlags, is_in};
 ghost use Rattle.regions.specs.Weighty.{views_of};

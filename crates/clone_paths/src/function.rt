@@ -1,6 +1,5 @@
 ghost use Rattle.std.specs.Prelude.{◌≡◌, ◌*◌, ◌≤◌, ℕ, IfOk, length, slice_get, false, true};
-ghost use Rattle.flow.specs.Limits.{node_limit};
-ghost use Rattle.flow.specs.View.{view};
+ghost use Rattle.flow.specs.Words.{node_limit, view};
 ghost use Rattle.regions.specs.Flags.{is_in};
 ghost use Rattle.regions.specs.Rows.{EachFits};
 ghost use Rattle.clone_paths.specs.declared.label.CopyLabel.{CopyLabel};

@@ -1,6 +1,5 @@
 ghost use Rattle.std.specs.Prelude.{◌≡◌, ◌+◌, ◌<◌, ◌≤◌, IfOk, length, slice_index};
-ghost use Rattle.flow.specs.Limits.{node_limit};
-ghost use Rattle.flow.specs.View.{view};
+ghost use Rattle.flow.specs.Words.{node_limit, view};
 ghost use Rattle.regions.specs.Flags.{is_in};
 ghost use Rattle.clone_paths.specs.Form.{is_outlet};
 ghost use Rattle.clone_paths.specs.Layout.{place_in_copy, sheet_of};

@@ -1,6 +1,5 @@
 ghost use Rattle.std.specs.Prelude.{◌≡◌, IfOk, length, slice_index};
-ghost use Rattle.flow.specs.Nodes.{led_to, listed_ways};
-ghost use Rattle.flow.specs.View.{view};
+ghost use Rattle.flow.specs.Words.{led_to, listed_ways, view};
 ghost use Rattle.regions.specs.Flags.{is_in};
 ghost use Rattle.clone_paths.specs.Form.{is_last, is_outlet};
 ghost use Rattle.clone_paths.specs.Parts.{is_inside, outlet_of, part_of_node, pays};

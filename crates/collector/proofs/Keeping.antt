@@ -10,8 +10,8 @@ use Rattle.std.specs.BTreeMap.{insert_entry, is_at}
 use Rattle.std.specs.Map.{lookup, remove_entry}
 use Rattle.std.proofs.lemmas.Bool.{eqb-true}
 use Rattle.std.proofs.lemmas.Bool.Decides.{nat_tests}
+use Rattle.base_lists.proofs.Options.{none_some, some_is}
 use Rattle.cbi_base.specs.declared.identity.ProgramId.{ProgramId}
-use Rattle.cbi_base.proofs.NumberLemmas.{none-some, some-is}
 use Rattle.report_file.specs.declared.report.Report.{Report}
 use Rattle.report_file.specs.Report.{IsReport}
 use Rattle.collector.specs.Sites.{first_bad}
@@ -77,7 +77,7 @@ length-insert r (e ∷ more) = length-tests (nat_lt r.run e.0) (r.run == e.0) r.
 
 marks-tests : (p q : Bool) (r x : Report) (more : List Report) → cond q (Some x) (report_at r.run more) ≡ None → (report_at r.run more ≡ None → marks_of (with_report r more) ≡ marks_of more + length r.entries) → marks_of (cond p (r ∷ x ∷ more) (cond q (r ∷ more) (x ∷ with_report r more))) ≡ marks_of (x ∷ more) + length r.entries
 marks-tests true q r x more none rest = omega arith
-marks-tests false true r x more none rest = absurd (none-some (sym none))
+marks-tests false true r x more none rest = absurd (none_some (sym none))
 marks-tests false false r x more none rest = omega (arith, rest none)
 
 -- one report more has its entries more
@@ -115,12 +115,12 @@ length-remove run [] = omega arith
 length-remove run (e ∷ more) = fewer-tests (is_eq (nat_cmp run e.0)) e more (remove_entry (is_at (nat_cmp run)) more) (length-remove run more)
 
 marks-without-tests : (b : Bool) (run : ℕ) (r x : Report) (more : List Report) → cond b (Some x) (report_at run more) ≡ Some r → (report_at run more ≡ Some r → marks_of (without_report run more) + length r.entries ≡ marks_of more) → marks_of (cond b more (x ∷ without_report run more)) + length r.entries ≡ marks_of (x ∷ more)
-marks-without-tests true run r x more found rest = let e = ap (λ (y : Report). length y.entries) (some-is found) in omega arith
+marks-without-tests true run r x more found rest = let e = ap (λ (y : Report). length y.entries) (some_is found) in omega arith
 marks-without-tests false run r x more found rest = let e = rest found in omega arith
 
 -- without the report of a run its entries are fewer
 pub marks-without : (run : ℕ) (r : Report) (reports : List Report) → report_at run reports ≡ Some r → marks_of (without_report run reports) + length r.entries ≡ marks_of reports
-marks-without run r [] found = absurd (none-some found)
+marks-without run r [] found = absurd (none_some found)
 marks-without run r (x ∷ more) found = marks-without-tests (run == x.run) run r x more found (marks-without run r more)
 
 -- the first report behind a run
@@ -170,10 +170,10 @@ pub record IsFound (program : ProgramId) (branches : List Bool) (r : Report) : T
 
 found-tests : (b : Bool) (program : ProgramId) (branches : List Bool) (e : ℕ × Report) (rest : Option Report) (r : Report) → IsHeldReport program branches e.0 e.1 → (rest ≡ Some r → IsFound program branches r) → cond b (Some e.1) rest ≡ Some r → IsFound program branches r
 found-tests true program branches e rest r is others found =
-    subst (IsFound program branches) (some-is found) (record { is_report = is.is_report; program_is = is.program_is; sites = is.sites })
+    subst (IsFound program branches) (some_is found) (record { is_report = is.is_report; program_is = is.program_is; sites = is.sites })
 found-tests false program branches e rest r is others found = others found
 
 pub held-find : (program : ProgramId) (branches : List Bool) (p : Report → Bool) (entries : List (ℕ × Report)) (r : Report) → AreHeld program branches entries → find p (reports_in entries) ≡ Some r → IsFound program branches r
-held-find program branches p [] r are found = absurd (none-some found)
+held-find program branches p [] r are found = absurd (none_some found)
 held-find program branches p (e ∷ more) r are found =
     found-tests (p e.1) program branches e (find p (reports_in more)) r are.0 (held-find program branches p more r are.1) found

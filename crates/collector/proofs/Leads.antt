@@ -5,8 +5,7 @@ use Rattle.std.specs.List.{AllByRecursion, flat_map}
 use Rattle.std.specs.Option.{option_to_list}
 use Rattle.std.proofs.lemmas.List.{append-nil, map-append}
 use Rattle.std.specs.Global.{Global}
-use Rattle.cbi_base.specs.Lines.{LeadsTo, ReadsLines}
-use Rattle.cbi_base.specs.Text.{spaced, text_of}
+use Rattle.cbi_base.specs.Words.{LeadsTo, ReadsLines, spaced, text_of}
 use Rattle.cbi_base.specs.declared.identity.ProgramId.{ProgramId}
 use Rattle.report_file.specs.declared.draft.Version.{Version}
 use Rattle.report_file.specs.declared.draft.Version.TheVariants as version
@@ -17,7 +16,7 @@ use Rattle.report_file.specs.Report.{AreEntries, IsReport, RiseFrom}
 use Rattle.report_file.specs.RunLine.{IsRunLine, line_of, run_line_fields}
 use Rattle.report_file.specs.Spelling.{site_fields}
 use Rattle.report_file.proofs.LineLemmas.{IsRow, row-program, row-site}
-use Rattle.report_file.proofs.RunLines.{run-row}
+use Rattle.report_file.proofs.RunLines.{run-row, second-not-first}
 use Rattle.report_file.proofs.Whole.{end_of, rows-lines}
 use Rattle.collector.specs.declared.collection.Bundle.{Bundle}
 use Rattle.collector.specs.declared.draft.Draft.{Draft}
@@ -167,9 +166,6 @@ text-reads alloc v text b is plain text_is =
       program_is = refl;
       reports_are = all.whole_is;
     }
-
-pub second-not-first : version.Second ≡ version.First → ⊥
-second-not-first e = cc
 
 pub spelled-reads : (alloc : Global) (text : List ℕ) (b : Bundle) → SpellsBundle text b → IsRead alloc text b
 spelled-reads alloc text b (WithLabels is text_is) = text-reads alloc version.Second text b is (λ e. absurd (second-not-first e)) text_is

@@ -1,12 +1,10 @@
 -- A line is that of one value: so it leads to one state, and a text spells one collection.
 use Rattle.std.proofs.Common.{◌≡◌, ◌⊎◌, ◌+◌, ℕ, ⊎_elim, List, [], ◌∷◌, ◌++◌, Some, codes, get_or, ap, sym, ◌∙◌, refl, arith}
 use Rattle.std.specs.Global.{Global}
-use Rattle.cbi_base.specs.Lines.{LeadsOnce}
-use Rattle.cbi_base.specs.ProgramId.{IsId}
-use Rattle.cbi_base.specs.Text.{fields_of, spaced}
+use Rattle.base_lists.proofs.Options.{some_is}
+use Rattle.cbi_base.specs.Words.{LeadsOnce, IsId, fields_of, spaced}
 use Rattle.cbi_base.specs.declared.identity.ProgramId.{ProgramId}
 use Rattle.cbi_base.proofs.LineLemmas.{reads-once}
-use Rattle.cbi_base.proofs.NumberLemmas.{some-is}
 use Rattle.report_file.specs.declared.draft.Draft as report
 use Rattle.report_file.specs.declared.draft.Due.TheVariants as report_due
 use Rattle.report_file.specs.declared.draft.Version.{Version}
@@ -20,7 +18,7 @@ use Rattle.report_file.specs.Report.{IsEntry}
 use Rattle.report_file.specs.RunLine.{IsRunLine, first_run_line, run_line_fields, second_of}
 use Rattle.report_file.specs.Spelling.{program_fields, site_fields}
 use Rattle.report_file.proofs.LineLemmas.{entry-reads}
-use Rattle.report_file.proofs.Once.{leads-once as report-leads-once, once}
+use Rattle.report_file.proofs.Once.{leads-once as report-leads-once, once, id-once}
 use Rattle.report_file.proofs.RunLines.{first-reads, second-reads}
 use Rattle.collector.specs.declared.collection.Bundle.{Bundle}
 use Rattle.collector.specs.declared.draft.Draft.{Draft}
@@ -37,17 +35,6 @@ title-once line version.Second version.Second is_x is_y = refl
 title-once line version.First version.Second is_x is_y = let e = ap (λ l. get_or l 15 0) (sym is_x ∙ is_y) in absurd (omega arith)
 title-once line version.Second version.First is_x is_y = let e = ap (λ l. get_or l 15 0) (sym is_x ∙ is_y) in absurd (omega arith)
 
--- a report has the line of its program too
-abbrev before_program : report.Draft
-before_program = record report_grammar.report_start { due = report_due.Program }
-
-program-set : (line : List ℕ) (x : ProgramId) → IsId x → line ≡ spaced (program_fields x) → report_grammar.ReportLineFollows before_program line (report_grammar.with_program before_program x)
-program-set line x is line_is = record { value = x; is_good = is; line_is = line_is; after_is = refl }
-
-program-once : (line : List ℕ) (x y : ProgramId) → IsId x → IsId y → line ≡ spaced (program_fields x) → line ≡ spaced (program_fields y) → x ≡ y
-program-once line x y is_x is_y line_x line_y =
-    ap (λ (d : report.Draft). d.report.program) (report-leads-once before_program line (report_grammar.with_program before_program x) (report_grammar.with_program before_program y) (program-set line x is_x line_x) (program-set line y is_y line_y))
-
 line-once : (v : Version) (line : List ℕ) (x y : RunLine) → IsRunLine v x → IsRunLine v y → line ≡ spaced (run_line_fields v x) → line ≡ spaced (run_line_fields v y) → x ≡ y
 line-once version.First line x y is_x is_y line_x line_y = once (run_line_fields version.First) (IsRunLine version.First) line (first_run_line (fields_of line)) (first-reads line (first_run_line (fields_of line)) refl) x y is_x is_y line_x line_y
 line-once version.Second line x y is_x is_y line_x line_y = once (run_line_fields version.Second) (IsRunLine version.Second) line (second_of (fields_of line)) (second-reads line (second_of (fields_of line)) refl) x y is_x is_y line_x line_y
@@ -61,7 +48,7 @@ run-same d line a b s t =
 site-same : (d : Draft) (line : List ℕ) (a b : Draft) → RunSiteFollows d line a → RunSiteFollows d line b → a ≡ b
 site-same d line a b s t =
     let entry : s.value ≡ t.value = once site_fields IsEntry line (entry_of_fields (fields_of line)) (entry-reads line (entry_of_fields (fields_of line)) refl) s.value t.value s.is_next.is_entry t.is_next.is_entry s.line_is t.line_is in
-    let current : s.report ≡ t.report = some-is (sym s.is_current ∙ t.is_current) in
+    let current : s.report ≡ t.report = some_is (sym s.is_current ∙ t.is_current) in
     s.after_is
     ∙ ap (λ (e : Entry). record d { current = Some (record s.report { entries = s.report.entries ++ e ∷ [] }); site = e.site + 1; marks = d.marks + 1 }) entry
     ∙ ap (λ (r : Report). record d { current = Some (record r { entries = r.entries ++ t.value ∷ [] }); site = t.value.site + 1; marks = d.marks + 1 }) current
@@ -75,7 +62,7 @@ comes-once : (due : Due) (d : Draft) (line : List ℕ) (a b : Draft) → BundleL
 comes-once due.Title d line a b s t =
     s.after_is ∙ ap (λ v. record d { due = due.Program; version = v }) (title-once line s.value t.value s.line_is t.line_is) ∙ sym t.after_is
 comes-once due.Program d line a b s t =
-    s.after_is ∙ ap (λ p. record d { due = due.Runs; program = p }) (program-once line s.value t.value s.is_id t.is_id s.line_is t.line_is) ∙ sym t.after_is
+    s.after_is ∙ ap (λ p. record d { due = due.Runs; program = p }) (id-once line s.value t.value s.is_id t.is_id s.line_is t.line_is) ∙ sym t.after_is
 comes-once due.Runs d line a b s t =
     ⊎_elim (λ (run : RunFollows d line a). run-same d line a b run (only-run d line b (run-begins d.version run.value line run.line_is) t))
     (λ (other : RunSiteFollows d line a ⊎ EndFollows d line a). ⊎_elim (λ (site : RunSiteFollows d line a). let alone = site-alone line site.value site.line_is in site-same d line a b site (only-site d line b alone.0 alone.1 t)) (λ (over : EndFollows d line a). over.after_is ∙ sym (only-end d line b over.line_is t).after_is) other) s

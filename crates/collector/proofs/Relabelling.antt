@@ -3,8 +3,8 @@ use Rattle.std.proofs.Common.{◌≡◌, ◌+◌, ℕ, Bool, true, false, cond, 
 use Rattle.std.specs.Ordering.{nat_cmp, is_eq}
 use Rattle.std.specs.BTreeMap.{is_at}
 use Rattle.std.specs.Map.{set_value}
+use Rattle.base_lists.proofs.Options.{none_some, some_is}
 use Rattle.cbi_base.specs.declared.identity.ProgramId.{ProgramId}
-use Rattle.cbi_base.proofs.NumberLemmas.{none-some, some-is}
 use Rattle.report_file.specs.declared.label.Label.{Label}
 use Rattle.report_file.specs.declared.report.Report.{Report}
 use Rattle.collector.specs.Collected.{marks_of, relabelled, report_at}
@@ -19,7 +19,7 @@ set-tests true e w more rest = refl
 set-tests false e w more rest = refl
 
 label-tests : (b : Bool) (run : ℕ) (label : Label) (r x : Report) (more : List Report) (rest : List Report) → cond b (Some x) (report_at run more) ≡ Some r → (report_at run more ≡ Some r → rest ≡ relabelled run label more) → cond b (with_label label r ∷ more) (x ∷ rest) ≡ cond b (with_label label x ∷ more) (x ∷ relabelled run label more)
-label-tests true run label r x more rest found others = ap (λ y. with_label label y ∷ more) (sym (some-is found))
+label-tests true run label r x more rest found others = ap (λ y. with_label label y ∷ more) (sym (some_is found))
 label-tests false run label r x more rest found others = ap (λ ys. x ∷ ys) (others found)
 
 pub values-set : (program : ProgramId) (branches : List Bool) (run : ℕ) (label : Label) (r : Report) (entries : List (ℕ × Report)) → AreHeld program branches entries → report_at run (reports_in entries) ≡ Some r → reports_in (set_value (is_at (nat_cmp run)) entries (with_label label r)) ≡ relabelled run label (reports_in entries)
@@ -47,7 +47,7 @@ relabelled-held program branches key label r is = record {
 
 set-held-tests : (b c : Bool) (program : ProgramId) (branches : List Bool) (run : ℕ) (label : Label) (r : Report) (e : ℕ × Report) (more rest : List (ℕ × Report)) → b ≡ c → cond c (Some e.1) (report_at run (reports_in more)) ≡ Some r → IsHeldReport program branches e.0 e.1 → AreHeld program branches more → (report_at run (reports_in more) ≡ Some r → AreHeld program branches rest) → AreHeld program branches (cond b ((e.0, with_label label r) ∷ more) (e ∷ rest))
 set-held-tests true true program branches run label r e more rest is found first are others =
-    (subst (λ y. IsHeldReport program branches e.0 (with_label label y)) (some-is found) (relabelled-held program branches e.0 label e.1 first), are)
+    (subst (λ y. IsHeldReport program branches e.0 (with_label label y)) (some_is found) (relabelled-held program branches e.0 label e.1 first), are)
 set-held-tests false false program branches run label r e more rest is found first are others = (first, others found)
 set-held-tests true false program branches run label r e more rest is found first are others = absurd cc
 set-held-tests false true program branches run label r e more rest is found first are others = absurd cc
@@ -67,7 +67,7 @@ marks-relabelled run label [] = refl
 marks-relabelled run label (x ∷ more) = marks-tests (run == x.run) run label x more (marks-relabelled run label more)
 
 none-tests : (b : Bool) (run : ℕ) (label : Label) (x : Report) (more : List Report) → cond b (Some x) (report_at run more) ≡ None → (report_at run more ≡ None → relabelled run label more ≡ more) → cond b (with_label label x ∷ more) (x ∷ relabelled run label more) ≡ x ∷ more
-none-tests true run label x more none rest = absurd (none-some (sym none))
+none-tests true run label x more none rest = absurd (none_some (sym none))
 none-tests false run label x more none rest = ap (λ ys. x ∷ ys) (rest none)
 
 -- where the run isn't there nothing changes

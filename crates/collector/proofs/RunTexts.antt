@@ -3,11 +3,10 @@ use Rattle.std.proofs.Common.{◌≡◌, ◌+◌, ◌-◌, ◌<◌, ◌≤◌, �
 use Rattle.std.specs.Prelude.{map}
 use Rattle.std.proofs.lemmas.List.{append-nil, map-append, take_all}
 use Rattle.std.proofs.lemmas.Grind.{common_steps, flat_map-append}
-use Rattle.cbi_base.specs.ProgramId.{IsId}
-use Rattle.cbi_base.specs.Text.{Lacks, ended, fields_of, is_newline, spaced, text_of}
+use Rattle.base_lists.proofs.Options.{none_some, some_is}
+use Rattle.cbi_base.specs.Words.{IsId, Lacks, ended, fields_of, is_newline, spaced, text_of}
 use Rattle.cbi_base.specs.declared.identity.ProgramId.{ProgramId}
 use Rattle.cbi_base.proofs.LineLemmas.{same-line}
-use Rattle.cbi_base.proofs.NumberLemmas.{none-some, some-is}
 use Rattle.report_file.specs.declared.draft.Version.TheVariants as version
 use Rattle.report_file.specs.declared.report.Entry.{Entry}
 use Rattle.report_file.specs.declared.report.Report.{Report}
@@ -19,11 +18,11 @@ use Rattle.report_file.specs.RunLine.{IsRunLine, line_of, run_line_fields, secon
 use Rattle.report_file.specs.Spelling.{site_fields}
 use Rattle.report_file.proofs.LineLemmas.{entry-reads, row-site}
 use Rattle.report_file.proofs.Once.{once}
-use Rattle.report_file.proofs.RunLines.{run-row, second-reads}
+use Rattle.report_file.proofs.RunLines.{run-row, second-reads, second-not-first}
 use Rattle.report_file.proofs.Whole.{end_of, rows-lines}
 use Rattle.collector.specs.declared.run_text.RunText.{RunText}
 use Rattle.collector.specs.RunText.{IsRunAt, ReportStands, RunStands, SiteStands, SitesStand, lines_text, sites_text}
-use Rattle.collector.proofs.Leads.{is-run-line, second-not-first}
+use Rattle.collector.proofs.Leads.{is-run-line}
 
 abbrev run_spelled : RunLine → List ℕ
 run_spelled x = spaced (run_line_fields version.Second x)
@@ -42,17 +41,17 @@ cut-line bytes line rest want more is lacks lacks_want goes =
 pub no-run : (bytes line rest : List ℕ) (answer : Option RunLine) → bytes ≡ line ++ 10 ∷ rest → Lacks is_newline line → Reads (run_line_fields version.Second) (IsRunLine version.Second) line answer → answer ≡ None → (x : RunLine) (more : List ℕ) → RunStands bytes x more → ⊥
 no-run bytes line rest answer is lacks reads none x more stands =
     let cut = cut-line bytes line rest (run_spelled x) more is lacks (run-lacks x stands.is_line) stands.text_is in
-    none-some (sym none ∙ reads.only x stands.is_line cut.0)
+    none_some (sym none ∙ reads.only x stands.is_line cut.0)
 
 pub no-site : (bytes line rest : List ℕ) (site : ℕ) (answer : Option Entry) → bytes ≡ line ++ 10 ∷ rest → Lacks is_newline line → Reads site_fields IsEntry line answer → answer ≡ None → (e : Entry) (more : List ℕ) → SiteStands bytes site e more → ⊥
 no-site bytes line rest site answer is lacks reads none e more stands =
     let cut = cut-line bytes line rest (spaced (site_fields e)) more is lacks (site-lacks e stands.is_next.is_entry) stands.text_is in
-    none-some (sym none ∙ reads.only e stands.is_next.is_entry cut.0)
+    none_some (sym none ∙ reads.only e stands.is_next.is_entry cut.0)
 
 pub no-later-site : (bytes line rest : List ℕ) (site : ℕ) (answer : Option Entry) (found : Entry) → bytes ≡ line ++ 10 ∷ rest → Lacks is_newline line → Reads site_fields IsEntry line answer → answer ≡ Some found → found.site < site → (e : Entry) (more : List ℕ) → SiteStands bytes site e more → ⊥
 no-later-site bytes line rest site answer found is lacks reads some less e more stands =
     let cut = cut-line bytes line rest (spaced (site_fields e)) more is lacks (site-lacks e stands.is_next.is_entry) stands.text_is in
-    let same : found ≡ e = some-is (sym some ∙ reads.only e stands.is_next.is_entry cut.0) in
+    let same : found ≡ e = some_is (sym some ∙ reads.only e stands.is_next.is_entry cut.0) in
     let number = ap (λ (x : Entry). x.site) same in
     omega (arith, stands.is_next.rises)
 
@@ -160,10 +159,6 @@ behind bytes from front rest h is =
       place = place;
       left = ap (λ n. drop n bytes) place ∙ drop-sum from (length front) bytes ∙ ap (drop (length front)) is ∙ drop-front front rest;
     }
-
--- the bytes from a place on, as a slice gives them
-pub from-place : (bytes : List ℕ) (from : ℕ) → take (length bytes - from) (drop from bytes) ≡ drop from bytes
-from-place bytes from = take_all (length bytes - from) (drop from bytes) (omega (arith, length-drop from bytes))
 
 -- a run's line with the longest list of its sites' lines behind it
 pub made-run : (program : ProgramId) (bytes : List ℕ) (from : ℕ) (x : RunLine) (rest left : List ℕ) (entries : List Entry) → IsId program → from ≤ length bytes → RunStands (drop from bytes) x rest → AreEntries entries → RiseFrom 0 entries → rest ≡ sites_text entries ++ left → ((es : List Entry) → SitesStand rest es → length es ≤ length entries) → IsRunAt program bytes from (let text : RunText = record { report = record { program = program; run = x.run; outcome = x.outcome; label = x.label; work = x.work; entries = entries }; end = length bytes - length left } in text)

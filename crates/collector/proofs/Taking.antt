@@ -3,7 +3,8 @@ use Rattle.std.proofs.Common.{◌≡◌, ◌≢◌, ◌⊎◌, ◌+◌, ◌≤�
 use Rattle.std.specs.Prelude.{nat_lt}
 use Rattle.std.proofs.lemmas.Bool.{eqb-true}
 use Rattle.std.proofs.lemmas.Bool.Decides.{nat_tests}
-use Rattle.cbi_base.proofs.NumberLemmas.{none-some, some-is}
+use Rattle.base_lists.proofs.Options.{none_some, some_is}
+use Rattle.base_lists.proofs.Numbers.{not_number}
 use Rattle.report_file.specs.declared.report.Report.{Report}
 use Rattle.collector.specs.declared.answers.Added.{Added}
 use Rattle.collector.specs.declared.answers.Added.TheVariants.{New, Repeated}
@@ -38,45 +39,42 @@ ok-is x y e = cc
 abbrev ok_of : Merged → Result Merged AddFault
 ok_of m = Ok m
 
-err-is : (x y : AddFault) → ◌≡◌ {A = Result Merged AddFault} (Err x) (Err y) → x ≡ y
+pub err-is : (x y : AddFault) → ◌≡◌ {A = Result Merged AddFault} (Err x) (Err y) → x ≡ y
 err-is x y e = cc
 
 ok-no-err : (x : Merged) (y : AddFault) → ◌≡◌ {A = Result Merged AddFault} (Ok x) (Err y) → ⊥
 ok-no-err x y e = cc
 
-different : (a b : ℕ) → (a == b) ≡ false → a ≡ b → ⊥
-different a b test e = grind (arith, nat_tests)
-
 -- a report that is found is one of them, and one of a run that isn't held is none
 found-tests : (b : Bool) (run : ℕ) (x r : Report) (more : List Report) → cond b (Some x) (report_at run more) ≡ Some r → (report_at run more ≡ Some r → IsOneOfReports r more) → IsOneOfReports r (x ∷ more)
-found-tests true run x r more found rest = inl (sym (some-is found))
+found-tests true run x r more found rest = inl (sym (some_is found))
 found-tests false run x r more found rest = inr (rest found)
 
 pub found-member : (run : ℕ) (reports : List Report) (r : Report) → report_at run reports ≡ Some r → IsOneOfReports r reports
-found-member run [] r found = absurd (none-some found)
+found-member run [] r found = absurd (none_some found)
 found-member run (x ∷ more) r found = found-tests (run == x.run) run x r more found (found-member run more r)
 
 absent-tests : (b : Bool) (run : ℕ) (x r : Report) (more : List Report) → (run == x.run) ≡ b → cond b (Some x) (report_at run more) ≡ None → (report_at run more ≡ None → IsOneOfReports r more → run ≢ r.run) → IsOneOfReports r (x ∷ more) → run ≢ r.run
-absent-tests true run x r more test none rest is = absurd (none-some (sym none))
+absent-tests true run x r more test none rest is = absurd (none_some (sym none))
 absent-tests false run x r more test none rest is =
-    ⊎_elim (λ (same : r ≡ x). λ (e : run ≡ r.run). let number = ap (λ (y : Report). y.run) same in different run x.run test (e ∙ number)) (λ (other : IsOneOfReports r more). rest none other) is
+    ⊎_elim (λ (same : r ≡ x). λ (e : run ≡ r.run). let number = ap (λ (y : Report). y.run) same in not_number run x.run test (e ∙ number)) (λ (other : IsOneOfReports r more). rest none other) is
 
 pub absent-member : (run : ℕ) (reports : List Report) (r : Report) → report_at run reports ≡ None → IsOneOfReports r reports → run ≢ r.run
 absent-member run [] r none is = absurd is
 absent-member run (x ∷ more) r none is = absent-tests (run == x.run) run x r more refl none (absent-member run more r) is
 
 found-run-tests : (b : Bool) (run : ℕ) (x r : Report) (more : List Report) → (run == x.run) ≡ b → cond b (Some x) (report_at run more) ≡ Some r → (report_at run more ≡ Some r → r.run ≡ run) → r.run ≡ run
-found-run-tests true run x r more test found rest = ap (λ (z : Report). z.run) (sym (some-is found)) ∙ sym (eqb-true run x.run test)
+found-run-tests true run x r more test found rest = ap (λ (z : Report). z.run) (sym (some_is found)) ∙ sym (eqb-true run x.run test)
 found-run-tests false run x r more test found rest = rest found
 
 pub found-run : (run : ℕ) (reports : List Report) (r : Report) → report_at run reports ≡ Some r → r.run ≡ run
-found-run run [] r found = absurd (none-some found)
+found-run run [] r found = absurd (none_some found)
 found-run run (x ∷ more) r found = found-run-tests (run == x.run) run x r more refl found (found-run run more r)
 
 -- one report more
 length-tests : (p q : Bool) (r x : Report) (more : List Report) → cond q (Some x) (report_at r.run more) ≡ None → (report_at r.run more ≡ None → length (with_report r more) ≡ length more + 1) → length (cond p (r ∷ x ∷ more) (cond q (r ∷ more) (x ∷ with_report r more))) ≡ length (x ∷ more) + 1
 length-tests true q r x more none rest = omega arith
-length-tests false true r x more none rest = absurd (none-some (sym none))
+length-tests false true r x more none rest = absurd (none_some (sym none))
 length-tests false false r x more none rest = omega (arith, rest none)
 
 pub length-with : (r : Report) (reports : List Report) → report_at r.run reports ≡ None → length (with_report r reports) ≡ length reports + 1
@@ -281,7 +279,7 @@ fault-step c r more added repeated why after next (Ok Repeated) rising may adds 
 fault-step c r more added repeated why after next (Err (Foreign ours theirs)) rising may adds rest goes =
     absurd (adds.2 (adds.0 ∙ sym (may.ours r (inl refl)).program ∙ sym adds.1))
 fault-step c r more added repeated why after next (Err (NoSite run site)) rising may adds rest goes =
-    absurd (none-some (sym (may.ours r (inl refl)).sites ∙ adds.2))
+    absurd (none_some (sym (may.ours r (inl refl)).sites ∙ adds.2))
 fault-step c r more added repeated why after next (Err (Conflict run)) rising may adds rest goes =
     let held = adds.2.0 in
     let at = subst (λ n. report_at n c.reports ≡ Some held) adds.1 adds.2.1 in

@@ -1,10 +1,9 @@
 -- The text of a collection: its reports by rising run, each with its line and those of its sites.
 use Rattle.std.specs.Prelude.{◌≡◌, ◌+◌, ◌≤◌, ℕ, true, List, [], ◌∷◌, ◌++◌, length, map, codes}
 use Rattle.std.specs.List.{flat_map}
-use Rattle.cbi_base.specs.Text.{spaced, text_of}
+use Rattle.cbi_base.specs.Words.{spaced, text_of, IsId}
 use Rattle.report_file.specs.RunLine.{line_of, line_rows, run_line_fields}
 use Rattle.report_file.specs.Spelling.{program_fields, site_fields}
-use Rattle.cbi_base.specs.ProgramId.{IsId}
 use Rattle.report_file.specs.declared.draft.Version.{Version}
 use Rattle.report_file.specs.declared.draft.Version.TheVariants.{First, Second}
 use Rattle.report_file.specs.declared.report.Report.{Report}

@@ -1,8 +1,7 @@
 ghost use Rattle.std.specs.Prelude.{◌≡◌, ◌↔◌, false, is_some, ◌+◌, ◌<◌, ◌≤◌, [], length, IfOk, IfSome, map, None, OnErr, OnOk, IsTrue};
 ghost use Rattle.std.specs.Option.{option_copied};
 ghost use Rattle.std.specs.List.{flat_map};
-ghost use Rattle.cbi_base.specs.ProgramId.{IsId};
-ghost use Rattle.cbi_base.specs.Text.{spaced, text_of};
+ghost use Rattle.cbi_base.specs.Words.{IsId, spaced, text_of};
 ghost use Rattle.collector.specs.Collecting.{IsCollection};
 ghost use Rattle.collector.specs.Merging.{IsBundle, Merges};
 ghost use Rattle.collector.specs.Spelling.{collection_text};

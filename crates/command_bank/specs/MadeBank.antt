@@ -5,7 +5,7 @@ use Rattle.rand_pcg.specs.Pcg.{multiplier_64}
 use Rattle.countdown_bank.specs.Bank.{BankState}
 use Rattle.countdown_bank.specs.BankFile.{bank_text}
 use Rattle.countdown_bank.specs.MadeBank.{IsMadeBank}
-use Rattle.command_bank.specs.declared.words.BankWords.{BankWords}
+use Rattle.cbi_options.specs.declared.words.BankWords.{BankWords}
 
 -- the generator with this seed, on this stream
 abbrev pub generator : (seed stream : ℕ) → Lcg

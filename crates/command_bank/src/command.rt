@@ -1,13 +1,12 @@
 ghost use Rattle.std.specs.Prelude.{◌≡◌, ◌≤◌, IfOk, OnOk, IfErr};
-ghost use Rattle.cbi_base.specs.Faults.{Rose};
-ghost use Rattle.cbi_base.specs.Sink.{Takes};
+ghost use Rattle.cbi_base.specs.Words.{Rose, Takes};
 ghost use Rattle.command_base.specs.Faults.{Caused, LeftBy};
 ghost use Rattle.command_base.specs.Outside.{TookDue, TookWithin};
 ghost use Rattle.command_base.specs.declared.done.Done.TheVariants.{Nothing};
 ghost use Rattle.command_bank.specs.MadeBank.{IsMadeText};
 
-use crate::words::BankWords;
 use cbi_base::{Memory, Sink};
+use cbi_options::BankWords;
 use command_base::{Done, Fault, put};
 use countdown_bank::write_bank;
 use rand_pcg::Lcg64Xsh32;

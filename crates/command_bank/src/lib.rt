@@ -2,7 +2,5 @@
 #![tactic(auto)]
 
 mod command;
-mod words;
 
 pub use command::make_bank;
-pub use words::BankWords;

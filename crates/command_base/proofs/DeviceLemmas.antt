@@ -4,19 +4,14 @@ use Rattle.std.specs.Ordering.{nat_cmp, eq_by_cmp}
 use Rattle.std.specs.Cmp.Lexicographic.{slice_cmp, nat_list_cmp_total}
 use Rattle.std.specs.FinMap.{get, get-insert}
 use Rattle.std.proofs.Common.{◌≡◌, ◌≢◌, ℕ, Bool, true, false, cond, List, Option, Some, None, is_some, refl, sym, ap, ◌∙◌, append-nil}
-use Rattle.std.proofs.lemmas.Bool.{false≢true}
+use Rattle.std.proofs.lemmas.Bool.{false≢true, false_from_ne_true}
 use Rattle.std.proofs.lemmas.Map.Lookups.{exact_bytes}
 use Rattle.std.proofs.lemmas.Map.Views.{tells_apart}
-use Rattle.cbi_base.specs.Sink.{TakesPrefix}
-use Rattle.cbi_base.specs.Store.{Held, OthersStay, Replaces}
+use Rattle.cbi_base.specs.Words.{TakesPrefix, Held, OthersStay, Replaces}
 use Rattle.command_base.specs.Outside.{AllStayBut}
 
-false-unless : (b : Bool) → (b ≡ true → ⊥) → b ≡ false
-false-unless true never = absurd (never refl)
-false-unless false never = refl
-
 untied : (other name : List ℕ) → other ≢ name → eq_by_cmp (slice_cmp nat_cmp) other name ≡ false
-untied other name differ = false-unless (eq_by_cmp (slice_cmp nat_cmp) other name) (λ tied. differ (tells_apart exact_bytes other name tied))
+untied other name differ = false_from_ne_true (eq_by_cmp (slice_cmp nat_cmp) other name) (λ tied. differ (tells_apart exact_bytes other name tied))
 
 -- what a name holds now, all others hold still
 pub replaced-others : (before now : Option Held) (name bytes : List ℕ) → Replaces before now name bytes → OthersStay before now name

@@ -21,10 +21,8 @@ published-part Memory write unmoved stopped broke refused cause s = inr (inr s)
 
 -- what follows from each refusal that a fault can be follows from the fault
 pub refused-as : (e : Fault) (read : List ℕ → Type 0) (write : Type 0) (P : Refusal → Type 0) (Q : Type 0) → Caused e read write P → ((r : Refusal) → P r → Q) → OfRefusal e Q
-refused-as (Read name) read write P Q h k = tt
-refused-as Write read write P Q h k = tt
 refused-as (Refused refusal) read write P Q h k = k refusal h
-refused-as Memory read write P Q h k = tt
+refused-as e read write P Q h k = tt
 
 -- a fact that held when the files had been read stands after any fault
 pub passed-as : (A : Type 0) (e : Fault) (P : Type 0) → P → Passed {A = A} (Err e) P

@@ -38,6 +38,4 @@ held-both held (x ∷ xs) ys first rest = (first.0, held-both held xs ys first.1
 
 pub of-read-as : (e : Fault) (P Q : List ℕ → Type 0) → OfRead e P → ((name : List ℕ) → P name → Q name) → OfRead e Q
 of-read-as (Read name) P Q h k = k name h
-of-read-as Write P Q h k = tt
-of-read-as (Refused refusal) P Q h k = tt
-of-read-as Memory P Q h k = tt
+of-read-as e P Q h k = tt

@@ -1,7 +1,6 @@
 -- Readers of files one after another, and a look at the bytes that were read.
 use Rattle.std.proofs.Common.{◌≡◌, ◌≤◌, inl, inr, ℕ, List, [], ◌∷◌, ◌++◌, Option, Result, Ok, Err, IfErr, subst, sym, ◌∙◌, arith}
-use Rattle.cbi_base.specs.Faults.{Rose}
-use Rattle.cbi_base.specs.Store.{Held}
+use Rattle.cbi_base.specs.Words.{Rose, Held}
 use Rattle.cbi_base.specs.declared.refusal.Refusal.{Refusal}
 use Rattle.command_base.specs.declared.fault.Fault.{Fault}
 use Rattle.command_base.specs.declared.fault.Fault.TheVariants.{Read, Write, Refused, Memory}
@@ -14,9 +13,7 @@ use Rattle.command_base.proofs.NameLemmas.{held-both, held-first, held-rest, mis
 -- a look at the bytes reads no name
 not-read : (e : Fault) (P : Refusal → Type 0) (Q : List ℕ → Type 0) → Caused e (λ n. ⊥) ⊥ P → OfRead e Q
 not-read (Read name) P Q h = absurd h
-not-read Write P Q h = tt
-not-read (Refused refusal) P Q h = tt
-not-read Memory P Q h = tt
+not-read e P Q h = tt
 
 -- all files were read, and then a look at the bytes met this fault
 pub looked-at : {S A : Type 0} {holds : S → Option Held} {read_faults write_faults : S → ℕ} {is_sound : S → Type 0} {before after : S} {names : List (List ℕ)} {value : A}
@@ -93,11 +90,9 @@ then-fault (Err (Refused refusal)) first rest before between after refuses rises
 then-fault (Err Memory) first rest before between after refuses rises h = tt
 
 passed-then : {B : Type 0} (r : Result B Fault) (P Q : Type 0) → Passed r P → (P → Q) → Passed r Q
-passed-then (Ok value) P Q h k = k h
 passed-then (Err (Read name)) P Q h k = tt
-passed-then (Err Write) P Q h k = k h
-passed-then (Err (Refused refusal)) P Q h k = k h
 passed-then (Err Memory) P Q h k = tt
+passed-then r P Q h k = k h
 
 missing-then : {B : Type 0} (r : Result B Fault) (P Q : List ℕ → Type 0) → IfErr r (λ e. OfRead e P) → ((name : List ℕ) → P name → Q name) → IfErr r (λ e. OfRead e Q)
 missing-then (Ok value) P Q h k = tt

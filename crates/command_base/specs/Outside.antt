@@ -1,8 +1,7 @@
 -- What a command finds outside and leaves there: what the store holds, what out has taken, where they tell it, and the boxed watchers, over any
 -- type of them.
 use Rattle.std.specs.Prelude.{◌≡◌, ◌⊎◌, ℕ, List, Option, Some, None}
-use Rattle.cbi_base.specs.Sink.{Takes, TakesPrefix}
-use Rattle.cbi_base.specs.Store.{Held, OthersStay}
+use Rattle.cbi_base.specs.Words.{Takes, TakesPrefix, Held, OthersStay}
 
 pub record Outside (B : Type 0) : Type 0 where
   pub held : Option Held

@@ -1,7 +1,6 @@
 -- What a function that reads files finds and leaves of the store, and why it stopped.
 use Rattle.std.specs.Prelude.{◌≡◌, ◌≤◌, ℕ, List, Option, Result, IfErr}
-use Rattle.cbi_base.specs.Faults.{Rose}
-use Rattle.cbi_base.specs.Store.{Held}
+use Rattle.cbi_base.specs.Words.{Rose, Held}
 use Rattle.cbi_base.specs.declared.refusal.Refusal.{Refusal}
 use Rattle.command_base.specs.declared.fault.Fault.{Fault}
 use Rattle.command_base.specs.Faults.{Caused, OfRead, Passed}

@@ -1,7 +1,5 @@
 ghost use Rattle.std.specs.Prelude.{◌≡◌, ◌≤◌, ◌∷◌, [], IfOk, OnOk, OnErr, IfErr};
-ghost use Rattle.cbi_base.specs.Faults.{Rose};
-ghost use Rattle.cbi_base.specs.Sink.{Takes, TakesPrefix};
-ghost use Rattle.cbi_base.specs.Store.{IsReadOf, MayReplace, OthersStay, Replaces};
+ghost use Rattle.cbi_base.specs.Words.{Rose, Takes, TakesPrefix, IsReadOf, MayReplace, OthersStay, Replaces};
 ghost use Rattle.command_base.specs.Faults.{Caused, OfMemory};
 ghost use Rattle.command_base.specs.Reading.{HasRead};
 

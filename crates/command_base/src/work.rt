@@ -1,6 +1,5 @@
 ghost use Rattle.std.specs.Prelude.{◌≡◌, ◌≤◌, ℕ, List, Option, IfOk, IfErr, IsErrAnd, IsSome};
-ghost use Rattle.cbi_base.specs.Faults.{Rose};
-ghost use Rattle.cbi_base.specs.Store.{Held};
+ghost use Rattle.cbi_base.specs.Words.{Rose, Held};
 ghost use Rattle.cbi_base.specs.declared.refusal.Refusal.{Refusal};
 ghost use Rattle.command_base.specs.declared.done.Done.{Done};
 ghost use Rattle.command_base.specs.declared.done.Done.TheVariants.{Nothing};

@@ -8,7 +8,7 @@ use Rattle.collector.specs.declared.collection.Bundle.{Bundle}
 use Rattle.affinity.specs.Text.{AreCardsOf}
 use Rattle.command_inputs.specs.Runs.{AreRunsTexts, RunsRefused, RunsRefusedBy, SpellRuns, runs_names}
 use Rattle.command_inputs.specs.declared.runs.RunsTexts.{RunsTexts}
-use Rattle.command_cards.specs.declared.words.CardsWords.{CardsWords}
+use Rattle.cbi_options.specs.declared.words.CardsWords.{CardsWords}
 
 -- the names that are read, in this order
 abbrev pub cards_names : CardsWords → List (List ℕ)

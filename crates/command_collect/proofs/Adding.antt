@@ -2,7 +2,8 @@
 use Rattle.std.specs.Prelude.{is_err}
 use Rattle.std.proofs.Common.{◌≡◌, inl, inr, ℕ, ◌+◌, List, [], ◌∷◌, Result, Ok, Err, Option, Some, None, refl, ap, sym, subst, ◌∙◌, arith}
 use Rattle.std.proofs.lemmas.Bool.{false≢true}
-use Rattle.cbi_base.proofs.NumberLemmas.{none-some, some-is}
+use Rattle.collector.proofs.Taking.{err-is}
+use Rattle.base_lists.proofs.Options.{none_some, some_is}
 use Rattle.report_file.specs.declared.report.Report.{Report}
 use Rattle.collector.specs.declared.answers.Added.{Added}
 use Rattle.collector.specs.declared.answers.Added.TheVariants.{New, Repeated}
@@ -13,11 +14,10 @@ use Rattle.collector.specs.declared.collection.Bundle.{Bundle}
 use Rattle.collector.specs.declared.collection.Held.{Held}
 use Rattle.collector.specs.Collected.{Adds, report_at}
 use Rattle.collector.specs.Merging.{AddsAll, Merges, OfAnother, OfThis}
-use Rattle.command_inputs.proofs.MergeLemmas.{err-same}
 use Rattle.command_collect.specs.Collect.{MeetsFault, TakesAll}
 
 both : {A : Type 0} (o : Option A) (x : A) → o ≡ None → o ≡ Some x → ⊥
-both o x n s = none-some (sym n ∙ s)
+both o x n s = none_some (sym n ∙ s)
 
 ok-err : {A E : Type 0} (r : Result A E) (a : A) (e : E) → r ≡ Ok a → r ≡ Err e → ⊥
 ok-err r a e p q = false≢true (ap is_err (sym p ∙ q))
@@ -33,7 +33,7 @@ adds-fault c r New Memory n m a f = refl
 adds-fault c r Repeated (Foreign ours theirs) n m a f = absurd (f.2 (f.0 ∙ sym a.0.program ∙ sym f.1))
 adds-fault c r Repeated (NoSite run site) n m a f = absurd (both _ _ a.0.sites f.2)
 adds-fault c r Repeated (Conflict run) n m a f =
-    absurd (f.2.2 (some-is (sym (subst (λ k. report_at k c.reports ≡ Some f.2.0) f.1 f.2.1) ∙ a.1)))
+    absurd (f.2.2 (some_is (sym (subst (λ k. report_at k c.reports ≡ Some f.2.0) f.1 f.2.1) ∙ a.1)))
 adds-fault c r Repeated (TooManyReports run) n m a f = absurd (both _ r (subst (λ k. report_at k c.reports ≡ None) f.1 f.2) a.1)
 adds-fault c r Repeated (TooManyMarks run) n m a f = absurd (both _ r (subst (λ k. report_at k c.reports ≡ None) f.1 f.2) a.1)
 adds-fault c r Repeated Memory n m a f = refl
@@ -54,7 +54,7 @@ all-fault : (c : Held) (reports : List Report) (a p b q : ℕ) (m : Merged) (fau
 all-fault c [] a p b q m fault x y took stops = absurd (ok-err _ _ _ stops.0 refl)
 all-fault c (r ∷ more) a p b q m fault x y (Err f, next, adds, rest) stops = absurd (ok-err _ _ _ refl rest.0)
 all-fault c (r ∷ more) a p b q m fault x y (Ok what, next, adds, rest) (Err f, other, refuses, stop) =
-    err-same _ _ stop.0 ∙ adds-fault c r what f next other adds refuses
+    err-is _ _ stop.0 ∙ adds-fault c r what f next other adds refuses
 all-fault c (r ∷ more) a p b q m fault x y (Ok New, next, adds, rest) (Ok New, other, again, stop) =
     all-fault next more _ _ _ _ m fault x y rest (subst (λ h. AddsAll h more (b + 1) q (Err fault) y) (sym (adds-once c r New New next other adds again).held_is) stop)
 all-fault c (r ∷ more) a p b q m fault x y (Ok Repeated, next, adds, rest) (Ok Repeated, other, again, stop) =

@@ -14,7 +14,7 @@ use Rattle.command_base.specs.Limits.{program_limit}
 use Rattle.command_base.proofs.ReadLemmas.{read-once}
 use Rattle.command_inputs.specs.Programs.{IsBadProgram}
 use Rattle.command_inputs.specs.Collections.{fault_of, file_limit}
-use Rattle.command_collect.specs.declared.words.CollectWords.{CollectWords}
+use Rattle.cbi_options.specs.declared.words.CollectWords.{CollectWords}
 use Rattle.command_collect.specs.declared.reports.CollectTexts.{CollectTexts}
 use Rattle.command_collect.specs.Collect.{AreReadOf, AreRefusedTexts, AreSpelled, AreCollectTexts, CollectRefused, HasNoFile, RefusesFiles, RefusesTexts, MeetsFault, TakesAll, nothing_of}
 use Rattle.command_collect.proofs.Adding.{taken-stops}
@@ -50,27 +50,12 @@ is_memory (Some _) = false
 
 -- no refusal tells of want of memory
 pub never-memory : (refusal : Refusal) → fault_of refusal ≡ Some fault.Memory → ⊥
-never-memory (BadByte line) h = false≢true (ap is_some h)
-never-memory (BadToken line) h = false≢true (ap is_some h)
-never-memory (Syntax line) h = false≢true (ap is_some h)
-never-memory (BadType kind line) h = false≢true (ap is_some h)
-never-memory TooLarge h = false≢true (ap is_some h)
-never-memory TooManySites h = false≢true (ap is_some h)
-never-memory (BadProgram line) h = false≢true (ap is_some h)
-never-memory (BadBank line) h = false≢true (ap is_some h)
-never-memory (BadReport file line) h = false≢true (ap is_some h)
 never-memory (Foreign ours theirs) h = false≢true (ap is_memory h)
 never-memory (Conflict run) h = false≢true (ap is_memory h)
 never-memory (TooManyReports run) h = false≢true (ap is_memory h)
 never-memory (TooManyMarks run) h = false≢true (ap is_memory h)
-never-memory (BadCollection file line) h = false≢true (ap is_some h)
-never-memory InputTooLarge h = false≢true (ap is_some h)
 never-memory (NoSite run site) h = false≢true (ap is_memory h)
-never-memory (BadEdits line) h = false≢true (ap is_some h)
-never-memory (Absent run) h = false≢true (ap is_some h)
-never-memory NotPart h = false≢true (ap is_some h)
-never-memory (BadList file line) h = false≢true (ap is_some h)
-never-memory (LargeInput line) h = false≢true (ap is_some h)
+never-memory refusal h = false≢true (ap is_some h)
 
 -- texts that were gathered aren't refused, where each is read as one value
 pub gathered-never-refused : (texts : CollectTexts) (parts : ProgramParts) (bundles : List Bundle) (after : Collected) → SpellsProgram texts.program parts → AreSpelled texts.files bundles
@@ -104,20 +89,15 @@ refuses-texts (BadByte line) texts h = inr (inr (record { refusal = BadByte line
 refuses-texts (BadToken line) texts h = inr (inr (record { refusal = BadToken line; refused = h }))
 refuses-texts (Syntax line) texts h = inr (inr (record { refusal = Syntax line; refused = h }))
 refuses-texts (BadType kind line) texts h = inr (inr (record { refusal = BadType kind line; refused = h }))
-refuses-texts TooLarge texts h = inr (inr (record { refusal = TooLarge; refused = h }))
-refuses-texts TooManySites texts h = inr (inr (record { refusal = TooManySites; refused = h }))
 refuses-texts (BadBank line) texts h = inr (inr (record { refusal = BadBank line; refused = h }))
 refuses-texts (Foreign ours theirs) texts h = inr (inr (record { refusal = Foreign ours theirs; refused = h }))
 refuses-texts (Conflict run) texts h = inr (inr (record { refusal = Conflict run; refused = h }))
 refuses-texts (TooManyReports run) texts h = inr (inr (record { refusal = TooManyReports run; refused = h }))
 refuses-texts (TooManyMarks run) texts h = inr (inr (record { refusal = TooManyMarks run; refused = h }))
-refuses-texts InputTooLarge texts h = inr (inr (record { refusal = InputTooLarge; refused = h }))
 refuses-texts (NoSite run site) texts h = inr (inr (record { refusal = NoSite run site; refused = h }))
 refuses-texts (BadEdits line) texts h = inr (inr (record { refusal = BadEdits line; refused = h }))
 refuses-texts (Absent run) texts h = inr (inr (record { refusal = Absent run; refused = h }))
-refuses-texts NotPart texts h = inr (inr (record { refusal = NotPart; refused = h }))
-refuses-texts (BadList file line) texts h = inr (inr (record { refusal = (BadList file line); refused = h }))
-refuses-texts (LargeInput line) texts h = inr (inr (record { refusal = (LargeInput line); refused = h }))
+refuses-texts other texts h = inr (inr (record { refusal = other; refused = h }))
 
 pub collect-refused : (words : CollectWords) (held : Option Held) (texts : CollectTexts) (refusal : Refusal) → AreCollectTexts held words texts → RefusesTexts refusal texts → CollectRefused words held
 collect-refused words held texts refusal are h = record { texts = texts; are_texts = are; refused = refuses-texts refusal texts h }

@@ -17,7 +17,7 @@ use Rattle.command_base.specs.declared.done.Done.TheVariants.{Added}
 use Rattle.command_inputs.specs.Programs.{IsSpelled}
 use Rattle.command_collect.specs.declared.gather.Gathered.{Gathered}
 use Rattle.command_collect.specs.declared.reports.CollectTexts.{CollectTexts}
-use Rattle.command_collect.specs.declared.words.CollectWords.{CollectWords}
+use Rattle.cbi_options.specs.declared.words.CollectWords.{CollectWords}
 use Rattle.command_collect.specs.Collect.{AreCollectTexts, IsCollectedText, AreSpelled, RefusesFile, RefusesFiles, RefusesTexts, TakesAll, nothing_of, reports_in}
 use Rattle.command_collect.specs.Gathered.{HasGathered}
 use Rattle.command_collect.proofs.Holding.{length-map, taken-whole}
@@ -32,25 +32,7 @@ never-files refusal number (text ∷ more) never (inr h) = never-files refusal (
 pub files-refuse : (refusal : Refusal) (texts : CollectTexts) → IsSpelled texts.program → RefusesFiles 1 texts.files refusal → RefusesTexts refusal texts
 files-refuse (BadReport file line) texts spelled h = (spelled, h)
 files-refuse (BadCollection file line) texts spelled h = (spelled, h)
-files-refuse (BadByte line) texts spelled h = absurd (never-files (BadByte line) 1 texts.files (λ n text no. no) h)
-files-refuse (BadToken line) texts spelled h = absurd (never-files (BadToken line) 1 texts.files (λ n text no. no) h)
-files-refuse (Syntax line) texts spelled h = absurd (never-files (Syntax line) 1 texts.files (λ n text no. no) h)
-files-refuse (BadType kind line) texts spelled h = absurd (never-files (BadType kind line) 1 texts.files (λ n text no. no) h)
-files-refuse TooLarge texts spelled h = absurd (never-files TooLarge 1 texts.files (λ n text no. no) h)
-files-refuse TooManySites texts spelled h = absurd (never-files TooManySites 1 texts.files (λ n text no. no) h)
-files-refuse (BadProgram line) texts spelled h = absurd (never-files (BadProgram line) 1 texts.files (λ n text no. no) h)
-files-refuse (BadBank line) texts spelled h = absurd (never-files (BadBank line) 1 texts.files (λ n text no. no) h)
-files-refuse (Foreign ours theirs) texts spelled h = absurd (never-files (Foreign ours theirs) 1 texts.files (λ n text no. no) h)
-files-refuse (Conflict run) texts spelled h = absurd (never-files (Conflict run) 1 texts.files (λ n text no. no) h)
-files-refuse (TooManyReports run) texts spelled h = absurd (never-files (TooManyReports run) 1 texts.files (λ n text no. no) h)
-files-refuse (TooManyMarks run) texts spelled h = absurd (never-files (TooManyMarks run) 1 texts.files (λ n text no. no) h)
-files-refuse InputTooLarge texts spelled h = absurd (never-files InputTooLarge 1 texts.files (λ n text no. no) h)
-files-refuse (NoSite run site) texts spelled h = absurd (never-files (NoSite run site) 1 texts.files (λ n text no. no) h)
-files-refuse (BadEdits line) texts spelled h = absurd (never-files (BadEdits line) 1 texts.files (λ n text no. no) h)
-files-refuse (Absent run) texts spelled h = absurd (never-files (Absent run) 1 texts.files (λ n text no. no) h)
-files-refuse NotPart texts spelled h = absurd (never-files NotPart 1 texts.files (λ n text no. no) h)
-files-refuse (BadList file line) texts spelled h = absurd (never-files (BadList file line) 1 texts.files (λ n text no. no) h)
-files-refuse (LargeInput line) texts spelled h = absurd (never-files (LargeInput line) 1 texts.files (λ n text no. no) h)
+files-refuse refusal texts spelled h = absurd (never-files refusal 1 texts.files (λ n text no. no) h)
 
 -- a collection that held nothing, and took all
 begun-is : (texts : CollectTexts) (parts : ProgramParts) (id : ProgramId) (sites : List Site) (begun : Collected) → begun ≡ record { program = id; branches = branches_of sites; reports = [] }

@@ -3,6 +3,7 @@ use Rattle.std.specs.Prelude.{nat_lt, is_err}
 use Rattle.std.specs.Option.{unwrap_or}
 use Rattle.std.proofs.Common.{◌≡◌, ◌⊎◌, ◌↔◌, inl, inr, ⊎_elim, ℕ, suc, ◌≤◌, Bool, true, false, cond, ◌==◌, List, [], ◌∷◌, ◌++◌, length, Ok, Err, Option, Some, None, is_some, refl, ap, sym, subst, ◌∙◌, arith}
 use Rattle.std.proofs.lemmas.Bool.{false≢true, eq-eqb}
+use Rattle.collector.proofs.Taking.{either}
 use Rattle.report_file.specs.declared.report.Report.{Report}
 use Rattle.collector.specs.declared.answers.Added.TheVariants.{New, Repeated}
 use Rattle.collector.specs.declared.answers.Merged.{Merged}
@@ -110,11 +111,6 @@ holds-bundle : (begun c after : Held) (bundle : Bundle) (m : Merged) (P : Report
 holds-bundle begun c after bundle m P h (OfAnother f) = absurd (false≢true (ap is_err f.result_is))
 holds-bundle begun c after bundle m P h (OfThis of adds) = holds-all begun c after bundle.reports 0 0 m P h adds
 
-member-of-either : (r : Report) (xs ys : List Report) → IsOneOfReports r (xs ++ ys) → IsOneOfReports r xs ⊎ IsOneOfReports r ys
-member-of-either r [] ys is = inr is
-member-of-either r (x ∷ xs) ys (inl same) = inl (inl same)
-member-of-either r (x ∷ xs) ys (inr is) = to-left (inr (member-of-either r xs ys is))
-
 member-of-both : (r : Report) (xs ys : List Report) → IsOneOfReports r xs ⊎ IsOneOfReports r ys → IsOneOfReports r (xs ++ ys)
 member-of-both r [] ys (inl is) = absurd is
 member-of-both r [] ys (inr is) = is
@@ -129,7 +125,7 @@ holds-bundles begun c after (bundle ∷ more) P h (m, next, merges, rest) =
     holds-as begun after (λ x. (P x ⊎ IsOneOfReports x bundle.reports) ⊎ IsOneOfReports x (reports_in more)) (λ x. P x ⊎ IsOneOfReports x (bundle.reports ++ reports_in more))
     (holds-bundles begun next after more (λ x. P x ⊎ IsOneOfReports x bundle.reports) (holds-bundle begun c next bundle m P h merges) rest)
     (λ x q. ⊎_elim (λ p. inl p) (λ is. inr (member-of-both x bundle.reports (reports_in more) is)) (to-right q))
-    (λ x q. to-left (⊎_elim (λ p. inl p) (λ is. inr (member-of-either x bundle.reports (reports_in more) is)) q))
+    (λ x q. to-left (⊎_elim (λ p. inl p) (λ is. inr (either x bundle.reports (reports_in more) is)) q))
 
 -- bundles that are taken where nothing was held
 pub record TakenWhole (begun after : Held) (reports : List Report) : Type 0 where

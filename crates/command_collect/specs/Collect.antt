@@ -2,8 +2,7 @@
 use Rattle.std.specs.Prelude.{◌≡◌, ◌⊎◌, ℕ, ◌+◌, ◌-◌, Bool, true, false, List, [], ◌∷◌, length, codes, MatchBool, nat_eq, Option, Some, Err, Ok}
 use Rattle.std.specs.List.{flat_map, starts_with}
 use Rattle.sha2.specs.Sha256.{sha256}
-use Rattle.cbi_base.specs.Lines.{IsBadLine}
-use Rattle.cbi_base.specs.Store.{Held, IsReadOf}
+use Rattle.cbi_base.specs.Words.{IsBadLine, Held, IsReadOf}
 use Rattle.cbi_base.specs.declared.refusal.Refusal.{Refusal}
 use Rattle.cbi_base.specs.declared.refusal.Refusal.TheVariants as refusal
 use Rattle.flow.specs.declared.program.ProgramParts.{ProgramParts}
@@ -27,7 +26,7 @@ use Rattle.command_base.specs.declared.done.Done.TheVariants.{Added}
 use Rattle.command_base.specs.Limits.{program_limit}
 use Rattle.command_inputs.specs.Programs.{IsNoProgram, IsSpelled}
 use Rattle.command_inputs.specs.Collections.{IsBadCollectionLine, fault_of, file_limit}
-use Rattle.command_collect.specs.declared.words.CollectWords.{CollectWords}
+use Rattle.cbi_options.specs.declared.words.CollectWords.{CollectWords}
 use Rattle.command_collect.specs.declared.reports.CollectTexts.{CollectTexts}
 
 -- the names that are read, in this order

@@ -4,6 +4,5 @@
 mod command;
 mod gather;
 mod reports;
-mod words;
 
-pub use words::CollectWords;
+pub use command::CollectCall;

@@ -7,9 +7,8 @@ ghost use Rattle.command_base.specs.Reading.{HasRead};
 ghost use Rattle.command_collect.specs.Collect.{AreBundles, AreCollectTexts, AreReadOf, AreSpelled, RefusesFile, RefusesFiles, SpellsFile, collect_names};
 ghost use Rattle.command_collect.specs.Collect.{is_collection};
 
-use crate::words::CollectWords;
 use cbi_base::{Memory, Refusal, Seq, Store};
-use cbi_options::Word;
+use cbi_options::{CollectWords, Word};
 use collector::Bundle;
 use command_base::{Fault, PROGRAM_LIMIT, read_file};
 use command_inputs::{FILE_LIMIT, load_collection};

@@ -4,8 +4,10 @@ use Rattle.std.specs.Prelude.{is_err}
 use Rattle.std.proofs.Common.{◌≡◌, ◌≢◌, ◌≤◌, ◌<◌, inl, inr, ℕ, ◌+◌, Bool, false, cond, ◌==◌, List, [], ◌∷◌, ◌++◌, length, Result, Ok, Err, Some, None, refl, ap, sym, subst, ◌∙◌, arith, append-nil, append_assoc}
 use Rattle.std.proofs.lemmas.Bool.{false≢true, le-ltb}
 use Rattle.std.proofs.lemmas.Bool.Decides.{nat_tests}
+use Rattle.collector.proofs.Taking.{err-is}
+use Rattle.base_lists.proofs.Options.{none_some}
+use Rattle.base_lists.proofs.Numbers.{other_number}
 use Rattle.cbi_base.specs.declared.identity.ProgramId.{ProgramId}
-use Rattle.cbi_base.proofs.NumberLemmas.{none-some}
 use Rattle.report_file.specs.declared.report.Report.{Report}
 use Rattle.collector.specs.declared.answers.Added.TheVariants.{New, Repeated}
 use Rattle.collector.specs.declared.answers.AddFault.{AddFault}
@@ -18,14 +20,6 @@ use Rattle.collector.specs.Merging.{AddsAll, AreOf, Merges, OfAnother, OfThis}
 use Rattle.collector.specs.Sites.{first_bad}
 use Rattle.collector.specs.Spelling.{IsText, RunsFrom}
 use Rattle.command_inputs.specs.Runs.{HaveSites, IsFirstBad}
-
--- one fault of an addition
-abbrev pub fault_or : AddFault → Result Merged AddFault → AddFault
-fault_or other (Ok m) = other
-fault_or other (Err f) = f
-
-pub err-same : (x y : AddFault) → ◌≡◌ {A = Result Merged AddFault} (Err x) (Err y) → x ≡ y
-err-same x y p = ap (fault_or x) p
 
 abbrev pub holding : ProgramId → List Bool → List Report → Held
 holding id branches reports = record { program = id; branches = branches; reports = reports }
@@ -43,19 +37,16 @@ below-last : (r : Report) (xs : List Report) → AreBelow r.run xs → AreBelow 
 below-last r [] below = (omega arith, tt)
 below-last r (x ∷ more) below = (omega (arith, below.0), below-last r more below.1)
 
-other-run : (m n : ℕ) → m ≢ n → (m == n) ≡ false
-other-run m n h = grind (arith, nat_tests)
-
 not-held : (run : ℕ) (xs : List Report) → AreBelow run xs → report_at run xs ≡ None
 not-held run [] below = refl
 not-held run (x ∷ more) below =
-    ap (λ b. cond b (Some x) (report_at run more)) (other-run run x.run (λ e. omega (arith, below.0, e))) ∙ not-held run more below.1
+    ap (λ b. cond b (Some x) (report_at run more)) (other_number run x.run (λ e. omega (arith, below.0, e))) ∙ not-held run more below.1
 
 with-last : (r : Report) (xs : List Report) → AreBelow r.run xs → with_report r xs ≡ xs ++ r ∷ []
 with-last r [] below = refl
 with-last r (x ∷ more) below =
     ap (λ b. cond b (r ∷ x ∷ more) (cond (r.run == x.run) (r ∷ more) (x ∷ with_report r more))) (le-ltb r.run x.run (omega (arith, below.0)))
-    ∙ ap (λ b. cond b (r ∷ more) (x ∷ with_report r more)) (other-run r.run x.run (λ e. omega (arith, below.0, e)))
+    ∙ ap (λ b. cond b (r ∷ more) (x ∷ with_report r more)) (other_number r.run x.run (λ e. omega (arith, below.0, e)))
     ∙ ap (λ rest. x ∷ rest) (with-last r more below.1)
 
 length-last : (r : Report) (xs : List Report) → length (xs ++ r ∷ []) ≡ length xs + 1
@@ -92,7 +83,7 @@ all-taken : (id : ProgramId) (branches : List Bool) (xs ys : List Report) (from 
     → (after ≡ holding id branches (xs ++ ys)) × HaveSites branches ys
 all-taken id branches xs [] from a p m after h adds = (adds.1 ∙ ap (holding id branches) (sym (append-nil xs)), tt)
 all-taken id branches xs (r ∷ more) from a p m after h (Err f, next, adds, rest) = absurd (false≢true (ap is_err rest.0))
-all-taken id branches xs (r ∷ more) from a p m after h (Ok Repeated, next, adds, rest) = absurd (none-some (sym (not-held r.run xs (below-next from xs more r h)) ∙ adds.1))
+all-taken id branches xs (r ∷ more) from a p m after h (Ok Repeated, next, adds, rest) = absurd (none_some (sym (not-held r.run xs (below-next from xs more r h)) ∙ adds.1))
 all-taken id branches xs (r ∷ more) from a p m after h (Ok New, next, adds, rest) =
     let next_is = held-next id branches from xs more r next h adds.4 in
     let later = all-taken id branches (xs ++ r ∷ []) more (r.run + 1) (a + 1) p m after (room-next from xs more r h) (subst (λ c. AddsAll c more (a + 1) p (Ok m) after) next_is rest) in
@@ -105,19 +96,16 @@ TellsOf branches reports Memory = Unit {0}
 TellsOf branches reports _ = ⊥
 
 tells-later : (branches : List Bool) (r : Report) (more : List Report) (f : AddFault) → first_bad branches r.entries ≡ None → TellsOf branches more f → TellsOf branches (r ∷ more) f
-tells-later branches r more (Foreign ours theirs) none h = h
 tells-later branches r more (NoSite run site) none h = inr (none, h)
-tells-later branches r more (Conflict run) none h = h
-tells-later branches r more (TooManyReports run) none h = h
-tells-later branches r more (TooManyMarks run) none h = h
 tells-later branches r more Memory none h = tt
+tells-later branches r more f none h = h
 
 one-stops : (id : ProgramId) (branches : List Bool) (xs more : List Report) (r : Report) (from : ℕ) (f : AddFault) (next : Held) → IsRoom from xs (r ∷ more) → r.program ≡ id → Adds (holding id branches xs) r (Err f) next
     → TellsOf branches (r ∷ more) f
 one-stops id branches xs more r from (Foreign ours theirs) next h same adds = absurd (adds.2 (adds.0 ∙ sym same ∙ sym adds.1))
 one-stops id branches xs more r from (NoSite run site) next h same adds = inl (adds.1, adds.2)
 one-stops id branches xs more r from (Conflict run) next h same adds =
-    absurd (none-some (sym (not-held r.run xs (below-next from xs more r h)) ∙ subst (λ k. report_at k xs ≡ Some adds.2.0) adds.1 adds.2.1))
+    absurd (none_some (sym (not-held r.run xs (below-next from xs more r h)) ∙ subst (λ k. report_at k xs ≡ Some adds.2.0) adds.1 adds.2.1))
 one-stops id branches xs more r from (TooManyReports run) next h same adds = absurd (omega (arith, adds.3, h.few))
 one-stops id branches xs more r from (TooManyMarks run) next h same adds = absurd (omega (arith, adds.4, h.few_marks))
 one-stops id branches xs more r from Memory next h same adds = tt
@@ -126,9 +114,9 @@ one-stops id branches xs more r from Memory next h same adds = tt
 all-stop : (bundle : Bundle) (id : ProgramId) (branches : List Bool) (xs ys : List Report) (from a p : ℕ) (f : AddFault) (after : Held) → bundle.program ≡ id → AreOf bundle ys → IsRoom from xs ys
     → AddsAll (holding id branches xs) ys a p (Err f) after → TellsOf branches ys f
 all-stop bundle id branches xs [] from a p f after same are h adds = absurd (false≢true (sym (ap is_err adds.0)))
-all-stop bundle id branches xs (r ∷ more) from a p f after same are h (Ok Repeated, next, adds, rest) = absurd (none-some (sym (not-held r.run xs (below-next from xs more r h)) ∙ adds.1))
+all-stop bundle id branches xs (r ∷ more) from a p f after same are h (Ok Repeated, next, adds, rest) = absurd (none_some (sym (not-held r.run xs (below-next from xs more r h)) ∙ adds.1))
 all-stop bundle id branches xs (r ∷ more) from a p f after same are h (Err g, next, adds, rest) =
-    subst (TellsOf branches (r ∷ more)) (sym (err-same f g rest.0)) (one-stops id branches xs more r from g next h (are.0 ∙ same) adds)
+    subst (TellsOf branches (r ∷ more)) (sym (err-is f g rest.0)) (one-stops id branches xs more r from g next h (are.0 ∙ same) adds)
 all-stop bundle id branches xs (r ∷ more) from a p f after same are h (Ok New, next, adds, rest) =
     let next_is = held-next id branches from xs more r next h adds.4 in
     tells-later branches r more f adds.0.sites
@@ -159,13 +147,11 @@ TellsOfBundle id branches bundle _ = ⊥
 of-this : (id : ProgramId) (branches : List Bool) (bundle : Bundle) (f : AddFault) → bundle.program ≡ id → TellsOf branches bundle.reports f → TellsOfBundle id branches bundle f
 of-this id branches bundle (Foreign ours theirs) same h = absurd h
 of-this id branches bundle (NoSite run site) same h = (same, h)
-of-this id branches bundle (Conflict run) same h = h
-of-this id branches bundle (TooManyReports run) same h = h
-of-this id branches bundle (TooManyMarks run) same h = h
 of-this id branches bundle Memory same h = tt
+of-this id branches bundle f same h = h
 
 pub merge-stops : (id : ProgramId) (branches : List Bool) (bundle : Bundle) (f : AddFault) (after : Held) → IsText bundle → Merges (holding id branches []) bundle (Err f) after → TellsOfBundle id branches bundle f
 merge-stops id branches bundle f after is (OfAnother other) =
-    subst (TellsOfBundle id branches bundle) (sym (err-same f (Foreign id bundle.program) other.result_is)) (refl, (refl, other.other))
+    subst (TellsOfBundle id branches bundle) (sym (err-is f (Foreign id bundle.program) other.result_is)) (refl, (refl, other.other))
 merge-stops id branches bundle f after is (OfThis same adds) =
     of-this id branches bundle f same (all-stop bundle id branches [] bundle.reports 0 0 0 f after same is.ours (room-first bundle is) adds)

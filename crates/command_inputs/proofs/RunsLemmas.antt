@@ -1,11 +1,11 @@
 -- What is refused of the texts of a program and of a collection, and what is loaded of them.
 use Rattle.std.proofs.Common.{◌≡◌, refl, inl, inr, ⊎_elim, ℕ, Bool, List, [], ◌∷◌, Option, Some, IsSome, Ok, Err, ap, sym, subst, ◌∙◌}
+use Rattle.base_lists.proofs.Options.{none_some, some_is}
 use Rattle.sha2.specs.Sha256.{sha256}
 use Rattle.cbi_base.specs.Store.{Held}
 use Rattle.cbi_base.specs.declared.identity.ProgramId.{ProgramId}
 use Rattle.cbi_base.specs.declared.refusal.Refusal.{Refusal}
 use Rattle.cbi_base.specs.declared.refusal.Refusal.TheVariants.{BadByte, BadToken, Syntax, BadType, TooLarge, TooManySites, BadProgram, BadBank, BadReport, Foreign, Conflict, TooManyReports, TooManyMarks, BadCollection, InputTooLarge, NoSite, BadEdits, Absent, NotPart, BadList, LargeInput}
-use Rattle.cbi_base.proofs.NumberLemmas.{none-some, some-is}
 use Rattle.flow.specs.declared.program.ProgramParts.{ProgramParts}
 use Rattle.flow.specs.declared.site.Site.{Site}
 use Rattle.flow.specs.Spelling.{SpellsProgram}
@@ -45,7 +45,7 @@ bad-collection texts parts refusal spells h =
 -- reports of which one has a site that isn't there
 first-bad : (branches : List Bool) (reports : List Report) (run site : ℕ) → IsFirstBad branches reports run site → HaveSites branches reports → ⊥
 first-bad branches [] run site bad have = bad
-first-bad branches (r ∷ more) run site (inl bad) have = none-some (sym have.0 ∙ bad.1)
+first-bad branches (r ∷ more) run site (inl bad) have = none_some (sym have.0 ∙ bad.1)
 first-bad branches (r ∷ more) run site (inr bad) have = first-bad branches more run site bad.1 have.1
 
 -- a refusal that is told is one of the texts
@@ -56,52 +56,21 @@ refuses-runs (Foreign ours theirs) texts h =
     inr (inr (record { parts = h.parts; bundle = h.bundle; spell = h.spell; wrong = inl (λ same. h.other (h.theirs_is ∙ same ∙ sym h.ours_is)) }))
 refuses-runs (NoSite run site) texts h =
     inr (inr (record { parts = h.parts; bundle = h.bundle; spell = h.spell; wrong = inr (λ have. first-bad _ _ run site h.first have) }))
-refuses-runs (BadByte line) texts h = absurd h
-refuses-runs (BadToken line) texts h = absurd h
-refuses-runs (Syntax line) texts h = absurd h
-refuses-runs (BadType kind line) texts h = absurd h
-refuses-runs TooLarge texts h = absurd h
-refuses-runs TooManySites texts h = absurd h
-refuses-runs (BadBank line) texts h = absurd h
-refuses-runs (BadReport file line) texts h = absurd h
-refuses-runs (Conflict run) texts h = absurd h
-refuses-runs (TooManyReports run) texts h = absurd h
-refuses-runs (TooManyMarks run) texts h = absurd h
-refuses-runs InputTooLarge texts h = absurd h
-refuses-runs (BadEdits line) texts h = absurd h
-refuses-runs (Absent run) texts h = absurd h
-refuses-runs NotPart texts h = absurd h
-refuses-runs (BadList file line) texts h = absurd h
-refuses-runs (LargeInput line) texts h = absurd h
+refuses-runs refusal texts h = absurd h
 
 -- what the fault of an addition tells is the refusal of the texts
 pub told-of-texts : (texts : RunsTexts) (parts : ProgramParts) (bundle : Bundle) (id : ProgramId) (f : AddFault) (refusal : Refusal) → SpellBoth texts parts bundle → id ≡ record { bytes = sha256 texts.program }
     → TellsOfBundle id (branches_of parts.sites) bundle f → fault_of refusal ≡ Some f → RefusesRuns refusal texts
 told-of-texts texts parts bundle id f (Foreign ours theirs) spell id_is told is =
-    let h = subst (TellsOfBundle id (branches_of parts.sites) bundle) (sym (some-is is)) told in
+    let h = subst (TellsOfBundle id (branches_of parts.sites) bundle) (sym (some_is is)) told in
     record { parts = parts; bundle = bundle; spell = spell; ours_is = h.0 ∙ id_is; theirs_is = h.1.0; other = h.1.1 }
 told-of-texts texts parts bundle id f (NoSite run site) spell id_is told is =
-    let h = subst (TellsOfBundle id (branches_of parts.sites) bundle) (sym (some-is is)) told in
+    let h = subst (TellsOfBundle id (branches_of parts.sites) bundle) (sym (some_is is)) told in
     record { parts = parts; bundle = bundle; spell = spell; of_program = h.0 ∙ id_is; first = h.1 }
-told-of-texts texts parts bundle id f (Conflict run) spell id_is told is = absurd (subst (TellsOfBundle id (branches_of parts.sites) bundle) (sym (some-is is)) told)
-told-of-texts texts parts bundle id f (TooManyReports run) spell id_is told is = absurd (subst (TellsOfBundle id (branches_of parts.sites) bundle) (sym (some-is is)) told)
-told-of-texts texts parts bundle id f (TooManyMarks run) spell id_is told is = absurd (subst (TellsOfBundle id (branches_of parts.sites) bundle) (sym (some-is is)) told)
-told-of-texts texts parts bundle id f (BadByte line) spell id_is told is = absurd (none-some is)
-told-of-texts texts parts bundle id f (BadToken line) spell id_is told is = absurd (none-some is)
-told-of-texts texts parts bundle id f (Syntax line) spell id_is told is = absurd (none-some is)
-told-of-texts texts parts bundle id f (BadType kind line) spell id_is told is = absurd (none-some is)
-told-of-texts texts parts bundle id f TooLarge spell id_is told is = absurd (none-some is)
-told-of-texts texts parts bundle id f TooManySites spell id_is told is = absurd (none-some is)
-told-of-texts texts parts bundle id f (BadProgram line) spell id_is told is = absurd (none-some is)
-told-of-texts texts parts bundle id f (BadBank line) spell id_is told is = absurd (none-some is)
-told-of-texts texts parts bundle id f (BadReport file line) spell id_is told is = absurd (none-some is)
-told-of-texts texts parts bundle id f (BadCollection file line) spell id_is told is = absurd (none-some is)
-told-of-texts texts parts bundle id f InputTooLarge spell id_is told is = absurd (none-some is)
-told-of-texts texts parts bundle id f (BadEdits line) spell id_is told is = absurd (none-some is)
-told-of-texts texts parts bundle id f (Absent run) spell id_is told is = absurd (none-some is)
-told-of-texts texts parts bundle id f NotPart spell id_is told is = absurd (none-some is)
-told-of-texts texts parts bundle id f (BadList file line) spell id_is told is = absurd (none-some is)
-told-of-texts texts parts bundle id f (LargeInput line) spell id_is told is = absurd (none-some is)
+told-of-texts texts parts bundle id f (Conflict run) spell id_is told is = absurd (subst (TellsOfBundle id (branches_of parts.sites) bundle) (sym (some_is is)) told)
+told-of-texts texts parts bundle id f (TooManyReports run) spell id_is told is = absurd (subst (TellsOfBundle id (branches_of parts.sites) bundle) (sym (some_is is)) told)
+told-of-texts texts parts bundle id f (TooManyMarks run) spell id_is told is = absurd (subst (TellsOfBundle id (branches_of parts.sites) bundle) (sym (some_is is)) told)
+told-of-texts texts parts bundle id f refusal spell id_is told is = absurd (none_some is)
 
 -- a collection that held nothing of the program, and what it comes to by the bundle
 begun-is : (parts : ProgramParts) (id : ProgramId) (sites : List Site) (begun : Collected) → begun ≡ record { program = id; branches = branches_of sites; reports = [] } → sites ≡ parts.sites

@@ -12,7 +12,7 @@ use Rattle.compound.specs.Found.{IsFound}
 use Rattle.compound.specs.Text.{pairs_text}
 use Rattle.command_inputs.specs.Runs.{AreRunsTexts, RunsRefused, RunsRefusedBy, SpellRuns, runs_names}
 use Rattle.command_inputs.specs.declared.runs.RunsTexts.{RunsTexts}
-use Rattle.command_pairs.specs.declared.words.PairsWords.{PairsWords}
+use Rattle.cbi_options.specs.declared.words.PairsWords.{PairsWords}
 
 -- the names that are read, in this order
 abbrev pub pairs_names : PairsWords → List (List ℕ)

@@ -2,6 +2,5 @@
 #![tactic(auto)]
 
 mod command;
-mod words;
 
-pub use words::PairsWords;
+pub use command::PairsCall;

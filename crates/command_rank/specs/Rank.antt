@@ -9,7 +9,7 @@ use Rattle.elimination_tallies.specs.Recount.{runs_of}
 use Rattle.ranking.specs.Ranked.{IsRankingOf}
 use Rattle.command_inputs.specs.Runs.{AreRunsTexts, RunsRefused, RunsRefusedBy, SpellRuns, runs_names}
 use Rattle.command_inputs.specs.declared.runs.RunsTexts.{RunsTexts}
-use Rattle.command_rank.specs.declared.words.RankWords.{RankWords}
+use Rattle.cbi_options.specs.declared.words.RankWords.{RankWords}
 
 -- the names that are read, in this order
 abbrev pub rank_names : RankWords → List (List ℕ)

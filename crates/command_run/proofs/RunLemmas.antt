@@ -1,15 +1,12 @@
 -- What is refused of the files of a run, and what a run leaves.
 use Rattle.std.proofs.Common.{◌≡◌, ◌≤◌, ◌<◌, ◌⊎◌, inl, inr, ℕ, List, [], length, Option, Some, None, IsSome, sym, subst, ◌∙◌, arith}
 use Rattle.cbi_base.specs.declared.observation.Observation.{Observation}
-use Rattle.cbi_base.specs.Store.{Held}
+use Rattle.cbi_base.specs.Words.{Held, Takes}
 use Rattle.cbi_base.specs.declared.refusal.Refusal.{Refusal}
 use Rattle.cbi_base.specs.declared.refusal.Refusal.TheVariants.{BadByte, BadToken, Syntax, BadType, TooLarge, TooManySites, BadProgram, BadBank, BadReport, Foreign, Conflict, TooManyReports, TooManyMarks, BadCollection, InputTooLarge, NoSite, BadEdits, Absent, NotPart, BadList, LargeInput}
-use Rattle.cbi_base.specs.Sink.{Takes}
 use Rattle.flow.specs.declared.program.ProgramParts.{ProgramParts}
 use Rattle.flow.specs.declared.result.RunResult.{RunResult}
-use Rattle.flow.specs.Code.{code_of}
-use Rattle.flow.specs.Machine.{MachineEnds, begin}
-use Rattle.flow.specs.Spelling.{SpellsProgram}
+use Rattle.flow.specs.Words.{code_of, MachineEnds, begin, SpellsProgram}
 use Rattle.probes.specs.Told.{AllGrewByPrefix}
 use Rattle.countdown_bank.specs.Bank.{BankState, number_after}
 use Rattle.machine.specs.Going.{HasRun, IsWanting}
@@ -19,7 +16,7 @@ use Rattle.command_base.specs.Limits.{program_limit}
 use Rattle.command_base.specs.Outside.{Outside}
 use Rattle.command_base.proofs.ReadLemmas.{read-once}
 use Rattle.command_inputs.specs.Programs.{IsBadProgram, IsNoProgram}
-use Rattle.command_run.specs.declared.words.RunWords.{RunWords}
+use Rattle.cbi_options.specs.declared.words.RunWords.{RunWords}
 use Rattle.command_run.specs.declared.files.RunFiles.{RunFiles}
 use Rattle.command_run.specs.Files.{AreFiles, IsReadOr, bank_limit, input_limit, text_of_one}
 use Rattle.command_run.specs.Run.{AreLoaded, AreRefused, RefusesBytes, BrokeOff, IsBankOf, IsNoBank, PublishesPart, Ran, Reports, RunRefused, StoppedWithin, report_of}
@@ -110,24 +107,7 @@ refuses-bytes : (refusal : Refusal) (files : RunFiles) → RefusesBytes refusal 
 refuses-bytes (BadProgram line) files h = inl h.0
 refuses-bytes (BadBank line) files h = inr (inl h.1.0)
 refuses-bytes InputTooLarge files h = inr (inr h.1.1)
-refuses-bytes (BadByte line) files h = absurd h
-refuses-bytes (BadToken line) files h = absurd h
-refuses-bytes (Syntax line) files h = absurd h
-refuses-bytes (BadType kind line) files h = absurd h
-refuses-bytes TooLarge files h = absurd h
-refuses-bytes TooManySites files h = absurd h
-refuses-bytes (BadReport file line) files h = absurd h
-refuses-bytes (Foreign ours theirs) files h = absurd h
-refuses-bytes (Conflict run) files h = absurd h
-refuses-bytes (TooManyReports file) files h = absurd h
-refuses-bytes (TooManyMarks file) files h = absurd h
-refuses-bytes (BadCollection file line) files h = absurd h
-refuses-bytes (NoSite run site) files h = absurd h
-refuses-bytes (BadEdits line) files h = absurd h
-refuses-bytes (Absent place) files h = absurd h
-refuses-bytes NotPart files h = absurd h
-refuses-bytes (BadList file line) files h = absurd h
-refuses-bytes (LargeInput line) files h = absurd h
+refuses-bytes refusal files h = absurd h
 
 pub run-refused : (words : RunWords) (held : Option Held) (files : RunFiles) (refusal : Refusal) → AreFiles held words files → RefusesBytes refusal files → RunRefused words held
 run-refused words held files refusal are h = record { files = files; are_files = are; refused = refuses-bytes refusal files h }

@@ -4,7 +4,7 @@ use Rattle.std.specs.Option.{option_to_list}
 use Rattle.cbi_base.specs.Store.{Held, IsReadOf}
 use Rattle.command_base.specs.Limits.{program_limit}
 use Rattle.expected.specs.Expected.{expect_limit}
-use Rattle.command_run.specs.declared.words.RunWords.{RunWords}
+use Rattle.cbi_options.specs.declared.words.RunWords.{RunWords}
 use Rattle.command_run.specs.declared.files.RunFiles.{RunFiles}
 
 -- the most bytes that are read of a bank, and of an input

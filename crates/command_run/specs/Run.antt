@@ -3,17 +3,12 @@
 use Rattle.std.specs.Prelude.{◌≡◌, ◌≤◌, ◌<◌, ◌⊎◌, ℕ, List, length, Option, Some, None}
 use Rattle.sha2.specs.Sha256.{sha256}
 use Rattle.cbi_base.specs.declared.observation.Observation.{Observation}
-use Rattle.cbi_base.specs.Store.{Held, Replaces, MayReplace}
-use Rattle.cbi_base.specs.Sink.{Takes, TakesPrefix}
+use Rattle.cbi_base.specs.Words.{Held, Replaces, MayReplace, Takes, TakesPrefix}
 use Rattle.cbi_base.specs.declared.refusal.Refusal.{Refusal}
 use Rattle.cbi_base.specs.declared.refusal.Refusal.TheVariants.{BadProgram, BadBank, InputTooLarge}
 use Rattle.flow.specs.declared.program.ProgramParts.{ProgramParts}
 use Rattle.flow.specs.declared.result.RunResult.{RunResult}
-use Rattle.flow.specs.Code.{code_of}
-use Rattle.flow.specs.Counting.{run_result}
-use Rattle.flow.specs.Machine.{MachineEnds, begin}
-use Rattle.flow.specs.State.{Ending}
-use Rattle.flow.specs.Spelling.{SpellsProgram}
+use Rattle.flow.specs.Words.{code_of, run_result, MachineEnds, begin, Ending, SpellsProgram}
 use Rattle.probes.specs.Told.{AllGrew, AllGrewByPrefix}
 use Rattle.countdown_bank.specs.Bank.{BankState, AreNumbers, number_after}
 use Rattle.countdown_bank.specs.BankFile.{bank_text, IsBadBankLine}
@@ -27,7 +22,7 @@ use Rattle.command_base.specs.declared.fault.Fault.{Fault}
 use Rattle.command_base.specs.Faults.{LeftBy}
 use Rattle.command_base.specs.Outside.{IsUnmoved, Outside}
 use Rattle.command_inputs.specs.Programs.{IsNoProgram, IsSpelled}
-use Rattle.command_run.specs.declared.words.RunWords.{RunWords}
+use Rattle.cbi_options.specs.declared.words.RunWords.{RunWords}
 use Rattle.command_run.specs.declared.files.RunFiles.{RunFiles}
 use Rattle.command_run.specs.Files.{AreFiles, input_limit}
 pub use Rattle.expected.specs.Expected.{agrees}

@@ -9,8 +9,8 @@ ghost use Rattle.command_run.specs.Run.{LeftByRun, Ran, RunRefused, RunRefusedBy
 
 use crate::files::{look, read_files};
 use crate::publish::publish;
-use crate::words::RunWords;
 use cbi_base::{Memory, Sink, Store};
+use cbi_options::RunWords;
 use command_base::{Done, Fault};
 use machine::run;
 use probes::Probe;

@@ -6,9 +6,8 @@ ghost use Rattle.command_base.specs.Reading.{HasRead};
 ghost use Rattle.command_run.specs.Files.{AreFiles, IsReadOr, IsReadWhere, run_names};
 ghost use Rattle.command_run.specs.Run.{IsBankOf, AreRefused, RefusesBytes};
 
-use crate::words::RunWords;
 use cbi_base::{Refusal, Seq, Store};
-use cbi_options::Word;
+use cbi_options::{RunWords, Word};
 use command_base::{Fault, PROGRAM_LIMIT, read_file};
 use command_inputs::load_program;
 use countdown_bank::{Bank, BankError, read_bank};

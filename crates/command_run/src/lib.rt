@@ -4,8 +4,6 @@
 mod command;
 mod files;
 mod publish;
-mod words;
 
 pub use command::run_file;
 pub use files::{INPUT_LIMIT, read_where};
-pub use words::RunWords;

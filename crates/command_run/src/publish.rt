@@ -1,6 +1,5 @@
 ghost use Rattle.std.specs.Prelude.{◌≡◌, ◌≤◌, length, IfOk, OnOk, OnErr, IfErr, IsNone};
-ghost use Rattle.cbi_base.specs.Faults.{Rose};
-ghost use Rattle.cbi_base.specs.Sink.{Takes};
+ghost use Rattle.cbi_base.specs.Words.{Rose, Takes};
 ghost use Rattle.machine.specs.Going.{IsBounded};
 ghost use Rattle.report_file.specs.Report.{IsReport, IsSummary};
 ghost use Rattle.report_file.specs.Spelling.{report_text};
@@ -9,8 +8,8 @@ ghost use Rattle.command_base.specs.Outside.{AllStayBut};
 ghost use Rattle.command_run.specs.Run.{PublishesPart, Reports, report_of};
 
 use crate::files::RunFiles;
-use crate::words::RunWords;
 use cbi_base::{Memory, Seq, Sink, Store};
+use cbi_options::RunWords;
 use command_base::{Fault, put, write_file};
 use expected::agrees;
 use flow::RunResult;

@@ -6,7 +6,7 @@ use Rattle.command_runs.specs.Line.{AreAsMany}
 use Rattle.command_runs.specs.Lists.{AreBadLists, AreBadTexts, IsNoListWhere, SpellLists, SpellPlan, SpellsWhere, lines_plan}
 use Rattle.command_runs.specs.declared.plan.ListedPlan.{ListedPlan}
 use Rattle.command_runs.specs.declared.texts.ListTexts.{ListTexts}
-use Rattle.command_runs.specs.declared.words.RunsWords.{RunsWords}
+use Rattle.cbi_options.specs.declared.words.RunsWords.{RunsWords}
 
 abbrev pub OneList : Type 0
 OneList = (first other : ℕ) (text : List ℕ) (a b : List (List ℕ)) → SpellsList first text a → SpellsList other text b → a ≡ b

@@ -1,8 +1,8 @@
 -- What the lists of a call make of it: its plan, its names, what is refused, and what is left.
 use Rattle.std.proofs.Common.{◌≡◌, ◌≤◌, inl, inr, ℕ, List, [], ◌∷◌, length, Option, Some, None, Err, IsSome, ap, sym, subst, refl, ◌∙◌, arith}
+use Rattle.planned_runs.proofs.Going.{rose-before}
 use Rattle.cbi_base.specs.declared.refusal.Refusal.{Refusal}
-use Rattle.cbi_base.specs.Faults.{Rose}
-use Rattle.cbi_base.specs.Store.{Held}
+use Rattle.cbi_base.specs.Words.{Rose, Held}
 use Rattle.flow.specs.declared.program.ProgramParts.{ProgramParts}
 use Rattle.planned_runs.specs.Left.{PlanRefusedBy}
 use Rattle.planned_runs.specs.Runs.{names_from}
@@ -18,7 +18,7 @@ use Rattle.command_runs.specs.Once.{read-where-once}
 use Rattle.command_runs.specs.Runs.{AreRefusedFirst, AreRunsHeld, GivesPlan, IsRefusedLater, IsRunsMissing, IsRunsName, ListedRefused, ListedRefusedBy, names_of_lines}
 use Rattle.command_runs.specs.declared.plan.ListedPlan.{ListedPlan}
 use Rattle.command_runs.specs.declared.texts.ListTexts.{ListTexts}
-use Rattle.command_runs.specs.declared.words.RunsWords.{RunsWords}
+use Rattle.cbi_options.specs.declared.words.RunsWords.{RunsWords}
 
 abbrev texts_with : List ℕ → List ℕ → Option (List ℕ) → ListTexts
 texts_with program inputs expect = record { program = program; inputs = inputs; expect = expect }
@@ -105,10 +105,6 @@ by-plan r held now texts parts plan count refusal tells are only same counted l 
 pub bad-same : (r : RunsWords) (held : Option Held) (texts : ListTexts) → IsSome held → AreListTexts held r texts → AreRefusedFirst r held → AreBadTexts r texts
 bad-same r held texts tells are refused = subst (AreBadTexts r) (texts-once held r refused.texts texts tells refused.are_texts are) refused.bad
 
--- a count that rose after it had risen has risen
-pub rose-since : (before then now : ℕ) → before ≤ then → Rose then now → Rose before now
-rose-since before then now never rose = omega (arith, never, rose)
-
 -- what a fault of the runs is to the call
 pub fault-of-runs : (e : Fault) (r : RunsWords) (held now : Option Held) (texts : ListTexts) (parts : ProgramParts) (plan : ListedPlan) (count before then after : ℕ) (write : Type 0)
     → IsLinesPlan held r texts parts plan → now ≡ held → count ≡ length plan.inputs → before ≤ then
@@ -116,7 +112,7 @@ pub fault-of-runs : (e : Fault) (r : RunsWords) (held now : Option Held) (texts 
     (PlanRefusedBy parts (IsMadeOn plan now) plan.first count r.turns (RefusesLine plan now))
     → Caused e (λ name. IsRunsName r held name × Rose before after) write (ListedRefusedBy r held)
 fault-of-runs (Read name) r held now texts parts plan count before then after write is_plan same counted never h =
-    (line-name r held texts parts plan count name is_plan counted h.0, rose-since before then after never h.1)
+    (line-name r held texts parts plan count name is_plan counted h.0, rose-before before then after never h.1)
 fault-of-runs Write r held now texts parts plan count before then after write is_plan same counted never h = absurd h
 fault-of-runs (Refused refusal) r held now texts parts plan count before then after write is_plan same counted never h = inr (later r held now texts parts plan count refusal is_plan same counted h)
 fault-of-runs Memory r held now texts parts plan count before then after write is_plan same counted never h = tt
@@ -146,24 +142,18 @@ refuses-bad r texts refusal (inr (p, inr (inl (q, h)))) = inr (inr (inl (bad-whe
 refuses-bad r texts refusal (inr (p, inr (inr h))) = inr (inr (inr (record { inputs = h.inputs; expects = h.expects; spell = h.spell; unequal = uneven-unequal h.inputs h.expects refusal h.uneven })))
 
 pub first-refused : (e : Fault) (r : RunsWords) (held : Option Held) (texts : ListTexts) → AreListTexts held r texts → Caused e (λ name. ⊥) ⊥ (RefusesFirst r texts) → OfRefusal e (ListedRefused r held)
-first-refused (Read name) r held texts are h = tt
-first-refused Write r held texts are h = tt
 first-refused (Refused refusal) r held texts are h = inl (record { texts = texts; are_texts = are; bad = refuses-bad r texts refusal h })
-first-refused Memory r held texts are h = tt
+first-refused e r held texts are h = tt
 
 -- a fault that no write met comes before a refusal, or is one
 pub precedes-of : (e : Fault) (read : List ℕ → Type 0) (refused : Refusal → Type 0) → Caused e read ⊥ refused → Precedes e
-precedes-of (Read name) read refused h = tt
 precedes-of Write read refused h = h
-precedes-of (Refused refusal) read refused h = tt
-precedes-of Memory read refused h = tt
+precedes-of e read refused h = tt
 
 -- what is so when all was read is so after a fault of out
 pub finished-as : (A : Type 0) (e : Fault) (P : Type 0) → P → Finished {A = A} (Err e) P
-finished-as A (Read name) P h = tt
 finished-as A Write P h = h
-finished-as A (Refused refusal) P h = tt
-finished-as A Memory P h = tt
+finished-as A e P h = tt
 
 module _ (r : RunsWords) (held now : Option Held) (texts : ListTexts) (parts : ProgramParts) (plan : ListedPlan) (count : ℕ) (is_plan : IsLinesPlan held r texts parts plan) (same : now ≡ held)
     (counted : count ≡ length plan.inputs) where

@@ -3,8 +3,7 @@ use Rattle.std.proofs.Common.{◌≡◌, inl, inr, ℕ, Bool, List, length, Opti
 use Rattle.sha2.specs.Sha256.{sha256}
 use Rattle.cbi_base.specs.declared.identity.ProgramId.{ProgramId}
 use Rattle.cbi_base.specs.declared.observation.Observation.{Observation}
-use Rattle.cbi_base.specs.Sink.{Takes, TakesPrefix}
-use Rattle.cbi_base.specs.Store.{Held}
+use Rattle.cbi_base.specs.Words.{Takes, TakesPrefix, Held}
 use Rattle.collector.specs.declared.collection.Held.{Held as Collected}
 use Rattle.collector.specs.Collecting.{IsCollection}
 use Rattle.collector.specs.Spelling.{collection_text}
@@ -26,7 +25,7 @@ use Rattle.command_runs.specs.Lists.{AreListTexts, IsLinesPlan, RefusesFirst}
 use Rattle.command_runs.specs.Runs.{AreListedRuns, HaveAllRun, LeftByRuns, RunsDone, RunsStopped, RunsTaken, runs_collection, said_of}
 use Rattle.command_runs.specs.declared.plan.ListedPlan.{ListedPlan}
 use Rattle.command_runs.specs.declared.texts.ListTexts.{ListTexts}
-use Rattle.command_runs.specs.declared.words.RunsWords.{RunsWords}
+use Rattle.cbi_options.specs.declared.words.RunsWords.{RunsWords}
 
 abbrev collected : ProgramId → List Bool → List Report → Collected
 collected program branches reports = record { program = program; branches = branches; reports = reports }

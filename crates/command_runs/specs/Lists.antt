@@ -2,8 +2,7 @@
 use Rattle.std.specs.Prelude.{◌≡◌, ◌⊎◌, ◌+◌, ◌<◌, ℕ, List, ◌∷◌, length, Option, Some, None}
 use Rattle.std.specs.Global.{Global}
 use Rattle.std.specs.Option.{option_to_list}
-use Rattle.cbi_base.specs.Lines.{IsBadLine}
-use Rattle.cbi_base.specs.Store.{Held, IsReadOf}
+use Rattle.cbi_base.specs.Words.{IsBadLine, Held, IsReadOf}
 use Rattle.cbi_base.specs.declared.refusal.Refusal.{Refusal}
 use Rattle.cbi_base.specs.declared.refusal.Refusal.TheVariants.{BadList}
 use Rattle.flow.specs.declared.program.ProgramParts.{ProgramParts}
@@ -16,7 +15,7 @@ use Rattle.command_run.specs.Files.{IsReadWhere}
 use Rattle.command_runs.specs.Line.{AreAsMany}
 use Rattle.command_runs.specs.declared.plan.ListedPlan.{ListedPlan}
 use Rattle.command_runs.specs.declared.texts.ListTexts.{ListTexts}
-use Rattle.command_runs.specs.declared.words.RunsWords.{RunsWords}
+use Rattle.cbi_options.specs.declared.words.RunsWords.{RunsWords}
 
 -- the most bytes that are read of a list: those of 100,000 names of 4,095 bytes, each with its newline
 abbrev pub list_limit : ℕ

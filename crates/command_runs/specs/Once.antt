@@ -1,5 +1,6 @@
 -- A line gives its run one thing, or is refused, where the store tells what it holds.
 use Rattle.std.proofs.Common.{◌≡◌, ℕ, List, length, Option, Some, None, IsSome, ap, sym, subst, ◌∙◌, arith}
+use Rattle.base_lists.proofs.Options.{one_some}
 use Rattle.cbi_base.specs.Store.{Held, IsReadOf}
 use Rattle.cbi_base.specs.declared.refusal.Refusal.{Refusal}
 use Rattle.cbi_base.specs.declared.refusal.Refusal.TheVariants.{LargeInput}
@@ -7,7 +8,7 @@ use Rattle.countdown_bank.specs.Bank.{BankState}
 use Rattle.countdown_bank.proofs.Made.{IsMadeBank-once}
 use Rattle.command_bank.specs.MadeBank.{generator}
 use Rattle.expected.specs.Expected.{expect_limit}
-use Rattle.command_base.proofs.ReadLemmas.{read-once, some-once}
+use Rattle.command_base.proofs.ReadLemmas.{read-once}
 use Rattle.command_run.specs.Files.{IsReadWhere, input_limit}
 use Rattle.planned_runs.specs.declared.input.RunInput.{RunInput}
 use Rattle.command_runs.specs.Line.{IsLargeInput, IsMadeOn, RefusesLine, bank_numbers, fellow_of, input_of}
@@ -24,7 +25,7 @@ read-where-once held (Some name) max (Some x) (Some y) tells p q = ap Some (read
 same-input : (plan : ListedPlan) (held : Option Held) (number : ℕ) (m n x y : List ℕ) → IsSome held → input_of plan number ≡ Some m
     → input_of plan number ≡ Some n → IsReadOf held m input_limit x → IsReadOf held n input_limit y → x ≡ y
 same-input plan held number m n x y tells p q read other =
-    read-once held n input_limit x y tells (subst (λ k. IsReadOf held k input_limit x) (some-once (input_of plan number) m n p q) read) other
+    read-once held n input_limit x y tells (subst (λ k. IsReadOf held k input_limit x) (one_some (input_of plan number) m n p q) read) other
 
 abbrev input_with : BankState → List ℕ → Option (List ℕ) → RunInput
 input_with bank input expect = record { bank = bank; input = input; expect = expect }

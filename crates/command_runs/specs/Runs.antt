@@ -25,7 +25,7 @@ use Rattle.command_runs.specs.Line.{IsMadeOn, RefusesLine, names_of_line}
 use Rattle.command_runs.specs.Lists.{AreBadTexts, AreListTexts, IsLinesPlan, RefusesFirst, first_names}
 use Rattle.command_runs.specs.declared.plan.ListedPlan.{ListedPlan}
 use Rattle.command_runs.specs.declared.texts.ListTexts.{ListTexts}
-use Rattle.command_runs.specs.declared.words.RunsWords.{RunsWords}
+use Rattle.cbi_options.specs.declared.words.RunsWords.{RunsWords}
 
 -- the collection of the reports of these runs, from the first number on
 abbrev pub runs_collection : ListTexts → ProgramParts → (first : ℕ) → List JudgedRun → Collected

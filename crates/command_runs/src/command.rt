@@ -11,8 +11,8 @@ ghost use Rattle.command_runs.specs.Runs.{AreRunsHeld, IsRunsMissing, IsRunsName
 
 use crate::lists::look;
 use crate::texts::read_texts;
-use crate::words::RunsWords;
 use cbi_base::{Memory, Sink, Store};
+use cbi_options::RunsWords;
 use collector::write_collection;
 use command_base::{Done, Fault, put};
 use planned_runs::{PlannedRuns, run_planned};

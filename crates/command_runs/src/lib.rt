@@ -5,7 +5,5 @@ mod command;
 mod lists;
 mod plan;
 mod texts;
-mod words;
 
 pub use command::make_runs;
-pub use words::RunsWords;

@@ -8,9 +8,8 @@ ghost use Rattle.command_runs.specs.declared.plan.ListedPlan.{ListedPlan};
 
 use crate::plan::ListedPlan;
 use crate::texts::ListTexts;
-use crate::words::RunsWords;
 use cbi_base::{Refusal, Seq};
-use cbi_options::Word;
+use cbi_options::{RunsWords, Word};
 use command_base::Fault;
 use command_inputs::load_program;
 use flow::Program;

@@ -2,8 +2,8 @@ ghost use Rattle.std.specs.Prelude.{IfOk};
 ghost use Rattle.command_base.specs.Reading.{HasRead};
 ghost use Rattle.command_runs.specs.Lists.{AreListTexts, first_names};
 
-use crate::words::RunsWords;
 use cbi_base::{Seq, Store};
+use cbi_options::RunsWords;
 use command_base::{Fault, PROGRAM_LIMIT, read_file};
 use command_run::read_where;
 use std::alloc::Global;

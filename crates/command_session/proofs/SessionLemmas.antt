@@ -8,8 +8,7 @@ use Rattle.cbi_base.specs.declared.refusal.Refusal.{Refusal}
 use Rattle.cbi_base.specs.declared.refusal.Refusal.TheVariants.{BadByte, BadToken, Syntax, BadType, TooLarge, TooManySites, BadProgram, BadBank, BadReport, Foreign, Conflict, TooManyReports, TooManyMarks, BadCollection, InputTooLarge, NoSite, BadEdits, Absent, NotPart, BadList, LargeInput}
 use Rattle.flow.specs.declared.program.ProgramParts.{ProgramParts}
 use Rattle.flow.specs.declared.site.TableParts.{TableParts}
-use Rattle.flow.specs.Program.{table_of}
-use Rattle.flow.specs.Spelling.{SpellsProgram}
+use Rattle.flow.specs.Words.{table_of, SpellsProgram}
 use Rattle.collector.specs.declared.collection.Held.{Held as Collected}
 use Rattle.command_base.specs.Limits.{program_limit}
 use Rattle.command_base.proofs.ReadLemmas.{read-once}
@@ -25,7 +24,7 @@ use Rattle.session_replay.specs.declared.fault.EditFault.TheVariants as fault
 use Rattle.session_replay.specs.Replay.{AreAccepted, AreRankings, FaultsAt, IsStoppedBy, StopsAt, no_runs}
 use Rattle.command_session.specs.Session.{AreRefusedTexts, AreSessionTexts, AreTextsReplayed, IsBadEdits, IsTold, IsToldOf, RefusesTexts, SpellSession, TellsOf, id_of}
 use Rattle.command_session.specs.declared.replayed.SessionTexts.{SessionTexts}
-use Rattle.command_session.specs.declared.words.SessionWords.{SessionWords}
+use Rattle.cbi_options.specs.declared.words.SessionWords.{SessionWords}
 use Rattle.command_session.proofs.Told.{told-refuses}
 
 -- texts are refused where any texts that were read of the same files are
@@ -65,20 +64,7 @@ refuses-texts (Conflict run) texts h = told-faulty texts (Conflict run) h
 refuses-texts (TooManyReports run) texts h = told-faulty texts (TooManyReports run) h
 refuses-texts (TooManyMarks run) texts h = told-faulty texts (TooManyMarks run) h
 refuses-texts (Absent run) texts h = told-faulty texts (Absent run) h
-refuses-texts (BadByte line) texts h = absurd h
-refuses-texts (BadToken line) texts h = absurd h
-refuses-texts (Syntax line) texts h = absurd h
-refuses-texts (BadType kind line) texts h = absurd h
-refuses-texts TooLarge texts h = absurd h
-refuses-texts TooManySites texts h = absurd h
-refuses-texts (BadBank line) texts h = absurd h
-refuses-texts (BadReport file line) texts h = absurd h
-refuses-texts (Foreign ours theirs) texts h = absurd h
-refuses-texts (BadCollection file line) texts h = absurd h
-refuses-texts InputTooLarge texts h = absurd h
-refuses-texts NotPart texts h = absurd h
-refuses-texts (BadList file line) texts h = absurd h
-refuses-texts (LargeInput line) texts h = absurd h
+refuses-texts refusal texts h = absurd h
 
 -- what the texts spell
 pub record IsLoaded (texts : SessionTexts) (parts : ProgramParts) (id : ProgramId) (table : TableParts) (list : List Edit) : Type 0 where
@@ -119,17 +105,13 @@ stopped-refuses texts parts id table list cause refusal l stops tells =
 -- edits that are all accepted aren't refused, where each text is read as one value
 faults-faulty : (c : Collected) (e : Edit) (cause : EditFault) → IsTold cause → FaultsAt c e cause → IsFaulty c e
 faults-faulty c (Add r) (fault.NotAdded why) told f = (why, f)
-faults-faulty c (Add r) (fault.Absent run) told f = absurd f
-faults-faulty c (Add r) fault.Memory told f = absurd told
-faults-faulty c (Remove run) (fault.NotAdded why) told f = absurd f
 faults-faulty c (Remove run) (fault.Absent gone) told f = f.1
-faults-faulty c (Remove run) fault.Memory told f = absurd told
-faults-faulty c (Relabel run label) (fault.NotAdded why) told f = absurd f
 faults-faulty c (Relabel run label) (fault.Absent gone) told f = f.1
-faults-faulty c (Relabel run label) fault.Memory told f = absurd told
 faults-faulty c Rank (fault.NotAdded why) told f = f
 faults-faulty c Rank (fault.Absent run) told f = f
 faults-faulty c Rank fault.Memory told f = told
+faults-faulty c e fault.Memory told f = absurd told
+faults-faulty c e cause told f = absurd f
 
 never-stopped : (start after : Collected) (list : List Edit) (cause : EditFault) → IsTold cause → Accepts start list after → IsStoppedBy start list cause → ⊥
 never-stopped start after list cause told accepts s =

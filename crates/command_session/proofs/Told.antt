@@ -1,9 +1,9 @@
 -- Which refusal tells of a faulty edit.
 use Rattle.std.proofs.Common.{◌≡◌, ℕ, refl, List, [], ◌∷◌, ◌++◌, None, Err, sym, subst, ◌∙◌}
+use Rattle.base_lists.proofs.Options.{none_some, some_is}
 use Rattle.cbi_base.specs.declared.identity.ProgramId.{ProgramId}
 use Rattle.cbi_base.specs.declared.refusal.Refusal.{Refusal}
 use Rattle.cbi_base.specs.declared.refusal.Refusal.TheVariants.{BadByte, BadToken, Syntax, BadType, TooLarge, TooManySites, BadProgram, BadBank, BadReport, Foreign, Conflict, TooManyReports, TooManyMarks, BadCollection, InputTooLarge, NoSite, BadEdits, Absent, NotPart, BadList, LargeInput}
-use Rattle.cbi_base.proofs.NumberLemmas.{none-some, some-is}
 use Rattle.flow.specs.Program.{table_of}
 use Rattle.collector.specs.Collected.{Adds}
 use Rattle.collector.specs.declared.answers.AddFault.{AddFault}
@@ -22,7 +22,7 @@ use Rattle.command_session.specs.declared.replayed.SessionTexts.{SessionTexts}
 
 -- a refusal that tells of no edit
 tells-none : (cause : EditFault) (refusal : Refusal) → fault_of refusal ≡ None → ((run : ℕ) → refusal ≡ Absent run → ⊥) → TellsOf cause refusal → ⊥
-tells-none (fault.NotAdded why) refusal none other tells = none-some (sym none ∙ tells)
+tells-none (fault.NotAdded why) refusal none other tells = none_some (sym none ∙ tells)
 tells-none (fault.Absent run) refusal none other tells = other run tells
 tells-none fault.Memory refusal none other tells = tells
 
@@ -39,16 +39,14 @@ foreign-edit : (c : Held) (e : Edit) (why : AddFault) (ours theirs : ProgramId) 
 foreign-edit c (Add r) why ours theirs is fits faults =
     let adds : Adds c r (Err (add.Foreign ours theirs)) c = subst (λ (w : AddFault). Adds c r (Err w) c) is faults.adds in
     adds.2 (adds.0 ∙ sym fits.1 ∙ sym adds.1)
-foreign-edit c (Remove run) why ours theirs is fits faults = faults
-foreign-edit c (Relabel run label) why ours theirs is fits faults = faults
-foreign-edit c Rank why ours theirs is fits faults = faults
+foreign-edit c e why ours theirs is fits faults = faults
 
 foreign-told : (texts : SessionTexts) (ours theirs : ProgramId) (cause : EditFault) → TellsOf cause (Foreign ours theirs) → AreStopped texts cause → ⊥
 foreign-told texts ours theirs (fault.NotAdded why) tells stopped =
     let s = stopped.stopped in
     let same = accepts-same s.before (no_runs (id_of texts.program) (table_of stopped.parts)) s.at s.accepts in
     let fits = later-edit (id_of texts.program) s.before s.more s.edit (subst (AreEdits (id_of texts.program)) s.edits_are stopped.spell.edits.are_edits) in
-    foreign-edit s.at s.edit why ours theirs (sym (some-is tells)) (subst (λ p. IsEdit p s.edit) (sym same.program) fits) s.faults
+    foreign-edit s.at s.edit why ours theirs (sym (some_is tells)) (subst (λ p. IsEdit p s.edit) (sym same.program) fits) s.faults
 foreign-told texts ours theirs (fault.Absent run) tells stopped = let e = tells in cc
 foreign-told texts ours theirs fault.Memory tells stopped = tells
 
@@ -60,18 +58,4 @@ told-refuses texts (TooManyReports run) t = t
 told-refuses texts (TooManyMarks run) t = t
 told-refuses texts (Absent run) t = t
 told-refuses texts (Foreign ours theirs) t = absurd (foreign-told texts ours theirs t.cause t.tells t.stopped)
-told-refuses texts (BadByte line) t = absurd (nothing-told texts (BadByte line) refl (λ run e. cc) t)
-told-refuses texts (BadToken line) t = absurd (nothing-told texts (BadToken line) refl (λ run e. cc) t)
-told-refuses texts (Syntax line) t = absurd (nothing-told texts (Syntax line) refl (λ run e. cc) t)
-told-refuses texts (BadType kind line) t = absurd (nothing-told texts (BadType kind line) refl (λ run e. cc) t)
-told-refuses texts TooLarge t = absurd (nothing-told texts TooLarge refl (λ run e. cc) t)
-told-refuses texts TooManySites t = absurd (nothing-told texts TooManySites refl (λ run e. cc) t)
-told-refuses texts (BadProgram line) t = absurd (nothing-told texts (BadProgram line) refl (λ run e. cc) t)
-told-refuses texts (BadBank line) t = absurd (nothing-told texts (BadBank line) refl (λ run e. cc) t)
-told-refuses texts (BadReport file line) t = absurd (nothing-told texts (BadReport file line) refl (λ run e. cc) t)
-told-refuses texts (BadCollection file line) t = absurd (nothing-told texts (BadCollection file line) refl (λ run e. cc) t)
-told-refuses texts InputTooLarge t = absurd (nothing-told texts InputTooLarge refl (λ run e. cc) t)
-told-refuses texts (BadEdits line) t = absurd (nothing-told texts (BadEdits line) refl (λ run e. cc) t)
-told-refuses texts NotPart t = absurd (nothing-told texts NotPart refl (λ run e. cc) t)
-told-refuses texts (BadList file line) t = absurd (nothing-told texts (BadList file line) refl (λ run e. cc) t)
-told-refuses texts (LargeInput line) t = absurd (nothing-told texts (LargeInput line) refl (λ run e. cc) t)
+told-refuses texts refusal t = absurd (nothing-told texts refusal refl (λ run e. cc) t)

@@ -2,15 +2,13 @@
 use Rattle.std.specs.Prelude.{◌≡◌, ◌⊎◌, ℕ, List, [], ◌∷◌, Option, Some}
 use Rattle.std.specs.Global.{Global}
 use Rattle.sha2.specs.Sha256.{sha256}
-use Rattle.cbi_base.specs.Lines.{IsBadLine}
-use Rattle.cbi_base.specs.Store.{Held, IsReadOf}
+use Rattle.cbi_base.specs.Words.{IsBadLine, Held, IsReadOf}
 use Rattle.cbi_base.specs.declared.identity.ProgramId.{ProgramId}
 use Rattle.cbi_base.specs.declared.policy.Policy.{Policy}
 use Rattle.cbi_base.specs.declared.refusal.Refusal.{Refusal}
 use Rattle.cbi_base.specs.declared.refusal.Refusal.TheVariants.{BadProgram, Conflict, TooManyReports, TooManyMarks, NoSite, BadEdits, Absent}
 use Rattle.flow.specs.declared.program.ProgramParts.{ProgramParts}
-use Rattle.flow.specs.Program.{table_of}
-use Rattle.flow.specs.Spelling.{SpellsProgram}
+use Rattle.flow.specs.Words.{table_of, SpellsProgram}
 use Rattle.program_file.specs.WrongLine.{IsWrongAt}
 use Rattle.command_base.specs.Limits.{program_limit}
 use Rattle.command_inputs.specs.Programs.{IsNoProgram, IsSpelled}
@@ -21,7 +19,7 @@ use Rattle.session_edits.specs.declared.edit.Edit.{Edit}
 use Rattle.session_replay.specs.declared.fault.EditFault.{EditFault}
 use Rattle.session_replay.specs.declared.fault.EditFault.TheVariants as fault
 use Rattle.session_replay.specs.Replay.{AreRankings, IsStoppedBy, no_runs}
-use Rattle.command_session.specs.declared.words.SessionWords.{SessionWords}
+use Rattle.cbi_options.specs.declared.words.SessionWords.{SessionWords}
 use Rattle.command_session.specs.declared.replayed.SessionTexts.{SessionTexts}
 
 -- the names that are read, in this order

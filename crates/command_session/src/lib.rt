@@ -3,7 +3,6 @@
 
 mod command;
 mod replayed;
-mod words;
 
+pub use command::SessionCall;
 pub use replayed::SessionTexts;
-pub use words::SessionWords;

@@ -5,8 +5,8 @@ ghost use Rattle.command_session.specs.Session.{AreRefusedTexts, AreSessionTexts
 ghost use Rattle.session_edits.specs.Spelling.{SpellsEdits};
 ghost use Rattle.session_edits.specs.declared.edit.Edit.{Edit};
 
-use crate::words::SessionWords;
 use cbi_base::{Policy, ProgramId, Refusal, Seq, Store};
+use cbi_options::SessionWords;
 use command_base::{Fault, PROGRAM_LIMIT, read_file};
 use command_inputs::{FILE_LIMIT, fault_of, load_program};
 use program_file::program_id;

@@ -3,8 +3,7 @@
 use Rattle.std.specs.Prelude.{◌≡◌, ◌⊎◌, ℕ, List, [], ◌∷◌, ◌++◌, codes, decimal, Option}
 use Rattle.cbi_base.specs.declared.observation.Observation.{Observation}
 use Rattle.cbi_base.specs.declared.refusal.Refusal.{Refusal}
-use Rattle.cbi_base.specs.Store.{Held, IsReadOf}
-use Rattle.cbi_base.specs.Text.{ended, spaced}
+use Rattle.cbi_base.specs.Words.{Held, IsReadOf, ended, spaced}
 use Rattle.study_runs.specs.declared.plan.StudyPlan.{StudyPlan}
 use Rattle.study_runs.specs.Sums.{Sums}
 use Rattle.study.specs.declared.ranked.StudyFault.{StudyFault}
@@ -15,11 +14,15 @@ use Rattle.command_base.specs.declared.fault.Fault.{Fault}
 use Rattle.command_base.specs.Faults.{LeftBy}
 use Rattle.command_base.specs.Outside.{IsUnmoved, Outside, TookDue, TookWithin}
 use Rattle.command_base.specs.Limits.{text_limit}
-use Rattle.command_study.specs.declared.words.StudyWords.{StudyWords}
+use Rattle.cbi_options.specs.declared.words.StudyWords.{StudyWords}
 
 -- the name that is read
 abbrev pub study_names : StudyWords → List (List ℕ)
 study_names words = words.text ∷ []
+
+-- which runs are made, and how they are ranked
+abbrev pub plan_of : StudyWords → StudyPlan
+plan_of words = record { runs = words.runs; seed = words.seed; rate = words.rate; turns = words.turns; policy = words.policy }
 
 -- the line that sums up so many runs
 abbrev pub summary_fields : (runs : ℕ) → Sums → List (List ℕ)
@@ -40,8 +43,8 @@ module _ {B : Type 0} (told : B → List Observation) (words : StudyWords) where
     pub bytes : List ℕ
     pub read : IsReadOf before.held words.text text_limit bytes
     pub result : StudyResult
-    pub studied : IsStudied bytes words.plan told before.boxes after.boxes result
-    pub text_is : text ≡ study_text words.plan result
+    pub studied : IsStudied bytes (plan_of words) told before.boxes after.boxes result
+    pub text_is : text ≡ study_text (plan_of words) result
 
   -- out took the text of that study, and no name holds anything else
   pub record StudyDone (before after : Outside B) : Type 0 where
@@ -59,7 +62,7 @@ module _ {B : Type 0} (told : B → List Observation) (words : StudyWords) where
     pub read : IsReadOf before.held words.text text_limit bytes
     pub out : after.out ≡ before.out
     pub held : after.held ≡ before.held
-    pub boxes : LeftByStudy bytes words.plan told before.boxes after.boxes fault
+    pub boxes : LeftByStudy bytes (plan_of words) told before.boxes after.boxes fault
 
   -- what a fault of the command leaves
   abbrev pub StudyLeftByFault : Fault → (before after : Outside B) → Type 0
@@ -71,9 +74,9 @@ module _ {B : Type 0} (told : B → List Observation) (words : StudyWords) where
 pub record StudyRefused (words : StudyWords) (held : Option Held) : Type 0 where
   pub bytes : List ℕ
   pub read : IsReadOf held words.text text_limit bytes
-  pub refused : IsRefusedStudy bytes words.plan
+  pub refused : IsRefusedStudy bytes (plan_of words)
 
 pub record StudyRefusedBy (words : StudyWords) (held : Option Held) (refusal : Refusal) : Type 0 where
   pub bytes : List ℕ
   pub read : IsReadOf held words.text text_limit bytes
-  pub refused : RefusesStudy bytes words.plan refusal
+  pub refused : RefusesStudy bytes (plan_of words) refusal

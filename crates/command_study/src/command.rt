@@ -6,8 +6,8 @@ ghost use Rattle.command_base.specs.Outside.{outside};
 ghost use Rattle.command_base.specs.declared.done.Done.TheVariants.{Lines};
 ghost use Rattle.command_study.specs.Study.{StudyDone, StudyLeftByFault, StudyRefused, StudyRefusedBy, study_names, study_text, summary_line};
 
-use crate::words::StudyWords;
 use cbi_base::{Memory, Sink, Store, push_decimal};
+use cbi_options::StudyWords;
 use command_base::{Done, Fault, TEXT_LIMIT, put, read_file};
 use compiler::refused_texts_are_not_compiled;
 use probes::Probe;
@@ -56,9 +56,9 @@ pub fn study_text<S: Store, O: Sink>(
     out: &mut O,
     probes: &mut Vec<Box<dyn Probe>>,
 ) -> Result<Done, Fault>
-    requires runs { words.now.plan.runs ≤ 100000 }
-    requires rate { (1 ≤ words.now.plan.rate) × (words.now.plan.rate ≤ 65536) }
-    requires turns { words.now.plan.turns ≤ 100000000 }
+    requires runs { words.now.runs ≤ 100000 }
+    requires rate { (1 ≤ words.now.rate) × (words.now.rate ≤ 65536) }
+    requires turns { words.now.turns ≤ 100000000 }
     ensures done { OnOk result (StudyDone (λ b. seen b) words.now
         (outside (S.holds store.old) (O.taken out.old) probes.old.items) (outside (S.holds store.new) (O.taken out.new) probes.new.items)) }
     ensures said { IfOk result (λ said. said ≡ Lines) }
@@ -90,12 +90,19 @@ pub fn study_text<S: Store, O: Sink>(
         Ok(text) => text,
         Err(fault) => return Err(fault),
     };
-    let studied = match study(alloc, text.as_slice(), words.plan, probes) {
+    let plan = StudyPlan {
+        runs: words.runs,
+        seed: words.seed,
+        rate: words.rate,
+        turns: words.turns,
+        policy: words.policy,
+    };
+    let studied = match study(alloc, text.as_slice(), plan, probes) {
         Ok(studied) => studied,
         Err(StudyFault::Refused { refusal }) => return Err(Fault::Refused { refusal }),
         Err(StudyFault::Memory) => return Err(Fault::Memory),
     };
-    let written = match text_of(words.plan, studied) {
+    let written = match text_of(plan, studied) {
         Ok(written) => written,
         Err(Memory) => return Err(Fault::Memory),
     };

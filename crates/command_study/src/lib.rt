@@ -2,7 +2,5 @@
 #![tactic(auto)]
 
 mod command;
-mod words;
 
 pub use command::study_text;
-pub use words::StudyWords;

@@ -6,7 +6,7 @@ use Rattle.compiler.specs.Refused.{IsRefusedText, RefusesText}
 use Rattle.compiler.specs.declared.plan.Plan.{Plan}
 use Rattle.command_base.specs.Limits.{text_limit}
 use Rattle.command_base.proofs.ReadLemmas.{read-once}
-use Rattle.command_transform.specs.declared.words.TransformWords.{TransformWords}
+use Rattle.cbi_options.specs.declared.words.TransformWords.{TransformWords}
 use Rattle.command_transform.specs.Transform.{TransformRefused, plan_of}
 
 -- the bytes are refused where any bytes read of the file are

@@ -1,36 +1,25 @@
 -- What the command `transform` does: out takes the file of the program that a C text is compiled to.
-use Rattle.std.specs.Prelude.{ℕ, List, [], ◌∷◌, Option, None, Some}
+use Rattle.std.specs.Prelude.{ℕ, List, [], ◌∷◌, Option}
 use Rattle.cbi_base.specs.Store.{Held, IsReadOf}
 use Rattle.cbi_base.specs.declared.refusal.Refusal.{Refusal}
 use Rattle.flow.specs.declared.program.ProgramParts.{ProgramParts}
 use Rattle.flow.specs.Spelling.{SpellsProgram}
 use Rattle.cbi_options.specs.declared.schemes.Mode.{Mode}
 use Rattle.cbi_options.specs.declared.schemes.Mode.TheVariants as mode
-use Rattle.cbi_options.specs.declared.schemes.Schemes.{Schemes as Named}
-use Rattle.cbi_options.specs.declared.shares.Share.{Share}
-use Rattle.site_parts.specs.declared.part.Part.{Part}
-use Rattle.sites.specs.declared.schemes.Schemes.{Schemes}
+use Rattle.flow.specs.declared.choice.Part.{Part}
+use Rattle.flow.specs.declared.choice.Schemes.{Schemes}
 use Rattle.compiler.specs.declared.plan.Plan.{Plan}
 use Rattle.compiler.specs.declared.plan.Plan.TheVariants as plan
 use Rattle.compiler.specs.Compiled.{IsCompiled}
 use Rattle.compiler.specs.Refused.{IsRefusedText, RefusesText}
 use Rattle.command_base.specs.Limits.{text_limit}
-use Rattle.command_transform.specs.declared.words.TransformWords.{TransformWords}
-
--- the schemes that are named
-abbrev pub named_schemes : Named → Schemes
-named_schemes s = record { branches = s.branches; returns = s.returns; pairs = s.pairs }
-
--- the part of the sites that is named
-abbrev pub named_part : Option Share → Option Part
-named_part None = None
-named_part (Some s) = Some (record { index = s.index; count = s.count })
+use Rattle.cbi_options.specs.declared.words.TransformWords.{TransformWords}
 
 -- what the text is compiled to; a plain program has no sites, whatever schemes and part are named
-abbrev pub plan_for : Mode → Named → Option Share → Plan
+abbrev pub plan_for : Mode → Schemes → Option Part → Plan
 plan_for mode.Plain s part = plan.Plain
-plan_for mode.Full s part = plan.Full (named_schemes s) (named_part part)
-plan_for mode.Sampled s part = plan.Sampled (named_schemes s) (named_part part)
+plan_for mode.Full s part = plan.Full s part
+plan_for mode.Sampled s part = plan.Sampled s part
 
 abbrev pub plan_of : TransformWords → Plan
 plan_of r = plan_for r.mode r.schemes r.part

@@ -2,6 +2,5 @@
 #![tactic(auto)]
 
 mod command;
-mod words;
 
-pub use words::TransformWords;
+pub use command::TransformCall;

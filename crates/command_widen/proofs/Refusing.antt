@@ -7,15 +7,15 @@ use Rattle.flow.specs.declared.program.ProgramParts.{ProgramParts}
 use Rattle.flow.specs.Spelling.{SpellsProgram}
 use Rattle.collector.specs.declared.collection.Bundle.{Bundle}
 use Rattle.collector.specs.Spelling.{SpellsBundle}
-use Rattle.site_parts.specs.declared.part.Part.{Part}
+use Rattle.flow.specs.declared.choice.Part.{Part}
 use Rattle.command_base.specs.Limits.{program_limit}
 use Rattle.command_base.proofs.ReadLemmas.{read-once}
 use Rattle.command_inputs.specs.Programs.{IsBadProgram}
 use Rattle.command_inputs.specs.Collections.{file_limit}
 use Rattle.command_inputs.proofs.RunsLemmas.{refuses-runs, runs-never-refused}
 use Rattle.command_widen.specs.declared.texts.WidenTexts.{WidenTexts}
-use Rattle.command_widen.specs.declared.words.WidenWords.{WidenWords}
-use Rattle.command_widen.specs.Widen.{AreRefusedTexts, AreWidenTexts, HasPart, RefusesTexts, SpellPart, WidenRefused, part_of_share}
+use Rattle.cbi_options.specs.declared.words.WidenWords.{WidenWords}
+use Rattle.command_widen.specs.Widen.{AreRefusedTexts, AreWidenTexts, HasPart, RefusesTexts, SpellPart, WidenRefused}
 
 -- the whole program's text is none, or the other one's
 pub bad_whole : (part : Part) (texts : WidenTexts) (refusal : Refusal) → IsBadProgram texts.whole refusal → RefusesTexts part refusal texts
@@ -54,5 +54,5 @@ same_texts held w a b tells read other =
     (subst (λ y. a ≡ record { whole = a.whole; runs = record { program = y; collection = b.runs.collection } }) program
     (subst (λ z. a ≡ record { whole = a.whole; runs = record { program = a.runs.program; collection = z } }) collection refl))
 
-pub same_refused : (held : Option Held) (w : WidenWords) (texts : WidenTexts) → IsSome held → AreWidenTexts held w texts → WidenRefused w held → AreRefusedTexts (part_of_share w.part) texts
-same_refused held w texts tells are refused = subst (AreRefusedTexts (part_of_share w.part)) (same_texts held w refused.texts texts tells refused.are_texts are) refused.refused
+pub same_refused : (held : Option Held) (w : WidenWords) (texts : WidenTexts) → IsSome held → AreWidenTexts held w texts → WidenRefused w held → AreRefusedTexts w.part texts
+same_refused held w texts tells are refused = subst (AreRefusedTexts w.part) (same_texts held w refused.texts texts tells refused.are_texts are) refused.refused

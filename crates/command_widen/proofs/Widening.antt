@@ -1,13 +1,13 @@
 -- Reports of a part's program, as a collection of the whole program holds them.
 use Rattle.std.proofs.Common.{◌≡◌, ◌≤◌, Bool, List, [], ◌∷◌, length, map, Some, Ok, Err, refl, ap, sym, subst, ◌∙◌}
 use Rattle.std.proofs.lemmas.List.Elements.{All-cons, All-nil}
+use Rattle.flow.specs.Words.{PartFits, site_limit}
 use Rattle.cbi_base.specs.declared.identity.ProgramId.{ProgramId}
 use Rattle.cbi_base.specs.declared.refusal.Refusal.{Refusal}
 use Rattle.cbi_base.specs.declared.refusal.Refusal.TheVariants as refusal
 use Rattle.flow.specs.declared.program.ProgramParts.{ProgramParts}
 use Rattle.flow.specs.declared.site.Site.{Site}
 use Rattle.flow.specs.declared.site.TableParts.{TableParts}
-use Rattle.flow.specs.Limits.{site_limit}
 use Rattle.report_file.specs.declared.report.Report.{Report}
 use Rattle.collector.specs.declared.answers.AddFault.{AddFault}
 use Rattle.collector.specs.declared.answers.AddFault.TheVariants.{Foreign, NoSite, Conflict, TooManyReports, TooManyMarks, Memory}
@@ -18,9 +18,9 @@ use Rattle.collector.specs.Collecting.{bundle_of}
 use Rattle.collector.specs.Merging.{Merges}
 use Rattle.collector.specs.Sites.{branches_of}
 use Rattle.collector.specs.Spelling.{IsText}
-use Rattle.site_parts.specs.declared.part.Part.{Part}
+use Rattle.flow.specs.declared.choice.Part.{Part}
 use Rattle.site_parts.specs.Laws.{FitsWhenWidened, MayWidenWhatFits}
-use Rattle.site_parts.specs.Part.{PartFits, part_of}
+use Rattle.site_parts.specs.Part.{part_of}
 use Rattle.site_parts.specs.Widened.{MayWiden, MayWidenAll, widened_bundle, widened_report}
 use Rattle.command_inputs.specs.Collections.{fault_of}
 use Rattle.command_inputs.specs.Runs.{HaveSites}
@@ -66,10 +66,8 @@ never_memory r e = absurd cc
 stops_for_memory : (id : ProgramId) (branches : List Bool) (bundle : Bundle) (f : AddFault) → bundle.program ≡ id → HaveSites branches bundle.reports → TellsOfBundle id branches bundle f → f ≡ Memory
 stops_for_memory id branches bundle (Foreign ours theirs) same have told = absurd (told.1.1 (told.1.0 ∙ same ∙ sym told.0))
 stops_for_memory id branches bundle (NoSite run site) same have told = absurd (none_is_bad branches bundle.reports run site have told.1)
-stops_for_memory id branches bundle (Conflict run) same have told = absurd told
-stops_for_memory id branches bundle (TooManyReports run) same have told = absurd told
-stops_for_memory id branches bundle (TooManyMarks run) same have told = absurd told
 stops_for_memory id branches bundle Memory same have told = refl
+stops_for_memory id branches bundle f same have told = absurd told
 
 pub wide_never_refused : (id : ProgramId) (branches : List Bool) (bundle : Bundle) (f : AddFault) (after : Held) (refusal : Refusal) → IsText bundle → bundle.program ≡ id → HaveSites branches bundle.reports
     → Merges (holding id branches []) bundle (Err f) after → fault_of refusal ≡ Some f → ⊥

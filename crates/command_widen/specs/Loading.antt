@@ -10,7 +10,7 @@ use Rattle.collector.specs.declared.collection.Bundle.{Bundle}
 use Rattle.collector.specs.declared.collection.Held.{Held}
 use Rattle.collector.specs.Collecting.{bundle_of}
 use Rattle.collector.specs.Sites.{branches_of}
-use Rattle.site_parts.specs.declared.part.Part.{Part}
+use Rattle.flow.specs.declared.choice.Part.{Part}
 use Rattle.site_parts.specs.Widened.{widened_bundle}
 use Rattle.command_inputs.specs.Runs.{HaveSites, IsFirstBad, SpellBoth}
 use Rattle.command_widen.specs.declared.loaded.Loaded.{Loaded}

@@ -5,22 +5,21 @@ use Rattle.sha2.specs.Sha256.{sha256}
 use Rattle.cbi_base.specs.Store.{Held, IsReadOf}
 use Rattle.cbi_base.specs.declared.refusal.Refusal.{Refusal}
 use Rattle.cbi_base.specs.declared.refusal.Refusal.TheVariants as refusal
-use Rattle.cbi_options.specs.declared.shares.Share.{Share}
+use Rattle.flow.specs.declared.choice.Part.{Part}
 use Rattle.flow.specs.declared.program.ProgramParts.{ProgramParts}
-use Rattle.flow.specs.Program.{table_of}
-use Rattle.flow.specs.Spelling.{SpellsProgram}
+use Rattle.flow.specs.Words.{table_of, SpellsProgram}
 use Rattle.program_file.specs.WrongLine.{IsWrongAt}
 use Rattle.report_file.specs.declared.draft.Version.TheVariants.{Second}
 use Rattle.collector.specs.declared.collection.Bundle.{Bundle}
 use Rattle.collector.specs.Spelling.{bundle_text}
-use Rattle.site_parts.specs.declared.part.Part.{Part}
+use Rattle.flow.specs.declared.choice.Part.{Part}
 use Rattle.site_parts.specs.Program.{part_table}
 use Rattle.site_parts.specs.Widened.{widened_bundle}
 use Rattle.command_base.specs.Limits.{program_limit}
 use Rattle.command_inputs.specs.Programs.{IsNoProgram, IsSpelled}
 use Rattle.command_inputs.specs.Runs.{AreRefusedRuns, AreRunsTexts, RefusesRuns, SpellBoth, SpellRuns, runs_names}
 use Rattle.command_widen.specs.declared.texts.WidenTexts.{WidenTexts}
-use Rattle.command_widen.specs.declared.words.WidenWords.{WidenWords}
+use Rattle.cbi_options.specs.declared.words.WidenWords.{WidenWords}
 
 -- the names that are read, in this order
 abbrev pub widen_names : WidenWords → List (List ℕ)
@@ -29,10 +28,6 @@ widen_names w = w.whole ∷ runs_names w.program w.collection
 pub record AreWidenTexts (held : Option Held) (w : WidenWords) (texts : WidenTexts) : Type 0 where
   pub whole_read : IsReadOf held w.whole program_limit texts.whole
   pub runs_read : AreRunsTexts held w.program w.collection texts.runs
-
--- the part of the sites that a share is
-abbrev pub part_of_share : Share → Part
-part_of_share s = record { index = s.index; count = s.count }
 
 -- the program has exactly this part of the whole one's sites, and the same functions
 abbrev pub HasPart : Part → (whole parts : ProgramParts) → Type 0
@@ -55,8 +50,8 @@ pub record IsWidened (held : Option Held) (w : WidenWords) (text : List ℕ) : T
   pub parts : ProgramParts
   pub bundle : Bundle
   pub are_texts : AreWidenTexts held w texts
-  pub spell : SpellPart (part_of_share w.part) texts whole parts bundle
-  pub text_is : text ≡ bundle_text Second (widened_as texts.whole (part_of_share w.part) bundle)
+  pub spell : SpellPart w.part texts whole parts bundle
+  pub text_is : text ≡ bundle_text Second (widened_as texts.whole w.part bundle)
 
 -- the texts spell two programs and a collection, and the second program hasn't this part of the first one's sites
 pub record IsNotPart (part : Part) (texts : WidenTexts) : Type 0 where
@@ -95,9 +90,9 @@ RefusesTexts part _ texts = ⊥
 pub record WidenRefused (w : WidenWords) (held : Option Held) : Type 0 where
   pub texts : WidenTexts
   pub are_texts : AreWidenTexts held w texts
-  pub refused : AreRefusedTexts (part_of_share w.part) texts
+  pub refused : AreRefusedTexts w.part texts
 
 pub record WidenRefusedBy (w : WidenWords) (held : Option Held) (refusal : Refusal) : Type 0 where
   pub texts : WidenTexts
   pub are_texts : AreWidenTexts held w texts
-  pub refused : RefusesTexts (part_of_share w.part) refusal texts
+  pub refused : RefusesTexts w.part refusal texts

@@ -1,19 +1,19 @@
 ghost use Rattle.std.specs.Prelude.{◌≡◌, IfErr, OnOk};
+ghost use Rattle.flow.specs.Sites.{PartFits};
 ghost use Rattle.collector.specs.Sites.{branches_of, first_bad, has_site};
 ghost use Rattle.command_base.specs.Faults.{Caused, Precedes};
 ghost use Rattle.command_inputs.specs.Runs.{HaveSites};
 ghost use Rattle.command_widen.specs.Loading.{AreSpelled, RefusesSites};
 ghost use Rattle.command_widen.specs.Widen.{RefusesTexts, SpellPart};
-ghost use Rattle.site_parts.specs.Part.{PartFits};
 
 use crate::loaded::Loaded;
 use crate::texts::WidenTexts;
 use cbi_base::Refusal;
 use command_base::Fault;
-use flow::{Site, SiteKind};
+use flow::{Part, Site, SiteKind};
 use program_file::program_id;
 use report_file::{Entry, Report};
-use site_parts::{Part, is_part};
+use site_parts::is_part;
 
 // Whether the entry's site is one of these, and has no third counter at a branch.
 fn has_site(sites: &[Site], entry: Entry) -> bool

@@ -6,8 +6,7 @@ mod command;
 mod loaded;
 mod texts;
 mod wide;
-mod words;
 
+pub use command::WidenCall;
 pub use loaded::Loaded;
 pub use texts::WidenTexts;
-pub use words::WidenWords;

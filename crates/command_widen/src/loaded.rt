@@ -4,7 +4,7 @@ ghost use Rattle.collector.specs.Spelling.{IsText};
 ghost use Rattle.command_base.specs.Faults.{Caused, Precedes};
 ghost use Rattle.command_widen.specs.Loading.{AreSpelled};
 ghost use Rattle.command_widen.specs.Widen.{RefusesTexts};
-ghost use Rattle.site_parts.specs.declared.part.Part.{Part};
+ghost use Rattle.flow.specs.declared.choice.Part.{Part};
 
 use crate::texts::WidenTexts;
 use collector::Bundle;

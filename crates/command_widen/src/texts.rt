@@ -2,8 +2,8 @@ ghost use Rattle.std.specs.Prelude.{IfOk};
 ghost use Rattle.command_base.specs.Reading.{HasRead};
 ghost use Rattle.command_widen.specs.Widen.{AreWidenTexts, widen_names};
 
-use crate::words::WidenWords;
 use cbi_base::{Seq, Store};
+use cbi_options::WidenWords;
 use command_base::{Fault, PROGRAM_LIMIT, read_file};
 use command_inputs::{FILE_LIMIT, RunsTexts};
 use std::alloc::Global;

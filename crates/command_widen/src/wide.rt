@@ -1,35 +1,22 @@
 ghost use Rattle.std.specs.Prelude.{◌≡◌, IfOk, IfErr, IsErrAnd};
-ghost use Rattle.cbi_options.specs.Shares.{ShareFits};
+ghost use Rattle.flow.specs.Sites.{PartFits};
 ghost use Rattle.collector.specs.Merging.{IsBundle};
 ghost use Rattle.collector.specs.Spelling.{IsText};
 ghost use Rattle.command_base.specs.Faults.{Caused, Precedes};
 ghost use Rattle.command_widen.specs.Loading.{HoldsTexts, HoldsWide, IsOfPart};
-ghost use Rattle.command_widen.specs.Widen.{AreRefusedTexts, RefusesTexts, part_of_share};
-ghost use Rattle.site_parts.specs.Part.{PartFits};
+ghost use Rattle.command_widen.specs.Widen.{AreRefusedTexts, RefusesTexts};
 
 use crate::checks::check_loaded;
 use crate::loaded::{Loaded, load_texts};
 use crate::texts::WidenTexts;
 use cbi_base::ProgramId;
-use cbi_options::Share;
 use collector::{Collection, one_collection};
 use command_base::Fault;
 use command_inputs::fault_of;
+use flow::Part;
 use program_file::{one_program, program_id};
-use site_parts::{Part, fitting_reports_may_widen, widen, widened_reports_fit};
+use site_parts::{fitting_reports_may_widen, widen, widened_reports_fit};
 use std::alloc::Global;
-
-// The part that a share is.
-fn part_of(share: Share) -> Part
-    requires { ShareFits share }
-    ensures value { result ≡ part_of_share share }
-    ensures fits { PartFits result }
-{
-    Part {
-        index: share.index,
-        count: share.count,
-    }
-}
 
 // A collection of the whole program, with this identity, that holds the reports as runs of that one.
 fn widen_loaded(
@@ -65,15 +52,14 @@ fn widen_loaded(
 }
 
 /// A collection of the whole program that holds the reports that the texts spell, as runs of that one.
-pub fn widen_texts(alloc: Global, texts: &WidenTexts, share: Share) -> Result<Collection, Fault>
-    requires { ShareFits share }
-    ensures holds { IfOk result (HoldsTexts (part_of_share share) texts.now) }
-    ensures fault { IfErr result (λ e. Caused e (λ n. ⊥) ⊥ (λ r. RefusesTexts (part_of_share share) r texts.now)) }
-    ensures refused { AreRefusedTexts (part_of_share share) texts.now → IsErrAnd result Precedes }
+pub fn widen_texts(alloc: Global, texts: &WidenTexts, part: Part) -> Result<Collection, Fault>
+    requires { PartFits part }
+    ensures holds { IfOk result (HoldsTexts part texts.now) }
+    ensures fault { IfErr result (λ e. Caused e (λ n. ⊥) ⊥ (λ r. RefusesTexts part r texts.now)) }
+    ensures refused { AreRefusedTexts part texts.now → IsErrAnd result Precedes }
 {
     one_program(alloc);
     one_collection(alloc);
-    let part = part_of(share);
     let loaded = match load_texts(alloc, texts) {
         Ok(loaded) => loaded,
         Err(fault) => return Err(fault),

@@ -7,47 +7,30 @@ use Rattle.cbi_words.specs.declared.command.Command.TheVariants.{Transform, Run,
 use Rattle.command_base.specs.Outside.{IsUnmoved, Outside}
 use Rattle.command_study.proofs.StudyLemmas.{refused-left}
 use Rattle.commands.proofs.LeftByRuns.{left-stopped, left-unwritten, unread-stopped, unread-unwritten as runs-unread-unwritten}
-use Rattle.commands.specs.Commands.{LeftRefused, LeftUnread, LeftWithin, runs_words, study_words}
+use Rattle.commands.specs.Commands.{LeftRefused, LeftUnread, LeftWithin}
 
 module _ {B : Type 0} (told : B → List Observation) where
   pub refused-unwritten : (command : Option Command) (refusal : Refusal) (before after : Outside B) → LeftRefused told command refusal before after
       → (after.out ≡ before.out) × (after.held ≡ before.held)
   refused-unwritten None refusal before after h = absurd h
-  refused-unwritten (Some (Transform mode schemes part text)) refusal before after h = (h.out, h.held)
-  refused-unwritten (Some (Run bank input expect turns run report program)) refusal before after h = (h.out, h.held)
-  refused-unwritten (Some (Bank rate count seed stream)) refusal before after h = (h.out, h.held)
-  refused-unwritten (Some (Collect program files)) refusal before after h = (h.out, h.held)
-  refused-unwritten (Some (Rank policy program collection)) refusal before after h = (h.out, h.held)
-  refused-unwritten (Some (Study runs seed rate turns policy text)) refusal before after h = (h.out, h.held)
-  refused-unwritten (Some (Session program policy edits)) refusal before after h = (h.out, h.held)
-  refused-unwritten (Some (Widen whole part program collection)) refusal before after h = (h.out, h.held)
-  refused-unwritten (Some (Cards program collection)) refusal before after h = (h.out, h.held)
-  refused-unwritten (Some (Pairs program collection)) refusal before after h = (h.out, h.held)
-  refused-unwritten (Some (Runs inputs expect rate seed first turns program)) refusal before after h = left-unwritten told (runs_words inputs expect rate seed first turns program) refusal before after h
+  refused-unwritten (Some (Runs words)) refusal before after h = left-unwritten told words refusal before after h
+  refused-unwritten command refusal before after h = (h.out, h.held)
 
   pub refused-wanting : (command : Option Command) (refusal : Refusal) (before after : Outside B) → LeftRefused told command refusal before after
       → IsUnmoved before after ⊎ LeftWithin told command before after
   refused-wanting None refusal before after h = absurd h
-  refused-wanting (Some (Transform mode schemes part text)) refusal before after h = inl h
-  refused-wanting (Some (Run bank input expect turns run report program)) refusal before after h = inl h
-  refused-wanting (Some (Bank rate count seed stream)) refusal before after h = inl h
-  refused-wanting (Some (Collect program files)) refusal before after h = inl h
-  refused-wanting (Some (Rank policy program collection)) refusal before after h = inl h
-  refused-wanting (Some (Session program policy edits)) refusal before after h = inl h
-  refused-wanting (Some (Widen whole part program collection)) refusal before after h = inl h
-  refused-wanting (Some (Cards program collection)) refusal before after h = inl h
-  refused-wanting (Some (Pairs program collection)) refusal before after h = inl h
-  refused-wanting (Some (Runs inputs expect rate seed first turns program)) refusal before after h = left-stopped told (runs_words inputs expect rate seed first turns program) refusal before after h
-  refused-wanting (Some (Study runs seed rate turns policy text)) refusal before after h =
-      inr (inl (refused-left told (study_words runs seed rate turns policy text) before after refusal h))
+  refused-wanting (Some (Runs words)) refusal before after h = left-stopped told words refusal before after h
+  refused-wanting (Some (Study words)) refusal before after h =
+      inr (inl (refused-left told words before after refusal h))
+  refused-wanting command refusal before after h = inl h
 
   -- what is left where a file isn't read: what out has taken and what the store holds, and no more than what want of memory leaves
   pub unread-unwritten : (command : Option Command) (name : List ℕ) (before after : Outside B) → LeftUnread told command name before after
       → (after.out ≡ before.out) × (after.held ≡ before.held)
-  unread-unwritten (Some (Runs inputs expect rate seed first turns program)) name before after h = runs-unread-unwritten told (runs_words inputs expect rate seed first turns program) name before after h
+  unread-unwritten (Some (Runs words)) name before after h = runs-unread-unwritten told words name before after h
   unread-unwritten command name before after h = (h.out, h.held)
 
   pub unread-wanting : (command : Option Command) (name : List ℕ) (before after : Outside B) → LeftUnread told command name before after
       → IsUnmoved before after ⊎ LeftWithin told command before after
-  unread-wanting (Some (Runs inputs expect rate seed first turns program)) name before after h = unread-stopped told (runs_words inputs expect rate seed first turns program) name before after h
+  unread-wanting (Some (Runs words)) name before after h = unread-stopped told words name before after h
   unread-wanting command name before after h = inl h

@@ -10,7 +10,7 @@ use Rattle.planned_runs.specs.declared.input.RunInput.{RunInput}
 use Rattle.planned_runs.specs.Left.{HasPlanStopped, LeftByPlan}
 use Rattle.command_runs.specs.Line.{RefusesLine, names_of_line}
 use Rattle.command_runs.specs.Runs.{LeftByRuns, RunsStopped, RunsTaken}
-use Rattle.command_runs.specs.declared.words.RunsWords.{RunsWords}
+use Rattle.cbi_options.specs.declared.words.RunsWords.{RunsWords}
 
 -- runs before a refusal are runs before memory was wanting
 refused-stopped : {B : Type 0} (p : ProgramParts) (gives : ℕ → RunInput → Type 0) (first count turns : ℕ) (told : B → List Observation) (before after : List B)

@@ -19,21 +19,20 @@ ghost use Rattle.commands.specs.Commands.{
 
 use cbi_base::{Sink, Store};
 use cbi_words::Command;
-use command_bank::{BankWords, make_bank};
+use command_bank::make_bank;
 use command_base::{Done, Fault, do_work};
-use command_cards::CardsWords;
-use command_collect::CollectWords;
-use command_pairs::PairsWords;
-use command_rank::RankWords;
-use command_run::{RunWords, run_file};
-use command_runs::{RunsWords, make_runs};
-use command_session::SessionWords;
-use command_study::{StudyWords, study_text};
-use command_transform::TransformWords;
-use command_widen::WidenWords;
+use command_cards::CardsCall;
+use command_collect::CollectCall;
+use command_pairs::PairsCall;
+use command_rank::RankCall;
+use command_run::run_file;
+use command_runs::make_runs;
+use command_session::SessionCall;
+use command_study::study_text;
+use command_transform::TransformCall;
+use command_widen::WidenCall;
 use probes::Probe;
 use std::alloc::Global;
-use study_runs::StudyPlan;
 
 /// Does the command.
 pub fn obey<S: Store, O: Sink>(
@@ -74,153 +73,16 @@ pub fn obey<S: Store, O: Sink>(
     ensures out_stays { O.is_sound out.old → O.faults out.new ≡ O.faults out.old }
 {
     match command {
-        Command::Transform {
-            mode,
-            schemes,
-            part,
-            text,
-        } => {
-            let words = TransformWords {
-                mode,
-                schemes,
-                part,
-                text,
-            };
-            do_work(alloc, &words, store, out)
-        }
-        Command::Run {
-            bank,
-            input,
-            expect,
-            turns,
-            run,
-            report,
-            program,
-        } => {
-            let words = RunWords {
-                bank,
-                input,
-                expect,
-                turns,
-                run,
-                report,
-                program,
-            };
-            run_file(alloc, &words, store, out, probes)
-        }
-        Command::Bank {
-            rate,
-            count,
-            seed,
-            stream,
-        } => {
-            let words = BankWords {
-                rate,
-                count,
-                seed,
-                stream,
-            };
-            make_bank(alloc, words, out)
-        }
-        Command::Collect { program, files } => {
-            let words = CollectWords { program, files };
-            do_work(alloc, &words, store, out)
-        }
-        Command::Rank {
-            policy,
-            program,
-            collection,
-        } => {
-            let words = RankWords {
-                policy,
-                program,
-                collection,
-            };
-            do_work(alloc, &words, store, out)
-        }
-        Command::Study {
-            runs,
-            seed,
-            rate,
-            turns,
-            policy,
-            text,
-        } => {
-            let plan = StudyPlan {
-                runs,
-                seed,
-                rate,
-                turns,
-                policy,
-            };
-            let words = StudyWords { plan, text };
-            study_text(alloc, &words, store, out, probes)
-        }
-        Command::Session {
-            program,
-            policy,
-            edits,
-        } => {
-            let words = SessionWords {
-                program,
-                policy,
-                edits,
-            };
-            do_work(alloc, &words, store, out)
-        }
-        Command::Widen {
-            whole,
-            part,
-            program,
-            collection,
-        } => {
-            let words = WidenWords {
-                whole,
-                part,
-                program,
-                collection,
-            };
-            do_work(alloc, &words, store, out)
-        }
-        Command::Cards {
-            program,
-            collection,
-        } => {
-            let words = CardsWords {
-                program,
-                collection,
-            };
-            do_work(alloc, &words, store, out)
-        }
-        Command::Pairs {
-            program,
-            collection,
-        } => {
-            let words = PairsWords {
-                program,
-                collection,
-            };
-            do_work(alloc, &words, store, out)
-        }
-        Command::Runs {
-            inputs,
-            expect,
-            rate,
-            seed,
-            first,
-            turns,
-            program,
-        } => {
-            let words = RunsWords {
-                inputs,
-                expect,
-                rate,
-                seed,
-                first,
-                turns,
-                program,
-            };
-            make_runs(alloc, &words, store, out, probes)
-        }
+        Command::Transform(words) => do_work(alloc, &TransformCall { words }, store, out),
+        Command::Run(words) => run_file(alloc, &words, store, out, probes),
+        Command::Bank(words) => make_bank(alloc, words, out),
+        Command::Collect(words) => do_work(alloc, &CollectCall { words }, store, out),
+        Command::Rank(words) => do_work(alloc, &RankCall { words }, store, out),
+        Command::Study(words) => study_text(alloc, &words, store, out, probes),
+        Command::Session(words) => do_work(alloc, &SessionCall { words }, store, out),
+        Command::Widen(words) => do_work(alloc, &WidenCall { words }, store, out),
+        Command::Cards(words) => do_work(alloc, &CardsCall { words }, store, out),
+        Command::Pairs(words) => do_work(alloc, &PairsCall { words }, store, out),
+        Command::Runs(words) => make_runs(alloc, &words, store, out, probes),
     }
 }

@@ -3,14 +3,10 @@ use Rattle.std.proofs.Common.{◌≡◌, ℕ, sym, ◌∙◌, ap, List, []}
 use Rattle.cbi_base.specs.declared.observation.Observation.{Observation}
 use Rattle.c_syntax.specs.ItemTree.{SourceTree}
 use Rattle.c_types_expressions.specs.declared.walk.Walk.{Walk}
-use Rattle.c_meaning.specs.Runs.{Behaviour}
-use Rattle.c_meaning.specs.Texts.{text_meaning}
+use Rattle.c_meaning.specs.Words.{Behaviour, text_meaning}
 use Rattle.flow.specs.declared.program.ProgramParts.{ProgramParts}
-use Rattle.flow.specs.Laws.{OneEnding}
-use Rattle.flow.specs.Machine.{MachineEnds}
-use Rattle.flow.specs.Sampling.{IsPositive}
-use Rattle.flow.specs.State.{Ending}
-use Rattle.sites.specs.declared.schemes.Schemes.{Schemes}
+use Rattle.flow.specs.Words.{OneEnding, MachineEnds, IsPositive, Ending}
+use Rattle.flow.specs.declared.choice.Schemes.{Schemes}
 use Rattle.sites.specs.Table.{sites_of}
 use Rattle.compiler.specs.Accepted.{IsAccepted}
 use Rattle.compiler.specs.declared.plan.Plan.{Plan}

@@ -4,26 +4,20 @@ use Rattle.std.specs.Prelude.{IfOk}
 use Rattle.cbi_base.specs.declared.observation.Observation.{Observation}
 use Rattle.cbi_base.specs.declared.outcome.Outcome.TheVariants.{Trapped}
 use Rattle.cbi_base.specs.declared.trap.Trap.TheVariants.{Internal}
-use Rattle.c_syntax.specs.ItemTree.{SourceTree}
-use Rattle.c_syntax.specs.Limits.{most_tokens}
-use Rattle.c_syntax.specs.Spelling.{tree_kinds}
+use Rattle.c_syntax.specs.Words.{SourceTree, most_tokens, tree_kinds}
 use Rattle.c_types_expressions.specs.declared.walk.Walk.{Walk}
 use Rattle.c_meaning.specs.Texts.{source_of, text_meaning}
 use Rattle.flow.specs.declared.program.Function.{Function}
 use Rattle.flow.specs.declared.program.ProgramParts.{ProgramParts}
 use Rattle.flow.specs.declared.site.Site.{Site}
 use Rattle.flow.specs.declared.site.TableParts.{TableParts}
-use Rattle.flow.specs.Counting.{counts_of}
-use Rattle.flow.specs.Limits.{site_limit}
-use Rattle.flow.specs.Program.{table_of}
-use Rattle.flow.specs.Sampling.{samples}
-use Rattle.flow.specs.Ready.{ArePlain, IsReady}
+use Rattle.flow.specs.Words.{counts_of, site_limit, table_of, samples, ArePlain, IsReady}
 use Rattle.lower_relation.specs.Functions.{ending_of}
-use Rattle.sites.specs.declared.schemes.Schemes.{Schemes}
+use Rattle.flow.specs.declared.choice.Schemes.{Schemes}
 use Rattle.sites.specs.Table.{sites_of}
 use Rattle.clone_paths.specs.Cloned.{Cloned, MayClone}
 use Rattle.sampling.specs.Runs.{RunsLike, Samples}
-use Rattle.site_parts.specs.declared.part.Part.{Part}
+use Rattle.flow.specs.declared.choice.Part.{Part}
 use Rattle.site_parts.specs.Part.{part_of, part_visits}
 use Rattle.site_parts.specs.Program.{part_table}
 use Rattle.site_parts.specs.Runs.{RunsInPart, part_ending}

@@ -1,7 +1,6 @@
 -- The tree of an accepted text keeps what its tokens do, and is a whole text.
 use Rattle.std.proofs.Common.{ℕ, List}
-use Rattle.c_syntax.specs.ItemTree.{SourceTree}
-use Rattle.c_syntax.specs.Kept.{IsKeptTree}
+use Rattle.c_syntax.specs.Words.{SourceTree, IsKeptTree}
 use Rattle.c_types_expressions.specs.declared.walk.Walk.{Walk}
 use Rattle.c_parser.proofs.Keeping.{kept-tree}
 use Rattle.lower_fits.specs.Ready.{IsWholeText}

@@ -5,7 +5,7 @@ use Rattle.c_syntax.specs.ItemTree.{SourceTree}
 use Rattle.c_types_expressions.specs.declared.walk.Walk.{Walk}
 use Rattle.flow.specs.declared.site.Site.{Site}
 use Rattle.flow.specs.Limits.{site_limit}
-use Rattle.sites.specs.declared.schemes.Schemes.{Schemes}
+use Rattle.flow.specs.declared.choice.Schemes.{Schemes}
 use Rattle.sites.specs.Table.{sites_of}
 use Rattle.sites.specs.Wanted.{no_schemes}
 use Rattle.lower_fits.specs.Ready.{AreSitesOf}

@@ -3,20 +3,15 @@ use Rattle.std.specs.Prelude.{◌≡◌, ◌≢◌, ◌≤◌, ◌+◌, ◌*◌,
 use Rattle.cbi_base.specs.declared.observation.Observation.{Observation}
 use Rattle.cbi_base.specs.declared.outcome.Outcome.TheVariants.{Trapped}
 use Rattle.cbi_base.specs.declared.trap.Trap.TheVariants.{Internal}
-use Rattle.c_syntax.specs.ItemTree.{SourceTree}
-use Rattle.c_syntax.specs.Spelling.{tree_kinds}
+use Rattle.c_syntax.specs.Words.{SourceTree, tree_kinds}
 use Rattle.c_types_expressions.specs.declared.walk.Walk.{Walk}
-use Rattle.c_meaning.specs.Runs.{Behaviour}
-use Rattle.c_meaning.specs.Texts.{text_meaning}
+use Rattle.c_meaning.specs.Words.{Behaviour, text_meaning}
 use Rattle.flow.specs.declared.program.ProgramParts.{ProgramParts}
 use Rattle.flow.specs.declared.site.Site.{Site}
-use Rattle.flow.specs.Counting.{counts_of, run_result}
-use Rattle.flow.specs.Machine.{MachineEnds}
-use Rattle.flow.specs.Sampling.{IsPositive, samples}
-use Rattle.flow.specs.State.{Ending}
+use Rattle.flow.specs.Words.{counts_of, run_result, MachineEnds, IsPositive, samples, Ending}
 use Rattle.clone_paths.specs.Cloned.{Cloned}
 use Rattle.lower.specs.Programs.{node_count}
-use Rattle.site_parts.specs.declared.part.Part.{Part}
+use Rattle.flow.specs.declared.choice.Part.{Part}
 use Rattle.compiler.specs.Kept.{kept_sites, kept_visits}
 
 -- A run goes as the text means, and what its sites saw is this: outcome and output are the meaning's, and the counters count what was seen.

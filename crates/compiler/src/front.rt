@@ -1,7 +1,5 @@
 ghost use Rattle.std.specs.Prelude.{◌≡◌, IfErr, IfOk, IsErr};
-ghost use Rattle.c_syntax.specs.Kept.{IsKeptTree};
-ghost use Rattle.c_syntax.specs.Tokens.{line_at, lines_of};
-ghost use Rattle.c_syntax.specs.Plain.{plain_tree};
+ghost use Rattle.c_syntax.specs.Words.{IsKeptTree, line_at, lines_of, plain_tree};
 ghost use Rattle.c_types.specs.Answers.{known_of, tree_of};
 ghost use Rattle.compiler.specs.Accepted.{HasTokens, HasTree, IsAccepted};
 ghost use Rattle.compiler.specs.Rejected.{IsRejectedText, RejectedBy};

@@ -1,16 +1,14 @@
 ghost use Rattle.std.specs.Prelude.{◌≡◌, ℕ, List, None, IfErr, IfOk, IsErr, OnOk};
+ghost use Rattle.flow.specs.Words.{MayPart, table_of, IsReady};
 ghost use Rattle.c_syntax.specs.ItemTree.{SourceTree};
 ghost use Rattle.c_types_expressions.specs.declared.walk.Walk.{Walk};
 ghost use Rattle.c_types.specs.Answers.{known_of, tree_of};
 ghost use Rattle.flow.specs.declared.site.Site.{Site};
-ghost use Rattle.flow.specs.Program.{table_of};
 ghost use Rattle.sites.specs.Table.{functions_of};
 ghost use Rattle.clone_paths.specs.Cloned.{MayClone};
-ghost use Rattle.flow.specs.Ready.{IsReady};
 ghost use Rattle.compiler.specs.Accepted.{IsAccepted};
 ghost use Rattle.compiler.specs.Compiled.{DoesPlan, IsCompiled};
 ghost use Rattle.compiler.specs.Does.{DoesText};
-ghost use Rattle.compiler.specs.Kept.{MayPart};
 ghost use Rattle.compiler.specs.Planned.{FitsPlan, part_in, planned_sites};
 ghost use Rattle.compiler.specs.Refused.{CrowdedBy, IsRefusedText, RefusedBy};
 
@@ -20,11 +18,11 @@ use crate::laws::{accepted_texts_never_fault, one_accepted_text};
 use crate::plan::{Plan, part_in, schemes_of};
 use c_types::Checked;
 use cbi_base::{Memory, Refusal};
-use flow::{Program, SiteTable};
+use flow::{Part, Program, SiteTable};
 use lower::lower;
 use lower_fits::kept_texts_are_whole;
 use sampling::sample;
-use site_parts::{Part, keep_part};
+use site_parts::keep_part;
 use sites::{SiteError, schemes_choose_sites, site_table};
 use std::alloc::Global;
 
@@ -58,7 +56,7 @@ fn keep(alloc: Global, program: Program, part: Option<Part>) -> Result<Program, 
 {
     match part {
         None => Ok(program),
-        Some(part) => keep_part(alloc, &program, part),
+        Some(part) => keep_part(alloc, program, part),
     }
 }
 
@@ -75,7 +73,7 @@ fn by_plan(alloc: Global, program: Program, plan: Plan) -> Result<Program, Memor
     let program = keep(alloc, program, part_in(plan))?;
     match plan {
         Plan::Plain | Plan::Full { .. } => Ok(program),
-        Plan::Sampled { .. } => sample(alloc, &program),
+        Plan::Sampled { .. } => sample(alloc, program),
     }
 }
 
@@ -91,7 +89,7 @@ fn compile_checked(alloc: Global, checked: &Checked, plan: Plan) -> Result<Progr
     kept_texts_are_whole();
     checked.facts();
     let table = sites_for(alloc, checked, plan)?;
-    let program = lower(alloc, checked, &table)?;
+    let program = lower(alloc, checked, table)?;
     let planned = by_plan(alloc, program, plan)?;
     Ok(planned)
 }

@@ -1,8 +1,7 @@
 ghost use Rattle.std.specs.Prelude.{◌≡◌};
 ghost use Rattle.compiler.specs.Planned.{part_in, schemes_of};
 
-use site_parts::Part;
-use sites::Schemes;
+use flow::{Part, Schemes};
 
 /// What a text is compiled to.
 #[derive(Clone, Copy, Debug, PartialEq, Eq)]

@@ -1,13 +1,13 @@
 -- Nodes of one part behind those of another.
 use Rattle.std.proofs.Common.{◌≡◌, ℕ, suc, ◌+◌, ◌≤◌, refl, ap, sym, ◌∙◌, subst, inl, inr, arith, List, [], ◌∷◌, ◌++◌, length, length-append, Some, Bool, true, false, option_map}
 use Rattle.std.specs.Prelude.{pos, if◌then◌else◌}
+use Rattle.lower_nodes.proofs.Building.{below_more}
 use Rattle.cbi_base.specs.declared.scalar.Kind.TheVariants.{Char}
 use Rattle.flow.specs.declared.node.Node.{Node}
 use Rattle.flow.specs.declared.node.Node.TheVariants as node
 use Rattle.flow.specs.declared.node.View.{View}
 use Rattle.flow.specs.declared.node.View.TheVariants as view
-use Rattle.flow.specs.Nodes.{is_again, led_to}
-use Rattle.flow.specs.View.{view as view_of}
+use Rattle.flow.specs.Words.{is_again, led_to, view as view_of}
 use Rattle.lower_relation.specs.Functions.{standing}
 use Rattle.lower_relation.specs.Paths.{Graph, Path, ◌then◌, Ways, Either, OneOf, Nothing, Does, HaltsAt, Stuck, MarksAll, ForkTo, Tests, Truly, Only}
 use Rattle.compiler_exists.specs.Built.{Built, Builds, LeadBackWithin, StandAlong}
@@ -27,11 +27,6 @@ pub both_back : (count : ℕ) (xs ys : List Node) (at next : ℕ) → next ≡ a
     LeadBackWithin count at (xs ++ ys)
 both_back count [] ys at next e b c = let same : next ≡ at = omega (arith, e) in subst (λ n. LeadBackWithin count n ys) same c
 both_back count (x ∷ xs) ys at next e b c = (b.0, both_back count xs ys (suc at) next (omega (arith, e)) b.1 c)
-
--- numbers below one lie below a greater one
-pub below_more : (m n : ℕ) (xs : List ℕ) → m ≤ n → AllBelow m xs → AllBelow n xs
-below_more m n [] le b = tt
-below_more m n (x ∷ xs) le b = (omega (arith, le, b.0), below_more m n xs le b.1)
 
 -- what has room has more
 pub fits : {K : Type 0} {ends : K → List ℕ} {R : Graph → Path K} {a b : ℕ} → Builds ends R a → a ≤ b → Builds ends R b

@@ -2,10 +2,10 @@
 use Rattle.std.proofs.Common.{ℕ, ◌<◌, subst, arith, List, [], ◌∷◌, ◌++◌, Option, Some, Bool, true, false}
 use Rattle.std.specs.Prelude.{IfSome, ◌==◌, if◌then◌else◌}
 use Rattle.std.specs.List.{AllByRecursion}
+use Rattle.base_lists.proofs.Every.{all_first, all_second}
 use Rattle.c_syntax.specs.declared.parts.Constant.{Constant}
 use Rattle.c_lexer_pieces.specs.Pieces.{AreElements, IsCharacter, IsElement, IsText, hexadecimal, letter, octal, plain}
 use Rattle.c_lexer_pieces.specs.Values.{simple_escape}
-use Rattle.c_meaning_sound.proofs.Parting.{all_first, all_second}
 
 abbrev pub Byte : ℕ → Type 0
 Byte b = b < 256

@@ -1,22 +1,18 @@
 -- Nodes for each call.
 use Rattle.std.proofs.Common.{ℕ, ◌+◌, ◌≤◌, refl, arith, List, length, Option, Some, None, Bool, true, false}
 use Rattle.std.specs.Prelude.{◌==◌}
+use Rattle.cbi_base.specs.Printing.{pieces_of}
 use Rattle.cbi_base.specs.declared.scalar.Kind.TheVariants.{Int, Unsigned}
 use Rattle.c_types_rules.specs.declared.library.Library.{Library}
 use Rattle.c_types_rules.specs.declared.library.Library.TheVariants as library
 use Rattle.flow.specs.declared.node.Node.TheVariants as node
 use Rattle.flow.specs.declared.node.View.TheVariants as view
 use Rattle.flow.specs.declared.program.Text.{Text}
-use Rattle.flow.specs.Printing.{pieces_of}
 use Rattle.c_meaning.specs.declared.value_type.Called.{Called}
 use Rattle.c_meaning.specs.declared.value_type.Called.TheVariants as called
 use Rattle.c_meaning.specs.declared.value_type.ValueType.{ValueType}
 use Rattle.c_meaning.specs.declared.value_type.ValueType.TheVariants as type
-use Rattle.c_meaning.specs.Calls.{as_type, types_taken}
-use Rattle.c_meaning.specs.Conversions.{as_used}
-use Rattle.c_meaning.specs.Facts.{Facts, Signature, Sites}
-use Rattle.c_meaning.specs.Trees.{has_value}
-use Rattle.c_meaning.specs.Visits.{listed}
+use Rattle.c_meaning.specs.Words.{as_type, types_taken, as_used, Facts, Signature, Sites, has_value, listed}
 use Rattle.lower_relation.specs.Calls as c
 use Rattle.lower_relation.specs.Paths.{Graph, Path}
 use Rattle.lower_relation.specs.Room.{returns}
@@ -29,12 +25,12 @@ use Rattle.compiler_exists.proofs.Values.{effected, valued}
 pub prints : {R : Graph → c.ArgumentsPath} {a : ℕ} (number : Option ℕ) (format : Option Text) (n : ℕ) → ((types : List ValueType) →
     Builds one_end (λ G. R G types) a) →
     Builds one_end (λ G. c.PrintPath G number format n (R G)) (2 + a)
-prints None None n r = fits stuck (omega arith)
-prints None (Some format) n r = fits stuck (omega arith)
-prints (Some number) None n r = fits stuck (omega arith)
 prints (Some number) (Some format) n r =
     only (n == length (types_taken (pieces_of format.bytes))) (r (types_taken (pieces_of format.bytes))
     before does (node.Format number n) (λ k. refl)) (omega arith) (omega arith)
+prints None None n r = fits stuck (omega arith)
+prints None (Some format) n r = fits stuck (omega arith)
+prints (Some number) None n r = fits stuck (omega arith)
 
 calls : (number : ℕ) → Builds one_end (λ (G : Graph) i k. G i (view.Calls number k)) 1
 calls number = view_built (λ k. view.Calls number k) (node.Call number) (λ k. refl) (λ count at k b. b)

@@ -3,6 +3,7 @@ use Rattle.std.proofs.Common.{◌≡◌, ℕ, zero, suc, refl, ap, ap₂, arith,
 use Rattle.std.specs.Prelude.{ℤ, drop, neg_ℤ, pos, if◌then◌else◌}
 use Rattle.std.specs.List.{AllByRecursion}
 use Rattle.std.specs.Option.{option_and_then, option_map}
+use Rattle.base_lists.proofs.Every.{all_join}
 use Rattle.cbi_base.specs.declared.operators.Unary.TheVariants as unary
 use Rattle.cbi_base.specs.declared.scalar.Kind.{Kind}
 use Rattle.cbi_base.specs.declared.scalar.Kind.TheVariants as kind
@@ -10,14 +11,11 @@ use Rattle.cbi_base.specs.declared.scalar.Scalar.{Scalar}
 use Rattle.cbi_base.specs.declared.scalar.Scalar.TheVariants.{Number, Place, Null, Undefined}
 use Rattle.cbi_base.specs.declared.trap.Trap.{Trap}
 use Rattle.cbi_base.specs.declared.trap.Trap.TheVariants as trap
-use Rattle.cbi_base.specs.Kind.{lies_in, wrapped}
-use Rattle.cbi_base.specs.Objects.{Object}
-use Rattle.cbi_base.specs.Scalars.{applied_to_one, as_number, converted}
+use Rattle.cbi_base.specs.Words.{lies_in, wrapped, Object, applied_to_one, as_number, converted, char_of}
 use Rattle.c_syntax.specs.declared.expr.PrefixOperator.TheVariants as prefix
 use Rattle.c_syntax.specs.ExprTree as e
-use Rattle.c_syntax.specs.ExprTree.{ExprTree, ExprList}
+use Rattle.c_syntax.specs.Words.{ExprTree, ExprList, InitialTree, StartTree}
 use Rattle.c_syntax.specs.StatementTree as s
-use Rattle.c_syntax.specs.StatementTree.{InitialTree, StartTree}
 use Rattle.c_types_rules.specs.declared.layout.StructType.{StructType}
 use Rattle.c_types_rules.specs.TypeTree.{TypeTree}
 use Rattle.c_types_expressions.specs.declared.walk.Walk.{Walk}
@@ -26,23 +24,17 @@ use Rattle.flow.specs.declared.program.Cell.{Cell}
 use Rattle.flow.specs.declared.program.Cell.TheVariants as cell
 use Rattle.flow.specs.declared.program.Global.{Global}
 use Rattle.flow.specs.declared.program.Text.{Text}
-use Rattle.flow.specs.Machine as machine
-use Rattle.flow.specs.Machine.{cell_value}
-use Rattle.flow.specs.Rows.{char_of}
+use Rattle.flow.specs.Statics as statics
+use Rattle.flow.specs.Statics.{cell_value}
 use Rattle.c_meaning.specs.declared.conversion.Conversion.{Conversion}
 use Rattle.c_meaning.specs.declared.conversion.Conversion.TheVariants.{Keep, To, Misfit}
 use Rattle.c_meaning.specs.declared.value_type.ValueType.{ValueType}
 use Rattle.c_meaning.specs.declared.value_type.ValueType.TheVariants as type
-use Rattle.c_meaning.specs.Conversions.{as_wanted, conversion, converts, is_null_as}
-use Rattle.c_meaning.specs.Expressions.{Sense, one_operand, wanted_value}
-use Rattle.c_meaning.specs.Facts.{Facts}
-use Rattle.c_meaning.specs.Globals.{before_all, before_cells, constant, constants, filled_up, given_by, given_to, global_object, global_objects, nowhere, object_with, one_more, spelled_cells, static_object, zeros_of}
-use Rattle.c_meaning.specs.Known.{computed_type, element_type}
-use Rattle.c_meaning.specs.Meaning.{expr, text_of_string, text_place}
-use Rattle.c_meaning.specs.Trees.{type_of}
-use Rattle.c_meaning.specs.World.{Out, Go, Stop, World, answered, bind}
+use Rattle.c_meaning.specs.Words.{as_wanted, conversion, converts, is_null_as, Sense, one_operand, wanted_value, Facts, before_all, before_cells, constant}
+use Rattle.c_meaning.specs.Words.{constants, filled_up, given_by, given_to, global_object, global_objects, nowhere, object_with, one_more, spelled_cells}
+use Rattle.c_meaning.specs.Words.{static_object, zeros_of, computed_type, element_type, expr, text_of_string, text_place, type_of, Out, Go, Stop, World}
+use Rattle.c_meaning.specs.Words.{answered, bind}
 use Rattle.c_meaning_laws.specs.TypedText.{GlobalInitial, GlobalItems, IsConstant, TypedGlobal, TypedGlobals}
-use Rattle.c_meaning_sound.proofs.Spotting.{all_two}
 use Rattle.lower_fits.proofs.Values.{AllCells, Firsts, IsCell, zeros_cells}
 
 -- without a string there is no place
@@ -186,18 +178,13 @@ module _ (facts : Facts) where
       IfHave count (given_to facts of element x)
   given_have of element None h = tt
   given_have (type.Array size) element (Some (s.Value x)) h = spelled_have count (text_of_string facts x)
-  given_have (type.Number k) element (Some (s.Value x)) h =
-      alone_have count (constant facts (Some (type.Number k)) x) (constant_has (Some (type.Number k)) x h.0)
-  given_have (type.Pointer size) element (Some (s.Value x)) h = alone_have count (constant facts (Some (type.Pointer size)) x)
-      (constant_has (Some (type.Pointer size)) x h.0)
-  given_have type.Void element (Some (s.Value x)) h = alone_have count (constant facts (Some type.Void) x) (constant_has (Some type.Void) x h.0)
-  given_have type.Struct element (Some (s.Value x)) h = alone_have count (constant facts (Some type.Struct) x) (constant_has (Some type.Struct) x h.0)
   given_have of element (Some (s.Braced token items comma)) h = constants_have element items h
+  given_have of element (Some (s.Value x)) h = alone_have count (constant facts (Some of) x) (constant_has (Some of) x h.0)
 
   -- if there is an object, a global of a program begins with it
   abbrev IfGlobal : Option Object → Type 0
   IfGlobal None = Unit {0}
-  IfGlobal (Some object) = (one : Global) × (machine.object_of_global count one ≡ object)
+  IfGlobal (Some object) = (one : Global) × (statics.object_of_global count one ≡ object)
 
   filled_global : (structs : List StructType) (of : TypeTree) (o : Option (List Scalar)) → IfHave count o →
       IfGlobal (option_map (λ given. static_object (filled_up (zeros_of structs of) given)) o)
@@ -205,7 +192,7 @@ module _ (facts : Facts) where
   filled_global structs of (Some given) h =
       let zeros : List Scalar = zeros_of structs of in
       let all : AllHave count (given ++ drop (length given) zeros) =
-      all_two (HasCell count) given (drop (length given) zeros) h
+      all_join (HasCell count) given (drop (length given) zeros) h
       (dropped_have count (length given) zeros (no_places count zeros (zeros_cells no_strings structs of))) in
       let held = holding count (given ++ drop (length given) zeros) all in
       (record { cells = held.0 }, ap static_object held.1)
@@ -219,7 +206,7 @@ module _ (facts : Facts) where
   -- if there are objects, so many globals of a program begin with them
   abbrev pub IfGlobals : ℕ → Option (List Object) → Type 0
   IfGlobals n None = Unit {0}
-  IfGlobals n (Some objects) = (all : List Global) × (map (machine.object_of_global count) all ≡ objects) × (length all ≡ n)
+  IfGlobals n (Some objects) = (all : List Global) × (map (statics.object_of_global count) all ≡ objects) × (length all ≡ n)
 
   one_more_global : (n : ℕ) (o : Option Object) (os : Option (List Object)) → IfGlobal o → IfGlobals n os → IfGlobals (suc n) (one_more o os)
   one_more_global n None os h k = tt

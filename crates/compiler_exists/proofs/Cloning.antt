@@ -6,8 +6,7 @@ use Rattle.std.proofs.lemmas.List.Sums.{sum_by-cons}
 use Rattle.flow.specs.declared.node.Node.{Node}
 use Rattle.flow.specs.declared.program.Function.{Function}
 use Rattle.flow.specs.declared.program.ProgramParts.{ProgramParts}
-use Rattle.flow.specs.Program.{IsProgram}
-use Rattle.flow.specs.Ready.{ArePlain}
+use Rattle.flow.specs.Words.{IsProgram, ArePlain}
 use Rattle.regions.specs.Flags.{is_in}
 use Rattle.regions.specs.Rows.{EachFits}
 use Rattle.regions.proofs.Within.{has_entry, node_at}

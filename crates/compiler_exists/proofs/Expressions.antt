@@ -8,11 +8,8 @@ use Rattle.c_syntax.specs.ExprTree.{ExprTree, ExprList, LinkList, PostfixList}
 use Rattle.c_types_expressions.specs.ExprWalk.{binary_of}
 use Rattle.flow.specs.declared.node.Node.TheVariants as node
 use Rattle.c_meaning.specs.declared.value_type.ValueType.{ValueType}
-use Rattle.c_meaning.specs.Conversions.{is_null_as}
-use Rattle.c_meaning.specs.Facts.{Facts, Sites}
-use Rattle.c_meaning.specs.Meaning.{text_of_string}
-use Rattle.c_meaning.specs.Operation.{operation}
-use Rattle.c_meaning.specs.Trees.{assignment, begins_null, called_as, count, ends_as_place, first_type, is_null_beside, is_place, joint, operand_type, other_types, token_of, type_of}
+use Rattle.c_meaning.specs.Words.{is_null_as, Facts, Sites, text_of_string, operation, assignment, begins_null, called_as, count, ends_as_place, first_type}
+use Rattle.c_meaning.specs.Words.{is_null_beside, is_place, joint, operand_type, other_types, token_of, type_of}
 use Rattle.lower_relation.specs.Expressions as x
 use Rattle.lower_relation.specs.Expressions.{has_more, number_of_text}
 use Rattle.lower_relation.specs.Paths.{Graph, Path, Emitted, Ways}
@@ -42,21 +39,8 @@ chain T is_null of r le links = record {
 module _ (sites : Sites) where
   -- each expression has some room
   pub some_room : (y : ExprTree) → 2 ≤ expr_room sites y
-  some_room (e.Comma token operands) = omega arith
-  some_room (e.Assign token sign target value) = omega arith
-  some_room (e.Conditional token condition first second) = omega arith
-  some_room (e.Chain level first links) = omega arith
-  some_room (e.Cast token base stars operand) = omega arith
-  some_room (e.Prefix token operator operand) = omega arith
-  some_room (e.SizeOfType token base stars) = omega arith
-  some_room (e.Postfix primary operators) = omega arith
-  some_room (e.Name token name) = omega arith
-  some_room (e.Call token name arguments) = omega arith
-  some_room (e.Constant token kind value) = omega arith
-  some_room (e.Strings token parts) = omega arith
   some_room (e.Paren token inner) = some_room inner
-  some_room (e.Null token) = omega arith
-  some_room (e.EndOfFile token) = omega arith
+  some_room y = omega arith
 
 module _ (facts : Facts) (sites : Sites) where
   mutual

@@ -2,9 +2,8 @@
 use Rattle.std.proofs.Common.{◌≡◌, ℕ, zero, suc, ◌+◌, ◌*◌, ◌<◌, ◌≤◌, ◌==◌, refl, ap, sym, ◌∙◌, subst, arith, List, [], ◌∷◌, length, map, Option, Some, None, false, option_map, slice_get}
 use Rattle.std.specs.List.{sum_by}
 use Rattle.std.proofs.lemmas.List.{length-map}
-use Rattle.c_syntax.specs.ItemTree.{SourceTree}
-use Rattle.c_syntax.specs.Spelling.{tree_kinds}
-use Rattle.c_syntax.specs.StatementTree.{EntryList}
+use Rattle.std.proofs.lemmas.Option.{same_Some}
+use Rattle.c_syntax.specs.Words.{SourceTree, tree_kinds, EntryList}
 use Rattle.c_types_expressions.specs.declared.walk.Walk.{Walk}
 use Rattle.flow.specs.declared.node.Node.{Node}
 use Rattle.flow.specs.declared.program.Function.{Function}
@@ -13,13 +12,8 @@ use Rattle.flow.specs.declared.program.ProgramParts.{ProgramParts}
 use Rattle.flow.specs.declared.scope.Bounds.{Bounds}
 use Rattle.flow.specs.declared.scope.Names.{Names}
 use Rattle.flow.specs.declared.site.TableParts.{TableParts}
-use Rattle.flow.specs.Nodes.{NodesFit}
-use Rattle.flow.specs.Program.{IsProgram, parts_of}
-use Rattle.flow.specs.Limits.{site_limit}
-use Rattle.c_meaning.specs.Facts.{Signature}
-use Rattle.c_meaning.specs.Runs.{Source}
-use Rattle.c_meaning.specs.Texts.{source_of}
-use Rattle.c_meaning.specs.Trees.{has_value}
+use Rattle.flow.specs.Words.{NodesFit, IsProgram, parts_of, site_limit}
+use Rattle.c_meaning.specs.Words.{Signature, Source, source_of, has_value}
 use Rattle.lower_fits.specs.TextNames.{names_of_text}
 use Rattle.lower_fits.specs.Parts.{ArePartsOf, FitsAsFunction}
 use Rattle.lower_fits.specs.Ready.{IsReadyText}
@@ -42,9 +36,6 @@ use Rattle.compiler_exists.proofs.Kept.{all_may_stand, body_kept}
 use Rattle.compiler_exists.proofs.KeptFit.{kept_fit}
 use Rattle.compiler_exists.proofs.Ordering.{ordered, ordered_lead, ordered_long, ordered_nodes}
 use Rattle.compiler_exists.proofs.ProgramTexts.{as_many_names, has_globals, no_more}
-
-one_of : {X : Type 0} (x y : X) → Some x ≡ Some y → x ≡ y
-one_of x y e = cc
 
 module _ (tree : SourceTree) (walk : Walk) (table : TableParts) (ready : IsReadyText tree walk table) (fits : length table.sites ≤ site_limit) where
   abbrev src : Source
@@ -141,7 +132,7 @@ module _ (tree : SourceTree) (walk : Walk) (table : TableParts) (ready : IsReady
         let some : slice_get functions number ≡ Some (function_with number name (src.facts.signature number)) =
         found src.facts.signature function_with table.functions 0 number number (omega arith)
         ∙ ap (option_map (λ n. function_with number n (src.facts.signature number))) here in
-        (name, one_of _ _ (sym some ∙ at), here)
+        (name, same_Some _ _ (sym some ∙ at), here)
 
     within : (xs : List (List ℕ)) (i : ℕ) (x : List ℕ) → slice_get xs i ≡ Some x → i < length xs
     within [] i x e = absurd (cc)

@@ -8,8 +8,7 @@ use Rattle.flow.specs.declared.node.Node.TheVariants as node
 use Rattle.flow.specs.declared.node.View.TheVariants as view
 use Rattle.flow.specs.View.{view as view_of}
 use Rattle.c_meaning.specs.declared.value_type.ValueType.{ValueType}
-use Rattle.c_meaning.specs.Facts.{Facts, Sites}
-use Rattle.c_meaning.specs.Trees.{has_value}
+use Rattle.c_meaning.specs.Words.{Facts, Sites, has_value}
 use Rattle.lower_relation.specs.Functions.{BodyDoes, EndsAt, GivesAt, Passes}
 use Rattle.lower_relation.specs.Paths.{Exits, Graph, Stuck}
 use Rattle.lower_relation.specs.Room.{body_room}

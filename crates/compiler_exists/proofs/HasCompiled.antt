@@ -1,18 +1,16 @@
 -- From the program of an accepted text to what the text is compiled to, by a plan.
 use Rattle.std.proofs.Common.{◌≡◌, ℕ, ◌≤◌, refl, ap, subst, arith, ◌∙◌, List, length, Option, Some, None, Ok}
+use Rattle.flow.specs.Words.{MayPart, site_limit, IsProgram, table_of, IsReady}
 use Rattle.c_syntax.specs.ItemTree.{SourceTree}
 use Rattle.c_types_expressions.specs.declared.walk.Walk.{Walk}
 use Rattle.flow.specs.declared.program.ProgramParts.{ProgramParts}
 use Rattle.flow.specs.declared.site.TableParts.{TableParts}
-use Rattle.flow.specs.Limits.{site_limit}
-use Rattle.flow.specs.Program.{IsProgram, table_of}
 use Rattle.c_meaning.specs.Texts.{source_of}
 use Rattle.sites.specs.Table.{functions_of}
 use Rattle.clone_paths.specs.Cloned.{MayClone}
 use Rattle.sampling.specs.Runs.{SampledRuns}
 use Rattle.compiler_exists.specs.Cloned.{HasClone}
-use Rattle.flow.specs.Ready.{IsReady}
-use Rattle.site_parts.specs.declared.part.Part.{Part}
+use Rattle.flow.specs.declared.choice.Part.{Part}
 use Rattle.site_parts.specs.Part.{part_of}
 use Rattle.site_parts.specs.Program.{part_program}
 use Rattle.site_parts.proofs.Programs.{names_same, nodes_kept, part_is_program, plain_functions, ready_part}
@@ -26,7 +24,6 @@ use Rattle.compiler.specs.declared.plan.Plan.TheVariants as plan
 use Rattle.compiler.specs.Accepted.{IsAccepted}
 use Rattle.compiler.specs.Compiled.{DoesPlan}
 use Rattle.compiler.specs.Does.{DoesText}
-use Rattle.compiler.specs.Kept.{MayPart}
 use Rattle.compiler.specs.Planned.{FitsPlan, part_in, planned_sites}
 use Rattle.compiler.proofs.Doing.{Never, NeverPlain, few_beside, kept_names, kept_result, looks, may_clone, sampled_does}
 use Rattle.compiler.proofs.Fitting.{tree_whole}

@@ -3,20 +3,15 @@ use Rattle.std.proofs.Common.{ℕ, suc, ◌+◌, refl, arith, List, [], ◌∷�
 use Rattle.std.proofs.lemmas.List.Sums.{sum_by-cons}
 use Rattle.cbi_base.specs.declared.scalar.Want.{Want}
 use Rattle.c_syntax.specs.ExprTree as e
-use Rattle.c_syntax.specs.ExprTree.{ExprTree, ExprList}
+use Rattle.c_syntax.specs.Words.{ExprTree, ExprList, InitialTree, StartTree, DeclarationTree}
 use Rattle.c_syntax.specs.StatementTree as tree
-use Rattle.c_syntax.specs.StatementTree.{InitialTree, StartTree, DeclarationTree}
 use Rattle.flow.specs.declared.node.Node.TheVariants as node
 use Rattle.flow.specs.declared.program.Text.{Text}
 use Rattle.flow.specs.declared.site.Slot.{Slot}
 use Rattle.flow.specs.declared.site.Slot.TheVariants as slot
 use Rattle.c_meaning.specs.declared.value_type.ValueType.{ValueType}
 use Rattle.c_meaning.specs.declared.value_type.ValueType.TheVariants as type
-use Rattle.c_meaning.specs.Conversions.{is_null_as}
-use Rattle.c_meaning.specs.Facts.{Facts, Sites}
-use Rattle.c_meaning.specs.Initialisers.{equals_token, want_of}
-use Rattle.c_meaning.specs.Meaning.{text_of_string}
-use Rattle.c_meaning.specs.Trees.{type_of}
+use Rattle.c_meaning.specs.Words.{is_null_as, Facts, Sites, equals_token, want_of, text_of_string, type_of}
 use Rattle.lower_relation.specs.Expressions.{number_of_text}
 use Rattle.lower_relation.specs.Initialisers as i
 use Rattle.lower_relation.specs.Paths.{Graph, Path}
@@ -41,10 +36,10 @@ zeroes None index = stuck
 zeroes (Some kind) index = fits (does (node.Zero index kind) (λ k. refl)) (omega arith)
 
 spells : (number : Option ℕ) (text : Option Text) (index : ℕ) → Builds one_end (λ G. i.Spells G number text index) 2
+spells (Some number) (Some text) index = fits (does (node.Spell index number) (λ k. refl)) (omega arith)
 spells None None index = stuck
 spells None (Some text) index = stuck
 spells (Some number) None index = stuck
-spells (Some number) (Some text) index = fits (does (node.Spell index number) (λ k. refl)) (omega arith)
 
 module _ (facts : Facts) (sites : Sites) where
   scalar : (token : ℕ) (value : ExprTree) →
@@ -69,13 +64,9 @@ module _ (facts : Facts) (sites : Sites) where
 
   value_set : (token : ℕ) (of : Option ValueType) (value : ExprTree) →
       Builds one_end (λ G. i.ValueSet G facts sites token of value) (6 + pairs sites (equals_token token) + expr_room sites value)
-  value_set token None value = scalar token value
-  value_set token (Some type.Void) value = scalar token value
-  value_set token (Some (type.Number kind)) value = scalar token value
-  value_set token (Some (type.Pointer size)) value = scalar token value
   value_set token (Some (type.Array size)) value =
       fits (zeroed token before on_local (facts.slot_at token) (spells (number_of_text facts value) (text_of_string facts value))) (omega arith)
-  value_set token (Some type.Struct) value = scalar token value
+  value_set token of value = scalar token value
 
   initialised : (token : ℕ) (y : Option InitialTree) → Builds one_end (λ G. i.Initialised G facts sites token y) (initial_room sites token y)
   initialised token None = nothing

@@ -3,6 +3,7 @@ use Rattle.lower_relation.specs.Functions.{standing}
 use Rattle.std.proofs.Common.{◌≡◌, ℕ, zero, suc, refl, ap, sym, ◌∙◌, subst, List, [], ◌∷◌, Option, Some, None, Bool, true, false, slice_get, option_map}
 use Rattle.std.specs.Prelude.{not, ◌&&◌, ◌||◌, IsTrue, if◌then◌else◌}
 use Rattle.std.proofs.lemmas.Option.{slice_get-map}
+use Rattle.std.proofs.lemmas.Bool.{and_from, or_right}
 use Rattle.c_syntax.specs.StatementTree.{EntryList}
 use Rattle.flow.specs.declared.node.Node.{Node}
 use Rattle.flow.specs.declared.node.Node.TheVariants as node
@@ -11,11 +12,8 @@ use Rattle.flow.specs.declared.node.View.TheVariants as view
 use Rattle.flow.specs.declared.scope.Bounds.{Bounds}
 use Rattle.flow.specs.declared.scope.Names.{Names}
 use Rattle.flow.specs.declared.site.Site.{Site}
-use Rattle.flow.specs.Code.{view_at}
-use Rattle.flow.specs.View.{view as view_of}
-use Rattle.flow.specs.Nodes.{names_fit}
-use Rattle.c_meaning.specs.Facts.{Facts, Signature, Sites}
-use Rattle.c_meaning.specs.Trees.{has_value}
+use Rattle.flow.specs.Words.{view_at, view as view_of, names_fit}
+use Rattle.c_meaning.specs.Words.{Facts, Signature, Sites, has_value}
 use Rattle.lower_relation.specs.Paths.{Graph}
 use Rattle.lower_relation.specs.Stands.{renamed}
 use Rattle.lower_nodes.specs.Finished.{Finished}
@@ -41,14 +39,6 @@ changed_at f [] i = refl
 changed_at f (x ∷ xs) zero = refl
 changed_at f (x ∷ xs) (suc i) = changed_at (λ n y. f (suc n) y) xs i
 
-or_true : (a b : Bool) → b ≡ true → (a || b) ≡ true
-or_true true b e = refl
-or_true false b e = e
-
-pub both : (a b : Bool) → a ≡ true → b ≡ true → (a && b) ≡ true
-both true b e f = f
-both false b e f = e
-
 module _ (names : Names) (bounds : Bounds) (site_of : ℕ → Option Site) (nodes : List Node) where
   abbrev kept : List Node
   kept = kept_nodes names bounds site_of nodes
@@ -57,7 +47,7 @@ module _ (names : Names) (bounds : Bounds) (site_of : ℕ → Option Site) (node
   fork_stays : (one : Node) → forks (view_of one) ≡ true → stays names bounds site_of nodes one ≡ true
   fork_stays one e =
       let is = fork_is (view_of one) e in
-      both (names_fit names bounds one) (may_stand site_of nodes (view_of one))
+      and_from (names_fit names bounds one) (may_stand site_of nodes (view_of one))
       (view_fits names bounds one (subst (λ v. IsTrue (fits_view names bounds v)) (sym is.2) refl))
       (subst (λ v. may_stand site_of nodes v ≡ true) (sym is.2) refl)
 
@@ -76,20 +66,13 @@ module _ (names : Names) (bounds : Bounds) (site_of : ℕ → Option Site) (node
 
   -- a view that may stand among the nodes may stand among those that are kept
   still : (v : View) → may_stand site_of nodes v ≡ true → may_stand site_of kept v ≡ true
-  still (view.Row op next) e = refl
-  still (view.Halts op) e = refl
-  still (view.Forks when_true when_false) e = refl
-  still (view.Turns next) e = refl
-  still (view.Calls function next) e = refl
-  still view.Gives e = refl
-  still view.Quits e = refl
   still (view.Marks site next) e = still_before (is_condition (site_of site)) next e
   still (view.Skips by next) e = e
   still (view.Tests site next) e = e
   still (view.Picks weight fast slow) e = e
   still (view.Imports next) e = e
   still (view.Exports next) e = e
-  still view.Nowhere e = refl
+  still v e = refl
 
   kept_stands : (one : Node) (named stands : Bool) → may_stand site_of nodes (view_of one) ≡ stands →
       may_stand site_of kept (view_of (if named && stands then one else node.Exit)) ≡ true
@@ -154,7 +137,7 @@ module _ (names : Names) (bounds : Bounds) (site_of : ℕ → Option Site) (old 
   node_stays v None e f stands = absurd (cc)
   node_stays v (Some n) e f stands =
       let same : view_of n ≡ renamed ren v = cc in
-      both (names_fit names bounds n) (may_stand site_of nodes (view_of n))
+      and_from (names_fit names bounds n) (may_stand site_of nodes (view_of n))
       (view_fits names bounds n (subst (λ u. IsTrue (fits_view names bounds u)) (sym same) (renamed_fits names bounds ren v f)))
       (ap (may_stand site_of nodes) same ∙ stands)
 
@@ -176,20 +159,13 @@ module _ (names : Names) (bounds : Bounds) (site_of : ℕ → Option Site) (old 
       ∙ stands_still i v (slice_get old i) e.0 (there i v (slice_get old i) refl e.0 e.1 stands)
 
   other_stands : (v : View) → IsUnmarked v → may_stand site_of nodes (renamed ren v) ≡ true
-  other_stands (view.Row op next) is = refl
-  other_stands (view.Halts op) is = refl
-  other_stands (view.Forks when_true when_false) is = refl
-  other_stands (view.Turns next) is = refl
-  other_stands (view.Calls function next) is = refl
-  other_stands view.Gives is = refl
-  other_stands view.Quits is = refl
   other_stands (view.Marks site next) is = absurd is
   other_stands (view.Skips by next) is = absurd is
   other_stands (view.Tests site next) is = absurd is
   other_stands (view.Picks weight fast slow) is = absurd is
   other_stands (view.Imports next) is = absurd is
   other_stands (view.Exports next) is = absurd is
-  other_stands view.Nowhere is = refl
+  other_stands v is = refl
 
   fork_behind : (next when_true when_false : ℕ) (x : Option Node) → slice_get old next ≡ x → option_map view_of x ≡ Some (view.Forks when_true when_false) →
       forks (view_at (slice_get nodes (ren next))) ≡ true
@@ -209,7 +185,7 @@ module _ (names : Names) (bounds : Bounds) (site_of : ℕ → Option Site) (old 
         still_stands at (view.Marks site next) e (free_stands (is_condition (site_of site)) (forks (view_at (slice_get nodes (ren next)))) free);
     decided = λ at site next when_true when_false e f.
         still_stands at (view.Marks site next) e
-        (or_true (not (is_condition (site_of site))) (forks (view_at (slice_get nodes (ren next)))) (fork_behind next when_true when_false (slice_get old next) refl f.0));
+        (or_right (not (is_condition (site_of site))) (forks (view_at (slice_get nodes (ren next)))) (fork_behind next when_true when_false (slice_get old next) refl f.0));
   }
 
 module _ (facts : Facts) (sites : Sites) (names : Names) (bounds : Bounds) (apart : Apart (IsFree sites.site) sites) (is_main : Bool) (f : Signature) where

@@ -2,19 +2,18 @@
 use Rattle.std.proofs.Common.{◌≡◌, ℕ, refl, sym, ◌∙◌, subst, List, Option, Some, None, Bool, true, false, length, slice_get, option_map}
 use Rattle.std.specs.Prelude.{◌&&◌, IsTrue, if◌then◌else◌}
 use Rattle.std.proofs.lemmas.Option.{slice_get-map}
+use Rattle.std.proofs.lemmas.Bool.{and_from}
 use Rattle.flow.specs.declared.node.Node.{Node}
 use Rattle.flow.specs.declared.node.Node.TheVariants as node
 use Rattle.flow.specs.declared.scope.Bounds.{Bounds}
 use Rattle.flow.specs.declared.scope.Names.{Names}
 use Rattle.flow.specs.declared.site.Site.{Site}
-use Rattle.flow.specs.Nodes.{NodesFit, leads_rightly, names_fit, node_fits}
-use Rattle.flow.specs.View.{view}
+use Rattle.flow.specs.Words.{NodesFit, leads_rightly, names_fit, node_fits, view}
 use Rattle.lower_nodes.specs.Reach.{LeadOn}
 use Rattle.lower_fits.proofs.FittingNodes.{free_fits}
 use Rattle.lower.specs.Ready.{may_stand}
 use Rattle.lower.proofs.Finishing.{still_leads}
 use Rattle.compiler_exists.specs.Kept.{kept_node, kept_nodes, stays}
-use Rattle.compiler_exists.proofs.Kept.{both}
 
 module _ (names : Names) (bounds : Bounds) (site_of : ℕ → Option Site) (nodes : List Node) where
   kept_names : (one : Node) (named stands : Bool) → names_fit names bounds one ≡ named →
@@ -38,7 +37,7 @@ module _ (names : Names) (bounds : Bounds) (site_of : ℕ → Option Site) (node
       let now : Node = kept_node names bounds site_of nodes was in
       let led : leads_rightly bounds place (view was) ≡ true = still_leads bounds place (length nodes) (view was) long (leads.each place was at) in
       subst (λ y. IsTrue (node_fits names bounds place y)) is
-      (both (names_fit names bounds now) (leads_rightly bounds place (view now))
+      (and_from (names_fit names bounds now) (leads_rightly bounds place (view now))
       (kept_names was (names_fit names bounds was) (may_stand site_of nodes (view was)) refl) (kept_leads place was (stays names bounds site_of nodes was) led))
 
   -- nodes that lead on fit where they are kept

@@ -5,24 +5,23 @@ use Rattle.std.proofs.lemmas.Bool.{cases_lt}
 use Rattle.std.proofs.lemmas.List.{map-append}
 use Rattle.std.proofs.lemmas.List.Elements.{All-append, All-cons, All-nil, All-weaker, recursion_from_All}
 use Rattle.std.proofs.lemmas.List.Sums.{count_by-le-length, sum_by-append}
+use Rattle.base_lists.proofs.Every.{all_first, all_second}
 use Rattle.c_syntax.specs.declared.token.Token.{Token}
 use Rattle.c_syntax.specs.declared.token.TokenKind.{TokenKind}
-use Rattle.c_syntax.specs.Limits.{greatest_line, most_bytes, most_tokens}
-use Rattle.c_syntax.specs.Tokens.{IsTokens, lines_of, text_len}
+use Rattle.c_syntax.specs.Words.{greatest_line, most_bytes, most_tokens, IsTokens, lines_of, text_len}
 use Rattle.c_lexer.specs.Lexing.{Cuts, IsLongest, Lexes, Taken, kind_at, line_of, past_piece, start, tokens_from, with_line}
 use Rattle.c_lexer.specs.Endings.{CutEnds, Ending, Whole}
 use Rattle.c_lexer.specs.Refusals.{HasMany, IsTooLarge}
 use Rattle.c_lexer.specs.State.{AllFit, TokenFits}
 use Rattle.c_lexer.proofs.PieceLaws.{longest-is}
-use Rattle.c_lexer.proofs.Room.{piece-text, tokens-push}
+use Rattle.c_lexer.proofs.Room.{piece-text, tokens-push, known-fits, line-kept, one_at_most}
 use Rattle.c_lexer_pieces.specs.Bytes.{newlines}
 use Rattle.c_lexer_pieces.specs.Cutting.{is_fresh}
 use Rattle.c_lexer_pieces.specs.Pieces.{Place}
 use Rattle.c_lexer_pieces.proofs.Fronts.{ReadsPiece, piece-read}
-use Rattle.c_meaning_sound.proofs.Parting.{all_first, all_second}
 use Rattle.compiler.specs.Accepted.{HasTokens}
 use Rattle.compiler_exists.proofs.Bytes.{AreBytes, Byte}
-use Rattle.compiler_exists.proofs.Pieces.{PieceKeeps, known_fits, piece_keeps, token_fits}
+use Rattle.compiler_exists.proofs.Pieces.{PieceKeeps, piece_keeps, token_fits}
 
 -- These tokens may stand before what is left of a text at a place.
 record Kept (place : Place) (left : List ℕ) (ts : List Token) : Type 0 where
@@ -52,10 +51,6 @@ more_kept : (ts : List Token) (line : ℕ) (kind : Option TokenKind) → IsToken
 more_kept ts line None keeps few first last lines text fits = subst IsTokens (sym (append-nil ts)) keeps
 more_kept ts line (Some k) keeps few first last lines text fits =
     tokens-push ts (record { kind = k; line = line }) keeps (omega (arith, few, length-append ts (with_line line (Some k)))) first last lines text fits
-
-own_line : (line : ℕ) (kind : Option TokenKind) → All (λ x. x ≤ line) (lines_of (with_line line kind))
-own_line line None = All-nil (λ x. x ≤ line)
-own_line line (Some k) = All-cons (λ x. x ≤ line) line [] (omega arith) (All-nil (λ x. x ≤ line))
 
 line_past : (place : Place) (t : Taken) → line_of (past_piece place t) ≡ line_of place + newlines t.bytes
 line_past place t = omega (arith, sum_by-append (λ b. cond (eqb b 10) 1 0) place.before t.bytes)
@@ -94,10 +89,10 @@ module _ (place : Place) (t : Taken) (after : List ℕ) (ts : List Token) (all :
         (omega (arith, text, kept.text_room)) (token_fits place.known t.piece kept.known_fit read.named own);
     lines = subst (All (λ x. x ≤ line_of (past_piece place t))) (sym (map-append (λ (x : Token). x.line) ts (with_line line kind)))
         (All-weaker (λ x. x ≤ line) (λ x. x ≤ line_of (past_piece place t)) (λ x h. omega (arith, h, later)) _
-        (All-append (λ x. x ≤ line) (lines_of ts) (lines_of (with_line line kind)) kept.lines (own_line line kind)));
+        (All-append (λ x. x ≤ line) (lines_of ts) (lines_of (with_line line kind)) kept.lines (line-kept line kind)));
     line_room = omega (arith, moves, kept.line_room);
     text_room = omega (arith, sum_by-append text_len ts (with_line line kind), text, kept.text_room);
-    known_fit = known_fits place.known t.piece kept.known_fit own.0;
+    known_fit = known-fits place.known t.piece kept.known_fit own.0;
   }
 
 -- the tokens of pieces that are cut one after another
@@ -123,10 +118,6 @@ start_kept text short = record {
   text_room = omega (arith, short);
   known_fit = λ name. tt;
 }
-
-one_at_most : (line : ℕ) (kind : Option TokenKind) → length (with_line line kind) ≤ 1
-one_at_most line None = omega arith
-one_at_most line (Some k) = omega arith
 
 -- each token takes a byte at least
 cuts_few : (place : Place) (left : List ℕ) (pieces : List Taken) → Cuts place left pieces [] → length (tokens_from place pieces) ≤ length left

@@ -1,5 +1,6 @@
 -- Nodes for loops: `again` stands before the parts of its loop, and is aimed at the first of them that is done.
 use Rattle.std.proofs.Common.{◌≡◌, ℕ, suc, ◌+◌, ◌<◌, refl, ap, arith, [], ◌∷◌, ◌++◌, length, length-append, option_map}
+use Rattle.lower_nodes.proofs.Building.{below_more}
 use Rattle.flow.specs.declared.node.Node.TheVariants as node
 use Rattle.flow.specs.View.{view as view_of}
 use Rattle.lower_relation.specs.Paths.{Graph, Path, Ways, Exits}
@@ -7,7 +8,7 @@ use Rattle.lower_relation.specs.Statements as s
 use Rattle.lower_relation.specs.Statements.{Before, within_loop}
 use Rattle.compiler_exists.specs.Built.{Built, Builds, StandAlong}
 use Rattle.lower_nodes.specs.Ends.{AllBelow, all_ends, one_end, two_ends}
-use Rattle.compiler_exists.proofs.Building.{below_more, both_back, first_stand, rest_stand}
+use Rattle.compiler_exists.proofs.Building.{both_back, first_stand, rest_stand}
 
 -- within a loop control goes on at nodes before its body as well
 inside_loop : (at again : ℕ) (x : Exits) → again < at → AllBelow at (all_ends x) → AllBelow at (all_ends (within_loop again x.next x))

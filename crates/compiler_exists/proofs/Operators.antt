@@ -14,15 +14,10 @@ use Rattle.c_meaning.specs.declared.operation.Operation.{Operation}
 use Rattle.c_meaning.specs.declared.operation.Operation.TheVariants.{Numbers, MoveLeft, MoveRight, Span, Ordered, Wrong}
 use Rattle.c_meaning.specs.declared.value_type.ValueType.{ValueType}
 use Rattle.c_meaning.specs.declared.value_type.ValueType.TheVariants as type
-use Rattle.c_meaning.specs.Conversions.{between, conversion}
-use Rattle.c_meaning.specs.Expressions.{is_struct_value}
-use Rattle.c_meaning.specs.Facts.{Facts, Sites}
-use Rattle.c_meaning.specs.Operation.{left_kind, operation, right_kind, type_given}
+use Rattle.c_meaning.specs.Words.{between, conversion, is_struct_value, Facts, Sites, left_kind, operation, right_kind, type_given, Assignment, Plain, By}
+use Rattle.c_meaning.specs.Words.{Joint, Both, Computes, Unjoined, one_kind, listed, step_operation}
 use Rattle.c_meaning.specs.Trees as meaning
-use Rattle.c_meaning.specs.Trees.{Assignment, Plain, By, Joint, Both, Computes, Unjoined, one_kind}
-use Rattle.c_meaning.specs.Visits.{listed}
 use Rattle.lower_relation.specs.Operators as o
-use Rattle.c_meaning.specs.Places.{step_operation}
 use Rattle.lower_relation.specs.Paths.{Graph, Path, Emitted, Ways}
 use Rattle.lower_relation.specs.Room.{branches, pairs}
 use Rattle.compiler_exists.specs.Built.{Builds}
@@ -54,12 +49,9 @@ pointed : Builds one_end (λ G. o.Pointed G) 3
 pointed = fits (does node.Dup (λ k. refl) before either fork nothing (does (node.Load want.Pointer) (λ k. refl))) (omega arith)
 
 load_through : (of : Option ValueType) → Builds one_end (λ G. o.LoadThrough G of) 5
-load_through None = pointed before load None
-load_through (Some type.Void) = pointed before load (Some type.Void)
 load_through (Some (type.Number kind)) = fits (load (Some (type.Number kind))) (omega arith)
 load_through (Some (type.Pointer size)) = fits (load (Some (type.Pointer size))) (omega arith)
-load_through (Some (type.Array size)) = pointed before load (Some (type.Array size))
-load_through (Some type.Struct) = pointed before load (Some type.Struct)
+load_through of = pointed before load of
 
 through : {R : Graph → Path ℕ} {a n : ℕ} (of : Option ValueType) → Builds one_end R a → a + 6 ≤ n → BuildsAll (λ G. o.Through G of (R G)) n
 through of r le = record {
@@ -88,12 +80,8 @@ postfixed false of r s le = record {
 }
 
 pub cast : {m : Graph → Emitted} {a : ℕ} (is_null : Bool) (of : Option ValueType) → BuildsAll m a → BuildsAll (λ G. o.Cast G is_null of (m G)) (4 + a)
-cast is_null None r = valued (handed_value is_null None r) (omega arith)
 cast is_null (Some type.Void) r = effected r.effect (omega arith)
-cast is_null (Some (type.Number kind)) r = valued (handed_value is_null (Some (type.Number kind)) r) (omega arith)
-cast is_null (Some (type.Pointer size)) r = valued (handed_value is_null (Some (type.Pointer size)) r) (omega arith)
-cast is_null (Some (type.Array size)) r = valued (handed_value is_null (Some (type.Array size)) r) (omega arith)
-cast is_null (Some type.Struct) r = valued (handed_value is_null (Some type.Struct) r) (omega arith)
+cast is_null of r = valued (handed_value is_null of r) (omega arith)
 
 pub comma : {m n : Graph → Emitted} {a b : ℕ} (left : ℕ) → BuildsAll m a → BuildsAll n b → 2 ≤ a + b → BuildsAll (λ G. o.Comma G left (m G) (n G)) (a + b)
 comma zero r s le = fits_all r (omega arith)

@@ -3,8 +3,7 @@ use Rattle.std.proofs.Common.{◌≡◌, ℕ, zero, suc, ◌+◌, ◌-◌, ap, �
 use Rattle.std.specs.Prelude.{Option, if◌then◌else◌}
 use Rattle.c_syntax.specs.StatementTree.{EntryList}
 use Rattle.flow.specs.declared.node.Node.{Node}
-use Rattle.flow.specs.Nodes.{is_again, led_to}
-use Rattle.flow.specs.View.{view as view_of}
+use Rattle.flow.specs.Words.{is_again, led_to, view as view_of}
 use Rattle.c_meaning.specs.declared.value_type.ValueType.{ValueType}
 use Rattle.c_meaning.specs.Facts.{Facts, Sites}
 use Rattle.lower_nodes.specs.Finished.{Finished, turned_number}

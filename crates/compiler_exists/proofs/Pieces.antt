@@ -6,6 +6,9 @@ use Rattle.std.proofs.lemmas.Bool.{and_from, and_parts}
 use Rattle.std.proofs.lemmas.Bool.Decides.{nat_tests}
 use Rattle.std.proofs.lemmas.Int.{ints}
 use Rattle.std.proofs.lemmas.List.Elements.{All-from_recursion}
+use Rattle.std.proofs.lemmas.Option.{cond_some}
+use Rattle.base_lists.proofs.Tests.{cond_cases_of}
+use Rattle.base_lists.proofs.Every.{all_first, all_second}
 use Rattle.cbi_base.specs.declared.scalar.Kind.TheVariants as scalar
 use Rattle.cbi_base.specs.Name.{IsName}
 use Rattle.c_syntax.specs.declared.parts.Constant.{Constant}
@@ -19,8 +22,6 @@ use Rattle.c_lexer_pieces.specs.Pieces as pieces
 use Rattle.c_lexer_pieces.specs.Pieces.{IsCharacter, IsConstant, IsNumber, Place, StandsAs, comment, define, include, separator}
 use Rattle.c_lexer_pieces.specs.Spellings.{word_of}
 use Rattle.c_lexer_pieces.specs.Values.{base_of, is_decimal, kind_of, value_of}
-use Rattle.c_lexer_pieces.proofs.Steps.{chosen, some_if}
-use Rattle.c_meaning_sound.proofs.Parting.{all_first, all_second}
 use Rattle.compiler_exists.proofs.Bytes.{AreBytes, Byte, character_byte, text_bytes}
 
 -- numbers in the ranges of `int` and of `unsigned`
@@ -55,10 +56,10 @@ module _ (c : Constant) (bytes after : List ℕ) (h : IsNumber bytes after c) wh
       let same : scalar.Int ≡ c.kind = let e : Some scalar.Int ≡ Some c.kind = w.1 in cc in
       subst (λ k. ConstantFits k (pos digits)) same (int_fits digits (and_parts (not h.suffixed) (nat_lt digits (2 ^ 31)) w.0).1))
       (λ (w : (is_int ≡ false) × ((if is_unsigned then Some scalar.Unsigned else None) ≡ Some c.kind)).
-      let found = some_if is_unsigned scalar.Unsigned c.kind w.1 in
+      let found = cond_some is_unsigned scalar.Unsigned c.kind w.1 in
       subst (λ k. ConstantFits k (pos digits)) found.1
       (unsigned_fits digits (and_parts (nat_lt digits (2 ^ 32)) (h.suffixed || not (is_decimal h.radix)) found.0).0))
-      (chosen is_int (Some scalar.Int) (if is_unsigned then Some scalar.Unsigned else None) (Some c.kind) h.kind)
+      (cond_cases_of is_int (Some scalar.Int) (if is_unsigned then Some scalar.Unsigned else None) (Some c.kind) h.kind)
 
   number_fits : Fits c
   number_fits = (
@@ -140,13 +141,3 @@ token_fits known (Constant' c) all named own = (own.0.0, own.0.1, tt, tt)
 token_fits known (Text values) all named own = (tt, tt, tt, own.1)
 token_fits known (Punctuator sign) all named own = (tt, tt, tt, tt)
 token_fits known (Definition name c) all named own = tt
-
--- those that names stand for behind it fit too
-pub known_fits : (known : Known) (p : Piece) → AllFit known → PieceFits p → AllFit (known_after known p)
-known_fits known Nothing all fits name = all name
-known_fits known (Name n) all fits name = all name
-known_fits known (Constant' c) all fits name = all name
-known_fits known (Text values) all fits name = all name
-known_fits known (Punctuator sign) all fits name = all name
-known_fits known (Definition n c) all fits name =
-    elim (bytes_eq n name) as (λ v. IfSome (if v then Some c else known name) Fits) [ true ↦ fits | false ↦ all name ]

@@ -11,11 +11,9 @@ use Rattle.c_types_expressions.specs.declared.walk.Walk.{Walk}
 use Rattle.flow.specs.declared.program.Global.{Global}
 use Rattle.flow.specs.declared.program.Text.{Text}
 use Rattle.flow.specs.declared.site.TableParts.{TableParts}
-use Rattle.flow.specs.Machine as machine
-use Rattle.flow.specs.Machine.{text_object}
-use Rattle.c_meaning.specs.Globals.{first_objects, global_objects, starts_of, then_strings}
-use Rattle.c_meaning.specs.Known.{facts_of, signature_of}
-use Rattle.c_meaning.specs.Literals.{literals, texts_of}
+use Rattle.flow.specs.Statics as statics
+use Rattle.flow.specs.Statics.{text_object}
+use Rattle.c_meaning.specs.Words.{first_objects, global_objects, starts_of, then_strings, facts_of, signature_of, literals, texts_of}
 use Rattle.c_meaning_sound.specs.Accepted.{IsAcceptedTree}
 use Rattle.c_meaning_sound.proofs.Whole.{none_fits}
 use Rattle.lower_globals.proofs.Counted.{globals_are}
@@ -30,17 +28,17 @@ module _ (tree : SourceTree) (walk : Walk) (accepted : IsAcceptedTree tree walk)
 
   -- the program's globals that begin with the text's objects
   abbrev HasGlobals : Type 0
-  HasGlobals = (globals : List Global) × (first_objects tree walk ≡ Some (map (machine.object_of_global (length globals)) globals ++ map text_object texts))
+  HasGlobals = (globals : List Global) × (first_objects tree walk ≡ Some (map (statics.object_of_global (length globals)) globals ++ map text_object texts))
       × (length globals ≡ walk.globals)
 
   globals_from : (o : Option (List Object)) → IsSome (option_map (then_strings tree) o) →
       IfGlobals (facts_of tree walk) (length (flat_map starts_of tree.items)) o →
-      (globals : List Global) × (option_map (then_strings tree) o ≡ Some (map (machine.object_of_global (length globals)) globals ++ map text_object texts))
+      (globals : List Global) × (option_map (then_strings tree) o ≡ Some (map (statics.object_of_global (length globals)) globals ++ map text_object texts))
       × (length globals ≡ walk.globals)
   globals_from None is h = absurd (false≢true is)
   globals_from (Some objects) is h =
       let count : length h.0 ≡ walk.globals = h.2 ∙ sym (globals_are tree walk accepted.walked) in
-      let same : objects ≡ map (machine.object_of_global (length h.0)) h.0 = sym h.1 ∙ ap (λ n. map (machine.object_of_global n) h.0) (sym count) in
+      let same : objects ≡ map (statics.object_of_global (length h.0)) h.0 = sym h.1 ∙ ap (λ n. map (statics.object_of_global n) h.0) (sym count) in
       (h.0, ap (λ os. Some (os ++ map text_object texts)) same, count)
 
   pub has_globals : HasGlobals

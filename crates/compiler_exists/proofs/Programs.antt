@@ -9,9 +9,7 @@ use Rattle.flow.specs.declared.program.ProgramParts.{ProgramParts}
 use Rattle.flow.specs.declared.program.Text.{Text}
 use Rattle.flow.specs.declared.site.TableParts.{TableParts}
 use Rattle.flow.specs.Code.{callee_of, code_of, view_in}
-use Rattle.c_meaning.specs.Facts.{Signature}
-use Rattle.c_meaning.specs.Runs.{Source}
-use Rattle.c_meaning.specs.Trees.{has_value}
+use Rattle.c_meaning.specs.Words.{Signature, Source, has_value}
 use Rattle.lower_relation.specs.Functions.{BodyIn, Lowered, callee_with}
 use Rattle.lower_relation.specs.Room.{function_room}
 use Rattle.compiler_exists.specs.Functions.{BodyBuilt}

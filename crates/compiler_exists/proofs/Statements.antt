@@ -1,12 +1,9 @@
 -- Nodes for each statement.
 use Rattle.std.proofs.Common.{ℕ, ◌+◌, arith, Option, Some, None}
-use Rattle.c_syntax.specs.ExprTree.{ExprTree}
+use Rattle.c_syntax.specs.Words.{ExprTree, ForStartTree, StatementTree, EntryList}
 use Rattle.c_syntax.specs.StatementTree as tree
-use Rattle.c_syntax.specs.StatementTree.{ForStartTree, StatementTree, EntryList}
 use Rattle.c_meaning.specs.declared.value_type.ValueType.{ValueType}
-use Rattle.c_meaning.specs.Conversions.{is_null_as}
-use Rattle.c_meaning.specs.Facts.{Facts, Sites}
-use Rattle.c_meaning.specs.Trees.{type_of}
+use Rattle.c_meaning.specs.Words.{is_null_as, Facts, Sites, type_of}
 use Rattle.lower_relation.specs.Functions as f
 use Rattle.lower_relation.specs.Paths.{Graph}
 use Rattle.lower_relation.specs.Room.{body_room, branches, entries_room, for_start_room, part_room, statement_room}

@@ -3,8 +3,7 @@ use Rattle.std.proofs.Common.{◌≡◌, ℕ, zero, suc, ◌+◌, ◌-◌, ◌�
 use Rattle.flow.specs.declared.node.Node.{Node}
 use Rattle.flow.specs.declared.node.Node.TheVariants as node
 use Rattle.flow.specs.declared.node.View.{View}
-use Rattle.flow.specs.View.{view as view_of}
-use Rattle.flow.specs.Code.{view_at}
+use Rattle.flow.specs.Words.{view as view_of, view_at}
 use Rattle.lower_relation.specs.Functions.{standing}
 use Rattle.lower_relation.specs.Stands.{renamed}
 

@@ -7,8 +7,7 @@ use Rattle.c_meaning.specs.declared.conversion.Conversion.{Conversion}
 use Rattle.c_meaning.specs.declared.conversion.Conversion.TheVariants.{Keep, To, Misfit}
 use Rattle.c_meaning.specs.declared.value_type.ValueType.{ValueType}
 use Rattle.c_meaning.specs.declared.value_type.ValueType.TheVariants as type
-use Rattle.c_meaning.specs.Conversions.{conversion, as_used}
-use Rattle.c_meaning.specs.Expressions.{is_other_pointer, is_struct_value}
+use Rattle.c_meaning.specs.Words.{conversion, as_used, is_other_pointer, is_struct_value}
 use Rattle.lower_relation.specs.Paths.{Graph, Path, Emitted}
 use Rattle.lower_relation.specs.Values as v
 use Rattle.compiler_exists.specs.Built.{Builds}
@@ -28,21 +27,16 @@ converts_below (To kind) =
 converts_below Misfit = fits stuck (omega arith)
 
 pub handed : (of : Option ValueType) → Builds one_end (λ G. v.Handed G of) 3
-handed None = fits stuck (omega arith)
-handed (Some type.Void) = fits stuck (omega arith)
 handed (Some (type.Number kind)) = fits (does (node.Convert kind) (λ k. refl)) (omega arith)
 handed (Some (type.Pointer size)) =
     fits (does node.Dup (λ k. refl) before does (node.Sole unary.Not) (λ k. refl) before does node.Drop (λ k. refl)) (omega arith)
-handed (Some (type.Array size)) = fits stuck (omega arith)
-handed (Some type.Struct) = fits stuck (omega arith)
+handed of = fits stuck (omega arith)
 
 pub load : (of : Option ValueType) → Builds one_end (λ G. v.LoadAt G of) 2
-load None = stuck
-load (Some type.Void) = stuck
 load (Some (type.Number kind)) = fits (does (node.Load (want.Number kind)) (λ k. refl)) (omega arith)
 load (Some (type.Pointer size)) = fits (does (node.Load want.Pointer) (λ k. refl)) (omega arith)
 load (Some (type.Array size)) = fits nothing (omega arith)
-load (Some type.Struct) = stuck
+load of = stuck
 
 pub dropped : {R : Graph → Path ℕ} {a : ℕ} → Builds one_end R a → Builds one_end (λ G. v.Dropped G (R G)) (a + 1)
 dropped r = r before does node.Drop (λ k. refl)
@@ -93,12 +87,8 @@ arm false have want r = r.value before arm_as (is_other_pointer (as_used have) w
 
 pub arm_effect : {m : Graph → Emitted} {a : ℕ} (is_null : Bool) (have want : Option ValueType) → BuildsAll m a →
     Builds one_end (λ G. v.ArmEffect G is_null have want (m G)) (a + 4)
-arm_effect is_null have None r = fits (dropped (arm is_null have None r)) (omega arith)
 arm_effect is_null have (Some type.Void) r = fits r.effect (omega arith)
-arm_effect is_null have (Some (type.Number kind)) r = fits (dropped (arm is_null have (Some (type.Number kind)) r)) (omega arith)
-arm_effect is_null have (Some (type.Pointer size)) r = fits (dropped (arm is_null have (Some (type.Pointer size)) r)) (omega arith)
-arm_effect is_null have (Some (type.Array size)) r = fits (dropped (arm is_null have (Some (type.Array size)) r)) (omega arith)
-arm_effect is_null have (Some type.Struct) r = fits (dropped (arm is_null have (Some type.Struct) r)) (omega arith)
+arm_effect is_null have want r = fits (dropped (arm is_null have want r)) (omega arith)
 
 pub handed_value : {m : Graph → Emitted} {a : ℕ} (is_null : Bool) (want : Option ValueType) → BuildsAll m a →
     Builds one_end (λ G. v.HandedValue G is_null want (m G)) (a + 3)

@@ -7,37 +7,18 @@ use Rattle.std.proofs.lemmas.List.{length-map, length-replicate}
 use Rattle.std.proofs.lemmas.List.Elements.{All-contains, All-map}
 use Rattle.std.proofs.lemmas.List.Sums.{count_by-le-length}
 use Rattle.std.proofs.lemmas.Option.{slice_get_past, slice_get_within}
+use Rattle.regions.proofs.ReachLemmas.{site_within}
+use Rattle.regions.proofs.CallerLemmas.{caller_within}
 use Rattle.flow.specs.declared.node.View.{View}
 use Rattle.flow.specs.declared.node.View.TheVariants.{Calls, Nowhere}
 use Rattle.flow.specs.declared.program.Function.{Function}
 use Rattle.flow.specs.declared.program.ProgramParts.{ProgramParts}
 use Rattle.flow.specs.declared.site.Site.{Site}
-use Rattle.flow.specs.Code.{view_at, view_in}
-use Rattle.flow.specs.Program.{IsProgram}
+use Rattle.flow.specs.Words.{view_at, view_in, IsProgram}
 use Rattle.flow.proofs.Tables.{owners_fit}
 use Rattle.regions.specs.Flags.{AreFlags, is_in}
 use Rattle.regions.specs.Weighty.{CallsTo, HasSite, IsWeighty, Own, Through}
 use Rattle.regions.proofs.FlagLemmas.{count_set, none_set, set_only}
-
--- only a function of the program has a site
-site_within : (p : ProgramParts) (g : ℕ) → IsProgram p → HasSite p.sites g → g < length p.functions
-site_within p g is h =
-    let names : List (List ℕ) = map (λ (f : Function). f.name) p.functions in
-    let owners = (owners_fit p names is refl).owners in
-    let low : g < length names =
-    All-contains (λ (k : ℕ). k < length names) (map (λ (s : Site). s.function) p.sites) g
-    (All-map (λ (k : ℕ). k < length names) (λ (s : Site). s.function) p.sites owners) h
-    in
-    subst (λ (n : ℕ). g < n) (length-map p.functions (λ (f : Function). f.name)) low
-
--- only such a function calls another one
-caller_by : (functions : List Function) (f place callee next : ℕ) (o : Option Function) → slice_get functions f ≡ o → view_in o place ≡ Calls callee next →
-    f < length functions
-caller_by functions f place callee next None at e = absurd (cc)
-caller_by functions f place callee next (Some g) at e = slice_get_within functions f g at
-
-caller_within : (functions : List Function) (f callee : ℕ) → CallsTo functions f callee → f < length functions
-caller_within functions f callee calls = caller_by functions f calls.place callee calls.next (slice_get functions f) refl calls.is
 
 -- it holds, or it doesn't
 abbrev Known : Type 0 → Type 0

@@ -1,8 +1,7 @@
 -- Nodes that do a part of a text, whatever stands before and behind them, and wherever the part goes on.
 use Rattle.std.specs.Prelude.{◌≡◌, ℕ, suc, ◌+◌, ◌≤◌, ◌<◌, if◌then◌else◌, List, [], ◌∷◌, length, Some, slice_get}
 use Rattle.flow.specs.declared.node.Node.{Node}
-use Rattle.flow.specs.Nodes.{is_again, led_to}
-use Rattle.flow.specs.View.{view}
+use Rattle.flow.specs.Words.{is_again, led_to, view}
 use Rattle.lower_nodes.specs.Ends.{AllBelow}
 use Rattle.lower_relation.specs.Functions.{standing}
 use Rattle.lower_relation.specs.Paths.{Graph, Path}

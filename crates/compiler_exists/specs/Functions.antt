@@ -3,8 +3,7 @@ use Rattle.std.specs.Prelude.{◌≡◌, ℕ, suc, ◌≤◌, Bool, List, Option
 use Rattle.c_syntax.specs.StatementTree.{EntryList}
 use Rattle.flow.specs.declared.node.Node.{Node}
 use Rattle.c_meaning.specs.declared.value_type.ValueType.{ValueType}
-use Rattle.c_meaning.specs.Facts.{Facts, Sites}
-use Rattle.c_meaning.specs.Trees.{has_value}
+use Rattle.c_meaning.specs.Words.{Facts, Sites, has_value}
 use Rattle.lower_relation.specs.Functions.{BodyDoes, ComesTo, Leaves, standing}
 use Rattle.lower_relation.specs.Paths.{Exits}
 use Rattle.lower_relation.specs.Room.{function_room}

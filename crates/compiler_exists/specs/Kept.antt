@@ -5,8 +5,7 @@ use Rattle.flow.specs.declared.node.Node.TheVariants.{Exit}
 use Rattle.flow.specs.declared.scope.Bounds.{Bounds}
 use Rattle.flow.specs.declared.scope.Names.{Names}
 use Rattle.flow.specs.declared.site.Site.{Site}
-use Rattle.flow.specs.Nodes.{names_fit}
-use Rattle.flow.specs.View.{view}
+use Rattle.flow.specs.Words.{names_fit, view}
 use Rattle.lower.specs.Ready.{may_stand}
 
 -- a node among these that names what is there, and may stand there

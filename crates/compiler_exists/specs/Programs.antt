@@ -5,8 +5,7 @@ use Rattle.flow.specs.declared.program.Global.{Global}
 use Rattle.flow.specs.declared.program.ProgramParts.{ProgramParts}
 use Rattle.flow.specs.declared.program.Text.{Text}
 use Rattle.flow.specs.declared.site.TableParts.{TableParts}
-use Rattle.flow.specs.Machine.{object_of_global, text_object}
-use Rattle.flow.specs.Program.{table_of}
+use Rattle.flow.specs.Words.{object_of_global, text_object, table_of}
 use Rattle.c_meaning.specs.Runs.{Source}
 use Rattle.lower_relation.specs.Functions.{IsGraphOf}
 use Rattle.lower_relation.specs.Room.{functions_room}

@@ -1,13 +1,11 @@
 -- A program for a checked text with a table.
 use Rattle.std.specs.Prelude.{◌≡◌, ◌≤◌, ◌+◌, ◌*◌, length}
 use Rattle.std.specs.List.{All, sum_by}
-use Rattle.c_syntax.specs.ItemTree.{SourceTree}
-use Rattle.c_syntax.specs.Spelling.{tree_kinds}
+use Rattle.c_syntax.specs.Words.{SourceTree, tree_kinds}
 use Rattle.c_types_expressions.specs.declared.walk.Walk.{Walk}
 use Rattle.flow.specs.declared.program.ProgramParts.{ProgramParts}
 use Rattle.flow.specs.declared.site.TableParts.{TableParts}
-use Rattle.flow.specs.Program.{IsProgram, table_of}
-use Rattle.flow.specs.Ready.{ArePlain, IsReady}
+use Rattle.flow.specs.Words.{IsProgram, table_of, ArePlain, IsReady}
 use Rattle.c_meaning.specs.Texts.{source_of}
 use Rattle.lower_relation.specs.Functions.{IsGraphOf}
 

@@ -1,15 +1,13 @@
 //! Laws of the definitions, each on a function of its own without a body.
 ghost use Rattle.std.specs.Prelude.{ℕ, ◌≤◌, ◌<◌, ◌⊎◌, List, length, replicate, All};
+ghost use Rattle.flow.specs.Sites.{MayPart};
 ghost use Rattle.c_syntax.specs.declared.token.Token.{Token};
-ghost use Rattle.c_syntax.specs.ItemTree.{SourceTree};
-ghost use Rattle.c_syntax.specs.Limits.{most_bytes, most_tokens};
-ghost use Rattle.c_syntax.specs.Tokens.{IsTokens};
+ghost use Rattle.c_syntax.specs.Words.{SourceTree, most_bytes, most_tokens, IsTokens};
 ghost use Rattle.c_lexer.specs.Lexing.{Lexes};
 ghost use Rattle.c_lexer.specs.Refusals.{HasMany, IsTooLarge};
 ghost use Rattle.c_types_expressions.specs.declared.walk.Walk.{Walk};
 ghost use Rattle.compiler.specs.declared.plan.Plan.{Plan};
 ghost use Rattle.compiler.specs.Accepted.{HasTokens, IsAccepted};
-ghost use Rattle.compiler.specs.Kept.{MayPart};
 ghost use Rattle.compiler.specs.Planned.{FitsPlan, part_in};
 ghost use Rattle.compiler_exists.specs.Compiled.{HasCompiled};
 

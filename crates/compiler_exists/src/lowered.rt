@@ -1,14 +1,12 @@
 //! Laws of the definitions, each on a function of its own without a body.
 ghost use Rattle.std.specs.Prelude.{Bool, List, Option, ◌++◌, length};
-ghost use Rattle.c_syntax.specs.ExprTree.{ExprTree};
-ghost use Rattle.c_syntax.specs.StatementTree.{EntryList, StatementTree};
+ghost use Rattle.c_syntax.specs.Words.{ExprTree, EntryList, StatementTree};
 ghost use Rattle.flow.specs.declared.node.Node.{Node};
 ghost use Rattle.flow.specs.declared.program.Global.{Global};
 ghost use Rattle.flow.specs.declared.program.Text.{Text};
 ghost use Rattle.flow.specs.declared.site.TableParts.{TableParts};
 ghost use Rattle.c_meaning.specs.declared.value_type.ValueType.{ValueType};
-ghost use Rattle.c_meaning.specs.Facts.{Facts, Sites};
-ghost use Rattle.c_meaning.specs.Runs.{Source};
+ghost use Rattle.c_meaning.specs.Words.{Facts, Sites, Source};
 ghost use Rattle.lower_relation.specs.Expressions.{emitted};
 ghost use Rattle.lower_relation.specs.Room.{expr_room, statement_room};
 ghost use Rattle.lower_relation.specs.Statements.{Runs};

@@ -5,6 +5,8 @@ use Rattle.std.proofs.Math.Path.{fun_ext}
 use Rattle.std.proofs.lemmas.List.Elements.{All-weaker}
 use Rattle.std.proofs.lemmas.List.Sorted.{sum_by-IsPermutation}
 use Rattle.std.proofs.lemmas.List.Sums.{sum_by-cons}
+use Rattle.elimination_tallies.proofs.RecountLemmas.{fails-most}
+use Rattle.base_lists.proofs.Every.{at_split}
 use Rattle.flow.specs.declared.site.TableParts.{TableParts}
 use Rattle.flow.specs.Predicates.{predicate_count}
 use Rattle.collector.specs.Sites.{branches_of}
@@ -30,9 +32,9 @@ use Rattle.compound.specs.Scanning.{IsScan}
 use Rattle.compound.specs.Text.{HasText, IsShown}
 use Rattle.compound_counts.proofs.Counting.{tally-same}
 use Rattle.compound.proofs.BoundLemmas.{importance-bounded}
-use Rattle.compound.proofs.PairLists.{at-split, each-of-pairs, pair-count, related-pairs}
+use Rattle.compound.proofs.PairLists.{each-of-pairs, pair-count, related-pairs}
 use Rattle.compound.proofs.ScanLemmas.{BestOf}
-use Rattle.compound.proofs.TallyLemmas.{failing-few, pair-in-left, pair-in-right, pair-observed, pair-tally, recount-true}
+use Rattle.compound.proofs.TallyLemmas.{pair-in-left, pair-in-right, pair-observed, pair-tally, recount-true}
 
 -- ---- the whole scan
 
@@ -60,13 +62,13 @@ shown-of : (table : TableParts) (branches : List Bool) (runs : List LabelledRun)
 shown-of table branches runs candidates None as_many few are none = tt
 shown-of table branches runs candidates (Some c) as_many few are chosen =
     let P : ℕ → Type 0 = λ p. (p < predicates_in branches) × (1 ≤ (recount branches runs p).a) in
-    let members = at-split (λ (p : ℕ × ℕ). P p.0 × P p.1) (pairs_of candidates) chosen.leads.before chosen.leads.after (c.left, c.right) chosen.leads.stands (each-of-pairs P candidates are.each) in record {
+    let members = at_split (λ (p : ℕ × ℕ). P p.0 × P p.1) (pairs_of candidates) chosen.leads.before chosen.leads.after (c.left, c.right) chosen.leads.stands (each-of-pairs P candidates are.each) in record {
       left = omega (arith, members.0.0, as_many);
       right = omega (arith, members.1.0, as_many);
       tally = subst IsTally (sym chosen.tally) (pair-tally branches runs c.left c.right few);
       passes = subst Passes (sym chosen.tally) chosen.leads.passes;
       observed = omega (arith, ap (λ (t : Tally). t.c) chosen.tally, pair-observed branches runs c.left c.right, chosen.failing_is);
-      failing = omega (arith, chosen.failing_is, failing-few runs, few);
+      failing = omega (arith, chosen.failing_is, fails-most runs, few);
     }
 
 pub found-text : (table : TableParts) (runs : List LabelledRun) (found : PairResult) → PredicatesAreThoseOfTheTable → length runs ≤ 100000 → IsFound (branches_of table.sites) runs found → HasText table found
@@ -103,7 +105,7 @@ pub none-above : (branches : List Bool) (runs : List LabelledRun) (p q : ℕ) �
     → IsAtMost (importance_of (pair_recount branches runs p q) (failing_runs runs)) (bound_of (recount branches runs p).a (recount branches runs q).a (failing_runs runs))
 none-above branches runs p q few passes =
     importance-bounded (pair_recount branches runs p q) (recount branches runs p).a (recount branches runs q).a (failing_runs runs) passes (pair-in-left branches runs p q) (pair-in-right branches runs p q)
-    (omega (arith, recount-true branches runs p, failing-few runs, few))
+    (omega (arith, recount-true branches runs p, fails-most runs, few))
 
 count-same : (test : LabelledRun → Bool) (runs others : List LabelledRun) → IsPermutation runs others → count_by test runs ≡ count_by test others
 count-same test runs others moved = sym (sum_by-IsPermutation (λ r. cond (test r) 1 0) runs others moved)

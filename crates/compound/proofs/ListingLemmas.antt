@@ -5,6 +5,7 @@ use Rattle.std.proofs.lemmas.Bool.{cases_eq, cases_lt, false≢true, ltb-false, 
 use Rattle.std.proofs.lemmas.List.{append-nil, drop_at, get_or-drop, get_or-map, get_or-take, get_or_default, length-append, length-drop, length-map, length-take, length-take-le, map-append, take-append-drop, take_at}
 use Rattle.std.proofs.lemmas.List.Elements.{All-append, All-cons, All-contains, All-drop, All-head, All-map, All-take, All-weaker, Contains-append_cases, Contains-append_left, Contains-append_right}
 use Rattle.std.proofs.lemmas.List.Kept.{AllPairs-cons}
+use Rattle.base_lists.proofs.Every.{pairs_left}
 use Rattle.fractions.specs.declared.fraction.Fraction.{Fraction}
 use Rattle.fractions.specs.declared.tally.Tally.{Tally}
 use Rattle.fractions.specs.Fraction.{IsAtMost, IsFraction}
@@ -14,11 +15,11 @@ use Rattle.compound.specs.Bound.{IsLess}
 use Rattle.compound.specs.Candidates.{AreCandidates, ComesBefore, RanksAtLeast, candidate_limit}
 use Rattle.compound.specs.Listing.{AreListed, IsAdded, IsBefore, IsCandidateBelow, IsListedOrPast, IsPlaceOf, IsRated, IsRatedCandidate, candidate_predicates, outranks, rates_above}
 use Rattle.compound.proofs.OrderLemmas.{at-most-trans, importance-positive, less-at-most, not-both}
-use Rattle.compound.proofs.PairLists.{pairs-across, pairs-append, pairs-left, pairs-right}
+use Rattle.compound.proofs.PairLists.{pairs-across, pairs-append, pairs-right}
 
 -- ---- the order
 
-ranks-trans : (numbers : ℕ → Tally) (failing p q r : ℕ) → RanksAtLeast numbers failing p q → RanksAtLeast numbers failing q r → RanksAtLeast numbers failing p r
+pub ranks-trans : (numbers : ℕ → Tally) (failing p q r : ℕ) → RanksAtLeast numbers failing p q → RanksAtLeast numbers failing q r → RanksAtLeast numbers failing p r
 ranks-trans numbers failing p q r one other = record {
   passes = λ h. one.passes (other.passes h);
   importance = λ h. at-most-trans (importance_of (numbers r) failing) (importance_of (numbers q) failing) (importance_of (numbers p) failing)
@@ -121,7 +122,7 @@ ordered-full : (numbers : ℕ → Tally) (failing : ℕ) (front back : List Cand
 ordered-full numbers failing front back next ordered in_front behind =
     let R = IsBefore numbers failing in
     let across = pairs-across R front back ordered in
-    pairs-append R front (next ∷ back) (pairs-left R front back ordered) (AllPairs-cons R next back behind (pairs-right R front back ordered))
+    pairs-append R front (next ∷ back) (pairs_left R front back ordered) (AllPairs-cons R next back behind (pairs-right R front back ordered))
     (λ k d inside. All-cons (R (get_or front k d)) next back (in_front k d inside) (across k d inside))
 
 -- one of the full list is kept, or comes after a full list
@@ -175,7 +176,7 @@ listed-parted numbers count failing front back next listed is last some in_front
     let all_of_full : (q : ℕ) → Contains (candidate_predicates full) q → IsListedOrPast numbers failing kept q =
     λ q has. kept-or-past numbers failing kept left q ordered_parts filled (subst (λ (xs : List Candidate). Contains (candidate_predicates xs) q) (sym parted) has) in record {
       each = All-take (IsCandidateBelow numbers (count + 1) failing) candidate_limit full (All-append (IsCandidateBelow numbers (count + 1) failing) front (next ∷ back) before_back (All-cons (IsCandidateBelow numbers (count + 1) failing) next back one behind_front));
-      ordered = pairs-left (IsBefore numbers failing) kept left ordered_parts;
+      ordered = pairs_left (IsBefore numbers failing) kept left ordered_parts;
       few = omega (arith, length-take candidate_limit full);
       complete = λ q less true_once. elim (cases_lt q count) [
         | inl before ↦ elim (listed.complete q before true_once) [

@@ -13,9 +13,6 @@ use Rattle.fractions.proofs.FractionOrder.{cross-trans}
 use Rattle.compound.specs.Bound.{IsLess}
 use Rattle.compound.proofs.BoundLemmas.{mean-none, mean-some}
 
-pub at-most-refl : (x : Fraction) → IsAtMost x x
-at-most-refl x = omega arith
-
 pub at-most-trans : (x y z : Fraction) → 0 < y.bottom → IsAtMost x y → IsAtMost y z → IsAtMost x z
 at-most-trans x y z positive first next = cross-trans x.top x.bottom y.top y.bottom z.top z.bottom positive first next
 

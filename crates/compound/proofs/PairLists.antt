@@ -6,50 +6,30 @@ use Rattle.std.proofs.lemmas.List.{ext_get_or, get_or-append-add, get_or-map, ge
 use Rattle.std.proofs.lemmas.List.Elements.{All-append, All-cons, All-head, All-map, All-nil, All-tail, All-weaker}
 use Rattle.std.proofs.lemmas.List.Kept.{AllPairs-cons}
 use Rattle.std.proofs.lemmas.Simd.{map-map}
-use Rattle.compound_bits.proofs.Words.{get_or-range, length-range}
+use Rattle.std.proofs.lemmas.List.FromFn.{length-range_with_len}
+use Rattle.base_lists.proofs.Lists.{range_at}
+use Rattle.base_lists.proofs.Every.{pairs_head, pairs_tail}
 use Rattle.compound.specs.Pairs.{pairs_of}
 
 -- ---- each element and each later one
 
-pub pairs-head : {X : Type 0} (R : X → X → Type 0) (x : X) (more : List X) → AllPairs R (x ∷ more) → All (R x) more
-pairs-head R x more all = λ k d inside. all 0 (suc k) d (omega arith) (omega (arith, inside))
-
-pub pairs-tail : {X : Type 0} (R : X → X → Type 0) (x : X) (more : List X) → AllPairs R (x ∷ more) → AllPairs R more
-pairs-tail R x more all = λ i j d less inside. all (suc i) (suc j) d (omega (arith, less)) (omega (arith, inside))
-
-pairs-nil : {X : Type 0} (R : X → X → Type 0) → AllPairs {X = X} R []
-pairs-nil R = λ i j d less inside. absurd (omega (arith, inside))
-
-all-left : {X : Type 0} (P : X → Type 0) (xs ys : List X) → All P (xs ++ ys) → All P xs
-all-left P xs ys all = λ k d inside. subst P (get_or_append_left xs ys d k inside) (all k d (omega (arith, inside, length-append xs ys)))
-
 all-right : {X : Type 0} (P : X → Type 0) (xs ys : List X) → All P (xs ++ ys) → All P ys
 all-right P xs ys all = λ k d inside. subst P (get_or-append-add xs ys k d) (all (length xs + k) d (omega (arith, inside, length-append xs ys)))
 
-pub pairs-left : {X : Type 0} (R : X → X → Type 0) (xs ys : List X) → AllPairs R (xs ++ ys) → AllPairs R xs
-pairs-left R [] ys all = pairs-nil R
-pairs-left R (x ∷ more) ys all = AllPairs-cons R x more (all-left (R x) more ys (pairs-head R x (more ++ ys) all)) (pairs-left R more ys (pairs-tail R x (more ++ ys) all))
-
 pub pairs-right : {X : Type 0} (R : X → X → Type 0) (xs ys : List X) → AllPairs R (xs ++ ys) → AllPairs R ys
 pairs-right R [] ys all = all
-pairs-right R (x ∷ more) ys all = pairs-right R more ys (pairs-tail R x (more ++ ys) all)
+pairs-right R (x ∷ more) ys all = pairs-right R more ys (pairs_tail R x (more ++ ys) all)
 
 pub pairs-across : {X : Type 0} (R : X → X → Type 0) (xs ys : List X) → AllPairs R (xs ++ ys) → All (λ x. All (R x) ys) xs
 pairs-across R [] ys all = All-nil (λ x. All (R x) ys)
 pairs-across R (x ∷ more) ys all =
-    All-cons (λ z. All (R z) ys) x more (all-right (R x) more ys (pairs-head R x (more ++ ys) all)) (pairs-across R more ys (pairs-tail R x (more ++ ys) all))
+    All-cons (λ z. All (R z) ys) x more (all-right (R x) more ys (pairs_head R x (more ++ ys) all)) (pairs-across R more ys (pairs_tail R x (more ++ ys) all))
 
 pub pairs-append : {X : Type 0} (R : X → X → Type 0) (xs ys : List X) → AllPairs R xs → AllPairs R ys → All (λ x. All (R x) ys) xs → AllPairs R (xs ++ ys)
 pairs-append R [] ys left right across = right
 pairs-append R (x ∷ more) ys left right across =
-    AllPairs-cons R x (more ++ ys) (All-append (R x) more ys (pairs-head R x more left) (All-head (λ z. All (R z) ys) x more across))
-    (pairs-append R more ys (pairs-tail R x more left) right (All-tail (λ z. All (R z) ys) x more across))
-
--- what holds of each holds of the one where a list is parted
-pub at-split : {X : Type 0} (P : X → Type 0) (xs before after : List X) (x : X) → xs ≡ before ++ x ∷ after → All P xs → P x
-at-split P xs before after x stands all =
-    subst P (get_or_at before x after x (length before) refl)
-    (subst (All P) stands all (length before) x (omega (arith, length-append before (x ∷ after))))
+    AllPairs-cons R x (more ++ ys) (All-append (R x) more ys (pairs_head R x more left) (All-head (λ z. All (R z) ys) x more across))
+    (pairs-append R more ys (pairs_tail R x more left) right (All-tail (λ z. All (R z) ys) x more across))
 
 -- ---- the pairs of a list
 
@@ -64,7 +44,7 @@ pub related-pairs : (R : ℕ → ℕ → Type 0) (xs : List ℕ) → AllPairs R 
 related-pairs R [] all = All-nil (λ (p : ℕ × ℕ). R p.0 p.1)
 related-pairs R (x ∷ more) all =
     All-append (λ (p : ℕ × ℕ). R p.0 p.1) (map (beside x) more) (pairs_of more)
-    (All-map (λ (p : ℕ × ℕ). R p.0 p.1) (beside x) more (pairs-head R x more all)) (related-pairs R more (pairs-tail R x more all))
+    (All-map (λ (p : ℕ × ℕ). R p.0 p.1) (beside x) more (pairs_head R x more all)) (related-pairs R more (pairs_tail R x more all))
 
 pub each-of-pairs : (P : ℕ → Type 0) (xs : List ℕ) → All P xs → All (λ (p : ℕ × ℕ). P p.0 × P p.1) (pairs_of xs)
 each-of-pairs P [] all = All-nil (λ (p : ℕ × ℕ). P p.0 × P p.1)
@@ -84,10 +64,10 @@ pairs-map f (x ∷ more) =
 -- a list by its places
 pub by-places : (xs : List ℕ) → map (λ i. get_or xs i 0) (range_with_len 0 (length xs)) ≡ xs
 by-places xs =
-    let long : length (map (λ i. get_or xs i 0) (range_with_len 0 (length xs))) ≡ length xs = length-map (range_with_len 0 (length xs)) (λ i. get_or xs i 0) ∙ length-range 0 (length xs) in
+    let long : length (map (λ i. get_or xs i 0) (range_with_len 0 (length xs))) ≡ length xs = length-map (range_with_len 0 (length xs)) (λ i. get_or xs i 0) ∙ length-range_with_len 0 (length xs) in
     ext_get_or 0 (map (λ i. get_or xs i 0) (range_with_len 0 (length xs))) xs long
-    (λ i inside. get_or-map (λ k. get_or xs k 0) (range_with_len 0 (length xs)) i 0 0 (omega (arith, inside, long, length-range 0 (length xs)))
-    ∙ ap (λ k. get_or xs k 0) (get_or-range 0 (length xs) i (omega (arith, inside, long)) ∙ omega arith))
+    (λ i inside. get_or-map (λ k. get_or xs k 0) (range_with_len 0 (length xs)) i 0 0 (omega (arith, inside, long, length-range_with_len 0 (length xs)))
+    ∙ ap (λ k. get_or xs k 0) (range_at 0 (length xs) i (omega (arith, inside, long)) ∙ omega arith))
 
 pub places-below : (a n : ℕ) → All (λ i. i < a + n) (range_with_len a n)
 places-below a zero = All-nil (λ i. i < a + 0)

@@ -5,6 +5,7 @@ use Rattle.std.proofs.lemmas.Bool.{cases_lt, false≢true, ltb-false, ltb-true}
 use Rattle.std.proofs.lemmas.List.{get_or_append_left, get_or_at, get_or_push, length-append, length_push, take-append-le, take_at}
 use Rattle.std.proofs.lemmas.List.Elements.{All-append, All-cons, All-nil, All-push, All-weaker}
 use Rattle.std.proofs.lemmas.List.Sums.{sum_by_push}
+use Rattle.elimination_tallies.proofs.ScanLemmas.{at-most-refl}
 use Rattle.fractions.specs.declared.fraction.Fraction.{Fraction}
 use Rattle.fractions.specs.declared.tally.Tally.{Tally}
 use Rattle.fractions.specs.Fraction.{IsAtMost, IsFraction}
@@ -17,7 +18,7 @@ use Rattle.compound.specs.Bound.{IsLess, bound_of}
 use Rattle.compound.specs.Listing.{IsRating, is_less}
 use Rattle.compound.specs.Scanning.{IsBest, IsScan}
 use Rattle.compound.specs.Steps.{IsWeight, IsWeighed, better, is_passed_over}
-use Rattle.compound.proofs.OrderLemmas.{at-most-less, at-most-refl, at-most-trans, importance-positive, less-at-most, not-both}
+use Rattle.compound.proofs.OrderLemmas.{at-most-less, at-most-trans, importance-positive, less-at-most, not-both}
 
 -- the importance of a pair
 abbrev importance_at : (ℕ → ℕ → Tally) → ℕ → ℕ × ℕ → Fraction

@@ -4,6 +4,8 @@ use Rattle.std.specs.Prelude.{count_by, nat_lt, slice_index_or}
 use Rattle.std.specs.List.{list_any}
 use Rattle.std.proofs.lemmas.Bool.{and_from, and_parts, or_cases, or_left, or_right}
 use Rattle.std.proofs.lemmas.List.Sums.{count_by-le-length, sum_by-cons}
+use Rattle.elimination_tallies.proofs.PredicateLemmas.{shows-observes}
+use Rattle.base_lists.proofs.Tests.{test_rises}
 use Rattle.cbi_base.specs.declared.outcome.Counts.{Counts}
 use Rattle.fractions.specs.Tally.{IsTally}
 use Rattle.report_file.specs.declared.label.Label.{Label}
@@ -20,49 +22,20 @@ use Rattle.compound_counts.specs.Truth.{pair_is_known, pair_is_true, pair_recoun
 first-is : (f s t : Bool) → f ≡ true → f || (s || t) ≡ true
 first-is f s t h = or_left f (s || t) h
 
-second-is : (f s t : Bool) → s ≡ true → f || (s || t) ≡ true
-second-is f s t h = or_right f (s || t) (or_left s t h)
-
-third-is : (f s t : Bool) → t ≡ true → f || (s || t) ≡ true
-third-is f s t h = or_right f (s || t) (or_right s t h)
-
-makes-positive : (branch : Bool) (n : ℕ) (c : Counts) → makes_true branch n c ≡ true → is_positive c ≡ true
-makes-positive true zero c h = first-is (nat_lt 0 c.first) (nat_lt 0 c.second) (nat_lt 0 c.third) h
-makes-positive true (suc n) c h = second-is (nat_lt 0 c.first) (nat_lt 0 c.second) (nat_lt 0 c.third) h
-makes-positive false zero c h = first-is (nat_lt 0 c.first) (nat_lt 0 c.second) (nat_lt 0 c.third) h
-makes-positive false (suc zero) c h =
-    elim (or_cases (nat_lt 0 c.first) (nat_lt 0 c.second) h) [ inl a ↦ first-is (nat_lt 0 c.first) (nat_lt 0 c.second) (nat_lt 0 c.third) a | inr a ↦ second-is (nat_lt 0 c.first) (nat_lt 0 c.second) (nat_lt 0 c.third) a ]
-makes-positive false (suc (suc zero)) c h = third-is (nat_lt 0 c.first) (nat_lt 0 c.second) (nat_lt 0 c.third) h
-makes-positive false (suc (suc (suc zero))) c h =
-    elim (or_cases (nat_lt 0 c.second) (nat_lt 0 c.third) h) [ inl a ↦ second-is (nat_lt 0 c.first) (nat_lt 0 c.second) (nat_lt 0 c.third) a | inr a ↦ third-is (nat_lt 0 c.first) (nat_lt 0 c.second) (nat_lt 0 c.third) a ]
-makes-positive false (suc (suc (suc (suc zero)))) c h = second-is (nat_lt 0 c.first) (nat_lt 0 c.second) (nat_lt 0 c.third) h
-makes-positive false (suc (suc (suc (suc (suc n))))) c h =
-    elim (or_cases (nat_lt 0 c.first) (nat_lt 0 c.third) h) [ inl a ↦ first-is (nat_lt 0 c.first) (nat_lt 0 c.second) (nat_lt 0 c.third) a | inr a ↦ third-is (nat_lt 0 c.first) (nat_lt 0 c.second) (nat_lt 0 c.third) a ]
-
-shown-observed : (branches : List Bool) (p : ℕ) (e : Entry) → shows branches p e ≡ true → observes branches p e ≡ true
-unfolding shows observes
-shown-observed branches p e h =
-    let parts = and_parts (is_of branches e.site p) (makes_true (slice_index_or branches e.site false) (p - first_predicate branches e.site) e.counts) h in
-    and_from (is_of branches e.site p) (is_positive e.counts) parts.0 (makes-positive (slice_index_or branches e.site false) (p - first_predicate branches e.site) e.counts parts.1)
-
 any-mono : (p q : Entry → Bool) → ((e : Entry) → p e ≡ true → q e ≡ true) → (entries : List Entry) → list_any p entries ≡ true → list_any q entries ≡ true
 any-mono p q h [] is = is
 any-mono p q h (e ∷ more) is =
     elim (or_cases (p e) (list_any p more) is) [ inl here ↦ or_left (q e) (list_any q more) (h e here) | inr there ↦ or_right (q e) (list_any q more) (any-mono p q h more there) ]
 
 true-observed : (branches : List Bool) (p : ℕ) (r : LabelledRun) → is_true branches p r ≡ true → is_observed branches p r ≡ true
-true-observed branches p r h = any-mono (shows branches p) (observes branches p) (shown-observed branches p) r.entries h
+true-observed branches p r h = any-mono (shows branches p) (observes branches p) (shows-observes branches p) r.entries h
 
 -- ---- counts
-
-one-le : (a b : Bool) → (a ≡ true → b ≡ true) → cond a 1 0 ≤ cond b 1 0
-one-le true b h = subst (λ (x : Bool). 1 ≤ cond x 1 0) (sym (h refl)) (omega arith)
-one-le false b h = omega arith
 
 count-mono : (p q : LabelledRun → Bool) → ((r : LabelledRun) → p r ≡ true → q r ≡ true) → (runs : List LabelledRun) → count_by p runs ≤ count_by q runs
 count-mono p q h [] = omega arith
 count-mono p q h (r ∷ more) =
-    omega (arith, sum_by-cons (λ (x : LabelledRun). cond (p x) 1 0) r more, sum_by-cons (λ (x : LabelledRun). cond (q x) 1 0) r more, one-le (p r) (q r) (h r), count-mono p q h more)
+    omega (arith, sum_by-cons (λ (x : LabelledRun). cond (p x) 1 0) r more, sum_by-cons (λ (x : LabelledRun). cond (q x) 1 0) r more, test_rises (p r) (q r) (h r), count-mono p q h more)
 
 one-most : (b : Bool) → cond b 1 0 ≤ 1
 one-most true = omega arith
@@ -88,24 +61,11 @@ and-mono false b c h is = is
 
 -- ---- tallies
 
-pub recount-tally : (branches : List Bool) (runs : List LabelledRun) (p : ℕ) → length runs ≤ 100000 → IsTally (recount branches runs p)
-recount-tally branches runs p few = record {
-  failing = count-mono (λ r. fails r.label && is_true branches p r) (λ r. fails r.label && is_observed branches p r) (λ r. and-mono (fails r.label) (is_true branches p r) (is_observed branches p r) (true-observed branches p r)) runs;
-  successful = count-mono (λ r. succeeds r.label && is_true branches p r) (λ r. succeeds r.label && is_observed branches p r) (λ r. and-mono (succeeds r.label) (is_true branches p r) (is_observed branches p r) (true-observed branches p r)) runs;
-  runs = omega (arith, few, count-apart (λ (r : LabelledRun). fails r.label) (λ (r : LabelledRun). succeeds r.label) (λ r. is_observed branches p r) (λ r. labels-apart r.label) runs);
-}
-
 counted-failing : (o : LabelledRun → Bool) (runs : List LabelledRun) → count_by (λ r. fails r.label && o r) runs ≤ failing_runs runs
 counted-failing o runs = count-mono (λ r. fails r.label && o r) (λ (r : LabelledRun). fails r.label) (λ r h. (and_parts (fails r.label) (o r) h).0) runs
 
-pub recount-observed : (branches : List Bool) (runs : List LabelledRun) (p : ℕ) → (recount branches runs p).c ≤ failing_runs runs
-recount-observed branches runs p = counted-failing (is_observed branches p) runs
-
 pub recount-true : (branches : List Bool) (runs : List LabelledRun) (p : ℕ) → (recount branches runs p).a ≤ failing_runs runs
 recount-true branches runs p = counted-failing (is_true branches p) runs
-
-pub failing-few : (runs : List LabelledRun) → failing_runs runs ≤ length runs
-failing-few runs = count_by-le-length (λ (r : LabelledRun). fails r.label) runs
 
 known-if-true : (branches : List Bool) (p q : ℕ) (r : LabelledRun) → pair_is_true branches p q r ≡ true → pair_is_known branches p q r ≡ true
 known-if-true branches p q r h = or_left (pair_is_true branches p q r) _ h

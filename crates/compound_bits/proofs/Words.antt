@@ -8,20 +8,14 @@ use Rattle.std.proofs.lemmas.List.{length-map, get_or-map}
 use Rattle.std.proofs.lemmas.List.Sums.{sum_by-cons}
 use Rattle.std.proofs.lemmas.Nat.Bits.{bit_at_and, bit_at_or, bit_at_not, bit_at-lt, bit_at-zero, bit_at-pow_same, bit_at-pow_other, same_from_bits_below}
 use Rattle.std.proofs.lemmas.Simd.{mask_l-lt, bit_mask_l, ones-mask_l}
+use Rattle.std.proofs.lemmas.List.FromFn.{length-range_with_len}
+use Rattle.base_lists.proofs.Tests.{or_false, or_true}
+use Rattle.base_lists.proofs.Lists.{range_at}
 use lib.Lanes.{mask_l}
 use Rattle.compound_bits.specs.Bits.{bit, fact_at, word_facts}
 use Rattle.compound_bits.specs.Facts.{Fact, both_hold, decided, holding, no_fact, one_is_refuted, seen}
 
 -- ---- places in a row
-
-pub length-range : (a n : ℕ) → length (range_with_len a n) ≡ n
-length-range a zero = refl
-length-range a (suc n) = ap suc (length-range (a + 1) n)
-
-pub get_or-range : (a n i : ℕ) → i < n → get_or (range_with_len a n) i 0 ≡ a + i
-get_or-range a zero i h = absurd (omega arith)
-get_or-range a (suc n) zero h = omega arith
-get_or-range a (suc n) (suc i) h = omega (arith, get_or-range (a + 1) n i (omega arith))
 
 count-agree : (p q : ℕ → Bool) (a n : ℕ) → ((i : ℕ) → i < a + n → p i ≡ q i) → count_by p (range_with_len a n) ≡ count_by q (range_with_len a n)
 count-agree p q a zero same = refl
@@ -62,14 +56,14 @@ map-set f g v a (suc n) (suc m) h at others =
 mask-of-bits : (w n : ℕ) → w < 2 ^ n → mask_l (map (bit w) (range_with_len 0 n)) ≡ w
 mask-of-bits w n small =
     let ms = map (bit w) (range_with_len 0 n) in
-    let long : length ms ≡ n = length-map (range_with_len 0 n) (bit w) ∙ length-range 0 n in
+    let long : length ms ≡ n = length-map (range_with_len 0 n) (bit w) ∙ length-range_with_len 0 n in
     same_from_bits_below n (mask_l ms) w (subst (λ k. mask_l ms < 2 ^ k) long (mask_l-lt ms)) small
     (λ i h. bit_mask_l ms i ∙ ap (λ b. cond b 1 0) (at w n i h) ∙ as_number (bit_at w i) (bit_at-lt w i))
   where
     at : (w n i : ℕ) → i < n → get_or (map (bit w) (range_with_len 0 n)) i false ≡ bit w i
     at w n i h =
-        get_or-map (bit w) (range_with_len 0 n) i 0 false (subst (λ k. i < k) (sym (length-range 0 n)) h)
-        ∙ ap (bit w) (get_or-range 0 n i h ∙ omega arith)
+        get_or-map (bit w) (range_with_len 0 n) i 0 false (subst (λ k. i < k) (sym (length-range_with_len 0 n)) h)
+        ∙ ap (bit w) (range_at 0 n i h ∙ omega arith)
 
     as_number : (x : ℕ) → x < 2 → cond (x == 1) 1 0 ≡ x
     as_number x h = grind (arith, nat_tests)
@@ -138,7 +132,7 @@ decided-word t k t' k' small small' whole = ones-word (decided_word t k t' k') w
 
 pub length-word : (t k : ℕ) → length (word_facts t k) ≡ 64
 unfolding word_facts
-length-word t k = length-map (range_with_len 0 64) (fact_at t k) ∙ length-range 0 64
+length-word t k = length-map (range_with_len 0 64) (fact_at t k) ∙ length-range_with_len 0 64
 
 pub no-facts : word_facts 0 0 ≡ replicate 64 no_fact
 unfolding word_facts
@@ -148,23 +142,15 @@ no-facts = map-same (fact_at 0 0) no_fact 0 64 (λ i. ap (λ (b : Bool). record 
 abbrev pub with_one : Bool → ℕ → ℕ → ℕ
 with_one wanted j w = if wanted then bit_or w (2 ^ j) else w
 
-or-false : (b : Bool) → b || false ≡ b
-or-false true = refl
-or-false false = refl
-
-or-true : (b : Bool) → b || true ≡ true
-or-true true = refl
-or-true false = refl
-
 one-here : (wanted : Bool) (j w : ℕ) → bit (with_one wanted j w) j ≡ bit w j || wanted
 one-here true j w = bit-or w (2 ^ j) j ∙ ap (λ x. bit w j || (x == 1)) (bit_at-pow_same j)
-one-here false j w = sym (or-false (bit w j))
+one-here false j w = sym (or_false (bit w j))
 
 one-there : (wanted : Bool) (j w i : ℕ) → i ≢ j → bit (with_one wanted j w) i ≡ bit w i
-one-there true j w i other = bit-or w (2 ^ j) i ∙ ap (λ x. bit w i || (x == 1)) (bit_at-pow_other j i other) ∙ or-false (bit w i)
+one-there true j w i other = bit-or w (2 ^ j) i ∙ ap (λ x. bit w i || (x == 1)) (bit_at-pow_other j i other) ∙ or_false (bit w i)
 one-there false j w i other = refl
 
-fact-is : (t t' k k' : Bool) → t ≡ t' → k ≡ k' → ◌≡◌ {A = Fact} (record { truth = t; known = k }) (record { truth = t'; known = k' })
+pub fact-is : (t t' k k' : Bool) → t ≡ t' → k ≡ k' → ◌≡◌ {A = Fact} (record { truth = t; known = k }) (record { truth = t'; known = k' })
 fact-is t t' k k' a b = ap (λ (x : Bool). record { truth = x; known = k }) a ∙ ap (λ (x : Bool). record { truth = t'; known = x }) b
 
 seen-bits : (wanted : Bool) (t k j n : ℕ) → j < n
@@ -172,7 +158,7 @@ seen-bits : (wanted : Bool) (t k j n : ℕ) → j < n
 seen-bits wanted t k j n h =
     map-set (fact_at (with_one wanted j t) (with_one true j k)) (fact_at t k) (seen wanted (fact_at t k j)) 0 n j h
     (subst (λ i. fact_at (with_one wanted j t) (with_one true j k) i ≡ seen wanted (fact_at t k j)) (omega arith)
-    (fact-is (bit (with_one wanted j t) j) (bit t j || wanted) (bit (with_one true j k) j) true (one-here wanted j t) (one-here true j k ∙ or-true (bit k j))))
+    (fact-is (bit (with_one wanted j t) j) (bit t j || wanted) (bit (with_one true j k) j) true (one-here wanted j t) (one-here true j k ∙ or_true (bit k j))))
     (λ i other. let apart : i ≢ j = λ e. other (omega arith) in
     fact-is (bit (with_one wanted j t) i) (bit t i) (bit (with_one true j k) i) (bit k i) (one-there wanted j t i apart) (one-there true j k i apart))
 
@@ -180,5 +166,5 @@ pub seen-word : (wanted : Bool) (t k j : ℕ) → j < 64 → word_facts (with_on
 unfolding word_facts
 seen-word wanted t k j h =
     let at : get_or (map (fact_at t k) (range_with_len 0 64)) j no_fact ≡ fact_at t k j =
-    get_or-map (fact_at t k) (range_with_len 0 64) j 0 no_fact (subst (λ n. j < n) (sym (length-range 0 64)) h) ∙ ap (fact_at t k) (get_or-range 0 64 j h ∙ omega arith) in
+    get_or-map (fact_at t k) (range_with_len 0 64) j 0 no_fact (subst (λ n. j < n) (sym (length-range_with_len 0 64)) h) ∙ ap (fact_at t k) (range_at 0 64 j h ∙ omega arith) in
     seen-bits wanted t k j 64 h ∙ ap (λ (f : Fact). set (map (fact_at t k) (range_with_len 0 64)) j (seen wanted f)) (sym at)

@@ -6,6 +6,7 @@ use Rattle.std.proofs.lemmas.List.{length-map, map-append}
 use Rattle.std.proofs.lemmas.List.Elements.{All-cons, All-head, All-nil, All-push, All-tail, All-weaker}
 use Rattle.std.proofs.lemmas.List.Sums.{count_by-le-length, sum_by-append, sum_by-cons}
 use Rattle.std.proofs.lemmas.Option.{none-some, same_Some, slice_get_within}
+use Rattle.elimination_tallies.proofs.RunLemmas.{from-one}
 use Rattle.collector.specs.declared.collection.Held.{Held}
 use Rattle.collector.specs.Collected.{IsOurs, next_after}
 use Rattle.collector.specs.Collecting.{IsCollection}
@@ -63,10 +64,6 @@ cut-later reports last before (x ∷ more) r cut is =
     let first : ◌≡◌ {A = Option Report} (Some x) (Some r) = sym (ap (next_after last) cut.whole ∙ next-past last before (x ∷ more) cut.passed ∙ next-first last x more cut.rising.0) ∙ is in
     subst (λ (y : Report). last < y.run) (same_Some x r first) (omega (arith, cut.rising.0))
 
-from-one : (reports : List Report) → AreReports reports → RunsFrom 0 reports → RunsFrom 1 reports
-from-one [] are rise = tt
-from-one (r ∷ more) are rise = (are.0.run.least, rise.1)
-
 pub cut-start : (c : Held) → IsCollection c → IsCut c.reports 0 [] c.reports
 cut-start c is = record { whole = refl; passed = All-nil (λ (r : Report). r.run ≤ 0); rising = from-one c.reports is.reports is.rising }
 
@@ -117,24 +114,3 @@ pub counted-few : (failing : Bool) (c : Held) → IsCollection c → run_count f
 counted-few failing c is = omega (arith, count_by-le-length (λ (r : LabelledRun). counts failing r.label) (runs_of c.reports), length-map c.reports labelled, is.few)
 
 -- ---- the entries of a report
-
-are-positive : (entries : List Entry) → AreEntries entries → All (λ (e : Entry). IsTrue (is_positive e.counts)) entries
-are-positive [] are = All-nil (λ (e : Entry). IsTrue (is_positive e.counts))
-are-positive (e ∷ more) are = All-cons (λ (x : Entry). IsTrue (is_positive x.counts)) e more are.0.positive (are-positive more are.1)
-
-site-there : (branches : List Bool) (e : Entry) (o : Option Bool) → slice_get branches e.site ≡ o → takes_third o e.counts.third ≡ true → e.site < length branches
-site-there branches e None is has = cc
-site-there branches e (Some branch) is has = slice_get_within branches e.site branch is
-
-bad-first : (branches : List Bool) (e : Entry) (more : List Entry) (b : Bool) → has_site branches e ≡ b → cond b (first_bad branches more) (Some e.site) ≡ None → (has_site branches e ≡ true) × (first_bad branches more ≡ None)
-bad-first branches e more true is none = (is, none)
-bad-first branches e more false is none = absurd cc
-
-are-sites : (branches : List Bool) (entries : List Entry) → first_bad branches entries ≡ None → All (λ (e : Entry). e.site < length branches) entries
-are-sites branches [] none = All-nil (λ (e : Entry). e.site < length branches)
-are-sites branches (e ∷ more) none =
-    let parts = bad-first branches e more (has_site branches e) refl none in
-    All-cons (λ (x : Entry). x.site < length branches) e more (site-there branches e (slice_get branches e.site) refl parts.0) (are-sites branches more parts.1)
-
-pub are-entries : (c : Held) (r : Report) → IsReport r → IsOurs c r → AreEntriesOf c.branches r.entries
-are-entries c r is ours = record { rising = is.rising; sites = are-sites c.branches r.entries ours.sites; positive = are-positive r.entries is.entries }

@@ -5,6 +5,9 @@ use Rattle.std.specs.List.{list_any}
 use Rattle.std.proofs.lemmas.Bool.{and_left, cases_eq, eq-eqb, ne_eqb, or_right}
 use Rattle.std.proofs.lemmas.List.{get_or-set_other, get_or-set_same, length-set, set-get_or, set-set, take_more}
 use Rattle.std.proofs.lemmas.List.Folds.{list_any-append}
+use Rattle.elimination_tallies.proofs.PredicateLemmas.{shows-not}
+use Rattle.compound_bits.proofs.Words.{fact-is}
+use Rattle.base_lists.proofs.Tests.{or_false, or_true}
 use Rattle.compound_bits.specs.Facts.{Fact, no_fact, seen}
 use Rattle.report_file.specs.declared.report.Entry.{Entry}
 use Rattle.report_file.specs.Report.{is_positive}
@@ -12,21 +15,10 @@ use Rattle.elimination_tallies.specs.Predicates.{is_of, observes, shows}
 use Rattle.compound_counts.specs.Rows.{fact_in}
 use Rattle.compound_counts.specs.Seeing.{seen_if, seen_row}
 
-or-no : (b : Bool) → b || false ≡ b
-or-no true = refl
-or-no false = refl
-
 or-twice : (a b : Bool) → (a || b) || b ≡ a || b
 or-twice true b = refl
 or-twice false true = refl
 or-twice false false = refl
-
-or-yes : (b : Bool) → b || true ≡ true
-or-yes true = refl
-or-yes false = refl
-
-fact-is : (s t k l : Bool) → s ≡ t → k ≡ l → ◌≡◌ {A = Fact} (record { truth = s; known = k }) (record { truth = t; known = l })
-fact-is s t k l a b = ap (λ (x : Bool). record { truth = x; known = k }) a ∙ ap (λ (x : Bool). record { truth = t; known = x }) b
 
 -- ---- one entry, watcher by watcher
 
@@ -59,7 +51,7 @@ pub seen-next : (rows mid new : List (List Fact)) (place i w : ℕ) (watchers : 
 seen-next rows mid new place i w watchers truth less at within as_many room made so_far c inside =
     let longer : list_any (λ x. x == c) (take (i + 1) watchers) ≡ list_any (λ x. x == c) (take i watchers) || (w == c) =
     ap (list_any (λ x. x == c)) (take_more watchers i 0 less) ∙ list_any-append (λ x. x == c) (take i watchers) (get_or watchers i 0 ∷ [])
-    ∙ ap (λ b. list_any (λ x. x == c) (take i watchers) || b) (or-no (get_or watchers i 0 == c) ∙ ap (λ x. x == c) at) in
+    ∙ ap (λ b. list_any (λ x. x == c) (take i watchers) || b) (or_false (get_or watchers i 0 == c) ∙ ap (λ x. x == c) at) in
     elim (cases_eq c w) [
       | inl same ↦
           let any : list_any (λ x. x == c) (take (i + 1) watchers) ≡ true = longer ∙ or_right (list_any (λ x. x == c) (take i watchers)) (w == c) (eq-eqb w c (sym same)) in
@@ -72,7 +64,7 @@ seen-next rows mid new place i w watchers truth less at within as_many room made
           ∙ ap (λ b. seen_row place b (truth c) (get_or rows c [])) (sym any)
       | inr other ↦
           let any : list_any (λ x. x == c) (take (i + 1) watchers) ≡ list_any (λ x. x == c) (take i watchers) =
-          longer ∙ ap (λ b. list_any (λ x. x == c) (take i watchers) || b) (ne_eqb w c (λ e. other (sym e))) ∙ or-no (list_any (λ x. x == c) (take i watchers)) in
+          longer ∙ ap (λ b. list_any (λ x. x == c) (take i watchers) || b) (ne_eqb w c (λ e. other (sym e))) ∙ or_false (list_any (λ x. x == c) (take i watchers)) in
           ap (λ (xs : List (List Fact)). get_or xs c []) made
           ∙ get_or-set_other mid w c (set (get_or mid w []) place (seen (truth w) (get_or (get_or mid w []) place no_fact))) [] other
           ∙ so_far c inside ∙ ap (λ b. seen_row place b (truth c) (get_or rows c [])) (sym any)
@@ -87,23 +79,19 @@ seen-room rows mid place watchers truth so_far room c inside =
 
 -- ---- a run, entry by entry
 
-not-shown : (branches : List Bool) (p : ℕ) (e : Entry) → is_of branches e.site p ≡ false → shows branches p e ≡ false
-unfolding shows
-not-shown branches p e is = and_left (is_of branches e.site p) _ is
-
 of-entry : (branches : List Bool) (p : ℕ) (e : Entry) (f : Fact) (own : Bool) → is_of branches e.site p ≡ own → IsTrue (is_positive e.counts)
     → seen_if own (shows branches p e) f ≡ record { truth = f.truth || shows branches p e; known = f.known || observes branches p e }
 unfolding observes
 of-entry branches p e f true is positive =
     fact-is (f.truth || shows branches p e) (f.truth || shows branches p e) true (f.known || observes branches p e) refl
-    (sym (ap (λ b. f.known || (b && is_positive e.counts)) is ∙ ap (λ b. f.known || b) positive ∙ or-yes f.known))
+    (sym (ap (λ b. f.known || (b && is_positive e.counts)) is ∙ ap (λ b. f.known || b) positive ∙ or_true f.known))
 of-entry branches p e f false is positive =
     fact-is f.truth (f.truth || shows branches p e) f.known (f.known || observes branches p e)
-    (sym (ap (λ b. f.truth || b) (not-shown branches p e is) ∙ or-no f.truth))
-    (sym (ap (λ b. f.known || (b && is_positive e.counts)) is ∙ or-no f.known))
+    (sym (ap (λ b. f.truth || b) (shows-not branches p e is) ∙ or_false f.truth))
+    (sym (ap (λ b. f.known || (b && is_positive e.counts)) is ∙ or_false f.known))
 
 any-more : (test : Entry → Bool) (xs ys : List Entry) (e : Entry) → ys ≡ xs ++ e ∷ [] → list_any test ys ≡ list_any test xs || test e
-any-more test xs ys e is = ap (list_any test) is ∙ list_any-append test xs (e ∷ []) ∙ ap (λ b. list_any test xs || b) (or-no (test e))
+any-more test xs ys e is = ap (list_any test) is ∙ list_any-append test xs (e ∷ []) ∙ ap (λ b. list_any test xs || b) (or_false (test e))
 
 fact-more : (branches : List Bool) (p i : ℕ) (entries : List Entry) (e : Entry) → i < length entries → get_or entries i e ≡ e
     → fact_in branches p (take (i + 1) entries) ≡ record { truth = (fact_in branches p (take i entries)).truth || shows branches p e; known = (fact_in branches p (take i entries)).known || observes branches p e }

@@ -7,32 +7,15 @@ use Rattle.std.proofs.lemmas.List.{get_or-replicate, get_or-set_other, get_or-se
 use Rattle.std.proofs.lemmas.List.Elements.{All-head, All-nil, All-push, All-tail, All-weaker}
 use Rattle.std.proofs.lemmas.List.Folds.{list_any-append}
 use Rattle.std.proofs.lemmas.List.Sums.{sum_by-take-le}
+use Rattle.elimination_tallies.proofs.PredicateLemmas.{of-once}
+use Rattle.base_lists.proofs.Tests.{or_false}
 use Rattle.elimination_tallies.specs.Predicates.{first_predicate, is_of, predicates_in, width_of}
 use Rattle.compound_counts.specs.Rows.{AreWatched}
 
 -- ---- a predicate is one site's
 
-first-rises : (branches : List Bool) (i j : ℕ) → i ≤ j → first_predicate branches i ≤ first_predicate branches j
-first-rises branches i j order =
-    subst (λ (bs : List Bool). predicates_in bs ≤ first_predicate branches j) (take-take i j branches order) (sum_by-take-le width_of (take j branches) i)
-
-between : (branches : List Bool) (site p : ℕ) → is_of branches site p ≡ true → (first_predicate branches site ≤ p) × (p < first_predicate branches (site + 1))
-between branches site p own =
-    let parts = and_parts (nat_le (first_predicate branches site) p) (nat_lt p (first_predicate branches (site + 1))) own in
-    (leb-true (first_predicate branches site) p parts.0, ltb-true p (first_predicate branches (site + 1)) parts.1)
-
-one-site : (branches : List Bool) (i j p : ℕ) → is_of branches i p ≡ true → is_of branches j p ≡ true → i ≡ j
-one-site branches i j p one other =
-    let a = between branches i p one in
-    let b = between branches j p other in
-    elim (cases_order i j) [
-      | inl same ↦ same
-      | inr (inl less) ↦ absurd (omega (arith, a, b, first-rises branches (i + 1) j (omega arith)))
-      | inr (inr more) ↦ absurd (omega (arith, a, b, first-rises branches (j + 1) i (omega arith)))
-    ]
-
 other-site : (branches : List Bool) (i j p : ℕ) → is_of branches i p ≡ true → (j ≡ i → ⊥) → is_of branches j p ≡ false
-other-site branches i j p own other = false_from_ne_true (is_of branches j p) (λ too. other (one-site branches j i p too own))
+other-site branches i j p own other = false_from_ne_true (is_of branches j p) (λ too. other (of-once branches j i p too own))
 
 -- ---- lists of places
 
@@ -41,15 +24,11 @@ absent m [] below = refl
 absent m (w ∷ more) below =
     or_from (w == m) (list_any (λ x. x == m) more) (ne_eqb w m (λ e. absurd (omega (arith, e, All-head (λ x. x < m) w more below)))) (absent m more (All-tail (λ x. x < m) w more below))
 
-or-no : (b : Bool) → b || false ≡ b
-or-no true = refl
-or-no false = refl
-
 pushed : (c m : ℕ) (places : List ℕ) → list_any (λ w. w == c) (places ++ m ∷ []) ≡ list_any (λ w. w == c) places || (m == c)
-pushed c m places = list_any-append (λ w. w == c) places (m ∷ []) ∙ ap (λ b. list_any (λ w. w == c) places || b) (or-no (m == c))
+pushed c m places = list_any-append (λ w. w == c) places (m ∷ []) ∙ ap (λ b. list_any (λ w. w == c) places || b) (or_false (m == c))
 
 pushed-other : (c m : ℕ) (places : List ℕ) → c < m → list_any (λ w. w == c) (places ++ m ∷ []) ≡ list_any (λ w. w == c) places
-pushed-other c m places less = pushed c m places ∙ ap (λ b. list_any (λ w. w == c) places || b) (ne_eqb m c (λ e. absurd (omega (arith, e)))) ∙ or-no (list_any (λ w. w == c) places)
+pushed-other c m places less = pushed c m places ∙ ap (λ b. list_any (λ w. w == c) places || b) (ne_eqb m c (λ e. absurd (omega (arith, e)))) ∙ or_false (list_any (λ w. w == c) places)
 
 pushed-this : (m : ℕ) (places : List ℕ) → list_any (λ w. w == m) (places ++ m ∷ []) ≡ true
 pushed-this m places = pushed m m places ∙ or_right (list_any (λ w. w == m) places) (m == m) (eq-eqb m m refl)

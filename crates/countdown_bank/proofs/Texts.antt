@@ -4,8 +4,7 @@ use Rattle.std.specs.Prelude.{All}
 use Rattle.std.proofs.lemmas.List.{append-nil}
 use Rattle.std.proofs.lemmas.List.Elements.{All-head, All-tail, All-cons, All-nil}
 use Rattle.std.proofs.lemmas.Fmt.{decimal_injective}
-use Rattle.cbi_base.specs.Text.{AreLines, Lacks, is_newline, ended, text_of}
-use Rattle.cbi_base.specs.Lines.{LeadsTo, ReadsLines}
+use Rattle.cbi_base.specs.Words.{AreLines, Lacks, is_newline, ended, text_of, LeadsTo, ReadsLines}
 use Rattle.cbi_base.proofs.FieldLemmas.{IsField-decimal, field-lacks-newline}
 use Rattle.cbi_base.proofs.TextLemmas.{cut-once}
 use Rattle.countdown_bank.specs.Bank.{IsCountdown, AreNumbers, most_numbers}

@@ -1,7 +1,6 @@
 -- The text of a bank, and where a text goes wrong.
 use Rattle.std.specs.Prelude.{◌≡◌, ℕ, ◌<◌, List, [], ◌∷◌, ◌++◌, length, map, decimal, Result, Ok, Err}
-use Rattle.cbi_base.specs.Text.{text_of}
-use Rattle.cbi_base.specs.Lines.{IsBadLine}
+use Rattle.cbi_base.specs.Words.{text_of, IsBadLine}
 use Rattle.countdown_bank.specs.declared.file.BankError.{BankError}
 use Rattle.countdown_bank.specs.declared.file.BankError.TheVariants.{BadBank, Memory}
 use Rattle.countdown_bank.specs.Bank.{BankState, IsCountdown, most_numbers}

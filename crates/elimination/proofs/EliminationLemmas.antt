@@ -41,9 +41,6 @@ relabelled-fails r false = refl
 
 -- the failing runs in which the leader was true fail no more, and the others still do
 pub after-counts : (branches : List Bool) (policy : Policy) (leader : ℕ) (runs : List LabelledRun) → failing_runs (after branches policy leader runs) + (recount branches runs leader).a ≡ failing_runs runs
-after-counts branches Every leader [] = refl
-after-counts branches Failing leader [] = refl
-after-counts branches Relabel leader [] = refl
 after-counts branches Every leader (r ∷ more) =
     omega (
       arith,
@@ -72,6 +69,9 @@ after-counts branches Relabel leader (r ∷ more) =
       sum_by-cons (λ (x : LabelledRun). cond (fails x.label && is_true branches leader x) 1 0) r more,
       sum_by-cons (λ (x : LabelledRun). cond (fails x.label) 1 0) r more,
     )
+after-counts branches Every leader [] = refl
+after-counts branches Failing leader [] = refl
+after-counts branches Relabel leader [] = refl
 
 -- a passing predicate was true in a failing run
 positive-by : (a d : ℕ) → 0 < a * d → 0 < a

@@ -132,12 +132,12 @@ left_by s rest = cond s.left (s.run ∷ rest) rest
 after-first : (branches : List Bool) (policy : Policy) (leader : ℕ) (run : LabelledRun) (left taken : Bool) (more : List LabelledRun) → is_taken branches policy leader run ≡ taken
     → left_by (step_by (left && taken) policy (record { run = run; left = left })) (after branches policy leader more) ≡ after branches policy leader (cond left (run ∷ more) more)
 after-first branches policy leader run false taken more is = refl
+after-first branches Relabel leader run true true more is = sym (ap (λ b. cond b (passed run) run ∷ after branches Relabel leader more) is)
+after-first branches Relabel leader run true false more is = sym (ap (λ b. cond b (passed run) run ∷ after branches Relabel leader more) is)
 after-first branches Every leader run true true more is = sym (ap (λ b. cond (not b) (run ∷ after branches Every leader more) (after branches Every leader more)) is)
 after-first branches Every leader run true false more is = sym (ap (λ b. cond (not b) (run ∷ after branches Every leader more) (after branches Every leader more)) is)
 after-first branches Failing leader run true true more is = sym (ap (λ b. cond (not b) (run ∷ after branches Failing leader more) (after branches Failing leader more)) is)
 after-first branches Failing leader run true false more is = sym (ap (λ b. cond (not b) (run ∷ after branches Failing leader more) (after branches Failing leader more)) is)
-after-first branches Relabel leader run true true more is = sym (ap (λ b. cond b (passed run) run ∷ after branches Relabel leader more) is)
-after-first branches Relabel leader run true false more is = sym (ap (λ b. cond b (passed run) run ∷ after branches Relabel leader more) is)
 
 pub left-after : (branches : List Bool) (policy : Policy) (leader : ℕ) (slots : List Slot) → left_of (map (stepped_slot branches policy leader) slots) ≡ after branches policy leader (left_of slots)
 left-after branches Every leader [] = refl

@@ -54,15 +54,15 @@ keep-sum f r rest true = sum_by-cons f r rest
 keep-sum f r rest false = omega arith
 
 after-sum : (branches : List Bool) (policy : Policy) (leader : ℕ) (f : LabelledRun → ℕ) (runs : List LabelledRun) → sum_by f (after branches policy leader runs) ≡ sum_by (left_part branches policy leader f) runs
-after-sum branches Every leader f [] = refl
-after-sum branches Failing leader f [] = refl
-after-sum branches Relabel leader f [] = refl
 after-sum branches Every leader f (r ∷ more) =
     omega (arith, keep-sum f r (after branches Every leader more) (not (is_taken branches Every leader r)), after-sum branches Every leader f more, sum_by-cons (left_part branches Every leader f) r more)
 after-sum branches Failing leader f (r ∷ more) =
     omega (arith, keep-sum f r (after branches Failing leader more) (not (is_taken branches Failing leader r)), after-sum branches Failing leader f more, sum_by-cons (left_part branches Failing leader f) r more)
 after-sum branches Relabel leader f (r ∷ more) =
     omega (arith, sum_by-cons f (cond (is_taken branches Relabel leader r) (passed r) r) (after branches Relabel leader more), after-sum branches Relabel leader f more, sum_by-cons (left_part branches Relabel leader f) r more)
+after-sum branches Every leader f [] = refl
+after-sum branches Failing leader f [] = refl
+after-sum branches Relabel leader f [] = refl
 
 same-after : (branches : List Bool) (policy : Policy) (leader : ℕ) (xs ys : List LabelledRun) → SameSums xs ys → SameSums (after branches policy leader xs) (after branches policy leader ys)
 same-after branches policy leader xs ys same = record {

@@ -38,13 +38,10 @@ changed-add MoveOver m n i j t = tally-is (changed MoveOver (m + n) (i + j) t) (
 
 -- what is left of an allowed change is allowed after a part of it
 pub allowed-rest : (change : Change) (m n all i j every : ℕ) (t : Tally) → m + n ≤ all → i + j ≤ every → Allows change all every t → Allows change n j (changed change m i t)
-allowed-rest (PutIn counted.Failing) m n all i j every t a b h = (omega (arith, h), omega (arith, h))
-allowed-rest (PutIn counted.Successful) m n all i j every t a b h = (omega (arith, h), omega (arith, h))
 allowed-rest (PutIn counted.Neither) m n all i j every t a b h = tt
-allowed-rest (TakeOut counted.Failing) m n all i j every t a b h = (omega (arith, h), omega (arith, h))
-allowed-rest (TakeOut counted.Successful) m n all i j every t a b h = (omega (arith, h), omega (arith, h))
 allowed-rest (TakeOut counted.Neither) m n all i j every t a b h = tt
 allowed-rest MoveOver m n all i j every t a b h = (omega (arith, h), omega (arith, h), omega (arith, h), omega (arith, h))
+allowed-rest change m n all i j every t a b h = (omega (arith, h), omega (arith, h))
 
 -- a predicate's numbers before a change, from those after it
 pub old-tally : (old new : Tallies) (p : ℕ) (t : Tally) → length new.tallies ≡ length old.tallies → slice_get new.tallies p ≡ Some t → slice_get old.tallies p ≡ Some (get_or old.tallies p t)

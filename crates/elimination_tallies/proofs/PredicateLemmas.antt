@@ -99,7 +99,7 @@ third-positive : (x y z : Bool) → z ≡ true → (x || (y || z)) ≡ true
 third-positive x y z h = or_right x (y || z) (or_right y z h)
 
 -- a predicate that is true has a positive counter
-makes-positive : (branch : Bool) (n : ℕ) (c : Counts) → makes_true branch n c ≡ true → is_positive c ≡ true
+pub makes-positive : (branch : Bool) (n : ℕ) (c : Counts) → makes_true branch n c ≡ true → is_positive c ≡ true
 makes-positive true zero c h = first-positive (nat_lt 0 c.first) (nat_lt 0 c.second) (nat_lt 0 c.third) h
 makes-positive true (suc n) c h = second-positive (nat_lt 0 c.first) (nat_lt 0 c.second) (nat_lt 0 c.third) h
 makes-positive false zero c h = first-positive (nat_lt 0 c.first) (nat_lt 0 c.second) (nat_lt 0 c.third) h

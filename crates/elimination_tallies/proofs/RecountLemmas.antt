@@ -5,6 +5,7 @@ use Rattle.std.specs.List.{list_any}
 use Rattle.std.proofs.lemmas.Bool.{false≢true, and_from, and_parts, or_cases, or_left, or_right}
 use Rattle.std.proofs.lemmas.List.Sums.{count_by-le-length, sum_by-cons, sum_by-le-sum_by}
 use Rattle.std.proofs.lemmas.Option.{get_or_from_slice_get}
+use Rattle.base_lists.proofs.Tests.{test_rises}
 use Rattle.fractions.specs.declared.tally.Tally.{Tally}
 use Rattle.fractions.specs.Tally.{IsTally, Passes}
 use Rattle.report_file.specs.declared.label.Label.{Label}
@@ -21,13 +22,8 @@ use Rattle.elimination_tallies.proofs.PredicateLemmas.{shows-observes}
 use Rattle.elimination_tallies.proofs.RunChanges.{recount-at}
 use Rattle.elimination_tallies.proofs.ScanLemmas.{leads-same}
 
-one-less : (p q : Bool) → (p ≡ true → q ≡ true) → cond p 1 0 ≤ cond q 1 0
-one-less false q less = omega arith
-one-less true true less = omega arith
-one-less true false less = absurd (false≢true (less refl))
-
 count-less : (p q : LabelledRun → Bool) (runs : List LabelledRun) → ((r : LabelledRun) → p r ≡ true → q r ≡ true) → count_by p runs ≤ count_by q runs
-count-less p q runs less = sum_by-le-sum_by (λ (r : LabelledRun). cond (p r) 1 0) (λ (r : LabelledRun). cond (q r) 1 0) runs (λ r. one-less (p r) (q r) (less r))
+count-less p q runs less = sum_by-le-sum_by (λ (r : LabelledRun). cond (p r) 1 0) (λ (r : LabelledRun). cond (q r) 1 0) runs (λ r. test_rises (p r) (q r) (less r))
 
 any-less : (p q : Entry → Bool) (entries : List Entry) → ((e : Entry) → p e ≡ true → q e ≡ true) → list_any p entries ≡ true → list_any q entries ≡ true
 any-less p q [] less has = has

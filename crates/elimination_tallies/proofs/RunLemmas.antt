@@ -27,7 +27,7 @@ all-after run from [] less rise = refl
 all-after run from (x ∷ more) less rise =
     ap (λ b. after_by b x (reports_after run more)) (lt-ltb run x.run (omega (arith, rise.0))) ∙ ap (λ rest. x ∷ rest) (all-after run (x.run + 1) more (omega (arith, rise.0)) rise.1)
 
-from-one : (reports : List Report) → AreReports reports → RunsFrom 0 reports → RunsFrom 1 reports
+pub from-one : (reports : List Report) → AreReports reports → RunsFrom 0 reports → RunsFrom 1 reports
 from-one [] are rise = tt
 from-one (r ∷ more) are rise = (are.0.run.least, rise.1)
 
@@ -73,19 +73,19 @@ none-after run (x ∷ more) is =
       | inr most ↦ ap (λ b. after_by b x (reports_after run more)) (le-ltb run x.run most) ∙ none-after run more (sym (ap (λ b. cond b (Some x) (next_after run more)) (le-ltb run x.run most)) ∙ is)
     ]
 
-are-positive : (entries : List Entry) → AreEntries entries → All (λ (e : Entry). IsTrue (is_positive e.counts)) entries
+pub are-positive : (entries : List Entry) → AreEntries entries → All (λ (e : Entry). IsTrue (is_positive e.counts)) entries
 are-positive [] are = All-nil (λ (e : Entry). IsTrue (is_positive e.counts))
 are-positive (e ∷ more) are = All-cons (λ (x : Entry). IsTrue (is_positive x.counts)) e more are.0.positive (are-positive more are.1)
 
-site-there : (branches : List Bool) (e : Entry) (o : Option Bool) → slice_get branches e.site ≡ o → takes_third o e.counts.third ≡ true → e.site < length branches
+pub site-there : (branches : List Bool) (e : Entry) (o : Option Bool) → slice_get branches e.site ≡ o → takes_third o e.counts.third ≡ true → e.site < length branches
 site-there branches e None is has = cc
 site-there branches e (Some branch) is has = slice_get_within branches e.site branch is
 
-bad-cases : (branches : List Bool) (e : Entry) (more : List Entry) (b : Bool) → has_site branches e ≡ b → cond b (first_bad branches more) (Some e.site) ≡ None → (has_site branches e ≡ true) × (first_bad branches more ≡ None)
+pub bad-cases : (branches : List Bool) (e : Entry) (more : List Entry) (b : Bool) → has_site branches e ≡ b → cond b (first_bad branches more) (Some e.site) ≡ None → (has_site branches e ≡ true) × (first_bad branches more ≡ None)
 bad-cases branches e more true is none = (is, none)
 bad-cases branches e more false is none = absurd cc
 
-are-sites : (branches : List Bool) (entries : List Entry) → first_bad branches entries ≡ None → All (λ (e : Entry). e.site < length branches) entries
+pub are-sites : (branches : List Bool) (entries : List Entry) → first_bad branches entries ≡ None → All (λ (e : Entry). e.site < length branches) entries
 are-sites branches [] none = All-nil (λ (e : Entry). e.site < length branches)
 are-sites branches (e ∷ more) none =
     let parts = bad-cases branches e more (has_site branches e) refl none in
@@ -95,7 +95,7 @@ pub are-entries : (c : Held) (r : Report) → IsReport r → IsOurs c r → AreE
 are-entries c r report ours = record { rising = report.rising; sites = are-sites c.branches r.entries ours.sites; positive = are-positive r.entries report.entries }
 
 -- the runs of a collection are well formed
-runs-well : (c : Held) (reports : List Report) → AreReports reports → ((r : Report) → IsOneOfReports r reports → IsOurs c r) → AreRunsOf c.branches (runs_of reports)
+pub runs-well : (c : Held) (reports : List Report) → AreReports reports → ((r : Report) → IsOneOfReports r reports → IsOurs c r) → AreRunsOf c.branches (runs_of reports)
 runs-well c [] are ours = All-nil (λ (x : LabelledRun). AreEntriesOf c.branches x.entries)
 runs-well c (r ∷ more) are ours =
     All-cons (λ (x : LabelledRun). AreEntriesOf c.branches x.entries) (labelled r) (runs_of more) (are-entries c r are.0 (ours r (inl refl))) (runs-well c more are.1 (λ x has. ours x (inr has)))

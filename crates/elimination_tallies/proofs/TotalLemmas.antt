@@ -162,7 +162,7 @@ within-allows counted.Failing m n more bound t few ms ns w = (omega (arith, w.a)
 within-allows counted.Successful m n more bound t few ms ns w = (omega (arith, w.b), omega (arith, w.d))
 within-allows counted.Neither m n more bound t few ms ns w = tt
 
-one-most : (b : Bool) → one_if b ≤ 1
+pub one-most : (b : Bool) → one_if b ≤ 1
 one-most true = omega arith
 one-most false = omega arith
 

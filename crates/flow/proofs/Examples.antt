@@ -1,6 +1,7 @@
 -- Runs that the definition of the machine computes by itself.
 use Rattle.std.proofs.Common.{◌≡◌, ℕ, ◌%◌, List, [], ◌∷◌, true, pos, codes, refl}
 use Rattle.std.specs.Prelude.{slice_index}
+use Rattle.cbi_base.specs.Words.{pieces_of, printed_format, these, Objects}
 use Rattle.cbi_base.specs.declared.observation.Observation.{Observation}
 use Rattle.cbi_base.specs.declared.observation.Seen.TheVariants.{First}
 use Rattle.cbi_base.specs.declared.outcome.Outcome.{Outcome}
@@ -8,7 +9,6 @@ use Rattle.cbi_base.specs.declared.outcome.Outcome.TheVariants.{Ended, Trapped}
 use Rattle.cbi_base.specs.declared.scalar.Kind.TheVariants.{Int}
 use Rattle.cbi_base.specs.declared.scalar.Scalar.TheVariants.{Number}
 use Rattle.cbi_base.specs.declared.trap.Trap.TheVariants as trap
-use Rattle.cbi_base.specs.Objects.{Objects}
 use Rattle.flow.specs.declared.node.Node.{Node}
 use Rattle.flow.specs.declared.node.Node.TheVariants as node
 use Rattle.flow.specs.declared.program.Function.{Function}
@@ -18,7 +18,6 @@ use Rattle.flow.specs.declared.site.Site.{Site}
 use Rattle.flow.specs.declared.site.SiteKind.{SiteKind}
 use Rattle.flow.specs.declared.site.SiteKind.TheVariants as kind
 use Rattle.flow.specs.Machine.{MachineEnds, run, next_of, no_work}
-use Rattle.flow.specs.Printing.{pieces_of, printed, these}
 use Rattle.flow.specs.Rows.{act}
 use Rattle.flow.specs.State.{Ending}
 use Rattle.flow.specs.Truths.{looked}
@@ -40,7 +39,7 @@ abbrev ended : Outcome → List ℕ → Ending
 ended outcome output = record { outcome = outcome; output = output; seen = []; work = no_work; drawn = 1 }
 
 -- `printf` of bytes and `%`
-printf_writes : (o : Objects) → printed (pieces_of (codes "<%c%%%c>")) (Number Int (pos 65) ∷ Number Int (pos 322) ∷ []) o ≡ these (codes "<A%B>")
+printf_writes : (o : Objects) → printed_format (pieces_of (codes "<%c%%%c>")) (Number Int (pos 65) ∷ Number Int (pos 322) ∷ []) o ≡ these (codes "<A%B>")
 printf_writes o = refl
 
 -- eight visits with the bank 3, 1: the visits 3, 4, 7 and 8 are observed

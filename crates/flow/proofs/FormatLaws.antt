@@ -2,11 +2,10 @@
 use Rattle.std.proofs.Common.{◌≡◌, ℕ, ◌+◌, List, [], ◌∷◌, Bool, true, false, not, ◌&&◌, cond, IsTrue, Option, Some, None, refl, ap, ◌∙◌, arith}
 use Rattle.std.specs.List.{list_all, count_by}
 use Rattle.std.proofs.lemmas.List.Sums.{sum_by-cons}
+use Rattle.cbi_base.specs.Words.{Byte, Conversion, FormatPiece, after_bytes, pieces_of, printed_format, these, is_percent, is_conversion, one_conversion_more}
+use Rattle.cbi_base.specs.Words.{conversions_of, Objects}
 use Rattle.cbi_base.specs.declared.scalar.Scalar.{Scalar}
-use Rattle.cbi_base.specs.Format.{is_percent, is_conversion, one_conversion_more, conversions_of}
-use Rattle.cbi_base.specs.Objects.{Objects}
 use Rattle.flow.specs.Laws.{takes_piece}
-use Rattle.flow.specs.Printing.{Piece, Byte, Conversion, pieces_of, printed, these, after_bytes}
 
 other_than : (b : ℕ) (rest : Bool) → IsTrue (not (is_percent b) && rest) → (is_percent b ≡ false) × IsTrue rest
 other_than b rest h = grind arith
@@ -16,23 +15,23 @@ from_byte : (b c : ℕ) (rest : List ℕ) → is_percent b ≡ false → pieces_
 from_byte b c rest e =
     ap (λ (p : Bool). cond p ((cond (is_conversion c) (Conversion c) (Byte c)) ∷ pieces_of rest) (Byte b ∷ pieces_of (c ∷ rest))) e
 
-pub plain : (format : List ℕ) (values : List Scalar) (o : Objects) → IsTrue (list_all (λ b. not (is_percent b)) format) → printed (pieces_of format) values o ≡ these format
+pub plain : (format : List ℕ) (values : List Scalar) (o : Objects) → IsTrue (list_all (λ b. not (is_percent b)) format) → printed_format (pieces_of format) values o ≡ these format
 plain [] values o h = refl
 plain (b ∷ []) values o h = refl
 plain (b ∷ c ∷ rest) values o h =
     let parts = other_than b (list_all (λ d. not (is_percent d)) (c ∷ rest)) h in
-    ap (λ (pieces : List Piece). printed pieces values o) (from_byte b c rest parts.0)
+    ap (λ (pieces : List FormatPiece). printed_format pieces values o) (from_byte b c rest parts.0)
     ∙ ap (after_bytes (b ∷ [])) (plain (c ∷ rest) values o parts.1)
 
-taken : (p : Piece) (pieces : List Piece) → count_by takes_piece (p ∷ pieces) ≡ cond (takes_piece p) 1 0 + count_by takes_piece pieces
-taken p pieces = sum_by-cons (λ (x : Piece). cond (takes_piece x) 1 0) p pieces
+taken : (p : FormatPiece) (pieces : List FormatPiece) → count_by takes_piece (p ∷ pieces) ≡ cond (takes_piece p) 1 0 + count_by takes_piece pieces
+taken p pieces = sum_by-cons (λ (x : FormatPiece). cond (takes_piece x) 1 0) p pieces
 
 more_is : (found : Option ℕ) (count : ℕ) → one_conversion_more found ≡ Some count → (before : ℕ) × (found ≡ Some before) × (before + 1 ≡ count)
 more_is None count e = cc
 more_is (Some before) count e = (before, refl, cc)
 
 -- by whether the first byte is `%`, and what the next one is
-step : (p q r : Bool) (b c : ℕ) (rest more : List Piece) (in_rest in_more : Option ℕ) (count : ℕ) →
+step : (p q r : Bool) (b c : ℕ) (rest more : List FormatPiece) (in_rest in_more : Option ℕ) (count : ℕ) →
     ((n : ℕ) → in_rest ≡ Some n → count_by takes_piece rest ≡ n) → ((n : ℕ) → in_more ≡ Some n → count_by takes_piece more ≡ n) →
     cond p (cond q (one_conversion_more in_rest) (cond r in_rest None)) in_more ≡ Some count →
     count_by takes_piece (cond p (cond q (Conversion c) (Byte c) ∷ rest) (Byte b ∷ more)) ≡ count

@@ -4,7 +4,7 @@ use Rattle.std.specs.FinMap.{get}
 use Rattle.std.proofs.lemmas.Bool.Decides.{nat_tests}
 use Rattle.std.proofs.lemmas.Int.{ints}
 use Rattle.cbi_base.specs.declared.scalar.Scalar.{Scalar}
-use Rattle.cbi_base.specs.declared.scalar.Scalar.TheVariants.{Number, Place, Null, Undefined}
+use Rattle.cbi_base.specs.declared.scalar.Scalar.TheVariants.{Place}
 use Rattle.cbi_base.specs.declared.trap.Trap.TheVariants as trap
 use Rattle.cbi_base.specs.Objects.{Object, Objects, live_or, ◌>>=◌, moved, moved_in}
 
@@ -42,9 +42,7 @@ back_in number offset cells (Some object) there here h =
 pub back : (pointer there : Scalar) (cells : ℤ) (o : Objects) → moved pointer (pos 0) o ≡ Ok pointer → moved pointer cells o ≡ Ok there →
     moved there (neg_ℤ cells) o ≡ Ok pointer
 unfolding moved
-back Undefined there cells o here h = cc
-back (Number kind value) there cells o here h = cc
-back Null there cells o here h = cc
 back (Place number offset) there cells o here h =
     let b = back_in number offset cells (get o.live number) there here h in
     ap (λ (p : Scalar). moved p (neg_ℤ cells) o) b.1 ∙ b.2
+back pointer there cells o here h = cc

@@ -1,6 +1,6 @@
 -- Sums of the first numbers of a bank, and the visits that they sample.
-use Rattle.std.proofs.Common.{◌≡◌, ℕ, zero, suc, ◌+◌, ◌*◌, ◌/◌, ◌%◌, ◌<◌, ◌≤◌, ◌⊎◌, inl, inr, ◌==◌, ◌||◌, Bool, true, false, cond, List, [], ◌∷◌, ◌++◌, length, refl, sym, ap, ◌∙◌, arith}
-use Rattle.std.proofs.lemmas.Bool.{cases_lt, cases_eq, eq-eqb, eqb-true}
+use Rattle.std.proofs.Common.{◌≡◌, ℕ, zero, suc, ◌+◌, ◌*◌, ◌/◌, ◌%◌, ◌<◌, ◌≤◌, inl, inr, ◌==◌, Bool, true, false, cond, List, [], ◌∷◌, ◌++◌, length, refl, sym, ap, ◌∙◌, arith}
+use Rattle.std.proofs.lemmas.Bool.{cases_lt, cases_eq, eq-eqb, eqb-true, or_cases, or_left, or_right}
 use Rattle.std.proofs.Math.Nat.{mul-mod_left, mod-add-div'}
 use Rattle.cbi_base.specs.declared.observation.Observation.{Observation}
 use Rattle.flow.specs.Sampling.{total_of, IsSampled, IsPositive, is_total, is_sampled, samples_after}
@@ -53,23 +53,11 @@ neighbours-differ bank one next positive a b less none =
           ]
     ]
 
-or-cases : (a b : Bool) → (a || b) ≡ true → (a ≡ true) ⊎ (b ≡ true)
-or-cases true b h = inl refl
-or-cases false b h = inr h
-
-or-left : (a b : Bool) → a ≡ true → (a || b) ≡ true
-or-left true b h = refl
-or-left false b h = cc
-
-or-right : (a b : Bool) → b ≡ true → (a || b) ≡ true
-or-right true b h = refl
-or-right false b h = h
-
 -- the test finds sums alone
 total-found : (bank : ℕ → ℕ) (most number : ℕ) → is_total bank most number ≡ true → IsSampled bank number
 total-found bank zero number h = cc
 total-found bank (suc most) number h =
-    elim (or-cases (total_of bank (suc most) == number) (is_total bank most number) h) [
+    elim (or_cases (total_of bank (suc most) == number) (is_total bank most number) h) [
       | inl here ↦ record { draws = suc most; some = omega arith; is = eqb-true (total_of bank (suc most)) number here }
       | inr before ↦ total-found bank most number before
     ]
@@ -79,10 +67,10 @@ total-tested : (bank : ℕ → ℕ) (most number draws : ℕ) → 1 ≤ draws �
 total-tested bank zero number draws some few is = absurd (omega arith)
 total-tested bank (suc most) number draws some few is =
     elim (cases_lt draws (suc most)) [
-      | inl before ↦ or-right (total_of bank (suc most) == number) (is_total bank most number) (total-tested bank most number draws some (omega arith) is)
+      | inl before ↦ or_right (total_of bank (suc most) == number) (is_total bank most number) (total-tested bank most number draws some (omega arith) is)
       | inr rest ↦
           let same : suc most ≡ draws = omega arith in
-          or-left (total_of bank (suc most) == number) (is_total bank most number) (eq-eqb (total_of bank (suc most)) number (ap (total_of bank) same ∙ is))
+          or_left (total_of bank (suc most) == number) (is_total bank most number) (eq-eqb (total_of bank (suc most)) number (ap (total_of bank) same ∙ is))
     ]
 
 pub sampled-found : (bank : ℕ → ℕ) (number : ℕ) → is_sampled bank number ≡ true → IsSampled bank number

@@ -1,5 +1,5 @@
 -- The objects that are there from the start have room.
-use Rattle.std.proofs.Common.{◌≡◌, ℕ, ◌+◌, ◌<◌, ◌≤◌, ◌==◌, Bool, true, false, ◌&&◌, cond, nat_le, nat_lt, List, [], ◌∷◌, length, map, Option, Some, None, refl, sym, ap, ◌∙◌, subst, arith, length-append}
+use Rattle.std.proofs.Common.{◌≡◌, ℕ, ◌+◌, ◌<◌, ◌≤◌, Bool, true, ◌&&◌, cond, nat_le, nat_lt, List, [], ◌∷◌, length, map, Option, Some, None, refl, sym, ap, ◌∙◌, subst, arith, length-append}
 use Rattle.std.specs.Prelude.{IsSome}
 use Rattle.std.specs.List.{sum_by}
 use Rattle.std.specs.Option.{option_and_then}
@@ -9,14 +9,15 @@ use Rattle.std.specs.FinMap.{get, empty, entries, len-entries, len-empty, get-em
 use Rattle.std.proofs.lemmas.Bool.Decides.{nat_tests}
 use Rattle.std.proofs.lemmas.List.{length-map}
 use Rattle.std.proofs.lemmas.List.Sums.{sum_by-cons, sum_by-append}
-use Rattle.cbi_base.specs.Objects.{Object, Objects, no_objects, live_cells, cell_limit, object_limit, made_with, one_object_more}
-use Rattle.flow.proofs.MapSums.{sum-insert}
+use Rattle.cbi_base.specs.Words.{char_of, each_made, Object, Objects, no_objects, live_cells, cell_limit, object_limit, made_with, one_object_more}
+use Rattle.base_lists.proofs.Tests.{no_choice}
+use Rattle.base_lists.proofs.Numbers.{more_apart}
+use Rattle.base_lists.proofs.Maps.{sum_insert}
 use Rattle.flow.specs.declared.program.Global.{Global}
 use Rattle.flow.specs.declared.program.Text.{Text}
 use Rattle.flow.specs.declared.program.ProgramParts.{ProgramParts}
-use Rattle.flow.specs.Machine.{each_made, cell_value, object_of_global, text_object, program_objects}
+use Rattle.flow.specs.Statics.{cell_value, object_of_global, text_object, program_objects}
 use Rattle.flow.specs.Program.{IsProgram}
-use Rattle.flow.specs.Rows.{char_of}
 
 abbrev cells_of : Object → ℕ
 cells_of object = length object.cells
@@ -27,13 +28,6 @@ record HasRoom (o : Objects) (cells count : ℕ) : Type 0 where
   pub numbers : o.made + count ≤ object_limit
   pub fresh : (q : ℕ) → o.made ≤ q → get o.live q ≡ None
 
-other : (q k : ℕ) → k < q → (q == k) ≡ false
-other q k h = grind (arith, nat_tests)
-
-hidden : {A : Type 0} (b : Bool) (x : A) (o : Option A) → b ≡ false → o ≡ None → cond b (Some x) o ≡ None
-hidden true x o is none = cc
-hidden false x o is none = none
-
 made_some : (object : Object) (o : Objects) → live_cells o + length object.cells ≤ cell_limit → o.made < object_limit →
     made_with object.class object.cells o ≡ Some (one_object_more object.class object.cells o)
 made_some object o room number =
@@ -42,12 +36,12 @@ made_some object o room number =
 
 room_after : (object : Object) (o : Objects) (cells count : ℕ) → HasRoom o (length object.cells + cells) (count + 1) → HasRoom (one_object_more object.class object.cells o) cells count
 room_after object o cells count h =
-    let sum = sum-insert cells_of o.live o.made object (h.fresh o.made (omega arith)) in
+    let sum = sum_insert cells_of o.live o.made object (h.fresh o.made (omega arith)) in
     record {
       room = omega (arith, sum, h.room);
       numbers = omega (arith, h.numbers);
       fresh = λ q l. get-insert nat_cmp_total o.live o.made object q
-          ∙ hidden (eq_by_cmp nat_cmp q o.made) object (get o.live q) (unsigned_tied q o.made ∙ other q o.made (omega (arith, l))) (h.fresh q (omega (arith, l)));
+          ∙ no_choice (eq_by_cmp nat_cmp q o.made) object (get o.live q) (unsigned_tied q o.made ∙ more_apart q o.made (omega (arith, l))) (h.fresh q (omega (arith, l)));
     }
 
 all_made : (objects : List Object) (o : Objects) → HasRoom o (sum_by cells_of objects) (length objects) → IsSome (each_made objects o)

@@ -5,14 +5,10 @@ use Rattle.std.proofs.Math.Nat.{mod-eq_of_lt}
 use Rattle.std.proofs.lemmas.Nat.{mod-mul-add}
 use Rattle.std.proofs.lemmas.Int.{ints}
 use Rattle.std.proofs.lemmas.Bool.Decides.{nat_tests}
+use Rattle.cbi_base.specs.Words.{char_of, after_bytes, nothing_printed, string_on, these, is_zero, low_byte, wrapped}
 use Rattle.cbi_base.specs.declared.scalar.Kind.TheVariants.{Char}
 use Rattle.cbi_base.specs.declared.scalar.Scalar.{Scalar}
-use Rattle.cbi_base.specs.Arithmetic.{is_zero}
-use Rattle.cbi_base.specs.Kind.{wrapped}
 use Rattle.flow.specs.Laws.{is_string_byte}
-use Rattle.flow.specs.Now.{byte_of}
-use Rattle.flow.specs.Printing.{string_on, these, after_bytes, nothing_printed}
-use Rattle.flow.specs.Rows.{char_of}
 
 low : (b : ℕ) → b < 128 → wrapped Char (pos b) ≡ pos b
 low b l =
@@ -30,12 +26,12 @@ split_by b true e = inl (grind (arith, nat_tests))
 split_by b false e = inr (grind (arith, nat_tests))
 
 -- a byte gives itself back through a `char`
-byte_back : (b : ℕ) → b < 256 → byte_of (wrapped Char (pos b)) ≡ b
+byte_back : (b : ℕ) → b < 256 → low_byte (wrapped Char (pos b)) ≡ b
 byte_back b l = elim (split_by b (nat_le 128 b) refl) [
   | inl f ↦
       let m : (255 - b) % 256 ≡ 255 - b = mod-eq_of_lt (omega (arith, l)) in
-      ap byte_of (high b f l) ∙ ap (λ (n : ℕ). 255 - n) m ∙ omega (arith, l)
-  | inr s ↦ ap byte_of (low b s) ∙ mod-eq_of_lt l
+      ap low_byte (high b f l) ∙ ap (λ (n : ℕ). 255 - n) m ∙ omega (arith, l)
+  | inr s ↦ ap low_byte (low b s) ∙ mod-eq_of_lt l
 ]
 
 zero_test : (n : ℕ) → 1 ≤ n → is_zero (pos n) ≡ false
@@ -54,7 +50,7 @@ parts b rest h = grind (arith, nat_tests)
 -- one more byte
 more : (b : ℕ) (cells : List Scalar) → 1 ≤ b → b < 256 → string_on (char_of b ∷ cells) ≡ after_bytes (b ∷ []) (string_on cells)
 more b cells f l =
-    ap (λ (t : Bool). cond t nothing_printed (after_bytes (byte_of (wrapped Char (pos b)) ∷ []) (string_on cells))) (not_zero b f l)
+    ap (λ (t : Bool). cond t nothing_printed (after_bytes (low_byte (wrapped Char (pos b)) ∷ []) (string_on cells))) (not_zero b f l)
     ∙ ap (λ (n : ℕ). after_bytes (n ∷ []) (string_on cells)) (byte_back b l)
 
 pub strings : (bytes : List ℕ) (rest : List Scalar) → IsTrue (list_all is_string_byte bytes) → string_on (map char_of bytes ++ char_of 0 ∷ rest) ≡ these bytes

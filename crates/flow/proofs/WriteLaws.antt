@@ -3,8 +3,8 @@ use Rattle.std.proofs.Common.{◌≡◌, ℕ, ◌+◌, ◌-◌, ◌≤◌, ◌<�
 use Rattle.std.proofs.lemmas.List.{take-append-le}
 use Rattle.std.proofs.Math.Seq.{take-append-add}
 use Rattle.std.proofs.lemmas.Bool.Decides.{nat_tests}
+use Rattle.cbi_base.specs.Limits.{output_limit}
 use Rattle.cbi_base.specs.declared.outcome.Outcome.TheVariants.{CutOutput}
-use Rattle.flow.specs.Limits.{output_limit}
 use Rattle.flow.specs.Now.{Now, Effect, Stops, write}
 
 -- the bytes have room, or they have none

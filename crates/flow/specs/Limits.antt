@@ -42,11 +42,3 @@ token_limit = 99999
 -- the most turns of a run
 abbrev pub turn_limit : ℕ
 turn_limit = 100000000
-
--- the most functions that are active at a time
-abbrev pub active_limit : ℕ
-active_limit = 512
-
--- the most bytes that a run writes
-abbrev pub output_limit : ℕ
-output_limit = 16777216

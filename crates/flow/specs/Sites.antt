@@ -1,7 +1,8 @@
 -- Site tables, and the conditions on sites.
-use Rattle.std.specs.Prelude.{◌≡◌, ℕ, ◌≤◌, ◌<◌, ◌&&◌, Bool, nat_lt, ℤ, pos, neg_ℤ, int_le, List, length, Some, IsTrue, slice_get}
+use Rattle.std.specs.Prelude.{◌≡◌, ℕ, ◌≤◌, ◌<◌, ◌&&◌, Bool, nat_lt, Option, None, ℤ, pos, neg_ℤ, int_le, List, length, Some, IsTrue, slice_get}
 use Rattle.std.specs.List.{All}
 use Rattle.cbi_base.specs.Name.{IsName}
+use Rattle.flow.specs.declared.choice.Part.{Part}
 use Rattle.flow.specs.declared.site.Slot.{Slot}
 use Rattle.flow.specs.declared.site.Slot.TheVariants.{Local, Global}
 use Rattle.flow.specs.declared.site.Partner.{Partner}
@@ -55,3 +56,18 @@ IsTable t = OwnersFit (length t.functions) t.sites
 
 abbrev pub AreRows : List Site → List (List ℕ) → Type 0
 AreRows sites functions = IsTable (record { sites = sites; functions = functions })
+
+-- the most parts of a table
+abbrev pub part_limit : ℕ
+part_limit = 65536
+
+-- the part is one of so many, and these are not too many
+pub record PartFits (part : Part) : Type 0 where
+  pub some : 1 ≤ part.count
+  pub few : part.count ≤ part_limit
+  pub index : part.index < part.count
+
+-- so it is where a part is named
+abbrev pub MayPart : Option Part → Type 0
+MayPart None = Unit {0}
+MayPart (Some part) = PartFits part

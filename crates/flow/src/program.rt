@@ -253,4 +253,25 @@ impl Program {
     {
         &self.table
     }
+
+    /// Its parts.
+    pub fn into_parts(self) -> ProgramParts
+        ensures value { result ≡ self }
+        ensures is_program { IsProgram self }
+    {
+        let Program {
+            texts,
+            globals,
+            functions,
+            main,
+            table,
+        } = self;
+        ProgramParts {
+            texts,
+            globals,
+            functions,
+            main,
+            sites: table.into_sites(),
+        }
+    }
 }

@@ -194,4 +194,17 @@ impl SiteTable {
     {
         self.parts.functions.as_slice()
     }
+
+    /// Its sites, without the names of the functions.
+    pub fn into_sites(self) -> Seq<Site>
+        ensures value { result ≡ self.sites }
+        ensures is_table { IsTable self }
+    {
+        let SiteTable { parts } = self;
+        let TableParts {
+            sites,
+            functions: _,
+        } = parts;
+        sites
+    }
 }

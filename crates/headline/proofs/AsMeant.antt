@@ -4,15 +4,12 @@ use Rattle.sha2.specs.Sha256.{sha256}
 use Rattle.cbi_base.specs.declared.observation.Observation.{Observation}
 use Rattle.cbi_base.specs.declared.outcome.Outcome.{Outcome}
 use Rattle.cbi_base.specs.declared.outcome.Work.{Work}
-use Rattle.cbi_base.specs.Sink.{Takes}
-use Rattle.cbi_base.specs.Store.{Held}
+use Rattle.cbi_base.specs.Words.{Takes, Held}
 use Rattle.c_syntax.specs.ItemTree.{SourceTree}
 use Rattle.c_types_expressions.specs.declared.walk.Walk.{Walk}
 use Rattle.flow.specs.declared.program.ProgramParts.{ProgramParts}
 use Rattle.flow.specs.declared.site.Site.{Site}
-use Rattle.flow.specs.Counting.{counts_of, run_result}
-use Rattle.flow.specs.Laws.{OneEnding}
-use Rattle.flow.specs.Spelling.{SpellsProgram}
+use Rattle.flow.specs.Words.{counts_of, run_result, OneEnding, SpellsProgram}
 use Rattle.probes.specs.Told.{AllGrew}
 use Rattle.countdown_bank.specs.Bank.{number_after}
 use Rattle.report_file.specs.declared.report.Report.{Report}
@@ -23,7 +20,7 @@ use Rattle.compiler.specs.Compiled.{IsCompiled}
 use Rattle.compiler.specs.declared.plan.Plan.{Plan}
 use Rattle.compiler.proofs.Refusing.{OneKnown, OneTree}
 use Rattle.command_base.specs.Outside.{Outside}
-use Rattle.command_run.specs.declared.words.RunWords.{RunWords}
+use Rattle.cbi_options.specs.declared.words.RunWords.{RunWords}
 use Rattle.command_run.specs.Run.{IsReported, Ran, Reports, agrees, report_of}
 use Rattle.headline.specs.Chain.{GoesAsMeant, IsReportOf, Made, meant, meant_report, meant_sites}
 use Rattle.headline.specs.Running.{DoesAsMeant, ReportsAsMeant, made_of}

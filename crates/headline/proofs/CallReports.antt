@@ -4,9 +4,7 @@ use Rattle.sha2.specs.Sha256.{sha256}
 use Rattle.cbi_base.specs.Store.{Held}
 use Rattle.cbi_base.specs.declared.identity.ProgramId.{ProgramId}
 use Rattle.flow.specs.declared.program.ProgramParts.{ProgramParts}
-use Rattle.flow.specs.Counting.{run_result}
-use Rattle.flow.specs.Machine.{MachineEnds}
-use Rattle.flow.specs.Spelling.{SpellsProgram}
+use Rattle.flow.specs.Words.{run_result, MachineEnds, SpellsProgram}
 use Rattle.countdown_bank.specs.Bank.{number_after}
 use Rattle.planned_runs.specs.declared.input.RunInput.{RunInput}
 use Rattle.planned_runs.specs.Runs.{ArePlannedRuns, IsPlannedRun, JudgedRun, planned_report, planned_reports}

@@ -6,11 +6,7 @@ use Rattle.c_syntax.specs.ItemTree.{SourceTree}
 use Rattle.c_types_expressions.specs.declared.walk.Walk.{Walk}
 use Rattle.c_meaning.specs.Runs.{Behaviour}
 use Rattle.flow.specs.declared.program.ProgramParts.{ProgramParts}
-use Rattle.flow.specs.Laws.{OneEnding}
-use Rattle.flow.specs.Machine.{MachineEnds}
-use Rattle.flow.specs.Sampling.{IsPositive}
-use Rattle.flow.specs.Spelling.{SpellsProgram}
-use Rattle.flow.specs.State.{Ending}
+use Rattle.flow.specs.Words.{OneEnding, MachineEnds, IsPositive, SpellsProgram, Ending}
 use Rattle.countdown_bank.specs.Bank.{AreNumbers, BankState, IsCountdown, number_after}
 use Rattle.compiler.specs.Compiled.{DoesPlan, IsCompiled}
 use Rattle.compiler.specs.Does.{EndsAs, GoesAs}

@@ -1,14 +1,12 @@
 -- The reports of a farm's texts are those of its runs, under the numbers that the sites have in the whole table.
 use Rattle.std.proofs.Common.{◌≡◌, ℕ, true, List, [], ◌∷◌, ◌++◌, map, Option, ap, ap₂, sym, subst, ◌∙◌, refl}
+use Rattle.flow.specs.Words.{PartFits, OneEnding, table_of, SpellsProgram}
 use Rattle.cbi_base.specs.declared.identity.ProgramId.{ProgramId}
 use Rattle.cbi_base.specs.Store.{Held}
-use Rattle.cbi_options.specs.declared.shares.Share.{Share}
+use Rattle.flow.specs.declared.choice.Part.{Part}
 use Rattle.sha2.specs.Sha256.{sha256}
 use Rattle.c_syntax.specs.ItemTree.{SourceTree}
 use Rattle.c_types_expressions.specs.declared.walk.Walk.{Walk}
-use Rattle.flow.specs.Laws.{OneEnding}
-use Rattle.flow.specs.Program.{table_of}
-use Rattle.flow.specs.Spelling.{SpellsProgram}
 use Rattle.report_file.specs.declared.draft.Version.TheVariants.{Second}
 use Rattle.report_file.specs.declared.report.Report.{Report}
 use Rattle.collector.specs.declared.collection.Bundle.{Bundle}
@@ -18,17 +16,16 @@ use Rattle.collector.specs.Spelling.{SpellsBundle, bundle_text}
 use Rattle.elimination_tallies.specs.declared.labelled.LabelledRun.{LabelledRun}
 use Rattle.elimination_tallies.specs.Recount.{labelled, runs_of}
 use Rattle.ranking.specs.Ranked.{IsRankingOf}
-use Rattle.site_parts.specs.Part.{PartFits}
 use Rattle.site_parts.specs.Widened.{widened, widened_report}
 use Rattle.compiler.specs.Accepted.{IsAccepted}
 use Rattle.compiler.proofs.Refusing.{OneKnown, OneTree}
-use Rattle.command_transform.specs.declared.words.TransformWords.{TransformWords}
+use Rattle.cbi_options.specs.declared.words.TransformWords.{TransformWords}
 use Rattle.command_transform.specs.Transform.{IsFileOf, plan_of}
 use Rattle.command_collect.specs.Collect.{AreSpelled, is_collection, reports_in}
 use Rattle.command_collect.proofs.FileLemmas.{bundle-file}
-use Rattle.command_rank.specs.declared.words.RankWords.{RankWords}
+use Rattle.cbi_options.specs.declared.words.RankWords.{RankWords}
 use Rattle.command_rank.specs.Rank.{IsRanked}
-use Rattle.command_widen.specs.Widen.{part_of_share, widened_as}
+use Rattle.command_widen.specs.Widen.{widened_as}
 use Rattle.headline.specs.Chain.{AreEach, AreReportsOf, IsReportOf, Made, meant_table}
 use Rattle.headline.specs.Farm.{HoldParts, IsLeftByWiden, PartRun, meant_part_run, part_runs, run_number}
 use Rattle.headline.specs.Farm.HoldParts.{APart, NoParts, SomeParts}
@@ -57,16 +54,16 @@ seen-each tree known (run ∷ runs) (r ∷ reports) are = ap₂ (λ (first : Lab
 
 module _ (one_ending : OneEnding) (one_program : OneProgram) (one_tree : OneTree) (one_known : OneKnown) (text : List ℕ) (tree : SourceTree) (known : Walk) (accepted : IsAccepted text tree known) where
   -- a report of a part's program, widened
-  part-report : (words : TransformWords) (share : Share) (file : List ℕ) (id : ProgramId) → IsFileOf words text file → (one : Made) (r : Report) → IsReportOf file one r
-      → IsPartReport tree known (record { words = words; share = share; made = one }) (widened_report id (part_of_share share) r)
+  part-report : (words : TransformWords) (share : Part) (file : List ℕ) (id : ProgramId) → IsFileOf words text file → (one : Made) (r : Report) → IsReportOf file one r
+      → IsPartReport tree known (record { words = words; share = share; made = one }) (widened_report id share r)
   part-report words share file id is one r of_run = record {
     number = ap (λ (x : Report). x.run) (sym of_run.report_is);
-    means = ap (λ (run : LabelledRun). record run { entries = widened (part_of_share share) run.entries })
+    means = ap (λ (run : LabelledRun). record run { entries = widened share run.entries })
         (run-means one_ending one_program one_tree one_known text file (plan_of words) is.program is.compiled is.spells tree known accepted one r of_run);
   }
 
-  part-reports : (words : TransformWords) (share : Share) (file : List ℕ) (id : ProgramId) → IsFileOf words text file → (made : List Made) (reports : List Report) → AreReportsOf file made reports
-      → AreEach (IsPartReport tree known) (part_runs words share made) (map (widened_report id (part_of_share share)) reports)
+  part-reports : (words : TransformWords) (share : Part) (file : List ℕ) (id : ProgramId) → IsFileOf words text file → (made : List Made) (reports : List Report) → AreReportsOf file made reports
+      → AreEach (IsPartReport tree known) (part_runs words share made) (map (widened_report id share) reports)
   part-reports words share file id is [] [] are = tt
   part-reports words share file id is [] (r ∷ reports) are = absurd are
   part-reports words share file id is (one ∷ made) [] are = absurd are
@@ -108,18 +105,18 @@ module _ (one_ending : OneEnding) (one_program : OneProgram) (one_tree : OneTree
         (same-through all (map_of all) left.collected.collection.reports (λ r. ((members all alike r).1, (members all alike r).0)) (same-as (map_of all) left.collected.collection.reports (sym held)))
 
     -- a widened collection
-    a-part : (words : TransformWords) (share : Share) (made : List Made) (more : List PartRun) (wide : List ℕ) (texts : List (List ℕ)) → IsLeftByWiden text words share made wide → AreHeldParts more texts
+    a-part : (words : TransformWords) (share : Part) (made : List Made) (more : List PartRun) (wide : List ℕ) (texts : List (List ℕ)) → IsLeftByWiden text words share made wide → AreHeldParts more texts
         → AreHeldParts (part_runs words share (by_number made) ++ more) (wide ∷ texts)
     a-part words share made more wide texts left rest =
         let w = left.widened in
         let id : ProgramId = record { bytes = sha256 w.texts.whole } in
-        let fits = subst (λ s. PartFits (part_of_share s)) (sym left.share_is) left.fits in
+        let fits = subst (λ s. PartFits s) (sym left.share_is) left.fits in
         let spelled = (wide_whole left.held left.asked wide fits w).spell.collection in
         let of_runs : AreReportsOf left.file (by_number made) w.bundle.reports =
         of-collection one_report one_collection written members left.file has_same made left.collection w.bundle left.is_collection
         (subst (λ bytes. SpellsBundle bytes w.bundle) left.collection_is w.spell.runs.spell.collection) in
-        let b = widened_as w.texts.whole (part_of_share left.asked.part) w.bundle in
-        let reports = map (widened_report id (part_of_share share)) w.bundle.reports in
+        let b = widened_as w.texts.whole left.asked.part w.bundle in
+        let reports = map (widened_report id share) w.bundle.reports in
         record {
           bundles = b ∷ rest.bundles;
           are_spelled = (bundle-file wide b (ap is_collection w.text_is ∙ widened-titled b) spelled, rest.are_spelled);
@@ -127,7 +124,7 @@ module _ (one_ending : OneEnding) (one_program : OneProgram) (one_tree : OneTree
           are = each-both (IsPartReport tree known) (part_runs words share (by_number made)) more reports rest.reports
               (part-reports words share left.file id left.is_file (by_number made) w.bundle.reports of_runs) rest.are;
           same = same-both reports b.reports rest.reports (reports_in rest.bundles)
-              (same-as reports b.reports (ap (λ s. map (widened_report id (part_of_share s)) w.bundle.reports) (sym left.share_is))) rest.same;
+              (same-as reports b.reports (ap (λ s. map (widened_report id s) w.bundle.reports) (sym left.share_is))) rest.same;
         }
 
     some-parts : (runs more : List PartRun) (collection : List ℕ) (inner texts : List (List ℕ)) → IsLeftByCollect whole inner collection → AreHeldParts runs inner → AreHeldParts more texts

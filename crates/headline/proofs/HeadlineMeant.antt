@@ -5,11 +5,9 @@ use Rattle.cbi_base.specs.declared.outcome.Work.{Work}
 use Rattle.cbi_base.specs.declared.policy.Policy.TheVariants.{All as Every}
 use Rattle.c_syntax.specs.ItemTree.{SourceTree}
 use Rattle.c_types_expressions.specs.declared.walk.Walk.{Walk}
-use Rattle.flow.specs.Laws.{OneEnding}
+use Rattle.flow.specs.Words.{OneEnding, table_of, SpellsProgram}
 use Rattle.flow.specs.declared.program.ProgramParts.{ProgramParts}
 use Rattle.flow.specs.declared.site.TableParts.{TableParts}
-use Rattle.flow.specs.Program.{table_of}
-use Rattle.flow.specs.Spelling.{SpellsProgram}
 use Rattle.report_file.specs.declared.report.Report.{Report}
 use Rattle.collector.specs.Sites.{branches_of}
 use Rattle.elimination_tallies.specs.declared.labelled.LabelledRun.{LabelledRun}

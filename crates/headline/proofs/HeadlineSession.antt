@@ -1,5 +1,6 @@
 -- What a session prints of the reports of runs is the ranking of the runs as the text means them.
 use Rattle.std.proofs.Common.{◌≡◌, ℕ, List, [], Option, subst}
+use Rattle.collector.proofs.Leads.{spelled-is}
 use Rattle.cbi_base.specs.Store.{Held}
 use Rattle.cbi_base.specs.declared.identity.ProgramId.{ProgramId}
 use Rattle.cbi_base.specs.declared.policy.Policy.{Policy}
@@ -16,7 +17,7 @@ use Rattle.ranking.specs.Ranked.{IsRankingOf}
 use Rattle.session_edits.specs.declared.edit.Edit.{Edit}
 use Rattle.session_edits.specs.Spelling.{SpellsEdits}
 use Rattle.session_replay.specs.Replay.{AreRankings}
-use Rattle.command_session.specs.declared.words.SessionWords.{SessionWords}
+use Rattle.cbi_options.specs.declared.words.SessionWords.{SessionWords}
 use Rattle.command_session.specs.Session.{IsReplayed, id_of}
 use Rattle.headline.specs.Headline.{adds_and_ranks}
 
@@ -36,11 +37,6 @@ ranks-map one_list prints file edits ranking reports held s replayed program_is 
     let same : r.list ≡ adds_and_ranks reports = one_list (id_of file) edits r.list (adds_and_ranks reports) so spelled in
     prints (table_of r.parts) s.policy reports ranking (subst (λ list. AreRankings (table_of r.parts) s.policy [] list ranking) same r.rankings)
 
--- the reports of a collection are their own map
-is-text : (bytes : List ℕ) (b : Bundle) → SpellsBundle bytes b → IsText b
-is-text bytes b (WithLabels is same) = is
-is-text bytes b (Without is plain same) = is
-
 own-map : (reports : List Report) → RunsFrom 0 reports → map_of reports ≡ reports
 own-map reports rise =
     let rising = from-rising 0 reports rise in
@@ -48,4 +44,4 @@ own-map reports rise =
     rising-once (map_of reports) reports (rising-map reports) rising (λ r. (map-members reports alike r).0) (λ r. (map-members reports alike r).1)
 
 pub bundle-map : (bytes : List ℕ) (b : Bundle) → SpellsBundle bytes b → map_of b.reports ≡ b.reports
-bundle-map bytes b spells = own-map b.reports (is-text bytes b spells).rising
+bundle-map bytes b spells = own-map b.reports (spelled-is bytes b spells).rising

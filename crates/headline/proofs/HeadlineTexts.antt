@@ -5,11 +5,9 @@ use Rattle.std.specs.FinMap.{get, get-insert, insert}
 use Rattle.std.proofs.Common.{◌≡◌, ℕ, Bool, true, false, cond, List, [], ◌∷◌, Option, None, Some, IsSome, ap, ap₂, sym, subst, ◌∙◌, refl}
 use Rattle.std.proofs.lemmas.Bool.{false≢true}
 use Rattle.std.proofs.lemmas.Cmp.{eq_by_cmp_equiv}
-use Rattle.cbi_base.proofs.NumberLemmas.{some-is}
+use Rattle.base_lists.proofs.Options.{some_is}
 use Rattle.cbi_base.specs.Store.{Held, Replaces}
-use Rattle.flow.specs.Counting.{run_result}
-use Rattle.flow.specs.Machine.{MachineEnds}
-use Rattle.flow.specs.Spelling.{SpellsProgram}
+use Rattle.flow.specs.Words.{run_result, MachineEnds, SpellsProgram}
 use Rattle.countdown_bank.specs.Bank.{number_after}
 use Rattle.report_file.specs.declared.report.Report.{Report}
 use Rattle.report_file.specs.Report.{IsReport}
@@ -34,7 +32,7 @@ replaced-by : (before after : Option Held) (name bytes text : List ℕ) → IsSo
 replaced-by None after name bytes text tells replaced holds = absurd (false≢true tells)
 replaced-by (Some before) None name bytes text tells replaced holds = absurd holds
 replaced-by (Some before) (Some after) name bytes text tells replaced holds =
-    some-is (sym holds ∙ ap (λ m. get (unwrap_or m before) name) replaced ∙ held-now before name bytes)
+    some_is (sym holds ∙ ap (λ m. get (unwrap_or m before) name) replaced ∙ held-now before name bytes)
 
 pub reported-as : (given : Option (List ℕ)) (before after : Option Held) (name text : List ℕ) (r : Report) → given ≡ Some name → IsSome before → Reports given before after r → HoldsText after name text
     → IsReport r × (text ≡ report_text r)

@@ -7,8 +7,7 @@ use Rattle.cbi_base.specs.Store.{Held}
 use Rattle.cbi_base.specs.declared.identity.ProgramId.{ProgramId}
 use Rattle.rand_pcg.specs.Lcg.{Lcg}
 use Rattle.flow.specs.declared.program.ProgramParts.{ProgramParts}
-use Rattle.flow.specs.Laws.{OneEnding}
-use Rattle.flow.specs.Spelling.{SpellsProgram}
+use Rattle.flow.specs.Words.{OneEnding, SpellsProgram}
 use Rattle.countdown_bank.specs.Bank.{BankState, IsCountdown}
 use Rattle.countdown_bank.specs.BankFile.{bank_text}
 use Rattle.countdown_bank.specs.MadeBank.{AreMade, IsMadeBank}
@@ -24,7 +23,7 @@ use Rattle.planned_runs.specs.Runs.{ArePlannedRuns, JudgedRun, planned_reports}
 use Rattle.command_run.specs.Run.{IsBankOf}
 use Rattle.command_collect.specs.Collect.{reports_in}
 use Rattle.command_runs.specs.declared.plan.ListedPlan.{ListedPlan}
-use Rattle.command_runs.specs.declared.words.RunsWords.{RunsWords}
+use Rattle.cbi_options.specs.declared.words.RunsWords.{RunsWords}
 use Rattle.command_runs.specs.Line.{IsMadeOn, bank_numbers}
 use Rattle.command_runs.specs.Runs.{runs_collection}
 use Rattle.headline.specs.Calls.{AreCallsFor, IsCallFor, IsLeftByRuns}

@@ -4,12 +4,10 @@ use Rattle.std.proofs.Common.{◌≡◌, ◌≤◌, inl, inr, ℕ, List, [], ◌
 use Rattle.std.proofs.lemmas.Fmt.{decimal_digit}
 use Rattle.std.proofs.lemmas.List.Elements.{All-cons, All-nil}
 use Rattle.sha2.specs.Sha256.{sha256}
-use Rattle.cbi_base.specs.Store.{Held}
-use Rattle.cbi_base.specs.Text.{text_of}
+use Rattle.cbi_base.specs.Words.{Held, text_of}
 use Rattle.cbi_base.specs.declared.identity.ProgramId.{ProgramId}
 use Rattle.flow.specs.declared.program.ProgramParts.{ProgramParts}
-use Rattle.flow.specs.Laws.{OneEnding}
-use Rattle.flow.specs.Spelling.{SpellsProgram}
+use Rattle.flow.specs.Words.{OneEnding, SpellsProgram}
 use Rattle.countdown_bank.specs.Bank.{IsCountdown, bank_of}
 use Rattle.machine_laws.specs.Laws.{ReportsOfRunsAreTaken}
 use Rattle.report_file.specs.declared.report.Report.{Report}
@@ -21,12 +19,12 @@ use Rattle.collector.proofs.Ordering.{alike-same}
 use Rattle.elimination_tallies.specs.declared.labelled.LabelledRun.{LabelledRun}
 use Rattle.elimination_tallies.specs.Recount.{labelled}
 use Rattle.command_run.specs.declared.files.RunFiles.{RunFiles}
-use Rattle.command_run.specs.declared.words.RunWords.{RunWords}
+use Rattle.cbi_options.specs.declared.words.RunWords.{RunWords}
 use Rattle.command_run.specs.Files.{AreFiles, IsReadOr, bank_limit, input_limit, text_of_one}
 use Rattle.command_run.specs.Run.{IsBankText, RunRefused}
 use Rattle.command_run.proofs.RunLemmas.{never-refused, same-refused}
 use Rattle.command_collect.specs.declared.reports.CollectTexts.{CollectTexts}
-use Rattle.command_collect.specs.declared.words.CollectWords.{CollectWords}
+use Rattle.cbi_options.specs.declared.words.CollectWords.{CollectWords}
 use Rattle.command_collect.specs.Collect.{AreCollectTexts, AreRefusedTexts, CollectRefused, MeetsFault, nothing_of, reports_in}
 use Rattle.command_collect.proofs.CollectLemmas.{never-memory, no-bad-file, same-refused-texts}
 use Rattle.command_inputs.specs.declared.runs.RunsTexts.{RunsTexts}

@@ -6,11 +6,7 @@ use Rattle.std.proofs.lemmas.List.Sums.{sum_by-cons}
 use Rattle.sha2.specs.Sha256.{sha256}
 use Rattle.cbi_base.specs.declared.identity.ProgramId.{ProgramId}
 use Rattle.flow.specs.declared.program.ProgramParts.{ProgramParts}
-use Rattle.flow.specs.Counting.{counts_of, run_result}
-use Rattle.flow.specs.Laws.{OneEnding}
-use Rattle.flow.specs.Machine.{MachineEnds}
-use Rattle.flow.specs.Spelling.{SpellsProgram}
-use Rattle.flow.specs.State.{Ending}
+use Rattle.flow.specs.Words.{counts_of, run_result, OneEnding, MachineEnds, SpellsProgram, Ending}
 use Rattle.countdown_bank.specs.Bank.{AreNumbers, BankState, number_after}
 use Rattle.countdown_bank.specs.BankFile.{numbers_text}
 use Rattle.machine_laws.specs.Laws.{ReportsOfRunsAreTaken}

@@ -8,10 +8,7 @@ use Rattle.c_types_expressions.specs.declared.walk.Walk.{Walk}
 use Rattle.flow.specs.declared.program.ProgramParts.{ProgramParts}
 use Rattle.flow.specs.declared.site.Site.{Site}
 use Rattle.flow.specs.declared.site.TableParts.{TableParts}
-use Rattle.flow.specs.Counting.{counts_of}
-use Rattle.flow.specs.Laws.{OneEnding}
-use Rattle.flow.specs.Program.{table_of}
-use Rattle.flow.specs.Spelling.{SpellsProgram}
+use Rattle.flow.specs.Words.{counts_of, OneEnding, table_of, SpellsProgram}
 use Rattle.sites.specs.Table.{functions_of}
 use Rattle.countdown_bank.specs.Bank.{number_after}
 use Rattle.report_file.specs.declared.report.Report.{Report}

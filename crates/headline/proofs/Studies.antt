@@ -7,9 +7,7 @@ use Rattle.c_syntax.specs.ItemTree.{SourceTree}
 use Rattle.c_types_expressions.specs.declared.walk.Walk.{Walk}
 use Rattle.flow.specs.declared.site.Site.{Site}
 use Rattle.flow.specs.declared.site.TableParts.{TableParts}
-use Rattle.flow.specs.Counting.{counts_of}
-use Rattle.flow.specs.Sampling.{samples}
-use Rattle.flow.specs.State.{Ending}
+use Rattle.flow.specs.Words.{counts_of, samples, Ending}
 use Rattle.countdown_bank.specs.Bank.{BankState, number_after}
 use Rattle.report_file.specs.Label.{label_of}
 use Rattle.report_file.specs.Report.{entries_of}
@@ -55,11 +53,6 @@ module _ (one_bank : OneBank) (one_input : OneInput) (tree : SourceTree) (known 
   all-made number (run ∷ runs) [] are for same = absurd (omega arith)
   all-made number (run ∷ runs) (one ∷ made) are for same =
       ap₂ (λ first more. first ∷ more) (one-made number run one are.0 for.0) (all-made (suc number) runs made are.1 for.1 (omega arith))
-
--- runs have one ranking
-pub one-ranking : OneElimination → (table : TableParts) (policy : Policy) (runs : List LabelledRun) (text other : List ℕ) → IsRankingOf table policy runs text → IsRankingOf table policy runs other → text ≡ other
-one-ranking one table policy runs text other is also =
-    is.text_is ∙ ap (ranking_text table) (one (branches_of table.sites) policy runs is.rows also.rows is.ranked also.ranked) ∙ sym also.text_is
 
 pub length-runs : (endings : List Ending) → length (map run_of endings) ≡ length endings
 length-runs [] = refl

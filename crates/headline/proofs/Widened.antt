@@ -2,19 +2,19 @@
 use Rattle.std.proofs.Common.{◌<◌, ℕ, zero, suc, List, [], ◌∷◌, ◌++◌, Option, arith, refl}
 use Rattle.std.specs.Prelude.{slice_index}
 use Rattle.std.specs.Int.{byte_at, bytes_high_first, to_be_bytes, w32}
+use Rattle.flow.specs.Sites.{PartFits}
+use Rattle.collector.proofs.Leads.{spelled-is}
 use Rattle.hex.specs.Hex.{IsBytes}
 use Rattle.sha2.specs.Sha256.{digest_bytes, sha256}
 use Rattle.sha2.proofs.Facts256.{length-sha256}
-use Rattle.cbi_base.specs.ProgramId.{IsId}
-use Rattle.cbi_base.specs.Store.{Held}
+use Rattle.cbi_base.specs.Words.{IsId, Held}
 use Rattle.collector.specs.Spelling.{IsText, SpellsBundle, WithLabels, Without}
 use Rattle.collector.specs.declared.collection.Bundle.{Bundle}
 use Rattle.site_parts.specs.Laws.{FitsWhenWidened, MayWidenWhatFits}
-use Rattle.site_parts.specs.Part.{PartFits}
 use Rattle.site_parts.proofs.Widening.{text_is}
 use Rattle.command_inputs.specs.Runs.{SpellRuns}
-use Rattle.command_widen.specs.declared.words.WidenWords.{WidenWords}
-use Rattle.command_widen.specs.Widen.{IsWidened, part_of_share, widened_as}
+use Rattle.cbi_options.specs.declared.words.WidenWords.{WidenWords}
+use Rattle.command_widen.specs.Widen.{IsWidened, widened_as}
 use Rattle.command_widen.proofs.Widening.{fit_whole, may_widen}
 
 -- a digest has bytes
@@ -45,17 +45,13 @@ are-bytes text = digest-bytes _ 8
 pub is-id : (text : List ℕ) → IsId (record { bytes = sha256 text })
 is-id text = record { long = length-sha256 text; are_bytes = are-bytes text }
 
-is-text : (text : List ℕ) (b : Bundle) → SpellsBundle text b → IsText b
-is-text text b (WithLabels is same) = is
-is-text text b (Without is plain same) = is
-
-pub is-of-the-whole : FitsWhenWidened → MayWidenWhatFits → (held : Option Held) (words : WidenWords) (text : List ℕ) → PartFits (part_of_share words.part) → (wide : IsWidened held words text)
-    → SpellRuns (record { program = wide.texts.whole; collection = text }) wide.whole (widened_as wide.texts.whole (part_of_share words.part) wide.bundle)
+pub is-of-the-whole : FitsWhenWidened → MayWidenWhatFits → (held : Option Held) (words : WidenWords) (text : List ℕ) → PartFits words.part → (wide : IsWidened held words text)
+    → SpellRuns (record { program = wide.texts.whole; collection = text }) wide.whole (widened_as wide.texts.whole words.part wide.bundle)
 is-of-the-whole fits may held words text is wide =
-    let part = part_of_share words.part in
+    let part = words.part in
     let runs = wide.spell.runs in
     let may_be = may_widen may part wide.whole wide.parts wide.bundle.reports is wide.spell.whole_spelled.is_program.parts.sites.few wide.spell.has_part runs.sites in
-    let good = text_is (record { bytes = sha256 wide.texts.whole }) part wide.bundle is (is-id wide.texts.whole) may_be (is-text wide.texts.runs.collection wide.bundle runs.spell.collection) in record {
+    let good = text_is (record { bytes = sha256 wide.texts.whole }) part wide.bundle is (is-id wide.texts.whole) may_be (spelled-is wide.texts.runs.collection wide.bundle runs.spell.collection) in record {
       spell = record { program = wide.spell.whole_spelled; collection = WithLabels good wide.text_is };
       of_program = refl;
       sites = fit_whole fits (record { bytes = sha256 wide.texts.whole }) part wide.whole wide.parts wide.bundle is wide.spell.has_part runs.sites;

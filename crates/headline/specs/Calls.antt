@@ -8,7 +8,7 @@ use Rattle.planned_runs.specs.Runs.{JudgedRun}
 use Rattle.command_run.specs.Run.{IsBankOf}
 use Rattle.command_runs.specs.declared.plan.ListedPlan.{ListedPlan}
 use Rattle.command_runs.specs.declared.texts.ListTexts.{ListTexts}
-use Rattle.command_runs.specs.declared.words.RunsWords.{RunsWords}
+use Rattle.cbi_options.specs.declared.words.RunsWords.{RunsWords}
 use Rattle.command_runs.specs.Line.{IsMadeOn}
 use Rattle.command_runs.specs.Runs.{AreListedRuns, runs_collection}
 use Rattle.headline.specs.Chain.{Made}

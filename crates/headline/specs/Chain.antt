@@ -5,17 +5,12 @@ use Rattle.cbi_base.specs.declared.observation.Observation.{Observation}
 use Rattle.cbi_base.specs.declared.outcome.Work.{Work}
 use Rattle.c_syntax.specs.ItemTree.{SourceTree}
 use Rattle.c_types_expressions.specs.declared.walk.Walk.{Walk}
-use Rattle.c_meaning.specs.Runs.{Behaviour}
-use Rattle.c_meaning.specs.Texts.{text_meaning}
+use Rattle.c_meaning.specs.Words.{Behaviour, text_meaning}
 use Rattle.sites.specs.Table.{functions_of}
 use Rattle.flow.specs.declared.program.ProgramParts.{ProgramParts}
 use Rattle.flow.specs.declared.site.Site.{Site}
 use Rattle.flow.specs.declared.site.TableParts.{TableParts}
-use Rattle.flow.specs.Counting.{counts_of, run_result}
-use Rattle.flow.specs.Machine.{MachineEnds}
-use Rattle.flow.specs.Sampling.{samples}
-use Rattle.flow.specs.Spelling.{SpellsProgram}
-use Rattle.flow.specs.State.{Ending}
+use Rattle.flow.specs.Words.{counts_of, run_result, MachineEnds, samples, SpellsProgram, Ending}
 use Rattle.countdown_bank.specs.Bank.{BankState, number_after}
 use Rattle.report_file.specs.declared.report.Report.{Report}
 use Rattle.report_file.specs.Label.{label_of}
@@ -30,7 +25,7 @@ use Rattle.compiler.specs.Planned.{part_in, planned_sites}
 use Rattle.compiler.specs.declared.plan.Plan.{Plan}
 use Rattle.compiler.specs.declared.plan.Plan.TheVariants as plan
 use Rattle.command_run.specs.declared.files.RunFiles.{RunFiles}
-use Rattle.command_run.specs.declared.words.RunWords.{RunWords}
+use Rattle.cbi_options.specs.declared.words.RunWords.{RunWords}
 use Rattle.command_run.specs.Run.{IsBankOf, agrees, report_of}
 
 -- which visits a program looks at: each, or those that a bank samples; where it has a part of the sites, of those of the part

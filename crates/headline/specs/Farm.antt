@@ -1,40 +1,40 @@
 -- A farm: machines run programs of parts of a text's sites, and what their collections come to for the program of all sites.
 use Rattle.std.specs.Prelude.{◌≡◌, ℕ, List, [], ◌∷◌, ◌++◌, map, Option}
+use Rattle.flow.specs.Sites.{PartFits}
 use Rattle.cbi_base.specs.Store.{Held}
-use Rattle.cbi_options.specs.declared.shares.Share.{Share}
+use Rattle.flow.specs.declared.choice.Part.{Part}
 use Rattle.c_syntax.specs.ItemTree.{SourceTree}
 use Rattle.c_types_expressions.specs.declared.walk.Walk.{Walk}
 use Rattle.elimination_tallies.specs.declared.labelled.LabelledRun.{LabelledRun}
 use Rattle.ranking.specs.Ranked.{IsRankingOf}
-use Rattle.site_parts.specs.Part.{PartFits}
 use Rattle.site_parts.specs.Widened.{widened}
 use Rattle.compiler.specs.Accepted.{IsAccepted}
-use Rattle.command_transform.specs.declared.words.TransformWords.{TransformWords}
+use Rattle.cbi_options.specs.declared.words.TransformWords.{TransformWords}
 use Rattle.command_transform.specs.Transform.{IsFileOf, plan_of}
-use Rattle.command_rank.specs.declared.words.RankWords.{RankWords}
+use Rattle.cbi_options.specs.declared.words.RankWords.{RankWords}
 use Rattle.command_rank.specs.Rank.{IsRanked}
-use Rattle.command_widen.specs.declared.words.WidenWords.{WidenWords}
-use Rattle.command_widen.specs.Widen.{IsWidened, part_of_share}
+use Rattle.cbi_options.specs.declared.words.WidenWords.{WidenWords}
+use Rattle.command_widen.specs.Widen.{IsWidened}
 use Rattle.headline.specs.Chain.{Made, meant_run, meant_table}
 use Rattle.headline.specs.Handed.{IsCollectionOf, IsLeftByCollect, by_number, firsts}
 
 -- a run of a part's program: what `transform` was asked for that program, the share of the sites that it has, and what the run was made of
 pub record PartRun : Type 0 where
   pub words : TransformWords
-  pub share : Share
+  pub share : Part
   pub made : Made
 
 -- That run as the text means it: it has the label of any run of the text that is made of the same, and the counters of the visits that its program
 -- looks at, which are of the part's sites, each under the number that its site has in the table of all sites.
 abbrev pub meant_part_run : SourceTree → Walk → PartRun → LabelledRun
 meant_part_run tree known run = record (meant_run tree known (plan_of run.words) run.made) {
-  entries = widened (part_of_share run.share) (meant_run tree known (plan_of run.words) run.made).entries;
+  entries = widened run.share (meant_run tree known (plan_of run.words) run.made).entries;
 }
 
 -- `transform` wrote the file of a part's program of the text, `run` and `collect` made a collection of runs of that file, and `widen` read it for this
 -- share. This text was due. (That `widen` read that very file too, and the one of the program of all sites, need not be said: it refuses the reports
 -- of another program, and so does the `collect` behind it.)
-pub record IsLeftByWiden (text : List ℕ) (words : TransformWords) (share : Share) (made : List Made) (wide : List ℕ) : Type 0 where
+pub record IsLeftByWiden (text : List ℕ) (words : TransformWords) (share : Part) (made : List Made) (wide : List ℕ) : Type 0 where
   pub file : List ℕ
   pub is_file : IsFileOf words text file
   pub collection : List ℕ
@@ -42,19 +42,19 @@ pub record IsLeftByWiden (text : List ℕ) (words : TransformWords) (share : Sha
   pub held : Option Held
   pub asked : WidenWords
   pub share_is : asked.part ≡ share
-  pub fits : PartFits (part_of_share share)
+  pub fits : PartFits share
   pub widened : IsWidened held asked wide
   pub collection_is : widened.texts.runs.collection ≡ collection
 
 -- these runs of a part's program
-abbrev pub part_runs : TransformWords → Share → List Made → List PartRun
+abbrev pub part_runs : TransformWords → Part → List Made → List PartRun
 part_runs words share made = map (λ m. record { words = words; share = share; made = m }) made
 
 -- Texts that `widen` and then `collect` left of parts' programs, one after another, and the runs that they hold: of a widened collection its runs, each
 -- number once, and of a collection of such texts theirs.
 pub data HoldParts (text whole : List ℕ) : List PartRun → List (List ℕ) → Type 0 where
   NoParts : HoldParts text whole [] []
-  APart : {words : TransformWords} {share : Share} {made : List Made} {more : List PartRun} {wide : List ℕ} {texts : List (List ℕ)} →
+  APart : {words : TransformWords} {share : Part} {made : List Made} {more : List PartRun} {wide : List ℕ} {texts : List (List ℕ)} →
       IsLeftByWiden text words share made wide → HoldParts text whole more texts →
       HoldParts text whole (part_runs words share (by_number made) ++ more) (wide ∷ texts)
   SomeParts : {runs more : List PartRun} {collection : List ℕ} {inner texts : List (List ℕ)} → IsLeftByCollect whole inner collection →

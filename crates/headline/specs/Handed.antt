@@ -4,7 +4,7 @@ use Rattle.std.specs.FinMap.{get}
 use Rattle.cbi_base.specs.Store.{Held}
 use Rattle.command_base.specs.declared.done.Done.{Done}
 use Rattle.command_run.specs.Run.{IsReported}
-use Rattle.command_collect.specs.declared.words.CollectWords.{CollectWords}
+use Rattle.cbi_options.specs.declared.words.CollectWords.{CollectWords}
 use Rattle.command_collect.specs.Collect.{IsCollected}
 use Rattle.headline.specs.Calls.{IsLeftByRuns}
 use Rattle.headline.specs.Chain.{Made}

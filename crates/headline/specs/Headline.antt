@@ -19,16 +19,16 @@ use Rattle.session_edits.specs.declared.edit.Edit.{Edit}
 use Rattle.session_edits.specs.declared.edit.Edit.TheVariants.{Add, Rank}
 use Rattle.session_edits.specs.Spelling.{SpellsEdits}
 use Rattle.compiler.specs.Accepted.{IsAccepted}
-use Rattle.command_transform.specs.declared.words.TransformWords.{TransformWords}
+use Rattle.cbi_options.specs.declared.words.TransformWords.{TransformWords}
 use Rattle.command_transform.specs.Transform.{IsFileOf, plan_of}
 use Rattle.command_collect.specs.Collect.{AreSpelled, reports_in}
-use Rattle.command_rank.specs.declared.words.RankWords.{RankWords}
+use Rattle.cbi_options.specs.declared.words.RankWords.{RankWords}
 use Rattle.command_rank.specs.Rank.{IsRanked}
-use Rattle.command_cards.specs.declared.words.CardsWords.{CardsWords}
+use Rattle.cbi_options.specs.declared.words.CardsWords.{CardsWords}
 use Rattle.command_cards.specs.Cards.{IsDealt}
-use Rattle.command_pairs.specs.declared.words.PairsWords.{PairsWords}
+use Rattle.cbi_options.specs.declared.words.PairsWords.{PairsWords}
 use Rattle.command_pairs.specs.Pairs.{IsPaired}
-use Rattle.command_session.specs.declared.words.SessionWords.{SessionWords}
+use Rattle.cbi_options.specs.declared.words.SessionWords.{SessionWords}
 use Rattle.command_session.specs.Session.{IsReplayed, id_of}
 use Rattle.headline.specs.Chain.{AreReportsOf, Made, meant_report, meant_run, meant_table}
 use Rattle.headline.specs.Handed.{HoldRuns, IsCollectionOf, by_number}

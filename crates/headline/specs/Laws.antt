@@ -1,27 +1,24 @@
 -- What the commands come to one after another.
 use Rattle.std.specs.Prelude.{◌≡◌, ℕ, List, length, Option, map}
+use Rattle.flow.specs.Words.{PartFits, MachineEnds, SpellsProgram, Ending}
 use Rattle.cbi_base.specs.Store.{Held}
 use Rattle.c_syntax.specs.ItemTree.{SourceTree}
 use Rattle.c_types_expressions.specs.declared.walk.Walk.{Walk}
 use Rattle.flow.specs.declared.program.ProgramParts.{ProgramParts}
-use Rattle.flow.specs.Machine.{MachineEnds}
-use Rattle.flow.specs.Spelling.{SpellsProgram}
-use Rattle.flow.specs.State.{Ending}
 use Rattle.countdown_bank.specs.Bank.{BankState, number_after}
 use Rattle.ranking.specs.Ranked.{IsRankingOf}
 use Rattle.compiler.specs.Accepted.{IsAccepted}
 use Rattle.study_runs.specs.declared.plan.StudyPlan.{StudyPlan}
 use Rattle.study.specs.declared.ranked.StudyResult.{StudyResult}
 use Rattle.study.specs.Studied.{IsStudy, study_form}
-use Rattle.command_transform.specs.declared.words.TransformWords.{TransformWords}
+use Rattle.cbi_options.specs.declared.words.TransformWords.{TransformWords}
 use Rattle.command_transform.specs.Transform.{IsFileOf, plan_of}
-use Rattle.site_parts.specs.Part.{PartFits}
 use Rattle.command_inputs.specs.Runs.{SpellRuns}
 use Rattle.command_run.specs.Run.{IsBankOf}
-use Rattle.command_rank.specs.declared.words.RankWords.{RankWords}
+use Rattle.cbi_options.specs.declared.words.RankWords.{RankWords}
 use Rattle.command_rank.specs.Rank.{IsRanked}
-use Rattle.command_widen.specs.declared.words.WidenWords.{WidenWords}
-use Rattle.command_widen.specs.Widen.{IsWidened, part_of_share, widened_as}
+use Rattle.cbi_options.specs.declared.words.WidenWords.{WidenWords}
+use Rattle.command_widen.specs.Widen.{IsWidened, widened_as}
 use Rattle.headline.specs.Chain.{AreMadeFor, AreReportsOf, Made, RunsAsMeant, meant_run, meant_table}
 
 -- A file that `transform` wrote of a text, a bank's text, an input and a bound of turns: every ending of the machine on the program that the file
@@ -53,5 +50,5 @@ AStudyIsItsChain =
 -- What `widen` wrote is a collection of runs of the whole program, as the commands that read one take it: its text is one of the widened reports.
 abbrev pub AWidenedCollectionIsOfTheWhole : Type 0
 AWidenedCollectionIsOfTheWhole =
-    (held : Option Held) (words : WidenWords) (text : List ℕ) → PartFits (part_of_share words.part) → (wide : IsWidened held words text) →
-    SpellRuns (record { program = wide.texts.whole; collection = text }) wide.whole (widened_as wide.texts.whole (part_of_share words.part) wide.bundle)
+    (held : Option Held) (words : WidenWords) (text : List ℕ) → PartFits words.part → (wide : IsWidened held words text) →
+    SpellRuns (record { program = wide.texts.whole; collection = text }) wide.whole (widened_as wide.texts.whole words.part wide.bundle)

@@ -10,13 +10,13 @@ use Rattle.planned_runs.specs.Runs.{JudgedRun}
 use Rattle.ranking.specs.Ranked.{IsRankingOf}
 use Rattle.compiler.specs.Accepted.{IsAccepted}
 use Rattle.command_bank.specs.MadeBank.{IsMadeText}
-use Rattle.command_transform.specs.declared.words.TransformWords.{TransformWords}
+use Rattle.cbi_options.specs.declared.words.TransformWords.{TransformWords}
 use Rattle.command_transform.specs.Transform.{IsFileOf, plan_of}
-use Rattle.command_rank.specs.declared.words.RankWords.{RankWords}
+use Rattle.cbi_options.specs.declared.words.RankWords.{RankWords}
 use Rattle.command_rank.specs.Rank.{IsRanked}
 use Rattle.command_runs.specs.declared.plan.ListedPlan.{ListedPlan}
 use Rattle.command_runs.specs.declared.texts.ListTexts.{ListTexts}
-use Rattle.command_runs.specs.declared.words.RunsWords.{RunsWords}
+use Rattle.cbi_options.specs.declared.words.RunsWords.{RunsWords}
 use Rattle.command_runs.specs.Line.{bank_numbers}
 use Rattle.command_runs.specs.Runs.{AreListedRuns, runs_collection}
 use Rattle.headline.specs.Calls.{IsCallFor, IsLeftByRuns}

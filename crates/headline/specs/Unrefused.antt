@@ -7,14 +7,14 @@ use Rattle.c_types_expressions.specs.declared.walk.Walk.{Walk}
 use Rattle.collector.specs.Collected.{mark_limit, report_limit}
 use Rattle.compiler.specs.Accepted.{IsAccepted}
 use Rattle.compiler.specs.declared.plan.Plan.{Plan}
-use Rattle.command_transform.specs.declared.words.TransformWords.{TransformWords}
+use Rattle.cbi_options.specs.declared.words.TransformWords.{TransformWords}
 use Rattle.command_transform.specs.Transform.{IsFileOf, plan_of}
 use Rattle.command_run.specs.declared.files.RunFiles.{RunFiles}
-use Rattle.command_run.specs.declared.words.RunWords.{RunWords}
+use Rattle.cbi_options.specs.declared.words.RunWords.{RunWords}
 use Rattle.command_run.specs.Files.{AreFiles, input_limit}
 use Rattle.command_run.specs.Run.{IsBankText, RunRefused}
 use Rattle.command_collect.specs.declared.reports.CollectTexts.{CollectTexts}
-use Rattle.command_collect.specs.declared.words.CollectWords.{CollectWords}
+use Rattle.cbi_options.specs.declared.words.CollectWords.{CollectWords}
 use Rattle.command_collect.specs.Collect.{AreCollectTexts, CollectRefused}
 use Rattle.command_inputs.specs.declared.runs.RunsTexts.{RunsTexts}
 use Rattle.command_inputs.specs.Runs.{AreRunsTexts, RunsRefused}

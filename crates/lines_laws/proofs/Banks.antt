@@ -1,9 +1,9 @@
 -- Of each line of a bank it can be told whether it may come.
 use Rattle.std.proofs.Common.{◌≡◌, ◌≤◌, ℕ, inl, inr, List, [], ◌∷◌, ◌++◌, Option, None, Some, decimal, length, refl, sym, ap, subst, ◌∙◌, arith}
 use Rattle.std.proofs.lemmas.Fmt.{decimal_injective}
-use Rattle.cbi_base.specs.Lines.{LeadsOnce}
-use Rattle.cbi_base.specs.Numbers.{number_of}
-use Rattle.cbi_base.proofs.NumberLemmas.{none-some, number_of-decimal, number_of-spelled, some-is}
+use Rattle.base_lists.proofs.Options.{none_some, some_is}
+use Rattle.cbi_base.specs.Words.{LeadsOnce, number_of}
+use Rattle.cbi_base.proofs.NumberLemmas.{number_of-decimal, number_of-spelled}
 use Rattle.countdown_bank.specs.Bank.{IsCountdown, greatest_number, most_numbers}
 use Rattle.countdown_bank.specs.BankFile.{MayEnd, NumberFollows}
 use Rattle.countdown_bank.proofs.Texts.{numbers-read, read-are_numbers, read-text}
@@ -18,12 +18,12 @@ read-as : (line : List ℕ) (n : ℕ) → IsNumberOf line n → number_of greate
 read-as line n is = ap (number_of greatest_number) is.1 ∙ number_of-decimal greatest_number n is.0.1 (omega arith)
 
 number-by : (line : List ℕ) (answer : Option ℕ) → number_of greatest_number line ≡ answer → Told (IsNumberOf line)
-number-by line None none = inr (λ n is. none-some (sym none ∙ read-as line n is))
+number-by line None none = inr (λ n is. none_some (sym none ∙ read-as line n is))
 number-by line (Some n) some =
     let spelled = number_of-spelled greatest_number line n some in
     elim (le-told 1 n) [
       | inl positive ↦ inl (n, ((positive, spelled.1), spelled.0))
-      | inr zero ↦ inr (λ m is. zero (subst (λ (k : ℕ). 1 ≤ k) (sym (some-is (sym some ∙ read-as line m is))) is.0.0))
+      | inr zero ↦ inr (λ m is. zero (subst (λ (k : ℕ). 1 ≤ k) (sym (some_is (sym some ∙ read-as line m is))) is.0.0))
     ]
 
 tells : (before line : List ℕ) → Told (NumberFollows before line)

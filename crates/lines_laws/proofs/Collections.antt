@@ -100,10 +100,8 @@ tells due.Runs d line =
 tells due.Nothing d line = inr (λ after s. s)
 
 may-end : (now : Due) → Holds (now ≡ due.Nothing)
-may-end due.Title = inr (λ is. cc)
-may-end due.Program = inr (λ is. cc)
-may-end due.Runs = inr (λ is. cc)
 may-end due.Nothing = inl refl
+may-end now = inr (λ is. cc)
 
 same-bundle : (d : Draft) (b : Bundle) → d.program ≡ b.program → d.reports ≡ b.reports → bundle_in d ≡ b
 same-bundle d b program reports = ap (λ p. let x : Bundle = record { program = p; reports = d.reports } in x) program ∙ ap (λ rs. let x : Bundle = record { program = b.program; reports = rs } in x) reports

@@ -5,6 +5,7 @@ use Rattle.std.specs.List.{list_any}
 use Rattle.std.specs.Str.{IsUtf8, is_utf8}
 use Rattle.std.proofs.lemmas.Bool.{cases_Bool, false≢true}
 use Rattle.std.proofs.lemmas.Str.{IsUtf8-from_is_utf8, is_utf8-from_IsUtf8}
+use Rattle.base_lists.proofs.Tests.{or_first_false, or_second_false}
 use Rattle.cbi_base.specs.Text.{Lacks}
 use Rattle.name_lists.specs.Grammar.{ListEnds, NameFollows, start_of_list}
 use Rattle.name_lists.specs.List.{IsFileName, SpellsList, greatest_run, is_nul, most_bytes, most_names}
@@ -13,18 +14,10 @@ use Rattle.name_lists.proofs.Texts.{leads-once, listed, reads-spelled, spelled-r
 use Rattle.lines_laws.specs.Laws.{IsReadAs, ListsAreLines}
 use Rattle.lines_laws.proofs.Walking.{Holds, Told, le-told, lt-told, the-spelling}
 
-no-first : (a b : Bool) → (a || b) ≡ false → a ≡ false
-no-first true b h = cc
-no-first false b h = refl
-
-no-second : (a b : Bool) → (a || b) ≡ false → b ≡ false
-no-second true b h = cc
-no-second false b h = h
-
 -- no byte passes a test exactly where the search for one fails
 lacks-found : (p : ℕ → Bool) (bytes : List ℕ) → list_any p bytes ≡ false → Lacks p bytes
 lacks-found p [] none = tt
-lacks-found p (b ∷ bs) none = (no-first (p b) (list_any p bs) none, lacks-found p bs (no-second (p b) (list_any p bs) none))
+lacks-found p (b ∷ bs) none = (or_first_false (p b) (list_any p bs) none, lacks-found p bs (or_second_false (p b) (list_any p bs) none))
 
 found-lacks : (p : ℕ → Bool) (bytes : List ℕ) → Lacks p bytes → list_any p bytes ≡ false
 found-lacks p [] lacks = refl

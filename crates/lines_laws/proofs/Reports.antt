@@ -1,8 +1,7 @@
 -- Of each line of a report it can be told whether it may come.
 use Rattle.std.proofs.Common.{◌≡◌, ◌≤◌, ℕ, inl, inr, List, Option, None, Some, codes, refl, sym, ap, subst, ◌∙◌, arith}
 use Rattle.cbi_base.specs.Numbers.{◌>>=◌}
-use Rattle.cbi_base.specs.ProgramId.{IsId, IsIdText, is_lower_digit}
-use Rattle.cbi_base.specs.Text.{fields_of, spaced}
+use Rattle.cbi_base.specs.Words.{IsId, IsIdText, is_lower_digit, fields_of, spaced}
 use Rattle.cbi_base.proofs.IdLemmas.{IsIdText-spells, IsIdText-text_of_id, text_of_id-once}
 use Rattle.std.specs.Prelude.{length}
 use Rattle.std.specs.List.{list_all}
@@ -95,14 +94,8 @@ tells due.Sites d line = either-told (SiteFollows d line) (ReportEndFollows d li
 tells due.Nothing d line = inr (λ after s. s)
 
 may-end : (now : Due) → Holds (now ≡ due.Nothing)
-may-end due.Title = inr (λ is. cc)
-may-end due.Program = inr (λ is. cc)
-may-end due.Run = inr (λ is. cc)
-may-end due.Outcome = inr (λ is. cc)
-may-end due.Label = inr (λ is. cc)
-may-end due.Work = inr (λ is. cc)
-may-end due.Sites = inr (λ is. cc)
 may-end due.Nothing = inl refl
+may-end now = inr (λ is. cc)
 
 abbrev said : Draft → Report
 said d = d.report

@@ -1,11 +1,10 @@
 -- A grammar of lines in which it can be told of each line whether it may come: each text is read, or goes wrong at a line.
 use Rattle.std.proofs.Common.{◌≡◌, ◌⊎◌, ⊎_elim, ℕ, zero, suc, ◌<◌, ◌≤◌, false, inl, inr, List, [], ◌∷◌, ◌++◌, length, Option, None, Some, refl, sym, ap, subst, ◌∙◌, length-append, arith}
 use Rattle.std.proofs.lemmas.Bool.{cases_Bool, cases_order, eqb-true}
-use Rattle.cbi_base.specs.Lines.{IsGoodPrefix, LeadsOnce, ReadsLines, line_after}
-use Rattle.cbi_base.specs.Numbers.{is_word}
-use Rattle.cbi_base.specs.Text.{Lacks, is_newline, spaced}
+use Rattle.base_lists.proofs.Options.{none_some, some_is}
+use Rattle.cbi_base.specs.Words.{IsGoodPrefix, LeadsOnce, ReadsLines, line_after, is_word, Lacks, is_newline, spaced}
 use Rattle.cbi_base.proofs.LineLemmas.{bad-never, bad-stops, good-more, reads-whole, stops-at, stops-behind, stops-within}
-use Rattle.cbi_base.proofs.NumberLemmas.{is_word-same, none-some, same-word, some-is}
+use Rattle.cbi_base.proofs.NumberLemmas.{is_word-same, same-word}
 use Rattle.report_file.specs.Reading.{Reads}
 use Rattle.lines_laws.specs.Laws.{GoesWrong, IsReadAs, IsSpelled, IsTheSpelling}
 
@@ -124,12 +123,12 @@ IsLineWith spell Good Also line x = IsLineOf spell Good line x × Also x
 
 one-with : {A : Type 0} (spell : A → List (List ℕ)) (Good Also : A → Type 0) (line : List ℕ) (x : A) → Reads spell Good line (Some x) → Holds (Also x) → Told (IsLineWith spell Good Also line)
 one-with spell Good Also line x reads (inl also) = inl (x, (record { is_good = reads.found.0; line_is = reads.found.1 }, also))
-one-with spell Good Also line x reads (inr never) = inr (λ y is. never (subst Also (sym (some-is (reads.only y is.0.is_good is.0.line_is))) is.1))
+one-with spell Good Also line x reads (inr never) = inr (λ y is. never (subst Also (sym (some_is (reads.only y is.0.is_good is.0.line_is))) is.1))
 
 pub told-with : {A : Type 0} (spell : A → List (List ℕ)) (Good Also : A → Type 0) (line : List ℕ) (answer : Option A) → Reads spell Good line answer → ((x : A) → Holds (Also x)) → Told (λ x. IsLineOf spell Good line x × Also x)
-told-with spell Good Also line None reads also = inr (λ x is. none-some (reads.only x is.0.is_good is.0.line_is))
+told-with spell Good Also line None reads also = inr (λ x is. none_some (reads.only x is.0.is_good is.0.line_is))
 told-with spell Good Also line (Some x) reads also = one-with spell Good Also line x reads (also x)
 
 pub read-told : {A : Type 0} (spell : A → List (List ℕ)) (Good : A → Type 0) (line : List ℕ) (answer : Option A) → Reads spell Good line answer → Told (IsLineOf spell Good line)
-read-told spell Good line None reads = inr (λ x is. none-some (reads.only x is.is_good is.line_is))
+read-told spell Good line None reads = inr (λ x is. none_some (reads.only x is.is_good is.line_is))
 read-told spell Good line (Some x) reads = inl (x, record { is_good = reads.found.0; line_is = reads.found.1 })

@@ -1,8 +1,7 @@
 -- A grammar of lines, which says at which line a text goes wrong, against the spelling of what the text says.
 use Rattle.std.specs.Prelude.{◌≡◌, ◌⊎◌, ◌↔◌, ℕ, List, []}
 use Rattle.std.specs.Global.{Global}
-use Rattle.cbi_base.specs.Lines.{IsBadLine, ReadsLines}
-use Rattle.cbi_base.specs.ProgramId.{IsId}
+use Rattle.cbi_base.specs.Words.{IsBadLine, ReadsLines, IsId}
 use Rattle.cbi_base.specs.declared.identity.ProgramId.{ProgramId}
 use Rattle.countdown_bank.specs.Bank.{AreNumbers}
 use Rattle.countdown_bank.specs.BankFile.{MayEnd, NumberFollows, numbers_text}

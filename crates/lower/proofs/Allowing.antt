@@ -11,8 +11,7 @@ use Rattle.flow.specs.declared.scope.Names.{Names}
 use Rattle.flow.specs.declared.site.Site.{Site}
 use Rattle.flow.specs.Code.{view_at}
 use Rattle.c_meaning.specs.declared.value_type.ValueType.{ValueType}
-use Rattle.c_meaning.specs.Facts.{Facts, Signature, Sites}
-use Rattle.c_meaning.specs.Runs.{Source}
+use Rattle.c_meaning.specs.Words.{Facts, Signature, Sites, Source}
 use Rattle.lower_relation.specs.Functions.{BodyDoes, standing}
 use Rattle.lower_relation.specs.Paths.{Exits}
 use Rattle.lower_nodes.specs.Ends.{AllBelow, all_ends}
@@ -54,20 +53,13 @@ module _ (names : Names) (bounds : Bounds) (site_of : ℕ → Option Site) (grap
   here = allowance_in names bounds site_of graph
 
   kept_visits : (v : View) → IsUnmarked v → IsTrue (may_visit here.frees here.forks_at v)
-  kept_visits (view.Row op next) is = refl
-  kept_visits (view.Halts op) is = refl
-  kept_visits (view.Forks when_true when_false) is = refl
-  kept_visits (view.Turns next) is = refl
-  kept_visits (view.Calls function next) is = refl
-  kept_visits view.Gives is = refl
-  kept_visits view.Quits is = refl
   kept_visits (view.Marks site next) is = absurd is
   kept_visits (view.Skips by next) is = absurd is
   kept_visits (view.Tests site next) is = absurd is
   kept_visits (view.Picks weight fast slow) is = absurd is
   kept_visits (view.Imports next) is = absurd is
   kept_visits (view.Exports next) is = absurd is
-  kept_visits view.Nowhere is = refl
+  kept_visits v is = refl
 
   -- a node of the graph that fits, and visits no condition but before its fork, is allowed
   allowed : (at : ℕ) (v : View) → fitting names bounds (standing graph) at v → IsTrue (may_visit here.frees here.forks_at v) → Allowed here at v

@@ -4,10 +4,10 @@ use Rattle.std.specs.Prelude.{◌+◌, ◌*◌, IsSome}
 use Rattle.std.specs.List.{All}
 use Rattle.std.proofs.lemmas.Bool.{false≢true}
 use Rattle.std.proofs.lemmas.List.{length-map}
-use Rattle.c_syntax.specs.ItemTree.{SourceTree}
-use Rattle.c_syntax.specs.Spelling.{tree_kinds}
+use Rattle.std.proofs.lemmas.Option.{same_Some}
+use Rattle.c_syntax.specs.Words.{SourceTree, tree_kinds}
 use Rattle.c_types_expressions.specs.declared.walk.Walk.{Walk}
-use Rattle.flow.specs.Ready.{ArePlain, IsReady}
+use Rattle.flow.specs.Words.{ArePlain, IsReady, Callee, IsProgram, parts_of, function_limit, local_limit, site_limit, text_limit}
 use Rattle.flow.specs.declared.program.Function.{Function}
 use Rattle.flow.specs.declared.program.Global.{Global}
 use Rattle.flow.specs.declared.program.ProgramParts.{ProgramParts}
@@ -15,14 +15,7 @@ use Rattle.flow.specs.declared.program.Text.{Text}
 use Rattle.flow.specs.declared.scope.Names.{Names}
 use Rattle.flow.specs.declared.site.Site.{Site}
 use Rattle.flow.specs.declared.site.TableParts.{TableParts}
-use Rattle.flow.specs.Code.{Callee}
-use Rattle.flow.specs.Program.{IsProgram, parts_of}
-use Rattle.flow.specs.Limits.{function_limit, local_limit, site_limit, text_limit}
-use Rattle.c_types.proofs.Options.{some_is}
-use Rattle.c_meaning.specs.Facts.{Signature}
-use Rattle.c_meaning.specs.Runs.{Source}
-use Rattle.c_meaning.specs.Literals.{literals, texts_of}
-use Rattle.c_meaning.specs.Texts.{source_of}
+use Rattle.c_meaning.specs.Words.{Signature, Source, literals, texts_of, source_of}
 use Rattle.lower_fits.specs.TextNames.{names_of_text}
 use Rattle.lower_relation.specs.Functions.{IsGraphOf}
 use Rattle.lower_fits.proofs.BegunGlobals.{objects_there}
@@ -67,7 +60,7 @@ few_functions f table ready = few_defined (tree_in f) (known_in f) ready.whole.a
 pub own_few : (src : Source) (names : Names) (number : ℕ) (s : Signature) → IsFitting src names number → Some s ≡ src.facts.signature number →
     (length s.params ≤ length s.locals) × (length s.locals ≤ local_limit)
 own_few src names number s fit e =
-    let same : fit.signature ≡ s = some_is fit.signature s (sym fit.known ∙ sym e) in
+    let same : fit.signature ≡ s = same_Some fit.signature s (sym fit.known ∙ sym e) in
     subst (λ (x : Signature). (length x.params ≤ length x.locals) × (length x.locals ≤ local_limit)) same (fit.params, fit.few)
 
 none_there : {X : Type 0} (o : Option X) → IsSome o → None ≡ o → ⊥

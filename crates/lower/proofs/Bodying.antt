@@ -7,8 +7,7 @@ use Rattle.flow.specs.declared.node.Node.{Node}
 use Rattle.flow.specs.declared.node.Node.TheVariants as node
 use Rattle.flow.specs.declared.node.View.TheVariants as view
 use Rattle.c_meaning.specs.declared.value_type.ValueType.{ValueType}
-use Rattle.c_meaning.specs.Facts.{Facts, Sites}
-use Rattle.c_meaning.specs.Trees.{has_value}
+use Rattle.c_meaning.specs.Words.{Facts, Sites, has_value}
 use Rattle.lower_relation.specs.Functions.{BodyDoes, ComesTo, EndsAt, Leaves, Stays, Passes, standing}
 use Rattle.lower_relation.specs.Paths.{Exits, Graph, Stuck, Does}
 use Rattle.lower.specs.Bodies.{AtOnce, Before, BodyBegins, BodyNodes, EndPart, GivesPart, LeavesPart}

@@ -10,9 +10,7 @@ use Rattle.flow.specs.declared.node.View.TheVariants as view
 use Rattle.flow.specs.declared.scope.Bounds.{Bounds}
 use Rattle.flow.specs.declared.scope.Names.{Names}
 use Rattle.flow.specs.declared.site.Site.{Site}
-use Rattle.flow.specs.Code.{view_at}
-use Rattle.flow.specs.Nodes.{NodesFit, is_again, leads_rightly, led_to, names_fit, node_fits}
-use Rattle.flow.specs.View.{view as view_of}
+use Rattle.flow.specs.Words.{view_at, NodesFit, is_again, leads_rightly, led_to, names_fit, node_fits, view as view_of}
 use Rattle.lower_relation.specs.Stands.{renamed}
 use Rattle.lower_nodes.specs.Finished.{Finished, turned_number}
 use Rattle.lower_nodes.specs.Reach.{LeadOn, among}
@@ -67,20 +65,13 @@ module _ (site_of : ℕ → Option Site) (old new : List Node) (ren : ℕ → �
 
   -- a view that may stand in the graph may stand among the nodes in their last order
   still_stands : (v : View) → may_stand site_of old v ≡ true → may_stand site_of new (renamed ren v) ≡ true
-  still_stands (view.Row op next) e = refl
-  still_stands (view.Halts op) e = refl
-  still_stands (view.Forks when_true when_false) e = refl
-  still_stands (view.Turns next) e = refl
-  still_stands (view.Calls function next) e = refl
-  still_stands view.Gives e = refl
-  still_stands view.Quits e = refl
   still_stands (view.Marks site next) e = still_before (is_condition (site_of site)) next e
   still_stands (view.Skips by next) e = e
   still_stands (view.Tests site next) e = e
   still_stands (view.Picks weight fast slow) e = e
   still_stands (view.Imports next) e = e
   still_stands (view.Exports next) e = e
-  still_stands view.Nowhere e = refl
+  still_stands v e = refl
 
 module _ (names : Names) (bounds : Bounds) (site_of : ℕ → Option Site) (old new : List Node) (finished : Finished old new (turned_number (length old - 1)))
     (long : length new ≡ length old) (all : AllStand (allowance_in names bounds site_of old) 0 old) where

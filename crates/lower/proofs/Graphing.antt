@@ -2,13 +2,10 @@
 use Rattle.std.proofs.Common.{◌≡◌, ℕ, zero, suc, ◌+◌, ◌<◌, ◌≤◌, ◌==◌, refl, ap, sym, ◌∙◌, subst, arith, List, [], ◌∷◌, length, Some, None, Option, Bool, slice_get, option_map}
 use Rattle.flow.specs.declared.node.Node.{Node}
 use Rattle.flow.specs.declared.node.View.{View}
-use Rattle.flow.specs.View.{view as view_of}
+use Rattle.flow.specs.Words.{view as view_of, callee_of, code_of, view_at, view_in, statics_of, Statics}
 use Rattle.flow.specs.declared.program.Function.{Function}
 use Rattle.flow.specs.declared.program.ProgramParts.{ProgramParts}
-use Rattle.flow.specs.Code.{callee_of, code_of, statics_of, view_at, view_in}
-use Rattle.c_meaning.specs.Facts.{Signature}
-use Rattle.c_meaning.specs.Runs.{Source}
-use Rattle.c_meaning.specs.Trees.{has_value}
+use Rattle.c_meaning.specs.Words.{Signature, Source, has_value, signature_of, source_of}
 use Rattle.lower_relation.specs.Functions.{BodyIn, Lowered, callee_with, standing}
 use Rattle.lower_relation.specs.Stands.{Stands, renamed}
 use Rattle.lower.specs.Bodies.{BodyNodes}
@@ -21,15 +18,12 @@ use Rattle.std.proofs.Common.{◌++◌, ⊎_elim, add-one, get_or, length-append
 use Rattle.std.proofs.Math.Seq.{take-suc}
 use Rattle.std.proofs.lemmas.List.{length-map, length-take, map-append}
 use Rattle.std.proofs.lemmas.Bool.{cases_lt}
-use Rattle.std.proofs.lemmas.Option.{slice_get_past, slice_get_within}
-use Rattle.c_syntax.specs.ItemTree.{SourceTree}
-use Rattle.c_syntax.specs.StatementTree.{EntryList}
+use Rattle.std.proofs.lemmas.Option.{slice_get_past, slice_get_within, same_Some}
+use Rattle.base_lists.proofs.Lists.{get_last}
+use Rattle.c_syntax.specs.Words.{SourceTree, EntryList}
 use Rattle.c_types_expressions.specs.declared.walk.Walk.{Walk}
-use Rattle.c_meaning.specs.Known.{signature_of}
-use Rattle.c_meaning.specs.Texts.{source_of}
 use Rattle.flow.specs.declared.program.Text.{Text}
 use Rattle.flow.specs.declared.site.Site.{Site}
-use Rattle.flow.specs.Rows.{Statics}
 use Rattle.lower_relation.specs.Functions.{IsGraphOf}
 use Rattle.lower_relation.proofs.WholeRuns.{only_ending, run_ok}
 use Rattle.lower_facts.specs.declared.facts.TreeFacts.{TreeFacts}
@@ -117,13 +111,6 @@ slice_before [] ys j l = absurd (omega (arith, l))
 slice_before (x ∷ xs) ys zero l = refl
 slice_before (x ∷ xs) ys (suc j) l = slice_before xs ys j (omega (arith, l))
 
-slice_last : {X : Type 0} (xs : List X) (x : X) → slice_get (xs ++ x ∷ []) (length xs) ≡ Some x
-slice_last [] x = refl
-slice_last (y ∷ xs) x = slice_last xs x
-
-one_thing : {X : Type 0} (x y : X) → Some x ≡ Some y → x ≡ y
-one_thing x y e = cc
-
 -- one thing more, of which the same is known
 pub each_pushed : {X : Type 0} (P : ℕ → X → Type 0) (xs : List X) (x : X) → ((number : ℕ) (y : X) → slice_get xs number ≡ Some y → P number y) → P (length xs) x →
     (number : ℕ) (y : X) → slice_get (xs ++ x ∷ []) number ≡ Some y → P number y
@@ -133,7 +120,7 @@ each_pushed P xs x are is number y at =
     (λ ge.
     let here : length xs ≡ number = omega (arith, ge, slice_get_within (xs ++ x ∷ []) number y at, length-append xs (x ∷ [])) in
     subst (λ n. P n y) here
-    (subst (λ z. P (length xs) z) (one_thing x y (sym (slice_last xs x) ∙ ap (slice_get (xs ++ x ∷ [])) here ∙ at)) is))
+    (subst (λ z. P (length xs) z) (same_Some x y (sym (get_last xs x) ∙ ap (slice_get (xs ++ x ∷ [])) here ∙ at)) is))
     (cases_lt number (length xs))
 
 -- there are no more functions than definitions

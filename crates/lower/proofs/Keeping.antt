@@ -1,6 +1,7 @@
 -- A graph that keeps all nodes but needless visits does what the other one does.
 use Rattle.std.proofs.Common.{ℕ, zero, suc, inl, inr, sym, subst, List, [], ◌∷◌, Option, Some, None, Bool, true, false, length}
 use Rattle.std.specs.Prelude.{◌==◌, ◌||◌, negsuc, pos}
+use Rattle.cbi_base.specs.Printing.{pieces_of}
 use Rattle.cbi_base.specs.declared.scalar.Kind.TheVariants.{Int, Unsigned}
 use Rattle.cbi_base.specs.declared.scalar.Want.{Want}
 use Rattle.cbi_base.specs.declared.scalar.Want.TheVariants as want
@@ -10,9 +11,8 @@ use Rattle.cbi_base.specs.declared.operators.Unary.TheVariants as unary
 use Rattle.c_syntax.specs.declared.expr.PrefixOperator.{PrefixOperator}
 use Rattle.c_syntax.specs.declared.expr.PrefixOperator.TheVariants as prefix
 use Rattle.c_syntax.specs.ExprTree as e
-use Rattle.c_syntax.specs.ExprTree.{ExprTree, ExprList, LinkList, PostfixList}
+use Rattle.c_syntax.specs.Words.{ExprTree, ExprList, LinkList, PostfixList, InitialTree, StartTree, DeclarationTree, ForStartTree, StatementTree, EntryList}
 use Rattle.c_syntax.specs.StatementTree as tree
-use Rattle.c_syntax.specs.StatementTree.{InitialTree, StartTree, DeclarationTree, ForStartTree, StatementTree, EntryList}
 use Rattle.c_types_rules.specs.declared.library.Library.{Library}
 use Rattle.c_types_rules.specs.declared.library.Library.TheVariants as library
 use Rattle.c_types_expressions.specs.ExprWalk.{binary_of}
@@ -22,7 +22,6 @@ use Rattle.flow.specs.declared.node.View.TheVariants as view
 use Rattle.flow.specs.declared.program.Text.{Text}
 use Rattle.flow.specs.declared.site.Slot.{Slot}
 use Rattle.flow.specs.declared.site.Slot.TheVariants as slot
-use Rattle.flow.specs.Printing.{pieces_of}
 use Rattle.c_meaning.specs.declared.conversion.Conversion.{Conversion}
 use Rattle.c_meaning.specs.declared.conversion.Conversion.TheVariants.{Keep, To, Misfit}
 use Rattle.c_meaning.specs.declared.operation.Operation.{Operation}
@@ -31,23 +30,17 @@ use Rattle.c_meaning.specs.declared.value_type.Called.{Called}
 use Rattle.c_meaning.specs.declared.value_type.Called.TheVariants as called
 use Rattle.c_meaning.specs.declared.value_type.ValueType.{ValueType}
 use Rattle.c_meaning.specs.declared.value_type.ValueType.TheVariants as type
-use Rattle.c_meaning.specs.Calls.{as_type, types_taken}
-use Rattle.c_meaning.specs.Conversions.{between, conversion, as_used, is_null_as}
-use Rattle.c_meaning.specs.Expressions.{is_other_pointer, is_struct_value}
-use Rattle.c_meaning.specs.Facts.{Facts, Signature, Sites}
-use Rattle.c_meaning.specs.Initialisers.{equals_token, want_of}
-use Rattle.c_meaning.specs.Meaning.{text_of_string}
-use Rattle.c_meaning.specs.Operation.{left_kind, operation, right_kind, type_given}
+use Rattle.c_meaning.specs.Words.{as_type, types_taken, between, conversion, as_used, is_null_as, is_other_pointer, is_struct_value, Facts, Signature, Sites}
+use Rattle.c_meaning.specs.Words.{equals_token, want_of, text_of_string, left_kind, operation, right_kind, type_given, Assignment, Plain, By, Joint, Both}
+use Rattle.c_meaning.specs.Words.{Computes, Unjoined, assignment, begins_null, called_as, count, ends_as_place, first_type, has_value, is_null_beside, is_place}
+use Rattle.c_meaning.specs.Words.{joint, one_kind, operand_type, other_types, token_of, type_of, listed, step_operation}
 use Rattle.c_meaning.specs.Trees as meaning
-use Rattle.c_meaning.specs.Trees.{Assignment, Plain, By, Joint, Both, Computes, Unjoined, assignment, begins_null, called_as, count, ends_as_place, first_type, has_value, is_null_beside, is_place, joint, one_kind, operand_type, other_types, token_of, type_of}
-use Rattle.c_meaning.specs.Visits.{listed}
 use Rattle.lower_relation.specs.Calls as c
 use Rattle.lower_relation.specs.Expressions as x
 use Rattle.lower_relation.specs.Expressions.{has_more, number_of_text}
 use Rattle.lower_relation.specs.Functions as f
 use Rattle.lower_relation.specs.Initialisers as i
 use Rattle.lower_relation.specs.Operators as o
-use Rattle.c_meaning.specs.Places.{step_operation}
 use Rattle.lower_relation.specs.Paths.{Graph, Path, ◌then◌, Ways, Exits, Emitted, Either, OneOf, Turned, Does, HaltsAt, Stuck, MarksAll, ForkTo, Tests, Only}
 use Rattle.lower_relation.specs.Statements as s
 use Rattle.lower_relation.specs.Statements.{Before, GoesOn, within_loop}
@@ -128,20 +121,15 @@ module _ (G H : Graph) (free : ℕ → Type 0) (keeps : Keeps G H free) where
   converts_below Misfit = stuck
 
   handed : (of : Option ValueType) → Into (v.Handed G of) (v.Handed H of)
-  handed None = stuck
-  handed (Some type.Void) = stuck
   handed (Some (type.Number kind)) = does (node.Convert kind 0)
   handed (Some (type.Pointer size)) = then_into (does (node.Dup 0)) (then_into (does (node.Sole unary.Not 0)) (does (node.Drop 0)))
-  handed (Some (type.Array size)) = stuck
-  handed (Some type.Struct) = stuck
+  handed of = stuck
 
   load : (of : Option ValueType) → Into (v.LoadAt G of) (v.LoadAt H of)
-  load None = stuck
-  load (Some type.Void) = stuck
   load (Some (type.Number kind)) = does (node.Load (want.Number kind) 0)
   load (Some (type.Pointer size)) = does (node.Load want.Pointer 0)
   load (Some (type.Array size)) = same
-  load (Some type.Struct) = stuck
+  load of = stuck
 
   dropped : {R R' : Path ℕ} → Into R R' → Into (v.Dropped G R) (v.Dropped H R')
   dropped a = then_into a (does (node.Drop 0))
@@ -185,12 +173,8 @@ module _ (G H : Graph) (free : ℕ → Type 0) (keeps : Keeps G H free) where
   arm false have want a = then_into a.value (arm_as (is_other_pointer (as_used have) want) have want)
 
   arm_effect : (is_null : Bool) (have want : Option ValueType) {m n : Emitted} → EmittedInto m n → Into (v.ArmEffect G is_null have want m) (v.ArmEffect H is_null have want n)
-  arm_effect is_null have None a = dropped (arm is_null have None a)
   arm_effect is_null have (Some type.Void) a = a.effect
-  arm_effect is_null have (Some (type.Number kind)) a = dropped (arm is_null have (Some (type.Number kind)) a)
-  arm_effect is_null have (Some (type.Pointer size)) a = dropped (arm is_null have (Some (type.Pointer size)) a)
-  arm_effect is_null have (Some (type.Array size)) a = dropped (arm is_null have (Some (type.Array size)) a)
-  arm_effect is_null have (Some type.Struct) a = dropped (arm is_null have (Some type.Struct) a)
+  arm_effect is_null have want a = dropped (arm is_null have want a)
 
   handed_value : (is_null : Bool) (want : Option ValueType) {m n : Emitted} → EmittedInto m n → Into (v.HandedValue G is_null want m) (v.HandedValue H is_null want n)
   handed_value true want a = does (node.Null 0)
@@ -219,12 +203,9 @@ module _ (G H : Graph) (free : ℕ → Type 0) (keeps : Keeps G H free) where
   pointed = then_into (does (node.Dup 0)) (either_into fork same (does (node.Load want.Pointer 0)))
 
   load_through : (of : Option ValueType) → Into (o.LoadThrough G of) (o.LoadThrough H of)
-  load_through None = then_into pointed (load None)
-  load_through (Some type.Void) = then_into pointed (load (Some type.Void))
   load_through (Some (type.Number kind)) = load (Some (type.Number kind))
   load_through (Some (type.Pointer size)) = load (Some (type.Pointer size))
-  load_through (Some (type.Array size)) = then_into pointed (load (Some (type.Array size)))
-  load_through (Some type.Struct) = then_into pointed (load (Some type.Struct))
+  load_through of = then_into pointed (load of)
 
   through : (of : Option ValueType) {R R' : Path ℕ} → Into R R' → EmittedInto (o.Through G of R) (o.Through H of R')
   through of a = record {
@@ -247,12 +228,8 @@ module _ (G H : Graph) (free : ℕ → Type 0) (keeps : Keeps G H free) where
   postfixed false of a b = record { value = a; place = stuck; effect = dropped b; truth = tests a }
 
   cast : (is_null : Bool) (of : Option ValueType) {m n : Emitted} → EmittedInto m n → EmittedInto (o.Cast G is_null of m) (o.Cast H is_null of n)
-  cast is_null None a = valued (handed_value is_null None a)
   cast is_null (Some type.Void) a = effected a.effect
-  cast is_null (Some (type.Number kind)) a = valued (handed_value is_null (Some (type.Number kind)) a)
-  cast is_null (Some (type.Pointer size)) a = valued (handed_value is_null (Some (type.Pointer size)) a)
-  cast is_null (Some (type.Array size)) a = valued (handed_value is_null (Some (type.Array size)) a)
-  cast is_null (Some type.Struct) a = valued (handed_value is_null (Some type.Struct) a)
+  cast is_null of a = valued (handed_value is_null of a)
 
   comma : (left : ℕ) {m n k l : Emitted} → EmittedInto m n → EmittedInto k l → EmittedInto (o.Comma G left m k) (o.Comma H left n l)
   comma zero a b = a
@@ -279,11 +256,11 @@ module _ (G H : Graph) (free : ℕ → Type 0) (keeps : Keeps G H free) where
 
   prints : (number : Option ℕ) (format : Option Text) (n : ℕ) {R R' : c.ArgumentsPath} → ((types : List ValueType) → Into (R types) (R' types)) →
       Into (c.PrintPath G number format n R) (c.PrintPath H number format n R')
+  prints (Some number) (Some format) n a =
+      only (n == length (types_taken (pieces_of format.bytes))) (then_into (a (types_taken (pieces_of format.bytes))) (does (node.Format number n 0)))
   prints None None n a = stuck
   prints None (Some format) n a = stuck
   prints (Some number) None n a = stuck
-  prints (Some number) (Some format) n a =
-      only (n == length (types_taken (pieces_of format.bytes))) (then_into (a (types_taken (pieces_of format.bytes))) (does (node.Format number n 0)))
 
   module _ (facts : Facts) (sites : Sites) (apart : Apart free sites) where
     decided : (site : Option ℕ) {R R' : Path ℕ} {T T' : Path Ways} → Into R R' → Into T T' → Into (o.DecidesAt G facts sites site R T) (o.DecidesAt H facts sites site R' T')
@@ -512,10 +489,10 @@ module _ (G H : Graph) (free : ℕ → Type 0) (keeps : Keeps G H free) where
     zeroes (Some kind) index = does (node.Zero index kind 0)
 
     spells : (number : Option ℕ) (text : Option Text) (index : ℕ) → Into (i.Spells G number text index) (i.Spells H number text index)
+    spells (Some number) (Some text) index = does (node.Spell index number 0)
     spells None None index = stuck
     spells None (Some text) index = stuck
     spells (Some number) None index = stuck
-    spells (Some number) (Some text) index = does (node.Spell index number 0)
 
     scalar : (token : ℕ) (value : ExprTree) → Into (i.ScalarSet G facts sites token value) (i.ScalarSet H facts sites token value)
     scalar token value =
@@ -537,12 +514,8 @@ module _ (G H : Graph) (free : ℕ → Type 0) (keeps : Keeps G H free) where
     zeroed token = on_local (facts.slot_at token) (zeroes (want_of (facts.element_at token)))
 
     value_set : (token : ℕ) (of : Option ValueType) (value : ExprTree) → Into (i.ValueSet G facts sites token of value) (i.ValueSet H facts sites token of value)
-    value_set token None value = scalar token value
-    value_set token (Some type.Void) value = scalar token value
-    value_set token (Some (type.Number kind)) value = scalar token value
-    value_set token (Some (type.Pointer size)) value = scalar token value
     value_set token (Some (type.Array size)) value = then_into (zeroed token) (on_local (facts.slot_at token) (spells (number_of_text facts value) (text_of_string facts value)))
-    value_set token (Some type.Struct) value = scalar token value
+    value_set token of value = scalar token value
 
     initialised : (token : ℕ) (y : Option InitialTree) → Into (i.Initialised G facts sites token y) (i.Initialised H facts sites token y)
     initialised token None = same

@@ -12,30 +12,19 @@ use Rattle.flow.specs.declared.program.ProgramParts.{ProgramParts}
 use Rattle.flow.specs.declared.site.Site.{Site}
 use Rattle.flow.specs.declared.site.SiteKind.{SiteKind}
 use Rattle.flow.specs.declared.site.SiteKind.TheVariants as kind
-use Rattle.flow.specs.Code.{view_at, view_in}
-use Rattle.flow.specs.View.{view as view_of}
-use Rattle.c_meaning.specs.Runs.{Source}
-use Rattle.c_meaning.specs.Texts.{is_branch}
-use Rattle.flow.specs.Ready.{ArePlain, IsBranch, IsBranchKind, IsPlain, IsReady}
+use Rattle.flow.specs.Words.{view_at, view_in, view as view_of, ArePlain, IsBranch, IsBranchKind, IsPlain, IsReady}
+use Rattle.c_meaning.specs.Words.{Source, is_branch}
 use Rattle.lower.specs.Programs.{AreFunctionsOf}
 use Rattle.lower_nodes.specs.Standing.{forks}
 use Rattle.lower.specs.Ready.{AllMayStand, is_condition, may_stand}
 
 plain_view : (site_of : ℕ → Option Site) (nodes : List Node) (v : View) → may_stand site_of nodes v ≡ true → IsPlain v
-plain_view site_of nodes (view.Row op next) e = tt
-plain_view site_of nodes (view.Halts op) e = tt
-plain_view site_of nodes (view.Forks when_true when_false) e = tt
-plain_view site_of nodes (view.Turns next) e = tt
-plain_view site_of nodes (view.Calls function next) e = tt
-plain_view site_of nodes view.Gives e = tt
-plain_view site_of nodes view.Quits e = tt
-plain_view site_of nodes (view.Marks site next) e = tt
 plain_view site_of nodes (view.Skips by next) e = false≢true e
 plain_view site_of nodes (view.Tests site next) e = false≢true e
 plain_view site_of nodes (view.Picks weight fast slow) e = false≢true e
 plain_view site_of nodes (view.Imports next) e = false≢true e
 plain_view site_of nodes (view.Exports next) e = false≢true e
-plain_view site_of nodes view.Nowhere e = tt
+plain_view site_of nodes v e = tt
 
 plain_nodes : (site_of : ℕ → Option Site) (nodes : List Node) → AllMayStand site_of nodes → ArePlain nodes
 plain_nodes site_of nodes all = λ k d l. plain_view site_of nodes (view_of _) (all.each k _ (slice_get-get_or nodes k d l))
@@ -55,20 +44,8 @@ condition_site (Some s) is = condition_kind s.kind is
 
 -- a node that forks is a fork
 pub fork_is : (v : View) → forks v ≡ true → (when_true when_false : ℕ) × (v ≡ view.Forks when_true when_false)
-fork_is (view.Row op next) e = absurd (false≢true e)
-fork_is (view.Halts op) e = absurd (false≢true e)
 fork_is (view.Forks when_true when_false) e = (when_true, when_false, refl)
-fork_is (view.Turns next) e = absurd (false≢true e)
-fork_is (view.Calls function next) e = absurd (false≢true e)
-fork_is view.Gives e = absurd (false≢true e)
-fork_is view.Quits e = absurd (false≢true e)
-fork_is (view.Marks site next) e = absurd (false≢true e)
-fork_is (view.Skips by next) e = absurd (false≢true e)
-fork_is (view.Tests site next) e = absurd (false≢true e)
-fork_is (view.Picks weight fast slow) e = absurd (false≢true e)
-fork_is (view.Imports next) e = absurd (false≢true e)
-fork_is (view.Exports next) e = absurd (false≢true e)
-fork_is view.Nowhere e = absurd (false≢true e)
+fork_is v e = absurd (false≢true e)
 
 second_holds : (a b : Bool) → a ≡ true → (not a || b) ≡ true → b ≡ true
 second_holds true b is e = e

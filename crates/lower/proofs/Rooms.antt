@@ -1,13 +1,10 @@
 -- How much room all functions have.
 use Rattle.std.proofs.Common.{◌≡◌, ℕ, suc, ◌+◌, ◌*◌, ◌≤◌, ◌∙◌, ap, subst, arith, List, [], ◌∷◌, ◌++◌, length, length-append, Option, slice_get}
 use Rattle.std.proofs.lemmas.List.Sums.{sum_by-append, sum_by-cons}
-use Rattle.c_syntax.specs.StatementTree.{EntryList}
-use Rattle.c_syntax.specs.Spelling.{tree_kinds}
+use Rattle.c_syntax.specs.Words.{EntryList, tree_kinds}
 use Rattle.flow.specs.declared.program.Function.{Function}
 use Rattle.flow.specs.declared.site.Site.{Site}
-use Rattle.c_meaning.specs.Facts.{Sites}
-use Rattle.c_meaning.specs.Known.{bodies}
-use Rattle.c_meaning.specs.Texts.{sites_by_table}
+use Rattle.c_meaning.specs.Words.{Sites, bodies, sites_by_table}
 use Rattle.lower_relation.specs.Room.{function_room, functions_room}
 use Rattle.lower_facts.specs.declared.facts.TreeFacts.{TreeFacts}
 use Rattle.lower_facts.specs.Facts.{known_in, sites_in, source_in, table_in, tree_in}

@@ -2,11 +2,11 @@
 use Rattle.std.proofs.Common.{◌≡◌, ℕ, zero, suc, ap, ◌∙◌, refl, List, [], ◌∷◌, drop, Bool, true, false, Some, slice_get}
 use Rattle.std.specs.Prelude.{◌==◌, ◌&&◌, if◌then◌else◌}
 use Rattle.std.proofs.lemmas.Bool.{false≢true}
+use Rattle.base_lists.proofs.Tests.{and_second}
 use Rattle.flow.specs.declared.site.Site.{Site}
 use Rattle.flow.specs.declared.site.SiteKind.{SiteKind}
 use Rattle.flow.specs.declared.site.SiteKind.TheVariants as kind
-use Rattle.c_meaning.specs.Texts.{head_site, is_branch, is_pair, is_return, sites_from, sites_by_table}
-use Rattle.c_meaning.specs.Visits.{listed}
+use Rattle.c_meaning.specs.Words.{head_site, is_branch, is_pair, is_return, sites_from, sites_by_table, listed}
 use Rattle.lower.specs.Keeps.{AllFree, Apart}
 use Rattle.lower.specs.Ready.{IsFree, is_condition}
 
@@ -16,14 +16,10 @@ at_drop [] (suc n) s rest e = absurd (cc)
 at_drop (x ∷ xs) zero s rest e = (cc, cc)
 at_drop (x ∷ xs) (suc n) s rest e = at_drop xs n s rest e
 
-and_right : (a b : Bool) → (a && b) ≡ true → b ≡ true
-and_right true b e = e
-and_right false b e = absurd (false≢true e)
-
 module _ (table : List Site) (of_kind : SiteKind → Bool) (other : (k : SiteKind) → of_kind k ≡ true → is_branch k ≡ false) (token : ℕ) where
   one_more : (number : ℕ) (s : Site) (found : Bool) (more : List ℕ) → (s.token == token && of_kind s.kind) ≡ found → slice_get table number ≡ Some s →
       AllFree (IsFree (slice_get table)) more → AllFree (IsFree (slice_get table)) (if found then number ∷ more else more)
-  one_more number s true more is at free = (ap is_condition at ∙ other s.kind (and_right (s.token == token) (of_kind s.kind) is), free)
+  one_more number s true more is at free = (ap is_condition at ∙ other s.kind (and_second (s.token == token) (of_kind s.kind) is), free)
   one_more number s false more is at free = free
 
   all_free : (number : ℕ) (rest : List Site) → drop number table ≡ rest → AllFree (IsFree (slice_get table)) (sites_from number of_kind token rest)

@@ -2,18 +2,15 @@
 use Rattle.std.proofs.Common.{◌≡◌, ℕ, zero, suc, ◌+◌, ◌<◌, ◌≤◌, inl, inr, refl, sym, ap, subst, arith, List, [], ◌∷◌, Option, Some, None, length, slice_get}
 use Rattle.std.specs.Prelude.{sum_by}
 use Rattle.std.proofs.lemmas.List.Sums.{sum_by-cons}
-use Rattle.c_syntax.specs.ItemTree.{SourceTree}
-use Rattle.c_syntax.specs.StatementTree.{EntryList}
+use Rattle.base_lists.proofs.Lists.{item_there}
+use Rattle.c_syntax.specs.Words.{SourceTree, EntryList}
 use Rattle.c_types_expressions.specs.declared.walk.Definition.{Definition}
 use Rattle.c_types_expressions.specs.declared.walk.Walk.{Walk}
 use Rattle.flow.specs.declared.scope.Names.{Names}
 use Rattle.flow.specs.declared.site.Site.{Site}
 use Rattle.flow.specs.declared.site.TableParts.{TableParts}
 use Rattle.flow.specs.Limits.{site_limit}
-use Rattle.c_meaning.specs.Facts.{Signature, Sites}
-use Rattle.c_meaning.specs.Known.{bodies, facts_of}
-use Rattle.c_meaning.specs.Runs.{Source}
-use Rattle.c_meaning.specs.Texts.{source_of, sites_by_table}
+use Rattle.c_meaning.specs.Words.{Signature, Sites, bodies, facts_of, Source, source_of, sites_by_table}
 use Rattle.sites.specs.Wanted.{no_schemes}
 use Rattle.c_meaning_laws.specs.TypedSource.{TypedBody}
 use Rattle.c_meaning_laws.specs.TypedText.{TypedText}
@@ -35,12 +32,6 @@ use Rattle.lower_fits.proofs.Variables.{locals_together}
 use Rattle.lower_fits.proofs.Formatting.{body_formatted}
 use Rattle.lower_fits.specs.Ready.{AreSitesOf, IsReadyText}
 use Rattle.lower.specs.Fits.{AreFitting, HasFitting, IsFitting}
-
--- a place before the end of a list has something
-thing_there : {X : Type 0} (xs : List X) (place : ℕ) → place < length xs → (one : X) × (slice_get xs place ≡ Some one)
-thing_there [] place low = absurd (omega (arith, low))
-thing_there (x ∷ xs) zero low = (x, refl)
-thing_there (x ∷ xs) (suc place) low = thing_there xs place (omega (arith, low))
 
 -- one function's locals are no more than those of all together
 one_of_all : (ds : List Definition) (number : ℕ) (d : Definition) → slice_get ds number ≡ Some d → d.count ≤ sum_by count_of ds
@@ -126,5 +117,5 @@ module _ (tree : SourceTree) (walk : Walk) (table : TableParts) (ready : IsReady
   -- all of them
   pub are_fitting : AreFitting src names (length walk.definitions)
   are_fitting number low =
-      let d : (one : Definition) × (slice_get walk.definitions number ≡ Some one) = thing_there walk.definitions number low in
+      let d : (one : Definition) × (slice_get walk.definitions number ≡ Some one) = item_there walk.definitions number low in
       defined_fits number d.0 d.1

@@ -4,8 +4,7 @@ use Rattle.c_syntax.specs.StatementTree.{EntryList}
 use Rattle.flow.specs.declared.node.Node.{Node}
 use Rattle.flow.specs.declared.node.Node.TheVariants as node
 use Rattle.c_meaning.specs.declared.value_type.ValueType.{ValueType}
-use Rattle.c_meaning.specs.Facts.{Facts, Sites}
-use Rattle.c_meaning.specs.Trees.{has_value}
+use Rattle.c_meaning.specs.Words.{Facts, Sites, has_value}
 use Rattle.lower_relation.specs.Functions.{BodyDoes, ComesTo, EndsAt, GivesAt, Leaves, standing}
 use Rattle.lower_relation.specs.Paths.{Does, Exits}
 use Rattle.lower_nodes.specs.Finished.{Finished}

@@ -5,12 +5,9 @@ use Rattle.flow.specs.declared.node.Node.{Node}
 use Rattle.flow.specs.declared.program.Function.{Function}
 use Rattle.flow.specs.declared.scope.Bounds.{Bounds}
 use Rattle.flow.specs.declared.scope.Names.{Names}
-use Rattle.flow.specs.Limits.{local_limit, node_limit}
-use Rattle.flow.specs.Nodes.{NodesFit}
-use Rattle.flow.specs.Program.{bounds_of}
+use Rattle.flow.specs.Words.{local_limit, node_limit, NodesFit, bounds_of}
 use Rattle.c_meaning.specs.declared.value_type.ValueType.{ValueType}
-use Rattle.c_meaning.specs.Facts.{Signature}
-use Rattle.c_meaning.specs.Runs.{Source}
+use Rattle.c_meaning.specs.Words.{Signature, Source}
 use Rattle.lower_relation.specs.Room.{function_room}
 use Rattle.lower_facts.specs.declared.facts.TreeFacts.{TreeFacts}
 use Rattle.lower_facts.specs.Facts.{known_in, table_in, tree_in}

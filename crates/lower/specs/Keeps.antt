@@ -2,8 +2,7 @@
 use Rattle.std.specs.Prelude.{ℕ, List, [], ◌∷◌}
 use Rattle.flow.specs.declared.node.View.{View}
 use Rattle.flow.specs.declared.node.View.TheVariants.{Forks, Marks, Skips, Tests, Picks, Imports, Exports}
-use Rattle.c_meaning.specs.Facts.{Sites}
-use Rattle.c_meaning.specs.Visits.{listed}
+use Rattle.c_meaning.specs.Words.{Sites, listed}
 use Rattle.lower_relation.specs.Paths.{Graph}
 
 abbrev pub AllFree : (ℕ → Type 0) → List ℕ → Type 0

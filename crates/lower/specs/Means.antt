@@ -1,8 +1,7 @@
 -- What a program does that means the same as a text.
 use Rattle.std.specs.Prelude.{◌≡◌, ℕ, List}
 use Rattle.flow.specs.declared.program.ProgramParts.{ProgramParts}
-use Rattle.flow.specs.Machine.{MachineEnds}
-use Rattle.flow.specs.State.{Ending}
+use Rattle.flow.specs.Words.{MachineEnds, Ending}
 use Rattle.c_meaning.specs.Runs.{Source, meaning}
 use Rattle.lower_relation.specs.Functions.{ending_of}
 

@@ -3,8 +3,7 @@ use Rattle.std.specs.Prelude.{◌≡◌, ℕ, ◌≤◌, ◌==◌, List, length,
 use Rattle.std.specs.List.{sum_by}
 use Rattle.flow.specs.declared.program.Function.{Function}
 use Rattle.flow.specs.Code.{callee_of}
-use Rattle.c_meaning.specs.Facts.{Signature}
-use Rattle.c_meaning.specs.Runs.{Source}
+use Rattle.c_meaning.specs.Words.{Signature, Source}
 use Rattle.lower_relation.specs.Functions.{callee_with}
 use Rattle.lower.specs.Bodies.{BodyNodes}
 use Rattle.lower.specs.Ready.{AllMayStand}

@@ -4,8 +4,7 @@ use Rattle.flow.specs.declared.node.Node.{Node}
 use Rattle.flow.specs.declared.node.View.{View}
 use Rattle.flow.specs.declared.node.View.TheVariants.{Marks, Skips, Tests, Picks, Imports, Exports}
 use Rattle.flow.specs.declared.site.Site.{Site}
-use Rattle.flow.specs.Code.{view_at}
-use Rattle.flow.specs.View.{view}
+use Rattle.flow.specs.Words.{view_at, view}
 use Rattle.c_meaning.specs.Texts.{is_branch}
 use Rattle.lower_nodes.specs.Standing.{forks}
 

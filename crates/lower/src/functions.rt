@@ -9,8 +9,7 @@ ghost use Rattle.lower.specs.Ready.{AllMayStand};
 ghost use Rattle.lower_relation.specs.Room.{body_room, function_room};
 ghost use Rattle.lower_nodes.specs.Ends.{AllBelow, all_ends};
 ghost use Rattle.lower_nodes.specs.Made.{MadeAlone, MadeExits};
-ghost use Rattle.flow.specs.Limits.{node_limit};
-ghost use Rattle.flow.specs.Nodes.{NodesFit};
+ghost use Rattle.flow.specs.Words.{node_limit, NodesFit};
 ghost use Rattle.lower_facts.specs.Facts.{facts_in, sites_in, source_in};
 
 use c_meaning::ValueType;

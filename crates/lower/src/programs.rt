@@ -1,10 +1,8 @@
 ghost use Rattle.std.specs.Prelude.{◌≡◌, ℕ, ◌≤◌, ◌+◌, ◌*◌, IfOk, Some, length, map, slice_get};
 ghost use Rattle.c_meaning.specs.Texts.{source_of};
 ghost use Rattle.c_types.specs.Answers.{known_of, tree_of};
-ghost use Rattle.flow.specs.Ready.{ArePlain, IsReady};
+ghost use Rattle.flow.specs.Words.{ArePlain, IsReady, function_limit, site_limit, table_of};
 ghost use Rattle.flow.specs.declared.program.Function.{Function};
-ghost use Rattle.flow.specs.Limits.{function_limit, site_limit};
-ghost use Rattle.flow.specs.Program.{table_of};
 ghost use Rattle.std.specs.List.{All};
 ghost use Rattle.lower_relation.specs.Functions.{IsGraphOf};
 ghost use Rattle.lower_relation.specs.Room.{function_room, functions_room};
@@ -18,7 +16,7 @@ ghost use Rattle.c_syntax.specs.Spelling.{tree_kinds};
 use crate::functions::emit_function;
 use c_types::Checked;
 use cbi_base::{Memory, Name, Seq};
-use flow::{Function, Program, ProgramParts, SiteTable, copy_of, copy_sites, copy_texts};
+use flow::{Function, Program, ProgramParts, SiteTable, copy_of};
 use lower_facts::TreeFacts;
 use lower_fits::{an_accepted_text_has_few_nodes, parts_of_an_accepted_text_are_a_program};
 use lower_globals::globals_of_text;
@@ -97,46 +95,33 @@ fn named_functions(
     Ok(functions)
 }
 
-/// The program of the text, with this table.
-fn program_of(alloc: Global, facts: &TreeFacts<'_>, table: &SiteTable) -> Result<Program, Memory>
-    requires sites { table_in facts.now ≡ table.now.sites }
-    requires ready { IsReadyText (tree_in facts.now) (known_in facts.now) table.now }
-    ensures graph { IfOk result (λ p. IsGraphOf (source_in facts.now) p) }
-    ensures sites { IfOk result (λ p. table_of p ≡ table.now) }
+/// The program that does what an accepted text means, with the sites of the table and its names for the functions. It has at most 16 nodes a token of
+/// the text, and one more a site.
+pub fn lower(alloc: Global, checked: &Checked, table: SiteTable) -> Result<Program, Memory>
+    requires { IsReadyText (tree_of checked.now) (known_of checked.now) table }
+    ensures graph { IfOk result (λ p. IsGraphOf (source_of (tree_of checked.now) (known_of checked.now) table.sites) p) }
+    ensures means { IfOk result (λ p. MeansText (source_of (tree_of checked.now) (known_of checked.now) table.sites) p) }
+    ensures sites { IfOk result (λ p. table_of p ≡ table) }
     ensures ready { IfOk result (λ p. IsReady p) }
     ensures plain { IfOk result (λ p. All (λ f. ArePlain f.nodes) p.functions) }
-    ensures few { IfOk result (λ p. node_count p.functions ≤ 16 * length (tree_kinds (tree_in facts.now)) + length table.now.sites) }
+    ensures few { IfOk result (λ p. node_count p.functions ≤ 16 * length (tree_kinds (tree_of checked.now)) + length table.sites) }
 {
     an_accepted_text_has_few_nodes();
     parts_of_an_accepted_text_are_a_program();
-    let sites = table.sites();
-    let functions = named_functions(alloc, facts, table)?;
-    let Some(globals) = globals_of_text(alloc, facts)? else {
+    let facts = TreeFacts::new(alloc, checked, &table)?;
+    let functions = named_functions(alloc, &facts, &table)?;
+    let Some(globals) = globals_of_text(alloc, &facts)? else {
         unreachable!()
     };
+    let main = facts.main();
+    let texts = facts.into_texts();
     let parts = ProgramParts {
-        texts: copy_texts(alloc, facts.texts())?,
+        texts,
         globals: Seq::from_vec(globals),
         functions: Seq::from_vec(functions),
-        main: facts.main(),
-        sites: copy_sites(alloc, sites)?,
+        main,
+        sites: table.into_sites(),
     };
     let program = Program::of(alloc, parts)?;
-    Ok(program)
-}
-
-/// The program that does what an accepted text means, with the sites of the table and its names for the functions. It has at most 16 nodes a token of
-/// the text, and one more a site.
-pub fn lower(alloc: Global, checked: &Checked, table: &SiteTable) -> Result<Program, Memory>
-    requires { IsReadyText (tree_of checked.now) (known_of checked.now) table.now }
-    ensures graph { IfOk result (λ p. IsGraphOf (source_of (tree_of checked.now) (known_of checked.now) table.now.sites) p) }
-    ensures means { IfOk result (λ p. MeansText (source_of (tree_of checked.now) (known_of checked.now) table.now.sites) p) }
-    ensures sites { IfOk result (λ p. table_of p ≡ table.now) }
-    ensures ready { IfOk result (λ p. IsReady p) }
-    ensures plain { IfOk result (λ p. All (λ f. ArePlain f.nodes) p.functions) }
-    ensures few { IfOk result (λ p. node_count p.functions ≤ 16 * length (tree_kinds (tree_of checked.now)) + length table.now.sites) }
-{
-    let facts = TreeFacts::new(alloc, checked, table)?;
-    let program = program_of(alloc, &facts, table)?;
     Ok(program)
 }

@@ -3,15 +3,11 @@ use Rattle.std.proofs.Common.{◌≡◌, inl, inr, ℕ, zero, suc, ◌+◌, ◌-
 use Rattle.std.proofs.lemmas.List.{length-drop}
 use Rattle.cbi_base.specs.declared.operators.Binary.{Binary}
 use Rattle.c_syntax.specs.ExprTree as e
-use Rattle.c_syntax.specs.ExprTree.{ExprTree, ExprList}
+use Rattle.c_syntax.specs.Words.{ExprTree, ExprList, plain_expr, plain_exprs}
 use Rattle.c_syntax.specs.declared.expr.Expr.{Expr}
 use Rattle.c_syntax.specs.declared.token.Sign.{Sign}
-use Rattle.c_syntax.specs.Plain.{plain_expr, plain_exprs}
 use Rattle.flow.specs.declared.node.Node.{Node}
-use Rattle.c_meaning.specs.Conversions.{is_null_as}
-use Rattle.c_meaning.specs.Facts.{Facts, Sites}
-use Rattle.c_meaning.specs.Operation.{operation}
-use Rattle.c_meaning.specs.Trees.{Assignment, By, Plain, assignment, count, type_of}
+use Rattle.c_meaning.specs.Words.{is_null_as, Facts, Sites, operation, Assignment, By, Plain, assignment, count, type_of}
 use Rattle.lower_relation.specs.Expressions.{LastDoes, emitted}
 use Rattle.lower_relation.specs.Operators.{Assign, Assigned, Changed, Comma}
 use Rattle.lower_relation.specs.Paths.{Graph, ◌then◌, Emitted, Stuck}

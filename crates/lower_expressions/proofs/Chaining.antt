@@ -3,18 +3,15 @@ use Rattle.std.proofs.Common.{◌≡◌, refl, ℕ, zero, suc, ◌+◌, ◌<◌,
 use Rattle.std.proofs.lemmas.List.{drop_all, drop_more}
 use Rattle.cbi_base.specs.declared.operators.Binary.{Binary}
 use Rattle.c_syntax.specs.ExprTree as e
-use Rattle.c_syntax.specs.ExprTree.{ExprTree, LinkList}
+use Rattle.c_syntax.specs.Words.{ExprTree, LinkList, plain_expr, plain_links}
 use Rattle.c_syntax.specs.declared.expr.Link.{Link}
 use Rattle.c_syntax.specs.declared.token.Sign.{Sign}
 use Rattle.c_types_expressions.specs.ExprWalk.{binary_of}
-use Rattle.c_syntax.specs.Plain.{plain_expr, plain_links}
 use Rattle.c_syntax.proofs.PlainExprs.{plain_link_before}
 use Rattle.flow.specs.declared.node.Node.{Node}
 use Rattle.c_meaning.specs.declared.value_type.ValueType.{ValueType}
-use Rattle.c_meaning.specs.Facts.{Facts, Sites}
-use Rattle.c_meaning.specs.Operation.{operation}
+use Rattle.c_meaning.specs.Words.{Facts, Sites, operation, Joint, Both, Computes, is_null_beside, joint, operand_type, type_of}
 use Rattle.c_meaning.specs.Trees as tree
-use Rattle.c_meaning.specs.Trees.{Joint, Both, Computes, is_null_beside, joint, operand_type, type_of}
 use Rattle.lower_relation.specs.Expressions.{LinksDo, emitted}
 use Rattle.lower_relation.specs.Operators.{Flagged, Linked, Operates}
 use Rattle.lower_relation.specs.Paths.{◌then◌}

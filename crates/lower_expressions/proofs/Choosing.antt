@@ -6,10 +6,7 @@ use Rattle.flow.specs.declared.node.Node.{Node}
 use Rattle.flow.specs.declared.node.Node.TheVariants as node
 use Rattle.c_meaning.specs.declared.value_type.ValueType.{ValueType}
 use Rattle.c_meaning.specs.declared.value_type.ValueType.TheVariants as type
-use Rattle.c_meaning.specs.Conversions.{as_used, is_null_as}
-use Rattle.c_meaning.specs.Expressions.{is_other_pointer}
-use Rattle.c_meaning.specs.Facts.{Facts, Sites}
-use Rattle.c_meaning.specs.Trees.{type_of}
+use Rattle.c_meaning.specs.Words.{as_used, is_null_as, is_other_pointer, Facts, Sites, type_of}
 use Rattle.lower_relation.specs.Expressions.{Condition, emitted}
 use Rattle.lower_relation.specs.Operators.{Cast}
 use Rattle.lower_relation.specs.Paths.{Graph, Path, ◌then◌, Does, Either, Emitted, Stuck}
@@ -27,20 +24,12 @@ use Rattle.lower_nodes.proofs.Serving.{valued_made}
 use Rattle.lower_nodes.proofs.Wanting.{as_effect, as_truth, as_value, effect_of, same_effect, same_truth, same_value}
 
 void_is : (want : Option ValueType) → is_void_value want ≡ true → want ≡ Some type.Void
-void_is None is = cc
 void_is (Some type.Void) is = refl
-void_is (Some (type.Number kind)) is = cc
-void_is (Some (type.Pointer size)) is = cc
-void_is (Some (type.Array size)) is = cc
-void_is (Some type.Struct) is = cc
+void_is want is = cc
 
 cast_valued : (G : Graph) (is_null : Bool) (want : Option ValueType) (m : Emitted) → is_void_value want ≡ false → Valued G (HandedValue G is_null want m) ≡ Cast G is_null want m
-cast_valued G is_null None m is = refl
 cast_valued G is_null (Some type.Void) m is = cc
-cast_valued G is_null (Some (type.Number kind)) m is = refl
-cast_valued G is_null (Some (type.Pointer size)) m is = refl
-cast_valued G is_null (Some (type.Array size)) m is = refl
-cast_valued G is_null (Some type.Struct) m is = refl
+cast_valued G is_null want m is = refl
 
 -- a cast of a value
 pub cast_value : (is_null : Bool) (want : Option ValueType) (m : Graph → Emitted) (p : Purpose) (n0 n1 n2 : List Node) (i after : ℕ) → is_void_value want ≡ false →
@@ -75,12 +64,8 @@ cast_nothing is_null want m p n0 n1 i is other made =
 
 arm_dropping : (G : Graph) (is_null : Bool) (have want : Option ValueType) (m : Emitted) → is_void_value want ≡ false →
     (ArmValue G is_null have want m then Does G (node.Drop 0)) ≡ ArmEffect G is_null have want m
-arm_dropping G is_null have None m is = refl
 arm_dropping G is_null have (Some type.Void) m is = cc
-arm_dropping G is_null have (Some (type.Number kind)) m is = refl
-arm_dropping G is_null have (Some (type.Pointer size)) m is = refl
-arm_dropping G is_null have (Some (type.Array size)) m is = refl
-arm_dropping G is_null have (Some type.Struct) m is = refl
+arm_dropping G is_null have want m is = refl
 
 -- an arm of `? :` where nothing takes the value
 pub arm_dropped : (is_null : Bool) (have want : Option ValueType) (m : Graph → Emitted) (n0 n1 n2 : List Node) (drop i k : ℕ) → is_void_value want ≡ false →

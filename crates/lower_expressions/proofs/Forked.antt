@@ -1,16 +1,13 @@
 -- The truth of a chain: `&&` and `||` without a site need no value of their left sides.
 use Rattle.std.proofs.Common.{◌≡◌, inl, inr, ℕ, zero, suc, ◌+◌, ◌<◌, ◌∙◌, ap, refl, subst, sym, arith, List, [], ◌∷◌, ◌++◌, length, take, take_all, get_or, Option, None, Some, true, false}
 use Rattle.c_syntax.specs.ExprTree as e
-use Rattle.c_syntax.specs.ExprTree.{ExprTree, LinkList}
+use Rattle.c_syntax.specs.Words.{ExprTree, LinkList, plain_links}
 use Rattle.c_syntax.specs.declared.expr.Link.{Link}
-use Rattle.c_syntax.specs.Plain.{plain_links}
 use Rattle.flow.specs.declared.node.Node.{Node}
 use Rattle.flow.specs.declared.node.Node.TheVariants as node
 use Rattle.c_meaning.specs.declared.value_type.ValueType.{ValueType}
-use Rattle.c_meaning.specs.Facts.{Facts, Sites}
+use Rattle.c_meaning.specs.Words.{Facts, Sites, Joint, Both, Computes, Unjoined, begins_null, joint, listed}
 use Rattle.c_meaning.specs.Trees as tree
-use Rattle.c_meaning.specs.Trees.{Joint, Both, Computes, Unjoined, begins_null, joint}
-use Rattle.c_meaning.specs.Visits.{listed}
 use Rattle.lower_relation.specs.Expressions.{LinksDo, LinksHold}
 use Rattle.lower_relation.specs.Operators.{Decided, DecidesAt, Linked, LinkedTruth}
 use Rattle.lower_relation.specs.Paths.{Graph, Path, ◌then◌, Emitted, ForkTo, MarksAll, Ways}
@@ -116,16 +113,12 @@ pub record Leads (facts : Facts) (sites : Sites) (first : ExprTree) (links : Lis
 -- where a left side goes on, if its right side and the whole do
 chosen_below : (j : Joint) (n right yes_at no_at : ℕ) → right < n → yes_at < n → no_at < n → AllBelow n (two_ends (ways (yes_before j right yes_at) (no_before j right no_at)))
 chosen_below Both n right yes_at no_at r y m = (r, (m, tt))
-chosen_below tree.Either n right yes_at no_at r y m = (y, (r, tt))
-chosen_below (Computes o) n right yes_at no_at r y m = (y, (r, tt))
-chosen_below Unjoined n right yes_at no_at r y m = (y, (r, tt))
+chosen_below j n right yes_at no_at r y m = (y, (r, tt))
 
 chosen_like : (s : Allowance) (n : List Node) (j : Joint) (right yes_at no_at r : ℕ) (w : Ways) → Like s n right r → Like s n yes_at w.yes_to → Like s n no_at w.no_to →
     AllLike s n (two_ends (ways (yes_before j right yes_at) (no_before j right no_at))) (two_ends (ways (yes_before j r w.yes_to) (no_before j r w.no_to)))
 chosen_like s n Both right yes_at no_at r w a y m = (a, (m, tt))
-chosen_like s n tree.Either right yes_at no_at r w a y m = (y, (a, tt))
-chosen_like s n (Computes o) right yes_at no_at r w a y m = (y, (a, tt))
-chosen_like s n Unjoined right yes_at no_at r w a y m = (y, (a, tt))
+chosen_like s n j right yes_at no_at r w a y m = (y, (a, tt))
 
 module _ (facts : Facts) (sites : Sites) (first : ExprTree) (links : List Link) where
   abbrev left_as : ℕ → Option ValueType

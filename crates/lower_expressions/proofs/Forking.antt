@@ -11,10 +11,9 @@ use Rattle.c_meaning.specs.declared.value_type.Called.{Called}
 use Rattle.c_meaning.specs.declared.value_type.Called.TheVariants as called
 use Rattle.c_meaning.specs.declared.value_type.ValueType.{ValueType}
 use Rattle.c_meaning.specs.declared.value_type.ValueType.TheVariants as type
-use Rattle.c_meaning.specs.Facts.{Facts, Signature, Sites}
+use Rattle.c_meaning.specs.Words.{Facts, Signature, Sites, Joint, Both, Computes, Unjoined, begins_null, called_as, count, ends_as_place, has_value}
+use Rattle.c_meaning.specs.Words.{is_null_beside, is_place, joint, operand_type, token_of, type_of, listed}
 use Rattle.c_meaning.specs.Trees as tree
-use Rattle.c_meaning.specs.Trees.{Joint, Both, Computes, Unjoined, begins_null, called_as, count, ends_as_place, has_value, is_null_beside, is_place, joint, operand_type, token_of, type_of}
-use Rattle.c_meaning.specs.Visits.{listed}
 use Rattle.lower_relation.specs.Calls.{ArgumentPath, ArgumentsPath, CallDoes, CallFunction, CallLibrary, WithResult}
 use Rattle.lower_relation.specs.Expressions.{LastDoes, LinksDo, LinksHold, emitted}
 use Rattle.lower_relation.specs.Operators.{Cast, Comma, DecidesAt, Linked, LinkedTruth, Postfixed, Prefixed, SizeValue}
@@ -41,12 +40,8 @@ module _ (p : Allowance) where
   size_forks (Some cells) i k w h = (k, h, fork_stands k w)
 
   cast_forks : (is_null : Bool) (want : Option ValueType) (m : Emitted) → Forks (Cast G is_null want m).value (Cast G is_null want m).truth
-  cast_forks is_null None m i k w h = (k, h, fork_stands k w)
   cast_forks is_null (Some type.Void) m i k w h = h
-  cast_forks is_null (Some (type.Number kind)) m i k w h = (k, h, fork_stands k w)
-  cast_forks is_null (Some (type.Pointer size)) m i k w h = (k, h, fork_stands k w)
-  cast_forks is_null (Some (type.Array size)) m i k w h = (k, h, fork_stands k w)
-  cast_forks is_null (Some type.Struct) m i k w h = (k, h, fork_stands k w)
+  cast_forks is_null want m i k w h = (k, h, fork_stands k w)
 
   postfix_forks : (ends : Bool) (of : Option ValueType) (R S : Path ℕ) → Forks (Postfixed G ends of R S).value (Postfixed G ends of R S).truth
   postfix_forks true of R S i k w h = (k, h, fork_stands k w)
@@ -68,11 +63,7 @@ module _ (p : Allowance) where
     library_forks token library.Putchar n argument print i k w h = (k, h, fork_stands k w)
     library_forks token library.Puts n argument print i k w h = (k, h, fork_stands k w)
     library_forks token library.Malloc n argument print i k w h = (k, h, fork_stands k w)
-    library_forks token library.Free n argument print i k w h = h
-    library_forks token library.Exit n argument print i k w h = h
-    library_forks token library.Abort n argument print i k w h = h
-    library_forks token library.Assert n argument print i k w h = h
-    library_forks token library.Printf n argument print i k w h = h
+    library_forks token function n argument print i k w h = h
 
     call_forks : (token : ℕ) (what : Called) (n : ℕ) (arguments : ArgumentsPath) (argument : ArgumentPath) (print : Path ℕ) →
         Forks (CallDoes G facts sites token what n arguments argument print).value (CallDoes G facts sites token what n arguments argument print).truth
@@ -82,15 +73,9 @@ module _ (p : Allowance) where
 
     prefix_forks : (token : ℕ) (operator : PrefixOperator) (of : Option ValueType) (cells : Option ℕ) (m : Emitted) →
         Forks (Prefixed G facts sites token operator of cells m).value (Prefixed G facts sites token operator of cells m).truth
-    prefix_forks token prefix.Increment of cells m i k w h = (k, h, fork_stands k w)
-    prefix_forks token prefix.Decrement of cells m i k w h = (k, h, fork_stands k w)
-    prefix_forks token prefix.Address of cells m i k w h = (k, h, fork_stands k w)
-    prefix_forks token prefix.Indirection of cells m i k w h = (k, h, fork_stands k w)
-    prefix_forks token prefix.Plus of cells m i k w h = (k, h, fork_stands k w)
-    prefix_forks token prefix.Minus of cells m i k w h = (k, h, fork_stands k w)
-    prefix_forks token prefix.Complement of cells m i k w h = (k, h, fork_stands k w)
     prefix_forks token prefix.Not of cells m i k w h = inl (k, h, fork_stands k w)
     prefix_forks token prefix.SizeOf of cells m i k w h = size_forks cells i k w h
+    prefix_forks token operator of cells m i k w h = (k, h, fork_stands k w)
 
     comma_forks : (n : ℕ) (m rest : Emitted) → Forks m.value m.truth → Forks (Comma G n m rest).value (Comma G n m rest).truth
     comma_forks zero m rest forks i k w h = forks i k w h
@@ -99,20 +84,14 @@ module _ (p : Allowance) where
     mutual
       pub value_forks : (x : ExprTree) → Forks (value_part facts sites x G) (truth_part facts sites x G)
       value_forks (e.Comma token operands) i k w h = last_forks operands i k w h
-      value_forks (e.Assign token sign target value) i k w h = (k, h, fork_stands k w)
-      value_forks (e.Conditional token condition first second) i k w h = (k, h, fork_stands k w)
       value_forks (e.Chain level first links) i k w h = inl (k, h, fork_stands k w)
       value_forks (e.Cast token base stars operand) i k w h = cast_forks _ (facts.type_at token) _ i k w h
       value_forks (e.Prefix token operator operand) i k w h = prefix_forks token operator (type_of facts operand) (facts.cells_at (token_of operand)) _ i k w h
       value_forks (e.SizeOfType token base stars) i k w h = size_forks (facts.named_cells base stars) i k w h
       value_forks (e.Postfix primary operators) i k w h = postfix_forks (ends_as_place (is_place primary) operators) _ _ _ i k w h
-      value_forks (e.Name token name) i k w h = (k, h, fork_stands k w)
       value_forks (e.Call token name arguments) i k w h = call_forks token (called_as (facts.function_at token) name) _ _ _ _ i k w h
-      value_forks (e.Constant token kind value) i k w h = (k, h, fork_stands k w)
-      value_forks (e.Strings token parts) i k w h = (k, h, fork_stands k w)
       value_forks (e.Paren token inner) i k w h = value_forks inner i k w h
-      value_forks (e.Null token) i k w h = (k, h, fork_stands k w)
-      value_forks (e.EndOfFile token) i k w h = (k, h, fork_stands k w)
+      value_forks x i k w h = (k, h, fork_stands k w)
 
       pub last_forks : (xs : ExprList) → Forks (LastDoes G facts sites xs).value (LastDoes G facts sites xs).truth
       last_forks e.no_exprs i k w h = (k, h, fork_stands k w)

@@ -4,12 +4,12 @@ use Rattle.std.specs.Option.{option_and_then}
 use Rattle.std.proofs.lemmas.Bool.{eqb-true}
 use Rattle.std.proofs.lemmas.Bool.Decides.{nat_tests}
 use Rattle.std.proofs.lemmas.List.{drop_all, drop_more}
+use Rattle.base_lists.proofs.Numbers.{suc_not_zero}
 use Rattle.c_types_rules.specs.declared.library.Library.{Library}
 use Rattle.c_types_rules.specs.declared.library.Library.TheVariants as library
 use Rattle.c_syntax.specs.ExprTree as e
-use Rattle.c_syntax.specs.ExprTree.{ExprTree, ExprList}
+use Rattle.c_syntax.specs.Words.{ExprTree, ExprList, plain_expr, plain_exprs}
 use Rattle.c_syntax.specs.declared.expr.Expr.{Expr}
-use Rattle.c_syntax.specs.Plain.{plain_expr, plain_exprs}
 use Rattle.flow.specs.declared.node.Node.{Node}
 use Rattle.flow.specs.declared.node.Node.TheVariants as node
 use Rattle.flow.specs.declared.node.View.TheVariants as view
@@ -19,11 +19,7 @@ use Rattle.c_meaning.specs.declared.value_type.Called.{Called}
 use Rattle.c_meaning.specs.declared.value_type.Called.TheVariants as called
 use Rattle.c_meaning.specs.declared.value_type.ValueType.{ValueType}
 use Rattle.c_meaning.specs.declared.value_type.ValueType.TheVariants as type
-use Rattle.c_meaning.specs.Calls.{as_type}
-use Rattle.c_meaning.specs.Conversions.{as_used, is_null_as}
-use Rattle.c_meaning.specs.Facts.{Facts, Signature, Sites}
-use Rattle.c_meaning.specs.Meaning.{text_of_string}
-use Rattle.c_meaning.specs.Trees.{called_as, count, first_type, other_types, type_of}
+use Rattle.c_meaning.specs.Words.{as_type, as_used, is_null_as, Facts, Signature, Sites, text_of_string, called_as, count, first_type, other_types, type_of}
 use Rattle.lower_relation.specs.Calls.{ArgumentsPath, CallDoes, PrintPath}
 use Rattle.lower_relation.specs.Expressions.{ArgumentsDo, FormatDoes, LoneDoes, emitted, number_of_text}
 use Rattle.lower_relation.specs.Paths.{Graph, Path, ◌then◌, Does, HaltsAt, Nothing, Only, Stuck}
@@ -41,16 +37,16 @@ use Rattle.lower_operators.proofs.Handing.{call_is, given_made, refused_serves, 
 
 -- arguments of these types
 first_dropped : (types : List ValueType) (j : ℕ) → first_type (drop j types) ≡ slice_get types j
+first_dropped (t ∷ ts) (suc j) = first_dropped ts j
 first_dropped [] zero = refl
 first_dropped [] (suc j) = refl
 first_dropped (t ∷ ts) zero = refl
-first_dropped (t ∷ ts) (suc j) = first_dropped ts j
 
 others_dropped : (types : List ValueType) (j : ℕ) → other_types (drop j types) ≡ drop (suc j) types
+others_dropped (t ∷ ts) (suc j) = others_dropped ts j
 others_dropped [] zero = refl
 others_dropped [] (suc j) = refl
 others_dropped (t ∷ ts) zero = refl
-others_dropped (t ∷ ts) (suc j) = others_dropped ts j
 
 -- none is put yet
 pub arguments_none : (facts : Facts) (sites : Sites) (types : List ValueType) (arguments : List Expr) (n : List Node) (k : ℕ) →
@@ -85,9 +81,6 @@ one_more n = grind (arith, nat_tests)
 
 two_or_more : (n : ℕ) → (suc (suc n) == 1) ≡ true → ⊥
 two_or_more n e = let one : suc (suc n) ≡ 1 = eqb-true (suc (suc n)) 1 e in omega arith
-
-one_or_more : (n : ℕ) → (suc n == 0) ≡ true → ⊥
-one_or_more n e = let none : suc n ≡ 0 = eqb-true (suc n) 0 e in omega arith
 
 first_known : (o : Option ValueType) → first_type (known o) ≡ o
 first_known None = refl
@@ -132,7 +125,7 @@ module _ (facts : Facts) (sites : Sites) where
     none_passed : (R : Path ℕ) (xs : ExprList) (i k : ℕ) → (count xs == 0) ≡ true → (ArgumentsDo G facts sites [] xs then R) i k →
         Only G (count xs == 0) R i k
     none_passed R e.no_exprs i k fit h = subst (λ m. R m k) (sym h.1) h.2
-    none_passed R (e.more_exprs x rest) i k fit h = absurd (one_or_more (count rest) fit)
+    none_passed R (e.more_exprs x rest) i k fit h = absurd (suc_not_zero (count rest) fit)
 
     numbered_passed : (number : Option ℕ) (text : Option Text) (xs : ExprList) (i k : ℕ) → option_and_then (slice_get facts.statics.texts) number ≡ text →
         prints text (count xs) ≡ true → (ArgumentsDo G facts sites (types_of_text text) xs then Formats G number (count xs)) i k →
@@ -186,7 +179,7 @@ module _ (facts : Facts) (sites : Sites) where
 
     passed_none : (R : Path ℕ) (xs : ExprList) (i k : ℕ) → (count xs == 0) ≡ true → Only G (count xs == 0) R i k → (ArgumentsDo G facts sites [] xs then R) i k
     passed_none R e.no_exprs i k fit h = (i, refl, h)
-    passed_none R (e.more_exprs x rest) i k fit h = absurd (one_or_more (count rest) fit)
+    passed_none R (e.more_exprs x rest) i k fit h = absurd (suc_not_zero (count rest) fit)
 
     passed_numbered : (number : Option ℕ) (text : Option Text) (xs : ExprList) (i k : ℕ) → option_and_then (slice_get facts.statics.texts) number ≡ text →
         prints text (count xs) ≡ true → PrintPath G number text (count xs) (λ types. ArgumentsDo G facts sites types xs) i k →

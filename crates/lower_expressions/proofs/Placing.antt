@@ -1,11 +1,10 @@
 -- Places, and expressions that are none.
 use Rattle.std.proofs.Common.{◌≡◌, ℕ, ap, subst, sym, refl, arith, Bool, true, false, List, [], ◌∷◌, length, get_or, Option, Some, None}
 use Rattle.c_syntax.specs.ExprTree as e
-use Rattle.c_syntax.specs.ExprTree.{ExprTree, PostfixList}
+use Rattle.c_syntax.specs.Words.{ExprTree, PostfixList, plain_expr, plain_exprs}
 use Rattle.c_syntax.specs.declared.expr.Expr.{Expr}
 use Rattle.c_syntax.specs.declared.expr.PrefixOperator.{PrefixOperator}
 use Rattle.c_syntax.specs.declared.expr.PrefixOperator.TheVariants as prefix
-use Rattle.c_syntax.specs.Plain.{plain_expr, plain_exprs}
 use Rattle.flow.specs.declared.node.Node.{Node}
 use Rattle.c_types_rules.specs.declared.library.Library.{Library}
 use Rattle.c_types_rules.specs.declared.library.Library.TheVariants as library
@@ -13,8 +12,7 @@ use Rattle.c_meaning.specs.declared.value_type.Called.{Called}
 use Rattle.c_meaning.specs.declared.value_type.Called.TheVariants as called
 use Rattle.c_meaning.specs.declared.value_type.ValueType.{ValueType}
 use Rattle.c_meaning.specs.declared.value_type.ValueType.TheVariants as type
-use Rattle.c_meaning.specs.Facts.{Facts, Signature, Sites}
-use Rattle.c_meaning.specs.Trees.{called_as, ends_as_place, has_value, is_place, token_of, type_of}
+use Rattle.c_meaning.specs.Words.{Facts, Signature, Sites, called_as, ends_as_place, has_value, is_place, token_of, type_of}
 use Rattle.lower_relation.specs.Calls.{ArgumentPath, ArgumentsPath, CallDoes, CallFunction, CallLibrary, WithResult}
 use Rattle.lower_relation.specs.Expressions.{LastDoes, emitted}
 use Rattle.lower_relation.specs.Operators.{Cast, Pointed, Postfixed, Prefixed, SizeValue}
@@ -72,14 +70,8 @@ module _ (G : Graph) where
     prefixed_nowhere : (token : ℕ) (operator : PrefixOperator) (of : Option ValueType) (cells : Option ℕ) (m : Emitted) →
         (operator ≡ prefix.Indirection → ⊥) → (Prefixed G facts sites token operator of cells m).place ≡ nowhere G
     prefixed_nowhere token prefix.Indirection of cells m other = absurd (other refl)
-    prefixed_nowhere token prefix.Increment of cells m other = refl
-    prefixed_nowhere token prefix.Decrement of cells m other = refl
-    prefixed_nowhere token prefix.Address of cells m other = refl
-    prefixed_nowhere token prefix.Plus of cells m other = refl
-    prefixed_nowhere token prefix.Minus of cells m other = refl
-    prefixed_nowhere token prefix.Complement of cells m other = refl
-    prefixed_nowhere token prefix.Not of cells m other = refl
     prefixed_nowhere token prefix.SizeOf of cells m other = size_nowhere cells
+    prefixed_nowhere token operator of cells m other = refl
 
     -- an expression that is a value by its form
     form_nowhere : (x : ExprTree) → is_nowhere x ≡ true → place_part facts sites x G ≡ nowhere G
@@ -88,16 +80,10 @@ module _ (G : Graph) where
     form_nowhere (e.Postfix primary operators) is = cc
     form_nowhere (e.Name token name) is = cc
     form_nowhere (e.Paren token inner) is = cc
-    form_nowhere (e.Assign token sign target value) is = refl
-    form_nowhere (e.Conditional token condition first second) is = refl
-    form_nowhere (e.Chain level first links) is = refl
     form_nowhere (e.Cast token base stars operand) is = cast_nowhere _ (facts.type_at token) _
     form_nowhere (e.SizeOfType token base stars) is = size_nowhere (facts.named_cells base stars)
     form_nowhere (e.Call token name arguments) is = call_nowhere token (called_as (facts.function_at token) name) _ _ _ _
-    form_nowhere (e.Constant token kind value) is = refl
-    form_nowhere (e.Strings token parts) is = refl
-    form_nowhere (e.Null token) is = refl
-    form_nowhere (e.EndOfFile token) is = refl
+    form_nowhere x is = refl
 
     lone_comma : (xs : List Expr) (d : Expr) → length xs ≡ 1 → d ≡ get_or xs 0 d → place_part facts sites (plain_expr d) G ≡ (LastDoes G facts sites (plain_exprs xs)).place
     lone_comma [] d e at = absurd (omega (arith, e))

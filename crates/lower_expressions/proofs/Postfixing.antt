@@ -2,10 +2,9 @@
 use Rattle.std.proofs.Common.{◌≡◌, ℕ, zero, suc, ◌+◌, ◌<◌, ◌≤◌, ◌∙◌, ◌||◌, ap, subst, sym, refl, arith, List, [], ◌∷◌, length, drop, get_or, Option, Bool}
 use Rattle.std.proofs.lemmas.List.{drop_more}
 use Rattle.c_syntax.specs.ExprTree as e
-use Rattle.c_syntax.specs.ExprTree.{PostfixList}
+use Rattle.c_syntax.specs.Words.{PostfixList, plain_operators, plain_postfix}
 use Rattle.c_syntax.specs.declared.expr.PostfixOperator.{PostfixOperator}
 use Rattle.c_syntax.specs.declared.expr.PostfixOperator.TheVariants as postfix
-use Rattle.c_syntax.specs.Plain.{plain_operators, plain_postfix}
 use Rattle.c_syntax.proofs.PlainExprs.{plain_arrow_before, plain_decrement_before, plain_increment_before, plain_index_before, plain_member_before}
 use Rattle.flow.specs.declared.node.Node.{Node}
 use Rattle.c_meaning.specs.declared.value_type.ValueType.{ValueType}
@@ -56,19 +55,15 @@ module _ (facts : Facts) (sites : Sites) where
       Behind G facts sites taken known of l i k
   first_then G taken known of e.no_postfix i k h = h.1 ∙ h.2
   first_then G taken known of (e.index token x rest) i k h = (h.1.0, h.1.1, (h.1.2.0, h.1.2.1, (h.0, h.1.2.2, h.2)))
-  first_then G taken known of (e.member token name rest) i k h = h
   first_then G taken known of (e.arrow token name rest) i k h = (h.1.0, h.1.1, (h.0, h.1.2, h.2))
-  first_then G taken known of (e.increment token rest) i k h = h
-  first_then G taken known of (e.decrement token rest) i k h = h
+  first_then G taken known of l i k h = h
 
   then_first : (G : Graph) (taken known : Bool) (of : Option ValueType) (l : PostfixList) (i k : ℕ) → Behind G facts sites taken known of l i k →
       (first_part facts sites (taken || has_more (others l)) known of l G then Behind G facts sites taken (place_after l) (facts.type_at (token_after l)) (others l)) i k
   then_first G taken known of e.no_postfix i k h = (i, refl, h)
   then_first G taken known of (e.index token x rest) i k h = (h.2.2.0, (h.0, h.1, (h.2.0, h.2.1, h.2.2.1)), h.2.2.2)
-  then_first G taken known of (e.member token name rest) i k h = h
   then_first G taken known of (e.arrow token name rest) i k h = (h.2.0, (h.0, h.1, h.2.1), h.2.2)
-  then_first G taken known of (e.increment token rest) i k h = h
-  then_first G taken known of (e.decrement token rest) i k h = h
+  then_first G taken known of l i k h = h
 
   -- one more operator before those that were put
   pub behind_step : (taken known : Bool) (of : Option ValueType) (xs : List PostfixOperator) (m j : ℕ) (d : PostfixOperator) (n0 n1 n2 : List Node) (entry i k : ℕ) →

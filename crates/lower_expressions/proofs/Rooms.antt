@@ -3,12 +3,11 @@ use Rattle.std.specs.Prelude.{IfOk}
 use Rattle.std.proofs.Common.{◌≡◌, ℕ, zero, suc, [], Result, Ok, Err, ◌+◌, ◌<◌, ◌≤◌, ◌∙◌, ap, refl, sym, arith, List, ◌∷◌, length, take, drop, get_or, true}
 use Rattle.std.proofs.lemmas.List.{drop_more}
 use Rattle.c_syntax.specs.ExprTree as e
-use Rattle.c_syntax.specs.ExprTree.{ExprTree, ExprList, PostfixList}
+use Rattle.c_syntax.specs.Words.{ExprTree, ExprList, PostfixList, plain_expr, plain_exprs, plain_links, plain_operators, plain_postfix}
 use Rattle.c_syntax.specs.declared.expr.Expr.{Expr}
 use Rattle.c_syntax.specs.declared.expr.Link.{Link}
 use Rattle.c_syntax.specs.declared.expr.PostfixOperator.{PostfixOperator}
 use Rattle.c_syntax.specs.declared.expr.PostfixOperator.TheVariants as postfix
-use Rattle.c_syntax.specs.Plain.{plain_expr, plain_exprs, plain_links, plain_operators, plain_postfix}
 use Rattle.c_syntax.proofs.PlainExprs.{plain_arrow_before, plain_decrement_before, plain_increment_before, plain_index_before, plain_member_before}
 use Rattle.c_types_rules.specs.declared.library.Library.TheVariants as library
 use Rattle.c_meaning.specs.declared.value_type.Called.{Called}
@@ -99,32 +98,10 @@ module _ (sites : Sites) where
 
   -- the arguments that are passed have no more room than all
   pub passed_room : (c : Called) (xs : ExprList) → exprs_room sites 3 (passed c xs) ≤ exprs_room sites 3 xs
-  passed_room (called.Function number) xs = omega arith
-  passed_room (called.Library library.Getchar) xs = omega arith
-  passed_room (called.Library library.Putchar) xs = omega arith
-  passed_room (called.Library library.Puts) xs = omega arith
-  passed_room (called.Library library.Malloc) xs = omega arith
-  passed_room (called.Library library.Free) xs = omega arith
-  passed_room (called.Library library.Exit) xs = omega arith
-  passed_room (called.Library library.Abort) xs = omega arith
-  passed_room (called.Library library.Assert) xs = omega arith
   passed_room (called.Library library.Printf) xs = others_room xs
-  passed_room called.Unknown xs = omega arith
+  passed_room c xs = omega arith
 
   -- an expression that is a value by its form has room for the nodes that no run comes to
   pub nowhere_room : (x : ExprTree) → is_nowhere x ≡ true → 2 ≤ expr_room sites x
-  nowhere_room (e.Comma token operands) h = omega arith
-  nowhere_room (e.Assign token sign target value) h = omega arith
-  nowhere_room (e.Conditional token condition first second) h = omega arith
-  nowhere_room (e.Chain level first links) h = omega arith
-  nowhere_room (e.Cast token base stars operand) h = omega arith
-  nowhere_room (e.Prefix token operator operand) h = omega arith
-  nowhere_room (e.SizeOfType token base stars) h = omega arith
-  nowhere_room (e.Postfix primary operators) h = omega arith
-  nowhere_room (e.Name token name) h = omega arith
-  nowhere_room (e.Call token name arguments) h = omega arith
-  nowhere_room (e.Constant token kind value) h = omega arith
-  nowhere_room (e.Strings token parts) h = omega arith
   nowhere_room (e.Paren token inner) h = cc
-  nowhere_room (e.Null token) h = omega arith
-  nowhere_room (e.EndOfFile token) h = omega arith
+  nowhere_room x h = omega arith

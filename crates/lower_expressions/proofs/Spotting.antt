@@ -3,8 +3,7 @@ use Rattle.std.proofs.Common.{◌≡◌, ℕ, subst, sym, List, Bool, true, fals
 use Rattle.c_syntax.specs.ExprTree as e
 use Rattle.c_syntax.specs.ExprTree.{ExprTree, PostfixList}
 use Rattle.flow.specs.declared.node.Node.{Node}
-use Rattle.c_meaning.specs.Facts.{Facts, Sites}
-use Rattle.c_meaning.specs.Trees.{ends_as_place, is_place, type_of}
+use Rattle.c_meaning.specs.Words.{Facts, Sites, ends_as_place, is_place, type_of}
 use Rattle.lower_relation.specs.Operators.{Postfixed}
 use Rattle.lower_relation.specs.Paths.{Graph, Path}
 use Rattle.lower_relation.specs.Values.{Valued}

@@ -36,15 +36,10 @@ turned_made facts sites m (purpose.Truth yes_at no_at) n0 n1 n2 after i other ta
 
 -- the operators whose whole is a value
 pub valued_else : (operator : PrefixOperator) → (operator ≡ prefix.SizeOf → ⊥) → (operator ≡ prefix.Indirection → ⊥) → (operator ≡ prefix.Not → ⊥) → is_valued operator ≡ true
-valued_else prefix.Increment no_size no_pointer no_not = refl
-valued_else prefix.Decrement no_size no_pointer no_not = refl
 valued_else prefix.SizeOf no_size no_pointer no_not = absurd (no_size refl)
-valued_else prefix.Address no_size no_pointer no_not = refl
 valued_else prefix.Indirection no_size no_pointer no_not = absurd (no_pointer refl)
-valued_else prefix.Plus no_size no_pointer no_not = refl
-valued_else prefix.Minus no_size no_pointer no_not = refl
-valued_else prefix.Complement no_size no_pointer no_not = refl
 valued_else prefix.Not no_size no_pointer no_not = absurd (no_not refl)
+valued_else operator no_size no_pointer no_not = refl
 
 -- and those that have none there
 value_stuck : (G : Graph) (facts : Facts) (sites : Sites) (token : ℕ) (operator : PrefixOperator) (of : Option ValueType) (m : Emitted) →
@@ -56,9 +51,7 @@ value_stuck G facts sites token prefix.Address of m up down at plus minus comple
 value_stuck G facts sites token prefix.Plus of m up down at plus minus complement = absurd (plus refl)
 value_stuck G facts sites token prefix.Minus of m up down at plus minus complement = absurd (minus refl)
 value_stuck G facts sites token prefix.Complement of m up down at plus minus complement = absurd (complement refl)
-value_stuck G facts sites token prefix.SizeOf of m up down at plus minus complement = refl
-value_stuck G facts sites token prefix.Indirection of m up down at plus minus complement = refl
-value_stuck G facts sites token prefix.Not of m up down at plus minus complement = refl
+value_stuck G facts sites token operator of m up down at plus minus complement = refl
 
 pub value_stuck_made : (facts : Facts) (sites : Sites) (token : ℕ) (operator : PrefixOperator) (of : Option ValueType) (m : Graph → Emitted) (n0 n1 : List Node) (i k : ℕ) →
     (operator ≡ prefix.Increment → ⊥) → (operator ≡ prefix.Decrement → ⊥) → (operator ≡ prefix.Address → ⊥) → (operator ≡ prefix.Plus → ⊥) →

@@ -1,12 +1,10 @@
 -- What stands before an operator of a chain: its value and its truth, one operator after another.
 use Rattle.std.specs.Prelude.{ℕ, zero, suc, List, [], ◌∷◌, Option}
-use Rattle.c_syntax.specs.ExprTree.{ExprTree}
+use Rattle.c_syntax.specs.Words.{ExprTree, plain_expr, plain_links}
 use Rattle.c_syntax.specs.declared.expr.Link.{Link}
-use Rattle.c_syntax.specs.Plain.{plain_expr, plain_links}
 use Rattle.c_types_expressions.specs.ExprWalk.{binary_of}
 use Rattle.c_meaning.specs.declared.value_type.ValueType.{ValueType}
-use Rattle.c_meaning.specs.Facts.{Facts, Sites}
-use Rattle.c_meaning.specs.Trees.{begins_null, is_null_beside, joint, operand_type, type_of}
+use Rattle.c_meaning.specs.Words.{Facts, Sites, begins_null, is_null_beside, joint, operand_type, type_of}
 use Rattle.lower_relation.specs.Expressions.{emitted}
 use Rattle.lower_relation.specs.Operators.{LinkedTruth}
 use Rattle.lower_relation.specs.Paths.{Graph, Path, ◌then◌, Ways}

@@ -1,8 +1,7 @@
 ghost use Rattle.flow.specs.Limits.{node_limit};
 ghost use Rattle.std.specs.Prelude.{IfOk, length, ◌≤◌, ◌+◌};
 ghost use Rattle.c_syntax.specs.Plain.{plain_expr};
-ghost use Rattle.c_meaning.specs.Conversions.{is_null_as};
-ghost use Rattle.c_meaning.specs.Trees.{type_of};
+ghost use Rattle.c_meaning.specs.Words.{is_null_as, type_of};
 ghost use Rattle.lower_relation.specs.Expressions.{emitted};
 ghost use Rattle.lower_relation.specs.Values.{WantedValue};
 ghost use Rattle.lower_relation.specs.Room.{expr_room};

@@ -1,8 +1,7 @@
 ghost use Rattle.flow.specs.Limits.{node_limit};
 ghost use Rattle.std.specs.Prelude.{IfOk, length, ◌≤◌, ◌+◌};
 ghost use Rattle.c_syntax.specs.ExprTree as e;
-ghost use Rattle.c_syntax.specs.ExprTree.{PostfixList};
-ghost use Rattle.c_syntax.specs.Plain.{plain_expr, plain_operators, plain_postfix};
+ghost use Rattle.c_syntax.specs.Words.{PostfixList, plain_expr, plain_operators, plain_postfix};
 ghost use Rattle.lower_relation.specs.Expressions.{Behind, emitted};
 ghost use Rattle.lower_relation.specs.Operators.{Spot};
 ghost use Rattle.lower_relation.specs.Room.{expr_room, postfix_room};

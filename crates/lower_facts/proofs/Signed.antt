@@ -4,8 +4,7 @@ use Rattle.std.specs.Prelude.{map, option_map, slice_get, unwrap_or}
 use Rattle.std.proofs.lemmas.Option.{slice_get-map}
 use Rattle.c_types_expressions.specs.declared.walk.Definition.{Definition}
 use Rattle.c_types_expressions.specs.declared.walk.Walk.{Walk}
-use Rattle.c_meaning.specs.Facts.{Signature}
-use Rattle.c_meaning.specs.Known.{signature_of}
+use Rattle.c_meaning.specs.Words.{Signature, signature_of}
 use Rattle.lower_facts.specs.Signatures.{signature_of_entry}
 
 of_entry : (w : Walk) (d : Option Definition) → unwrap_or (option_map (signature_of_entry w) d) None ≡ signature_of w d

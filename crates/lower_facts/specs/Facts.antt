@@ -6,10 +6,7 @@ use Rattle.c_syntax.specs.ItemTree.{SourceTree}
 use Rattle.c_types_expressions.specs.declared.walk.Walk.{Walk}
 use Rattle.c_types.specs.Answers.{known_of, tree_of}
 use Rattle.flow.specs.declared.site.Site.{Site}
-use Rattle.c_meaning.specs.Facts.{Facts, Sites}
-use Rattle.c_meaning.specs.Known.{facts_of}
-use Rattle.c_meaning.specs.Runs.{Source}
-use Rattle.c_meaning.specs.Texts.{sites_by_table, source_of}
+use Rattle.c_meaning.specs.Words.{Facts, Sites, facts_of, Source, sites_by_table, source_of}
 use Rattle.lower_facts.specs.declared.facts.TreeFacts.{TreeFacts}
 
 -- the tree, what the walk through it knows at its end, and the sites of the table

@@ -2,12 +2,10 @@
 use Rattle.std.specs.Prelude.{◌≤◌, List, Option, Some}
 use Rattle.std.specs.List.{All}
 use Rattle.c_types_rules.specs.declared.layout.StructType.{StructType}
-use Rattle.c_types_rules.specs.Sizes.{cells_of, most_cells}
-use Rattle.c_types_rules.specs.TypeTree.{TypeTree}
+use Rattle.c_types_rules.specs.Words.{cells_of, most_cells, TypeTree}
 use Rattle.c_types_expressions.specs.declared.walk.Definition.{Definition}
 use Rattle.c_types_expressions.specs.declared.walk.Walk.{Walk}
-use Rattle.c_meaning.specs.Facts.{Signature}
-use Rattle.c_meaning.specs.Known.{signature_of}
+use Rattle.c_meaning.specs.Words.{Signature, signature_of}
 
 -- the signature of the function that is defined so
 abbrev pub signature_of_entry : Walk → Definition → Option Signature

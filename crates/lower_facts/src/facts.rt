@@ -1,7 +1,6 @@
 ghost use Rattle.std.specs.Prelude.{◌≡◌, ℕ, map};
 ghost use Rattle.c_types.specs.Answers.{known_of, tree_of};
-ghost use Rattle.c_meaning.specs.Literals.{literals, number_from, texts_of};
-ghost use Rattle.c_meaning.specs.Texts.{head_site, is_branch, is_pair, is_return, main_of, sites_from};
+ghost use Rattle.c_meaning.specs.Words.{literals, number_from, texts_of, head_site, is_branch, is_pair, is_return, main_of, sites_from};
 ghost use Rattle.lower_trees.specs.Bodies.{defining};
 ghost use Rattle.lower_trees.specs.Places.{all_at};
 ghost use Rattle.lower_facts.specs.Signatures.{signature_of_entry};
@@ -14,7 +13,7 @@ use c_syntax::{Base, Entry, Expr, Item};
 use c_types::Checked;
 use c_types_expressions::Variable;
 use c_types_rules::{CType, StructType, library_named};
-use cbi_base::{Memory, Name, Scalar};
+use cbi_base::{Memory, Name, Scalar, Seq};
 use flow::{Site, SiteTable, Slot, Text};
 use lower_trees::{
     SiteLists, TextLists, at_token, behind_token, body_numbered, first_at, named_cells, site_lists,
@@ -49,8 +48,7 @@ impl<'a> TreeFacts<'a> {
     ghost use Rattle.c_types.specs.Fault.{walk_tree};
     ghost use Rattle.c_types_expressions.specs.Walked.{Fine};
     ghost use Rattle.flow.specs.Limits.{text_limit};
-    ghost use Rattle.c_meaning.specs.Literals.{literals};
-    ghost use Rattle.c_meaning.specs.Trees.{called_as, token_of, type_of};
+    ghost use Rattle.c_meaning.specs.Words.{literals, called_as, token_of, type_of};
     ghost use Rattle.lower_facts.specs.Signatures.{AreSized};
     ghost use Rattle.lower_facts.specs.Facts.{facts_in, known_in, sites_in, source_in, string_place, table_in, tree_in};
 
@@ -215,6 +213,15 @@ impl<'a> TreeFacts<'a> {
         ensures { result.now ≡ (facts_in self.now).statics.texts }
     {
         self.strings.texts.as_slice()
+    }
+
+    /// The strings, by their numbers, where nothing else is asked any more.
+    pub fn into_texts(self) -> Seq<Text>
+        ensures { result ≡ (facts_in self.entry).statics.texts }
+    {
+        let TreeFacts { strings, .. } = self;
+        let TextLists { texts, numbers: _ } = strings;
+        texts
     }
 
     /// How many globals there are. The strings are the objects after them.

@@ -3,10 +3,8 @@ use Rattle.std.proofs.Common.{◌≤◌, arith, List, [], ◌∷◌, ◌++◌, l
 use Rattle.std.specs.Prelude.{IsSome}
 use Rattle.std.specs.List.{flat_map}
 use Rattle.c_syntax.specs.declared.token.Sign.TheVariants as sign
-use Rattle.c_syntax.specs.StatementTree.{StartTree}
+use Rattle.c_syntax.specs.Words.{StartTree, ItemTree, SourceTree, a_sign, base_kinds, item_kinds, start_kinds, with_commas}
 use Rattle.c_syntax.specs.ItemTree as item
-use Rattle.c_syntax.specs.ItemTree.{ItemTree, SourceTree}
-use Rattle.c_syntax.specs.Spelling.{a_sign, base_kinds, item_kinds, start_kinds, with_commas}
 use Rattle.c_types_expressions.specs.declared.walk.Walk.{Walk}
 use Rattle.c_types_walk.specs.Room.{starts_need}
 use Rattle.c_types_walk.proofs.Tokens.{starts_long}

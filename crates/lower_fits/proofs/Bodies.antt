@@ -3,25 +3,15 @@ use Rattle.std.proofs.Common.{◌≡◌, ℕ, zero, suc, ◌+◌, subst, arith, 
 use Rattle.std.specs.Prelude.{slice_get}
 use Rattle.std.specs.List.{AllByRecursion, flat_map}
 use Rattle.std.proofs.lemmas.Option.{same_Some}
+use Rattle.base_lists.proofs.Every.{all_at, all_join}
 use Rattle.c_syntax.specs.declared.token.Sign.TheVariants as sign
 use Rattle.c_syntax.specs.ItemTree as i
-use Rattle.c_syntax.specs.ItemTree.{ItemTree, SourceTree}
-use Rattle.c_syntax.specs.Place.{EachAt, EntriesAt, ItemAt}
-use Rattle.c_syntax.specs.Spelling.{a_name, a_sign, braced, entry_kinds, item_kinds, params_kinds, parenthesized, tree_kinds, type_kinds}
-use Rattle.c_syntax.specs.StatementTree.{EntryList}
-use Rattle.c_syntax.specs.Tokens.{KindFits}
-use Rattle.c_syntax.specs.WellFormed.{IsShaped}
+use Rattle.c_syntax.specs.Words.{ItemTree, SourceTree, EachAt, EntriesAt, ItemAt, a_name, a_sign, braced, entry_kinds, item_kinds, params_kinds, parenthesized}
+use Rattle.c_syntax.specs.Words.{tree_kinds, type_kinds, EntryList, KindFits, IsShaped}
 use Rattle.c_meaning.specs.Known.{bodies, body_of_item}
 use Rattle.c_meaning_sound.proofs.Calling.{around}
-use Rattle.c_meaning_sound.proofs.Spotting.{all_two}
 use Rattle.lower_fits.specs.Fitting.{BodyStands}
 use Rattle.lower_fits.proofs.Standing.{Lies, after, back, front}
-
--- what holds of all holds of each
-each_of : {A : Type 0} (P : A → Type 0) (xs : List A) (n : ℕ) (x : A) → AllByRecursion P xs → slice_get xs n ≡ Some x → P x
-each_of P [] n x h e = cc
-each_of P (y ∷ xs) zero x h e = subst P (same_Some y x e) h.0
-each_of P (y ∷ xs) (suc n) x h e = each_of P xs n x h.1 e
 
 -- the body stands somewhere among the tokens before this one
 abbrev StandsBefore : ℕ → EntryList → Type 0
@@ -30,8 +20,6 @@ StandsBefore hi body = (at : ℕ) × EntriesAt at body × Lies 0 hi at (entry_ki
 module _ (hi : ℕ) where
   -- the body of an item, if it has one
   item_body : (x : ItemTree) (at : ℕ) → ItemAt at x → Lies 0 hi at (item_kinds x) → AllByRecursion (StandsBefore hi) (body_of_item x)
-  item_body (i.Struct token tag members) at p l = tt
-  item_body (i.Function token b stars name ps None) at p l = tt
   item_body (i.Function token b stars name ps (Some body)) at p l =
       let named = type_kinds b stars ++ a_name name in
       let head = named ++ parenthesized (params_kinds ps) in
@@ -43,14 +31,14 @@ module _ (hi : ℕ) where
       let lies = front 0 hi first (entry_kinds body) (a_sign sign.RightBrace)
       (after 0 hi brace first _ (entry_kinds body ++ a_sign sign.RightBrace) (omega arith) in_braces) in
       ((first, p.3, lies), tt)
-  item_body (i.Declaration declaration) at p l = tt
+  item_body x at p l = tt
 
   -- the bodies of all items
   item_bodies : (xs : List ItemTree) (at : ℕ) → EachAt ItemAt item_kinds 0 at xs → Lies 0 hi at (flat_map item_kinds xs)
       → AllByRecursion (StandsBefore hi) (flat_map body_of_item xs)
   item_bodies [] at p l = tt
   item_bodies (x ∷ xs) at p l =
-      all_two (StandsBefore hi) (body_of_item x) (flat_map body_of_item xs)
+      all_join (StandsBefore hi) (body_of_item x) (flat_map body_of_item xs)
       (item_body x at p.0 (front 0 hi at (item_kinds x) (flat_map item_kinds xs) l))
       (item_bodies xs (at + length (item_kinds x) + 0) p.1
       (back 0 hi at (at + length (item_kinds x) + 0) (item_kinds x) (flat_map item_kinds xs) (omega arith) l))
@@ -61,5 +49,5 @@ pub body_stands : (text : SourceTree) (number : ℕ) (body : EntryList) → IsSh
 body_stands text number body shaped constants e =
     let hi = length (tree_kinds text) in
     let lies : Lies 0 hi 0 (tree_kinds text) = record { from = omega arith; before = omega arith; constants = constants } in
-    let stands = each_of (StandsBefore hi) (bodies text) number body (item_bodies hi text.items 0 shaped.placed lies) e in
+    let stands = all_at (StandsBefore hi) (bodies text) number body (item_bodies hi text.items 0 shaped.placed lies) e in
     record { lo = stands.0; placed = stands.1; within = stands.2.before; constants = stands.2.constants }

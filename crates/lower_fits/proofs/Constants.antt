@@ -5,18 +5,16 @@ use Rattle.std.specs.List.{All, AllByRecursion, flat_map}
 use Rattle.std.proofs.lemmas.Bool.{false≢true}
 use Rattle.std.proofs.lemmas.List.{length-map}
 use Rattle.std.proofs.lemmas.List.Elements.{All-from_recursion, All-weaker}
+use Rattle.base_lists.proofs.Every.{all_first, all_second}
 use Rattle.cbi_base.specs.declared.scalar.Scalar.{Scalar}
 use Rattle.cbi_base.specs.declared.scalar.Scalar.TheVariants.{Number, Place, Null, Undefined}
 use Rattle.cbi_base.specs.Objects.{Object}
 use Rattle.c_syntax.specs.declared.expr.PrefixOperator.TheVariants as prefix
 use Rattle.c_syntax.specs.declared.token.Sign.TheVariants as sign
 use Rattle.c_syntax.specs.ExprTree as e
-use Rattle.c_syntax.specs.ExprTree.{ExprTree, ExprList}
-use Rattle.c_syntax.specs.ItemTree.{ItemTree, SourceTree}
-use Rattle.c_syntax.specs.Spelling.{a_sign, comma_kinds, expr_kinds, exprs_kinds, more_exprs_kinds, tree_kinds}
+use Rattle.c_syntax.specs.Words.{ExprTree, ExprList, ItemTree, SourceTree, a_sign, comma_kinds, expr_kinds, exprs_kinds, more_exprs_kinds, tree_kinds}
+use Rattle.c_syntax.specs.Words.{InitialTree, StartTree, KindFits}
 use Rattle.c_syntax.specs.StatementTree as s
-use Rattle.c_syntax.specs.StatementTree.{InitialTree, StartTree}
-use Rattle.c_syntax.specs.Tokens.{KindFits}
 use Rattle.c_types_rules.specs.TypeTree as t
 use Rattle.c_types_rules.specs.TypeTree.{TypeTree}
 use Rattle.c_types_expressions.specs.declared.walk.Walk.{Walk}
@@ -26,18 +24,13 @@ use Rattle.c_types_expressions.specs.Walked.{Fine}
 use Rattle.flow.specs.Limits.{text_limit}
 use Rattle.c_meaning.specs.declared.value_type.ValueType.{ValueType}
 use Rattle.c_meaning.specs.declared.value_type.ValueType.TheVariants as type
-use Rattle.c_meaning.specs.Facts.{Facts}
-use Rattle.c_meaning.specs.Globals.{global_object, starts_of}
-use Rattle.c_meaning.specs.Known.{computed_type, element_type, facts_of}
-use Rattle.c_meaning.specs.Literals.{literals, texts_of}
-use Rattle.c_meaning.specs.Meaning.{text_of_string}
+use Rattle.c_meaning.specs.Words.{Facts, global_object, starts_of, computed_type, element_type, facts_of, literals, texts_of, text_of_string}
 use Rattle.c_meaning_laws.specs.TypedText.{GlobalInitial, GlobalItems, IsConstant, TypedGlobal, TypedGlobals}
 use Rattle.c_meaning_sound.specs.Accepted.{IsAcceptedTree}
 use Rattle.c_meaning_sound.specs.Sited.{IsSited}
 use Rattle.c_meaning_sound.proofs.Ending.{small_structs, tree_sums}
 use Rattle.c_meaning_sound.proofs.Initialising.{equals_kinds}
 use Rattle.c_meaning_sound.proofs.Noting.{Small}
-use Rattle.c_meaning_sound.proofs.Parting.{all_first, all_second}
 use Rattle.c_meaning_sound.proofs.Whole.{none_fits}
 use Rattle.lower_globals.specs.Starts.{AreStarts, IfFirst, IsBegun, IsBegunItem, IsFirst, IsGlobalStart, IsStart}
 use Rattle.lower_fits.proofs.Declaring.{Declared, cells_at}
@@ -72,13 +65,10 @@ initial_begins : (facts : Facts) (of : ValueType) (element : Option ValueType) (
     → AllByRecursion KindFits (equals_kinds x) → IsGlobalStart x
 initial_begins facts of element None h f = tt
 initial_begins facts (type.Array size) element (Some (s.Value value)) h f = text_starts facts value h
-initial_begins facts type.Void element (Some (s.Value value)) h f = constant_starts facts value h.0 f.1
-initial_begins facts (type.Number kind) element (Some (s.Value value)) h f = constant_starts facts value h.0 f.1
-initial_begins facts (type.Pointer size) element (Some (s.Value value)) h f = constant_starts facts value h.0 f.1
-initial_begins facts type.Struct element (Some (s.Value value)) h f = constant_starts facts value h.0 f.1
 initial_begins facts of element (Some (s.Braced token items comma)) h f =
     items_start facts element items h (all_first KindFits (exprs_kinds items) (comma_kinds comma)
     (all_first KindFits (exprs_kinds items ++ comma_kinds comma) (a_sign sign.RightBrace) f.1.1))
+initial_begins facts of element (Some (s.Value value)) h f = constant_starts facts value h.0 f.1
 
 -- the initialiser of a global whose type is known
 typed_begins : (facts : Facts) (z : Walk) (x : StartTree) (o : Option TypeTree) → TypedGlobal facts z x o → AllByRecursion KindFits (equals_kinds x.initial)

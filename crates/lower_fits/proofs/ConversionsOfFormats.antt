@@ -5,7 +5,7 @@ use Rattle.std.specs.Option.{option_and_then, option_map}
 use Rattle.std.proofs.lemmas.Bool.{and_parts, false≢true}
 use Rattle.std.proofs.lemmas.Bool.Decides.{nat_tests}
 use Rattle.std.proofs.lemmas.Option.{same_Some, slice_get-map}
-use Rattle.cbi_base.specs.Format.{conversions_of, is_conversion, is_percent, one_conversion_more}
+use Rattle.cbi_base.specs.Words.{Byte, Conversion, pieces_of, conversions_of, is_conversion, is_percent, one_conversion_more}
 use Rattle.c_syntax.specs.ExprTree as e
 use Rattle.c_syntax.specs.ExprTree.{ExprTree}
 use Rattle.c_types_rules.specs.declared.operand.Operand.{Operand}
@@ -13,10 +13,7 @@ use Rattle.c_types_rules.specs.Library.{after_first, are_none, first_converts, f
 use Rattle.flow.specs.declared.program.Text.{Text}
 use Rattle.flow.specs.declared.scope.Names.{Names}
 use Rattle.flow.specs.Nodes.{is_format}
-use Rattle.flow.specs.Printing.{Byte, Conversion, pieces_of}
-use Rattle.c_meaning.specs.Calls.{types_taken}
-use Rattle.c_meaning.specs.Facts.{Facts}
-use Rattle.c_meaning.specs.Meaning.{text_of_string}
+use Rattle.c_meaning.specs.Words.{types_taken, Facts, text_of_string}
 use Rattle.lower_relation.specs.Expressions.{number_of_text}
 use Rattle.lower_fits.specs.Fitting.{TextsNamed}
 

@@ -3,23 +3,23 @@ use Rattle.std.proofs.Common.{◌≡◌, ℕ, ◌+◌, ◌≤◌, ◌<◌, refl,
 use Rattle.std.specs.Prelude.{nat_le, slice_get, sum_by}
 use Rattle.std.specs.List.{AllByRecursion}
 use Rattle.std.proofs.lemmas.List.Sums.{sum_by-cons}
-use Rattle.cbi_base.proofs.NumberLemmas.{both}
-use Rattle.c_syntax.specs.ItemTree.{SourceTree}
-use Rattle.c_syntax.specs.StatementTree.{DeclarationTree, StartTree}
-use Rattle.c_syntax.specs.Place.{DeclarationAt, EachAt, StartAt}
-use Rattle.c_syntax.specs.Spelling.{a_sign, base_kinds, declaration_kinds, declarator_kinds, start_kinds, with_commas}
+use Rattle.std.proofs.lemmas.Bool.{and_parts}
+use Rattle.c_types.proofs.Replaced.{noted_other, noted_same}
+use Rattle.sites.proofs.RisesBodies.{declarator-length}
+use Rattle.base_lists.proofs.Lists.{get_last, Stays}
+use Rattle.c_syntax.specs.Words.{SourceTree, DeclarationTree, StartTree, DeclarationAt, EachAt, StartAt, a_sign, base_kinds, declaration_kinds}
+use Rattle.c_syntax.specs.Words.{declarator_kinds, start_kinds, with_commas}
 use Rattle.c_syntax.specs.declared.token.Sign.TheVariants as sign
-use Rattle.c_types_rules.specs.Sizes.{cells_of, is_complete}
-use Rattle.c_types_rules.specs.TypeTree.{TypeTree}
+use Rattle.c_types_rules.specs.Words.{cells_of, is_complete, TypeTree}
 use Rattle.c_types_expressions.specs.declared.walk.Walk.{Walk}
 use Rattle.c_types.specs.Answers.{declared_at, noted}
 use Rattle.c_types_expressions.specs.ExprWalk.{base_type}
 use Rattle.c_types_walk.specs.StatementWalk.{walk_declaration, walk_start, walk_starts}
-use Rattle.c_types.proofs.Noted.{Gives, gives_more, gives_then}
-use Rattle.c_meaning_sound.proofs.Declaring.{commas_long, declared_is, get_behind, name_inside}
+use Rattle.c_types.proofs.Noted.{Gives, gives_more, gives_then, length_replaced}
+use Rattle.c_meaning_sound.proofs.Declaring.{commas_long, declared_is}
 use Rattle.c_meaning_sound.proofs.Growing.{Grows}
 use Rattle.c_meaning_sound.proofs.Initialising.{equals_kinds}
-use Rattle.c_meaning_sound.proofs.Noting.{Stays, StaysWhole, noted_other, noted_same, replaced_long}
+use Rattle.c_meaning_sound.proofs.Noting.{StaysWhole}
 use Rattle.c_meaning_sound.proofs.Reaching.{Named, base_gives, stays_more}
 use Rattle.c_meaning_sound.proofs.Sizing.{cells_same}
 use Rattle.lower_fits.proofs.Laying.{Long}
@@ -70,9 +70,9 @@ module _ (tree : SourceTree) (z : Walk) where
   names_before [] at hi p h = tt
   names_before (x ∷ []) at hi p h =
       let long : length (with_commas start_kinds (x ∷ [])) ≡ length (start_kinds x) + 0 = length-append (start_kinds x) [] in
-      (omega (arith, h, long, p.0.1.1, name_inside x.declarator, length-append (declarator_kinds x.declarator) (equals_kinds x.initial)), tt)
+      (omega (arith, h, long, p.0.1.1, declarator-length x.declarator, length-append (declarator_kinds x.declarator) (equals_kinds x.initial)), tt)
   names_before (x ∷ y ∷ ys) at hi p h = (
-    omega (arith, h, commas_long x y ys, p.0.1.1, name_inside x.declarator, length-append (declarator_kinds x.declarator) (equals_kinds x.initial)),
+    omega (arith, h, commas_long x y ys, p.0.1.1, declarator-length x.declarator, length-append (declarator_kinds x.declarator) (equals_kinds x.initial)),
     names_before (y ∷ ys) (at + length (start_kinds x) + 1) hi p.1 (omega (arith, h, commas_long x y ys)),
   )
 
@@ -82,20 +82,20 @@ module _ (tree : SourceTree) (z : Walk) where
   one_began at hi x xs w u v p l h k g s b r =
       let token : ℕ = x.declarator.name_token in
       let inside : token < at + length (start_kinds x) + 1 =
-      omega (arith, p.1.1, name_inside x.declarator, length-append (declarator_kinds x.declarator) (equals_kinds x.initial)) in
-      let complete : is_complete w.structs b.of ≡ true = (both (is_complete w.structs b.of) (nat_le (cells_of w.structs b.of) 1048576) b.object).0 in
+      omega (arith, p.1.1, declarator-length x.declarator, length-append (declarator_kinds x.declarator) (equals_kinds x.initial)) in
+      let complete : is_complete w.structs b.of ≡ true = (and_parts (is_complete w.structs b.of) (nat_le (cells_of w.structs b.of) 1048576) b.object).0 in
       let here : noted u.variables_at token ≡ Some (length w.variables) =
       ap (λ ns. noted ns token) b.notes ∙ noted_same w.variables_at token (length w.variables) (omega (arith, l, h)) in
       let last : slice_get u.declared_types (length w.variables) ≡ Some b.of =
       ap (λ ts. slice_get ts (length w.variables)) b.types
-      ∙ subst (λ n. slice_get (w.declared_types ++ b.of ∷ []) n ≡ Some b.of) k (get_behind w.declared_types b.of) in
+      ∙ subst (λ n. slice_get (w.declared_types ++ b.of ∷ []) n ≡ Some b.of) k (get_last w.declared_types b.of) in
       let known : Lasts hi v → declared_at z token ≡ Some b.of = λ later.
       declared_is tree z token (length w.variables) b.of (later.notes token l ∙ r.below token inside ∙ here)
       (later.declared (length w.variables) b.of (r.declared (length w.variables) b.of last) (g b.of complete)) in
       record {
         structs = r.structs ∙ b.structs;
         long = r.long;
-        places = r.places ∙ ap length b.notes ∙ replaced_long w.variables_at token (Some (length w.variables));
+        places = r.places ∙ ap length b.notes ∙ length_replaced w.variables_at token (Some (length w.variables));
         below = λ q m. r.below q (omega (arith, m)) ∙ ap (λ ns. noted ns q) b.notes
             ∙ noted_other w.variables_at token q (Some (length w.variables)) (λ same. omega (arith, same, m, p.1.1));
         declared = λ i of q. r.declared i of (ap (λ ts. slice_get ts i) b.types ∙ stays_more w.declared_types (b.of ∷ []) i of q);
@@ -130,7 +130,7 @@ module _ (tree : SourceTree) (z : Walk) where
       (λ _ u b.
       let long : Long u = omega (arith, ap length b.types, length-append w.declared_types (b.of ∷ []), b.more, k) in
       let places : length u.variables_at ≡ length w.variables_at =
-      ap length b.notes ∙ replaced_long w.variables_at x.declarator.name_token (Some (length w.variables)) in
+      ap length b.notes ∙ length_replaced w.variables_at x.declarator.name_token (Some (length w.variables)) in
       gives_more (λ _ v. Began (at + length (start_kinds x) + 1) hi xs u v) (λ _ v. Began at hi (x ∷ xs) w v) (walk_starts true base xs u)
       (λ _ v r. one_began at hi x xs w u v p.0 l.0 h k g s b r)
       (starts_began xs (at + length (start_kinds x) + 1) hi base u p.1 l.1 (omega (arith, h, places)) long

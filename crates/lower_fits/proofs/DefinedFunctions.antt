@@ -5,10 +5,11 @@ use Rattle.std.specs.List.{All, AllByRecursion, flat_map}
 use Rattle.std.proofs.lemmas.List.{length-map}
 use Rattle.std.proofs.lemmas.List.Elements.{All-from_recursion}
 use Rattle.std.proofs.lemmas.Option.{slice_get_within}
+use Rattle.sites.proofs.RisesBodies.{brace-length}
+use Rattle.base_lists.proofs.Every.{all_first, all_join, all_second}
 use Rattle.cbi_base.specs.Name.{IsName}
 use Rattle.c_syntax.specs.ItemTree as item
-use Rattle.c_syntax.specs.ItemTree.{ItemTree, SourceTree}
-use Rattle.c_syntax.specs.Spelling.{a_name, body_kinds, braced, entry_kinds, item_kinds, params_kinds, parenthesized, type_kinds}
+use Rattle.c_syntax.specs.Words.{ItemTree, SourceTree, a_name, body_kinds, braced, entry_kinds, item_kinds, params_kinds, parenthesized, type_kinds}
 use Rattle.c_types_expressions.specs.declared.walk.Definition.{Definition}
 use Rattle.c_types_expressions.specs.declared.walk.Walk.{Walk}
 use Rattle.c_types.specs.Fault.{walk_tree}
@@ -16,15 +17,12 @@ use Rattle.c_types.specs.Numbers.{frame, frames_from, variables_in}
 use Rattle.c_types.specs.Parts.{item_parts}
 use Rattle.c_types_expressions.specs.Walked.{Fine}
 use Rattle.c_types.proofs.FunctionLaws.{frames_are}
-use Rattle.c_meaning.specs.Known.{signature_of}
-use Rattle.c_meaning.specs.Texts.{main_of}
+use Rattle.c_meaning.specs.Words.{signature_of, main_of}
 use Rattle.flow.specs.Limits.{function_limit}
 use Rattle.sites.specs.Table.{defined_by, defined_in, functions_of}
 use Rattle.c_meaning_sound.specs.Accepted.{IsAcceptedTree}
 use Rattle.c_meaning_sound.specs.Sited.{IsSited, IsSitedToken}
-use Rattle.c_meaning_sound.proofs.Parting.{all_first, all_second}
-use Rattle.c_meaning_sound.proofs.Spotting.{all_two, in_middle}
-use Rattle.c_meaning_sound.proofs.Stating.{in_braces}
+use Rattle.c_meaning_sound.proofs.Spotting.{in_middle}
 use Rattle.lower_fits.specs.Brought.{IsMainSignature}
 use Rattle.lower_fits.proofs.Main.{main_is}
 
@@ -57,7 +55,7 @@ item_twice (item.Function token b stars name ps None) = omega arith
 item_twice (item.Function token b stars name ps (Some body)) = omega (
   arith,
   length-append (type_kinds b stars ++ a_name name ++ parenthesized (params_kinds ps)) (braced (entry_kinds body)),
-  in_braces (entry_kinds body),
+  brace-length (entry_kinds body),
 )
 item_twice (item.Declaration d) = omega arith
 
@@ -85,7 +83,7 @@ item_named (item.Declaration d) k = tt
 -- so has each function that these items define
 items_named : (xs : List ItemTree) → AllByRecursion IsSitedToken (flat_map item_kinds xs) → AllByRecursion IsName (defined_in xs)
 items_named [] k = tt
-items_named (x ∷ xs) k = all_two IsName (defined_by x) (defined_in xs) (item_named x (all_first IsSitedToken (item_kinds x) (flat_map item_kinds xs) k))
+items_named (x ∷ xs) k = all_join IsName (defined_by x) (defined_in xs) (item_named x (all_first IsSitedToken (item_kinds x) (flat_map item_kinds xs) k))
     (items_named xs (all_second IsSitedToken (item_kinds x) (flat_map item_kinds xs) k))
 
 -- the functions of a text whose tokens keep names have names

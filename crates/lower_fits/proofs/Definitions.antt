@@ -3,15 +3,13 @@ use Rattle.std.proofs.Common.{◌≡◌, ℕ, zero, suc, ◌≤◌, ◌+◌, ref
 use Rattle.std.proofs.Common.{append_assoc, arith, length-append}
 use Rattle.std.specs.Prelude.{Option, drop, slice_get, unwrap_or, if◌then◌else◌}
 use Rattle.std.specs.List.{AllByRecursion}
-use Rattle.std.proofs.lemmas.Bool.{eqb-true, false≢true}
+use Rattle.std.proofs.lemmas.Bool.{eqb-true, false≢true, and_parts}
 use Rattle.std.proofs.lemmas.List.{append-nil, drop_at}
-use Rattle.cbi_base.proofs.NumberLemmas.{both}
-use Rattle.c_syntax.specs.Place.{EachAt, ItemAt}
-use Rattle.c_syntax.specs.Shape.{ShapedItem}
-use Rattle.c_syntax.specs.Spelling.{item_kinds}
-use Rattle.c_syntax.specs.WellFormed.{IsShaped}
+use Rattle.std.proofs.lemmas.Option.{same_Some}
+use Rattle.base_lists.proofs.Lists.{next_is}
+use Rattle.base_lists.proofs.Every.{all_join}
+use Rattle.c_syntax.specs.Words.{EachAt, ItemAt, ShapedItem, item_kinds, IsShaped, ItemTree, SourceTree}
 use Rattle.c_syntax.specs.ItemTree as item
-use Rattle.c_syntax.specs.ItemTree.{ItemTree, SourceTree}
 use Rattle.c_types_rules.specs.declared.function.FunctionType.{FunctionType}
 use Rattle.c_types_rules.specs.TypeTree.{TypeTree, same_type, same_types}
 use Rattle.c_types_expressions.specs.declared.names.Meaning.{Meaning}
@@ -19,21 +17,17 @@ use Rattle.c_types_expressions.specs.declared.names.Meaning.TheVariants as meani
 use Rattle.c_types_expressions.specs.declared.walk.Definition.{Definition}
 use Rattle.c_types_expressions.specs.declared.walk.FunctionEntry.{FunctionEntry}
 use Rattle.c_types_expressions.specs.declared.walk.Walk.{Walk}
-use Rattle.c_types_expressions.specs.Beginning.{beginning}
+use Rattle.c_types_expressions.specs.Words.{beginning, found, Done, Fine}
 use Rattle.c_types.specs.Fault.{walk_tree}
 use Rattle.c_types_walk.specs.ItemWalk.{clashes, has_type, known_as, walk_item, walk_items, with_function}
-use Rattle.c_types_expressions.specs.Names.{found}
 use Rattle.c_types_walk.specs.StatementWalk.{walk_declaration}
 use Rattle.c_types.specs.Parts.{declaration_parts}
-use Rattle.c_types_expressions.specs.Walked.{Done, Fine}
 use Rattle.c_types.proofs.Noted.{Step, stage}
 use Rattle.c_types.proofs.NotedStatements.{declaration_notes}
-use Rattle.c_types.proofs.Options.{some_is}
 use Rattle.sites.specs.Table.{defined_by, defined_in, functions_of}
 use Rattle.c_meaning_sound.proofs.Ending.{Follows, Sums, item_follows, items_follow, struct_is, tree_is}
-use Rattle.c_meaning_sound.proofs.Reaching.{Grown, begun_long, begun_stays, comes, definitions_same, fine_known, functions_same, longer_grows, next_is, taken}
+use Rattle.c_meaning_sound.proofs.Reaching.{Grown, begun_long, begun_stays, comes, definitions_same, fine_known, functions_same, longer_grows, taken}
 use Rattle.c_meaning_sound.proofs.Sizing.{Sized, object_stays}
-use Rattle.c_meaning_sound.proofs.Spotting.{all_two}
 use Rattle.lower_fits.proofs.Entering.{Declared, Entered, Enters, IsScalar, function_declared, function_enters}
 use Rattle.lower_fits.proofs.Filing.{InFile, declaration_file, function_file}
 use Rattle.lower_fits.proofs.Laying.{IsObject, Laid, Long, declaration_laid}
@@ -70,7 +64,7 @@ pub record IsEntry (functions : List FunctionEntry) (index count : ℕ) (name : 
 same_long : (xs ys : List TypeTree) → same_types xs ys ≡ true → length xs ≡ length ys
 same_long [] ys h = sym (eqb-true (length ys) 0 h)
 same_long (x ∷ xs) [] h = absurd (false≢true h)
-same_long (x ∷ xs) (y ∷ ys) h = ap suc (same_long xs ys (both (same_type x y) (same_types xs ys) h).1)
+same_long (x ∷ xs) (y ∷ ys) h = ap suc (same_long xs ys (and_parts (same_type x y) (same_types xs ys) h).1)
 
 -- what a function that was declared before was declared as
 record Before (name : List ℕ) (f : FunctionType) (w : Walk) (index : ℕ) : Type 0 where
@@ -80,21 +74,18 @@ record Before (name : List ℕ) (f : FunctionType) (w : Walk) (index : ℕ) : Ty
 -- a function that is known has the tested type
 before_if : (b : Bool) (name : List ℕ) (f : FunctionType) (w : Walk) (k index : ℕ) → found name w.names ≡ Some (meaning.Function k)
     → has_type f (slice_get w.functions k) ≡ b → (if b then Some k else None) ≡ Some index → Before name f w index
-before_if true name f w k index e h i = subst (Before name f w) (some_is k index i) (record { means = e; typed = h })
+before_if true name f w k index e h i = subst (Before name f w) (same_Some k index i) (record { means = e; typed = h })
 before_if false name f w k index e h i = absurd (cc)
 
 -- a function that is known was declared by its name, and has this type
 before_by : (name : List ℕ) (f : FunctionType) (w : Walk) (m : Option Meaning) (index : ℕ) → found name w.names ≡ m → known_as f m w ≡ Some index
     → Before name f w index
-before_by name f w None index e h = absurd (cc)
 before_by name f w (Some (meaning.Function k)) index e h = before_if (has_type f (slice_get w.functions k)) name f w k index e refl h
-before_by name f w (Some (meaning.Variable k)) index e h = absurd (cc)
-before_by name f w (Some (meaning.Struct k)) index e h = absurd (cc)
-before_by name f w (Some (meaning.Library k)) index e h = absurd (cc)
+before_by name f w m index e h = absurd (cc)
 
 -- a function has as many parameters as its type
 typed_long : (f : FunctionType) (g : FunctionEntry) → has_type f (Some g) ≡ true → length g.ctype.params ≡ length f.params
-typed_long f g h = same_long g.ctype.params f.params (both (same_type g.ctype.gives f.gives) (same_types g.ctype.params f.params) h).1
+typed_long f g h = same_long g.ctype.params f.params (and_parts (same_type g.ctype.gives f.gives) (same_types g.ctype.params f.params) h).1
 
 -- the entry of a function that is declared, maybe again
 entry_is : (name : List ℕ) (f : FunctionType) (known : Option ℕ) (w : Walk) → InFile w.functions w.names → ((index : ℕ) → known ≡ Some index → Before name f w index)
@@ -287,7 +278,7 @@ items_bring (x ∷ xs) at w z a o p s l f h =
     record {
       new = own.new ++ rest.new;
       types = types;
-      sized = all_two (Sized z.structs) own.new rest.new (objects_stay v z own.new more.grown own.objects) rest.sized;
+      sized = all_join (Sized z.structs) own.new rest.new (objects_stay v z own.new more.grown own.objects) rest.sized;
       file = rest.file;
       defined = own.defined ++ rest.defined;
       definitions = rest.definitions ∙ ap (λ ds. ds ++ rest.defined) own.definitions ∙ append_assoc w.definitions own.defined rest.defined;
@@ -349,4 +340,4 @@ pub fits_at : (tree : SourceTree) (z : Walk) → AllFit tree z → (number : ℕ
     → (name : List ℕ) × FitsIn z d name
 fits_at tree z k number d e =
     let b : Both (FitsIn z) z.definitions (functions_of tree) number = first_both (FitsIn z) z.definitions (functions_of tree) number d k.fit e in
-    (b.second, subst (λ x. FitsIn z x b.second) (some_is b.first d (sym b.in_first ∙ e)) b.holds)
+    (b.second, subst (λ x. FitsIn z x b.second) (same_Some b.first d (sym b.in_first ∙ e)) b.holds)

@@ -1,6 +1,7 @@
 -- No two functions that an accepted text defines have one name.
 use Rattle.std.proofs.Common.{◌≡◌, ℕ, ap, subst, sym, ◌∙◌, List, Some}
 use Rattle.std.specs.Prelude.{option_map, slice_get}
+use Rattle.std.proofs.lemmas.Option.{same_Some}
 use Rattle.c_syntax.specs.ItemTree.{SourceTree}
 use Rattle.c_types_expressions.specs.declared.names.Meaning.{Meaning}
 use Rattle.c_types_expressions.specs.declared.names.Meaning.TheVariants as meaning
@@ -9,7 +10,6 @@ use Rattle.c_types.specs.Answers.{noted}
 use Rattle.c_types_expressions.specs.Names.{found}
 use Rattle.c_types.specs.Numbers.{function_of}
 use Rattle.c_types.proofs.FunctionLaws.{functions_numbered}
-use Rattle.c_types.proofs.Options.{some_is}
 use Rattle.sites.specs.Table.{functions_of}
 use Rattle.c_meaning_sound.specs.Accepted.{IsAcceptedTree}
 use Rattle.lower_fits.proofs.Definitions.{AllFit, FitsIn, all_fit, second_both}
@@ -26,7 +26,7 @@ name_defines : (tree : SourceTree) (z : Walk) → IsAcceptedTree tree z → (num
 name_defines tree z a number name h =
     let k : AllFit tree z = all_fit tree z a.formed.shaped a.walked in
     let b = second_both (FitsIn z) z.definitions (functions_of tree) number name k.fit h in
-    let same : b.holds.entry.own.name ≡ name = b.holds.entry.named ∙ some_is b.second name (sym b.in_second ∙ h) in
+    let same : b.holds.entry.own.name ≡ name = b.holds.entry.named ∙ same_Some b.second name (sym b.in_second ∙ h) in
     record {
       place = b.first.function;
       means = subst (λ n. found n z.names ≡ Some (meaning.Function b.first.function)) same
@@ -46,5 +46,5 @@ all_distinct tree z a i j name h k =
     let x : Defines z name i = name_defines tree z a i name h in
     let y : Defines z name j = name_defines tree z a j name k in
     let same : x.place ≡ y.place =
-    ap number_of (some_is (meaning.Function x.place) (meaning.Function y.place) (sym x.means ∙ y.means)) in
-    some_is i j (sym x.defined ∙ ap (noted z.defined_as) same ∙ y.defined)
+    ap number_of (same_Some (meaning.Function x.place) (meaning.Function y.place) (sym x.means ∙ y.means)) in
+    same_Some i j (sym x.defined ∙ ap (noted z.defined_as) same ∙ y.defined)

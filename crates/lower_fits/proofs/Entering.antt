@@ -3,6 +3,7 @@ use Rattle.std.proofs.Common.{◌≡◌, ℕ, ◌≤◌, ◌+◌, refl, ap, subs
 use Rattle.std.specs.Prelude.{IsSome, Option, is_some, unwrap_or, ◌&&◌, ◌||◌, if◌then◌else◌}
 use Rattle.std.specs.List.{AllByRecursion}
 use Rattle.std.proofs.lemmas.Bool.{false≢true, or_parts, true≢false}
+use Rattle.base_lists.proofs.Every.{all_join}
 use Rattle.c_syntax.specs.declared.parts.Base.{Base}
 use Rattle.c_syntax.specs.declared.parts.Param.{Param}
 use Rattle.c_syntax.specs.declared.parts.ParamName.{ParamName}
@@ -14,23 +15,20 @@ use Rattle.c_types_rules.specs.declared.fault.FaultKind.TheVariants as fault
 use Rattle.c_types_rules.specs.declared.function.FunctionType.{FunctionType}
 use Rattle.c_types_rules.specs.declared.layout.StructType.{StructType}
 use Rattle.c_types_rules.specs.TypeTree as t
-use Rattle.c_types_rules.specs.TypeTree.{TypeTree}
-use Rattle.c_types_rules.specs.Conversions.{is_scalar}
+use Rattle.c_types_rules.specs.Words.{TypeTree, is_scalar}
 use Rattle.c_types_expressions.specs.declared.walk.Parameter.{Parameter}
 use Rattle.c_types_expressions.specs.declared.walk.Walk.{Walk}
-use Rattle.c_types_expressions.specs.ExprWalk.{base_type, with_stars}
+use Rattle.c_types_expressions.specs.Words.{base_type, with_stars, closed, found, is_reserved, Walked, Done, Fine, Faulty, ◌>>=◌, closing, ended_scopes, opened}
+use Rattle.c_types_expressions.specs.Words.{with_variable}
 use Rattle.c_types_walk.specs.ItemWalk.{clashes, declares, entered, has_length, is_among, is_defined, known_as, listed_params, looked_param, param_type, types_of}
 use Rattle.c_types_walk.specs.ItemWalk.{walk_body, walk_function, walk_item, walk_param, walk_params, with_function, with_param, with_params}
-use Rattle.c_types_expressions.specs.Names.{closed, found, is_reserved}
 use Rattle.c_types.specs.Parts.{Begins, entries_parts}
 use Rattle.c_types_walk.specs.StatementWalk.{walk_entries}
-use Rattle.c_types_expressions.specs.Walked.{Walked, Done, Fine, Faulty, ◌>>=◌, closing, ended_scopes, opened, with_variable}
 use Rattle.c_types.proofs.Noted.{Gives, gives_then}
 use Rattle.c_types.proofs.NotedItems.{parts_from}
 use Rattle.c_meaning_sound.proofs.Reaching.{Defines, Named, base_gives, body_defines, comes, declares_is, defines_one, defines_step, fine_known, functions_same, taken}
-use Rattle.c_meaning_sound.proofs.Spotting.{all_two}
 use Rattle.lower_fits.proofs.Laying.{IsObject, Laid, Lays, Long, entries_laid, lays_nothing, lays_two, one_lays, variable_adds}
-use Rattle.lower_fits.proofs.Leaving.{leaves_here}
+use Rattle.lower_fits.proofs.Leaving.{leaves_kept}
 
 -- A parameter is a scalar, and has a name where the function has a body.
 pub record IsGiven (body : Bool) (p : Parameter) : Type 0 where
@@ -81,7 +79,7 @@ module _ (body : Bool) (w : Walk) where
   params_given (p ∷ ps) before h =
       gives_then One (λ xs v. (v ≡ w) × AllByRecursion (IsGiven body) xs) (walk_param body p before w) _ (param_given p before)
       (λ x v n. subst (λ u. Gives (λ xs v. (v ≡ w) × AllByRecursion (IsGiven body) xs) (walk_params body ps (before ++ x ∷ []) u)) (sym n.0)
-      (params_given ps (before ++ x ∷ []) (all_two (IsGiven body) before (x ∷ []) h (n.1, tt))))
+      (params_given ps (before ++ x ∷ []) (all_join (IsGiven body) before (x ∷ []) h (n.1, tt))))
 
 -- a function, up to its parameters
 record Begun (token : ℕ) (name : List ℕ) (body : Option EntryList) (w v : Walk) (a : Done) : Type 0 where
@@ -111,13 +109,10 @@ begun token b stars name ps body w v a h =
 
 -- scalars are objects of one cell
 pub scalar_object : (structs : List StructType) (of : TypeTree) → is_scalar of ≡ true → IsObject structs of
-scalar_object structs t.Char h = refl
-scalar_object structs t.Int h = refl
-scalar_object structs t.Unsigned h = refl
-scalar_object structs (t.Pointer to) h = refl
 scalar_object structs t.Void h = absurd (false≢true h)
 scalar_object structs (t.Array element size) h = absurd (false≢true h)
 scalar_object structs (t.Struct tag) h = absurd (false≢true h)
+scalar_object structs of h = refl
 
 -- a scalar type
 abbrev pub IsScalar : TypeTree → Type 0
@@ -144,7 +139,7 @@ param_laid token (Some name) of w l s h = record {
 
 -- all parameters are variables, in their order
 params_laid : (ps : List Parameter) (w : Walk) → Long w → AllByRecursion (IsGiven true) ps → Lays_params (types_of ps) w (with_params ps w)
-params_laid [] w l h = record { lays = lays_nothing w w (leaves_here w) l; count = omega arith }
+params_laid [] w l h = record { lays = lays_nothing w w (leaves_kept.here w) l; count = omega arith }
 params_laid (p ∷ ps) w l h =
     let u : Walk = with_param p.token p.name p.ctype w in
     let one : Lays_params (p.ctype ∷ []) w u = param_laid p.token p.name p.ctype w l h.0.scalar (h.0.named refl) in

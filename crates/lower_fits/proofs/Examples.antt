@@ -32,10 +32,8 @@ first_owned owners n site (s ∷ sites) all e = subst (λ k. slice_get owners k 
 
 -- the three sites of the example are those of `main`
 three_owned : (i : ℕ) → 0 ≤ i → i < 0 + 3 → slice_get main_names.owners i ≡ Some 0
-three_owned zero low high = refl
-three_owned (suc zero) low high = refl
-three_owned (suc (suc zero)) low high = refl
 three_owned (suc (suc (suc i))) low high = absurd (omega arith)
+three_owned i low high = refl
 
 -- whatever the token is
 example_owned : (of_kind : SiteKind → Bool) (token : ℕ) → AllOwned main_names.owners 0 (sites_from 0 of_kind token example_table)

@@ -4,31 +4,28 @@ use Rattle.std.specs.Prelude.{Option, ◌==◌, ◌&&◌, if◌then◌else◌, n
 use Rattle.std.specs.Option.{option_and_then, option_map, unwrap_or}
 use Rattle.std.proofs.lemmas.Bool.Decides.{nat_tests}
 use Rattle.std.proofs.lemmas.List.{length-map}
-use Rattle.std.proofs.lemmas.Option.{slice_get_within}
+use Rattle.std.proofs.lemmas.Option.{slice_get_within, same_Some}
+use Rattle.base_lists.proofs.Numbers.{is_most}
 use Rattle.cbi_base.specs.Format.{conversions_of}
 use Rattle.c_syntax.specs.ItemTree.{SourceTree}
 use Rattle.c_types_rules.specs.declared.layout.StructType.{StructType}
 use Rattle.c_types_rules.specs.TypeTree as t
-use Rattle.c_types_rules.specs.TypeTree.{TypeTree}
-use Rattle.c_types_rules.specs.Sizes.{cells_of, is_complete}
+use Rattle.c_types_rules.specs.Words.{TypeTree, cells_of, is_complete}
 use Rattle.c_types_expressions.specs.declared.walk.Definition.{Definition}
 use Rattle.c_types_expressions.specs.declared.walk.Variable.{Variable}
 use Rattle.c_types_expressions.specs.declared.walk.Variable.TheVariants as variable
 use Rattle.c_types_expressions.specs.declared.walk.VariableEntry.{VariableEntry}
 use Rattle.c_types_expressions.specs.declared.walk.Walk.{Walk}
 use Rattle.c_types.specs.Answers.{offset_at, place_at, type_at, variable_of}
-use Rattle.c_types_expressions.specs.ExprWalk.{with_stars}
-use Rattle.c_types_expressions.specs.Beginning.{beginning}
+use Rattle.c_types_expressions.specs.Words.{with_stars, beginning}
 use Rattle.c_types.proofs.NotedItems.{text_notes}
-use Rattle.c_types.proofs.Options.{some_is}
 use Rattle.flow.specs.declared.program.Text.{Text}
 use Rattle.flow.specs.declared.site.Site.{Site}
 use Rattle.flow.specs.declared.site.Slot.TheVariants as slot
 use Rattle.flow.specs.Nodes.{step_limit}
 use Rattle.c_meaning.specs.declared.value_type.ValueType.TheVariants as type
-use Rattle.c_meaning.specs.Facts.{Signature}
-use Rattle.c_meaning.specs.Known.{base_named, computed_type, element_cells, facts_of, object_cells, signature_of, slot_of}
-use Rattle.c_meaning.specs.Literals.{Literal, literals, number_from, texts_of}
+use Rattle.c_meaning.specs.Words.{Signature, base_named, computed_type, element_cells, facts_of, object_cells, signature_of, slot_of, Literal, literals}
+use Rattle.c_meaning.specs.Words.{number_from, texts_of}
 use Rattle.c_meaning_sound.specs.Accepted.{IsAcceptedTree}
 use Rattle.c_meaning_sound.proofs.Accepting.{begins_standing, begins_tagged}
 use Rattle.c_meaning_sound.proofs.Ending.{Sums, tree_ended, tree_is, tree_sums}
@@ -44,13 +41,9 @@ use Rattle.lower_fits.specs.TextNames.{names_of_text}
 
 -- sizes
 
--- a number is no greater than one that it is tested against
-most_by : (m n : ℕ) → nat_le m n ≡ true → m ≤ n
-most_by m n h = grind (arith, nat_tests, h)
-
 -- a size that was tested is within the limit
 tested_small : (b c : Bool) (cells n : ℕ) → (c ≡ true → cells ≤ step_limit) → (if b && c then Some cells else None) ≡ Some n → n ≤ step_limit
-tested_small true true cells n small h = let same : cells ≡ n = some_is cells n h in omega (arith, small refl, same)
+tested_small true true cells n small h = let same : cells ≡ n = same_Some cells n h in omega (arith, small refl, same)
 tested_small true false cells n small h = cc
 tested_small false c cells n small h = cc
 
@@ -63,7 +56,7 @@ module _ (structs : List StructType) where
   -- the size of an object is within the limit
   object_small : (of : TypeTree) (n : ℕ) → object_cells structs of ≡ Some n → n ≤ step_limit
   object_small of n h = tested_small (is_complete structs of) (nat_le (cells_of structs of) 1048576) (cells_of structs of) n
-      (most_by (cells_of structs of) 1048576) h
+      (is_most (cells_of structs of) 1048576) h
 
   -- so is that of what a pointer points to
   element_small : (of : TypeTree) → element_cells structs of ≤ step_limit
@@ -74,34 +67,24 @@ module _ (structs : List StructType) where
   pointer_small (t.Pointer to) size h =
       let same : element_cells structs to ≡ size = cc in
       omega (arith, element_small to, same)
-  pointer_small t.Void size h = cc
-  pointer_small t.Char size h = cc
-  pointer_small t.Int size h = cc
-  pointer_small t.Unsigned size h = cc
-  pointer_small (t.Array element length) size h = cc
-  pointer_small (t.Struct tag) size h = cc
+  pointer_small of size h = cc
 
   -- the size in the type of an array
   array_small : (of : TypeTree) (size : ℕ) → computed_type structs of ≡ type.Array size → size ≤ step_limit
   array_small (t.Array element length) size h =
       let same : element_cells structs element ≡ size = cc in
       omega (arith, element_small element, same)
-  array_small t.Void size h = cc
-  array_small t.Char size h = cc
-  array_small t.Int size h = cc
-  array_small t.Unsigned size h = cc
-  array_small (t.Pointer to) size h = cc
-  array_small (t.Struct tag) size h = cc
+  array_small of size h = cc
 
   -- the size in the type of a pointer that was noted
   noted_pointer : (o : Option TypeTree) (size : ℕ) → option_map (computed_type structs) o ≡ Some (type.Pointer size) → size ≤ step_limit
   noted_pointer None size h = cc
-  noted_pointer (Some of) size h = pointer_small of size (some_is (computed_type structs of) (type.Pointer size) h)
+  noted_pointer (Some of) size h = pointer_small of size (same_Some (computed_type structs of) (type.Pointer size) h)
 
   -- the size in the type of an array that was noted
   noted_array : (o : Option TypeTree) (size : ℕ) → option_map (computed_type structs) o ≡ Some (type.Array size) → size ≤ step_limit
   noted_array None size h = cc
-  noted_array (Some of) size h = array_small of size (some_is (computed_type structs of) (type.Array size) h)
+  noted_array (Some of) size h = array_small of size (same_Some (computed_type structs of) (type.Array size) h)
 
   -- the size of an object of a type that was noted
   noted_object : (o : Option TypeTree) (n : ℕ) → option_and_then (object_cells structs) o ≡ Some n → n ≤ step_limit
@@ -118,7 +101,7 @@ module _ (structs : List StructType) where
 -- the number of the first of these strings, or of one behind it
 either_below : (b : Bool) (k n count : ℕ) (o : Option ℕ) → 1 ≤ count → ((m : ℕ) → o ≡ Some m → m < k + count) → (if b then Some k else o) ≡ Some n
     → n < k + count
-either_below true k n count o some behind h = let same : k ≡ n = some_is k n h in omega (arith, same, some)
+either_below true k n count o some behind h = let same : k ≡ n = same_Some k n h in omega (arith, same, some)
 either_below false k n count o some behind h = behind n h
 
 -- the number of a string is below how many there are
@@ -139,7 +122,7 @@ module _ (z : Walk) (last : ℕ) (spans : Spans last z) where
   entry_global : (place n : ℕ) (o : Option VariableEntry) → slice_get z.variables place ≡ o → option_map slot_of (option_map variable_of o) ≡ Some (slot.Global n)
       → n < z.globals
   entry_global place n None e h = cc
-  entry_global place n (Some entry) e h = global_numbered last z spans place n entry e (global_is entry.variable n (some_is (slot_of entry.variable) (slot.Global n) h))
+  entry_global place n (Some entry) e h = global_numbered last z spans place n entry e (global_is entry.variable n (same_Some (slot_of entry.variable) (slot.Global n) h))
 
   -- so is the variable at a noted place
   place_global : (p : Option ℕ) (n : ℕ)

@@ -4,6 +4,9 @@ use Rattle.std.specs.Prelude.{Option, slice_get, ◌&&◌, ◌||◌, if◌then�
 use Rattle.std.specs.Str.{bytes_eq}
 use Rattle.std.proofs.lemmas.Bool.{or_parts, true≢false}
 use Rattle.std.proofs.lemmas.Slice.Eq.{bytes_eq-Decides}
+use Rattle.std.proofs.lemmas.Option.{same_Some}
+use Rattle.base_lists.proofs.Tests.{left_false}
+use Rattle.base_lists.proofs.Lists.{next_is, same_bytes}
 use Rattle.c_syntax.specs.StatementTree.{DeclarationTree, StartTree}
 use Rattle.c_types_rules.specs.declared.function.FunctionType.{FunctionType}
 use Rattle.c_types_rules.specs.TypeTree.{TypeTree}
@@ -13,16 +16,15 @@ use Rattle.c_types_expressions.specs.declared.names.ScopeEntry.{ScopeEntry}
 use Rattle.c_types_expressions.specs.declared.names.ScopeEntry.TheVariants.{Opens, Declares}
 use Rattle.c_types_expressions.specs.declared.walk.FunctionEntry.{FunctionEntry}
 use Rattle.c_types_expressions.specs.declared.walk.Walk.{Walk}
-use Rattle.c_types_expressions.specs.ExprWalk.{base_type}
+use Rattle.c_types_expressions.specs.Words.{base_type, found, is_here, is_reserved, or_before}
 use Rattle.c_types_walk.specs.ItemWalk.{clashes, with_function}
-use Rattle.c_types_expressions.specs.Names.{found, is_here, is_reserved, or_before}
 use Rattle.c_types_walk.specs.StatementWalk.{walk_declaration, walk_start, walk_starts}
 use Rattle.c_types.proofs.Hiding.{hides}
+use Rattle.c_types_expressions.proofs.Kept.{base_keeps}
 use Rattle.c_types.proofs.Noted.{Gives, gives_then}
-use Rattle.c_types.proofs.Options.{some_is}
-use Rattle.c_meaning_sound.proofs.Reaching.{next_is, stays_more}
+use Rattle.c_meaning_sound.proofs.Reaching.{stays_more}
 use Rattle.lower_fits.proofs.Laying.{Long, Starts, one_lays, start_adds}
-use Rattle.lower_fits.proofs.Leaving.{Leaves, base_leaves}
+use Rattle.lower_fits.proofs.Leaving.{Leaves, leaves_kept}
 
 -- no scope has begun
 abbrev pub AreOuter : List ScopeEntry → Type 0
@@ -54,10 +56,6 @@ found_here name (Opens ∷ rest) o h e = absurd h
 found_here name (Declares other k ∷ rest) o h e =
     here_by (bytes_eq other name) (is_here name rest) (found name rest) k o (found_here name rest o h) e
 
--- names that are tested to be alike are one
-same_name : (a b : List ℕ) → bytes_eq a b ≡ true → a ≡ b
-same_name a b h = (bytes_eq-Decides a b).0 h
-
 -- what a name meant stays where the new one is another
 kept_by : (b : Bool) (k : Meaning) (m : Option Meaning) (o : Meaning) → (b ≡ true → ⊥) → m ≡ Some o → or_before (if b then Some k else None) m ≡ Some o
 kept_by true k m o h e = absurd (h refl)
@@ -67,18 +65,18 @@ kept_by false k m o h e = e
 found_still : (name other : List ℕ) (k o : Meaning) (names : List ScopeEntry) → AreOuter names → is_here name names ≡ false → found other names ≡ Some o
     → found other (Declares name k ∷ names) ≡ Some o
 found_still name other k o names h new e = kept_by (bytes_eq name other) k (found other names) o
-    (λ same. true≢false (sym (found_here other names o h e) ∙ ap (λ n. is_here n names) (sym (same_name name other same)) ∙ new)) e
+    (λ same. true≢false (sym (found_here other names o h e) ∙ ap (λ n. is_here n names) (sym (same_bytes name other same)) ∙ new)) e
 
 -- the new name is this one, or this one meant the same before
 before_by : (name other : List ℕ) (b : Bool) (k : Meaning) (m : Option Meaning) (o : Meaning) → (b ≡ true → name ≡ other)
     → or_before (if b then Some k else None) m ≡ Some o → ((name ≡ other) × (k ≡ o)) ⊎ (m ≡ Some o)
-before_by name other true k m o h e = inl (h refl, some_is k o e)
+before_by name other true k m o h e = inl (h refl, same_Some k o e)
 before_by name other false k m o h e = inr e
 
 -- a name means what it was declared as, or what it meant before
 found_before : (name other : List ℕ) (k o : Meaning) (names : List ScopeEntry) → found other (Declares name k ∷ names) ≡ Some o
     → ((name ≡ other) × (k ≡ o)) ⊎ (found other names ≡ Some o)
-found_before name other k o names e = before_by name other (bytes_eq name other) k (found other names) o (same_name name other) e
+found_before name other k o names e = before_by name other (bytes_eq name other) k (found other names) o (same_bytes name other) e
 
 -- a global
 variable_file : (functions : List FunctionEntry) (names : List ScopeEntry) (name : List ℕ) (k : ℕ) → InFile functions names → is_here name names ≡ false
@@ -96,7 +94,7 @@ variable_file functions names name k f new = record {
 
 -- an item of a list that has one more is one of the list, or the last
 last_or : {A : Type 0} (xs : List A) (y x : A) (i : ℕ) → slice_get (xs ++ y ∷ []) i ≡ Some x → (slice_get xs i ≡ Some x) ⊎ ((i ≡ length xs) × (y ≡ x))
-last_or [] y x zero h = inr (refl, some_is y x h)
+last_or [] y x zero h = inr (refl, same_Some y x h)
 last_or [] y x (suc i) h = absurd (cc)
 last_or (a ∷ xs) y x zero h = inl h
 last_or (a ∷ xs) y x (suc i) h = next (last_or xs y x i h)
@@ -134,16 +132,12 @@ entry_file functions names g f new = record {
     back other index (inr e) = let k = f.means other index e in
         record { own = k.own; here = stays_more functions (g ∷ []) index k.own k.here; named = k.named }
 
-first_of_and : (b : Bool) → (b && true) ≡ false → b ≡ false
-first_of_and true h = absurd (true≢false h)
-first_of_and false h = refl
-
 -- a function that is declared, maybe again
 pub function_file : (name : List ℕ) (f : FunctionType) (known : Option ℕ) (w : Walk) → InFile w.functions w.names → clashes name known w ≡ false
     → InFile (with_function name f known w).functions (with_function name f known w).names
 function_file name f (Some index) w k new = k
 function_file name f None w k new = entry_file w.functions w.names (record { name = name; ctype = f }) k
-    (first_of_and (is_here name w.names) (or_parts (is_reserved name) (is_here name w.names && true) new).1)
+    (left_false (is_here name w.names) (or_parts (is_reserved name) (is_here name w.names && true) new).1)
 
 -- globals
 
@@ -160,6 +154,6 @@ starts_file functions global b (x ∷ xs) w l f =
 pub declaration_file : (global : Bool) (d : DeclarationTree) (w : Walk) → Long w → InFile w.functions w.names
     → Gives (λ _ v. InFile w.functions v.names) (walk_declaration global d w)
 declaration_file global d w l f =
-    gives_then (λ _ v. Leaves w v) (λ _ v. InFile w.functions v.names) (base_type d.base w) _ (base_leaves d.base w)
+    gives_then (λ _ v. Leaves w v) (λ _ v. InFile w.functions v.names) (base_type d.base w) _ (base_keeps Leaves leaves_kept.here d.base w)
     (λ b v h. starts_file w.functions global b d.starts v (ap length h.types ∙ l ∙ sym (ap length h.variables))
     (subst (InFile w.functions) (sym h.names) f))

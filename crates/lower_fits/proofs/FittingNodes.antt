@@ -10,8 +10,7 @@ use Rattle.flow.specs.declared.node.Node.{Node}
 use Rattle.flow.specs.declared.node.Node.TheVariants as node
 use Rattle.flow.specs.declared.scope.Bounds.{Bounds}
 use Rattle.flow.specs.declared.scope.Names.{Names}
-use Rattle.flow.specs.View.{view}
-use Rattle.flow.specs.Nodes.{is_format, is_own, names_fit, step_limit}
+use Rattle.flow.specs.Words.{view, is_format, is_own, names_fit, step_limit}
 use Rattle.c_meaning.specs.declared.operation.Operation.TheVariants.{MoveLeft, Span}
 use Rattle.lower_fits.specs.Fitting.{fits_view}
 use Rattle.lower_fits.proofs.Numbers.{Steps}

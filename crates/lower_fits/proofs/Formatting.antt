@@ -3,45 +3,36 @@ use Rattle.std.proofs.Common.{⊎_elim, ◌≡◌, ℕ, refl, ap, sym, subst, Li
 use Rattle.std.specs.Prelude.{IfSome, IsSome, Option, slice_get}
 use Rattle.std.specs.List.{AllByRecursion, flat_map}
 use Rattle.std.specs.Option.{option_and_then}
+use Rattle.c_meaning_sound.proofs.Printing.{flat_same}
+use Rattle.base_lists.proofs.Every.{all_at, all_first, all_second}
 use Rattle.cbi_base.specs.Format.{conversions_of}
 use Rattle.c_syntax.specs.ExprTree as e
-use Rattle.c_syntax.specs.ExprTree.{ExprTree, ExprList}
+use Rattle.c_syntax.specs.Words.{ExprTree, ExprList, StatementTree, EntryList, ItemTree, SourceTree}
 use Rattle.c_syntax.specs.StatementTree as s
-use Rattle.c_syntax.specs.StatementTree.{StatementTree, EntryList}
 use Rattle.c_syntax.specs.ItemTree as i
-use Rattle.c_syntax.specs.ItemTree.{ItemTree, SourceTree}
 use Rattle.c_types_rules.specs.declared.library.Library.{Library}
 use Rattle.c_types_rules.specs.declared.library.Library.TheVariants as library
 use Rattle.c_types_rules.specs.declared.operand.Operand.{Operand}
-use Rattle.c_types_rules.specs.Conversions.{value_of}
-use Rattle.c_types_rules.specs.Library.{library_called, library_named}
-use Rattle.c_types_rules.specs.TypeTree.{TypeTree}
+use Rattle.c_types_rules.specs.Words.{value_of, library_called, library_named, TypeTree}
 use Rattle.c_types_expressions.specs.declared.walk.FunctionEntry.{FunctionEntry}
 use Rattle.c_types_expressions.specs.declared.walk.Walk.{Walk}
 use Rattle.c_types.specs.Answers.{function_at, noted, type_at}
 use Rattle.c_types_expressions.specs.ExprWalk.{flat}
 use Rattle.flow.specs.declared.program.Text.{Text}
 use Rattle.c_meaning.specs.declared.value_type.Called.TheVariants as called
-use Rattle.c_meaning.specs.Known.{bodies, body_of_item, facts_of}
-use Rattle.c_meaning.specs.Literals.{Literal, literals, strings_begun, strings_declared, strings_entered, strings_if, strings_in, strings_of_all, strings_of_item, strings_stated}
-use Rattle.c_meaning.specs.Trees.{called_as, library_call}
+use Rattle.c_meaning.specs.Words.{bodies, body_of_item, facts_of, Literal, literals, strings_begun, strings_declared, strings_entered, strings_if, strings_in}
+use Rattle.c_meaning.specs.Words.{strings_of_all, strings_of_item, strings_stated, called_as, library_call}
 use Rattle.c_types_laws.specs.Fits.{CallFits, CalleeFits, CallsFunction, CallsLibrary, EntriesFit, FormatFits, Gives, ItemFits, StatementFits, TextFits, WholeFits}
 use Rattle.c_types_laws.proofs.Items.{text_fits}
 use Rattle.c_meaning_sound.specs.Accepted.{IsAcceptedTree}
-use Rattle.c_meaning_sound.proofs.Ending.{all_at, tree_ended}
+use Rattle.c_meaning_sound.proofs.Ending.{tree_ended}
 use Rattle.c_meaning_sound.proofs.Forming.{Ended, Numbered}
 use Rattle.c_meaning_sound.proofs.Lengths.{strings_short}
-use Rattle.c_meaning_sound.proofs.Parting.{all_first, all_second}
 use Rattle.c_meaning_sound.proofs.Reading.{all_spelled}
 use Rattle.c_meaning_sound.proofs.Texts.{Spelled}
 use Rattle.lower_fits.proofs.Lists.{all_join}
 use Rattle.lower_fits.specs.Fitting.{FormatFirst, FormatOf, Formatted, FormattedEntries, FormattedStatement}
 use Rattle.lower_fits.proofs.ConversionsOfFormats.{format_counted}
-
--- a string has the bytes of all its parts, whichever way they are joined
-flat_joined : (parts : List (List ℕ)) → flat parts ≡ flat_map (λ bytes. bytes) parts
-flat_joined [] = refl
-flat_joined (part ∷ parts) = ap (λ bytes. part ++ bytes) (flat_joined parts)
 
 module _ (tree : SourceTree) (z : Walk) (ends : Ended tree z) where
   -- the strings are spelled by their tokens
@@ -89,7 +80,7 @@ module _ (tree : SourceTree) (z : Walk) (ends : Ended tree z) where
   format_first (e.more_exprs (e.Strings token parts) rest) h spelled =
       let counted : IsSome (conversions_of (flat parts)) = format_counted (flat parts) h.0 h.1.1 in
       subst (λ text. IfSome text (λ (t : Text). IsSome (conversions_of t.bytes))) (sym spelled.0.0)
-      (subst (λ bytes. IsSome (conversions_of bytes)) (flat_joined parts) counted)
+      (subst (λ bytes. IsSome (conversions_of bytes)) (flat_same parts) counted)
   format_first (e.more_exprs x rest) h spelled = absurd h
 
   -- a call of `printf`, where its first argument is a format
@@ -111,7 +102,6 @@ module _ (tree : SourceTree) (z : Walk) (ends : Ended tree z) where
     statement_formatted : (gives : TypeTree) (looping : Bool) (x : StatementTree) → StatementFits z gives looping x → AllSpelled (strings_stated x)
         → FormattedStatement (facts_of tree z) x
     statement_formatted gives looping (s.Block token entries) h spelled = entries_formatted gives looping entries h spelled
-    statement_formatted gives looping (s.Empty token) h spelled = tt
     statement_formatted gives looping (s.Expr token x) h spelled = whole_formatted x h.0 spelled
     statement_formatted gives looping (s.If token condition first) h spelled =
         statement_formatted gives looping first h.2 (all_second (Spelled tree) (strings_in condition) (strings_stated first) spelled)
@@ -128,9 +118,7 @@ module _ (tree : SourceTree) (z : Walk) (ends : Ended tree z) where
     statement_formatted gives looping (s.For token start condition step body) h spelled =
         let before = strings_begun start ++ strings_if condition ++ strings_if step in
         statement_formatted gives true body h.3 (all_second (Spelled tree) before (strings_stated body) spelled)
-    statement_formatted gives looping (s.Return token value) h spelled = tt
-    statement_formatted gives looping (s.Break token) h spelled = tt
-    statement_formatted gives looping (s.Continue token) h spelled = tt
+    statement_formatted gives looping x h spelled = tt
 
     -- declarations and statements
     entries_formatted : (gives : TypeTree) (looping : Bool) (xs : EntryList) → EntriesFit z gives looping xs → AllSpelled (strings_entered xs)
@@ -152,11 +140,9 @@ module _ (tree : SourceTree) (z : Walk) (ends : Ended tree z) where
   -- the body of an item, if it has one
   item_formatted : (x : ItemTree) → ItemFits z x → AllSpelled (strings_of_item x)
       → AllByRecursion (FormattedEntries (facts_of tree z)) (body_of_item x)
-  item_formatted (i.Struct token tag members) h spelled = tt
-  item_formatted (i.Function token base stars name params None) h spelled = tt
   item_formatted (i.Function token base stars name params (Some body)) h spelled =
       (callee_formatted (slice_get z.functions h.1.0) name body h.1.1 spelled, tt)
-  item_formatted (i.Declaration declaration) h spelled = tt
+  item_formatted x h spelled = tt
 
   -- the bodies of all items
   items_formatted : (xs : List ItemTree) → AllByRecursion (ItemFits z) xs → AllSpelled (flat_map strings_of_item xs)

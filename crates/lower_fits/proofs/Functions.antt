@@ -2,26 +2,24 @@
 use Rattle.std.proofs.Common.{◌≡◌, ℕ, ◌<◌, refl, sym, ap, subst, subst₂, ◌∙◌, arith, List, map, length, Some, None, Option, option_map, slice_get, All}
 use Rattle.std.proofs.lemmas.List.{length-map}
 use Rattle.std.proofs.lemmas.Option.{slice_get-map, slice_get_within}
-use Rattle.cbi_base.specs.Format.{conversions_of}
-use Rattle.cbi_base.specs.Name.{IsName}
-use Rattle.cbi_base.proofs.NumberLemmas.{some-is}
+use Rattle.base_lists.proofs.Options.{some_is}
+use Rattle.base_lists.proofs.Lists.{item_there}
+use Rattle.base_lists.proofs.Every.{every_at}
+use Rattle.cbi_base.specs.Words.{conversions_of, IsName}
 use Rattle.c_syntax.specs.ItemTree.{SourceTree}
 use Rattle.c_types_expressions.specs.declared.walk.Definition.{Definition}
 use Rattle.c_types_expressions.specs.declared.walk.Walk.{Walk}
-use Rattle.c_meaning.specs.Facts.{Signature}
-use Rattle.c_meaning.specs.Known.{facts_of, signature_of}
-use Rattle.c_meaning.specs.Texts.{main_of}
+use Rattle.c_meaning.specs.Words.{Signature, facts_of, signature_of, main_of}
 use Rattle.flow.specs.declared.program.Function.{Function}
 use Rattle.flow.specs.declared.program.Global.{Global}
 use Rattle.flow.specs.declared.site.TableParts.{TableParts}
-use Rattle.flow.specs.Nodes.{NodesFit}
-use Rattle.flow.specs.Program.{AreDistinct, AreLocals, FunctionsFit, HasMain, IsFunction, IsMain, bounds_of, names_of, parts_of}
+use Rattle.flow.specs.Words.{NodesFit, AreDistinct, AreLocals, FunctionsFit, HasMain, IsFunction, IsMain, bounds_of, names_of, parts_of}
 use Rattle.sites.specs.Table.{functions_of}
 use Rattle.c_meaning_sound.specs.Sited.{count_of, local_counts}
 use Rattle.lower_fits.specs.Brought.{IsMainSignature, IsSigned}
 use Rattle.lower_fits.specs.Parts.{ArePartsOf, FitsAsFunction}
 use Rattle.lower_fits.specs.Ready.{IsReadyText}
-use Rattle.lower_fits.proofs.PartNumbers.{element, holds, same_maps}
+use Rattle.lower_fits.proofs.PartNumbers.{same_maps}
 
 module _ (tree : SourceTree) (walk : Walk) (table : TableParts) (globals : List Global) (functions : List Function) (ready : IsReadyText tree walk table)
     (parts : ArePartsOf tree walk table globals functions) where
@@ -52,7 +50,7 @@ module _ (tree : SourceTree) (walk : Walk) (table : TableParts) (globals : List 
     counted signed number f d h k =
         let s = signed number d k in
         let own = parts.each number f h in
-        let same : own.signature ≡ s.own = some-is (sym own.known ∙ s.is) in
+        let same : own.signature ≡ s.own = some_is (sym own.known ∙ s.is) in
         ap length own.locals ∙ ap (λ g. length g.locals) same ∙ s.counts
 
     pub counts_same : ((number : ℕ) (d : Definition) → slice_get walk.definitions number ≡ Some d → IsSigned (facts_of tree walk) number d)
@@ -73,7 +71,7 @@ module _ (tree : SourceTree) (walk : Walk) (table : TableParts) (globals : List 
 
     pub main_there : IsMainSignature ((facts_of tree walk).signature (main_of walk)) → HasMain functions (main_of walk)
     main_there main =
-        let e = element functions (main_of walk) (main_by (slice_get walk.definitions (main_of walk)) refl main) in
+        let e = item_there functions (main_of walk) (main_by (slice_get walk.definitions (main_of walk)) refl main) in
         (e.0, e.1, enters e.0 (parts.each (main_of walk) e.0 e.1) main)
 
     -- each function is one of a program
@@ -85,7 +83,7 @@ module _ (tree : SourceTree) (walk : Walk) (table : TableParts) (globals : List 
         fits : (number : ℕ) (f : Function) → slice_get functions number ≡ Some f → FitsAsFunction tree walk table number f
             → IsFunction (names_of (parts_of (facts_of tree walk).statics.texts globals functions (main_of walk) table.sites)) number f
         fits number f h own = record {
-          name = holds IsName (functions_of tree) names number f.name (named number f h);
+          name = every_at IsName (functions_of tree) names number f.name (named number f h);
           locals = subst₂ AreLocals (sym own.params) (sym own.locals) (locals number own.signature own.known);
           entry = own.entry;
           nodes = subst₂

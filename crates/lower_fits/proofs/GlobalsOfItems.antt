@@ -3,32 +3,24 @@ use Rattle.std.proofs.Common.{◌≡◌, ℕ, ◌+◌, ◌≤◌, refl, ap, subs
 use Rattle.std.specs.Prelude.{sum_by}
 use Rattle.std.specs.List.{AllByRecursion, flat_map}
 use Rattle.std.proofs.lemmas.List.Sums.{sum_by-append}
+use Rattle.base_lists.proofs.Every.{all_first, all_join, all_second}
 use Rattle.c_syntax.specs.ItemTree as item
-use Rattle.c_syntax.specs.ItemTree.{ItemTree, SourceTree}
-use Rattle.c_syntax.specs.Place.{EachAt, ItemAt}
-use Rattle.c_syntax.specs.Shape.{ShapedItem}
-use Rattle.c_syntax.specs.Spelling.{base_kinds, declaration_kinds, item_kinds, params_kinds, type_kinds}
+use Rattle.c_syntax.specs.Words.{ItemTree, SourceTree, EachAt, ItemAt, ShapedItem, base_kinds, declaration_kinds, item_kinds, params_kinds, type_kinds}
 use Rattle.c_types_rules.specs.declared.function.FunctionType.{FunctionType}
 use Rattle.c_types_expressions.specs.declared.walk.Walk.{Walk}
-use Rattle.c_types_expressions.specs.ExprWalk.{with_stars}
-use Rattle.c_types_expressions.specs.Beginning.{beginning}
+use Rattle.c_types_expressions.specs.Words.{with_stars, beginning, found, Done, Fine}
 use Rattle.c_types_walk.specs.ItemWalk.{known_as, types_of, walk_item, walk_items}
-use Rattle.c_types_expressions.specs.Names.{found}
 use Rattle.c_types_walk.specs.StatementWalk.{walk_declaration}
-use Rattle.c_types_expressions.specs.Walked.{Done, Fine}
 use Rattle.c_types.proofs.NotedItems.{text_notes}
-use Rattle.c_meaning.specs.Globals.{starts_of}
-use Rattle.c_meaning.specs.Literals.{strings_of_item}
+use Rattle.c_meaning.specs.Words.{starts_of, strings_of_item}
 use Rattle.c_meaning_sound.specs.Accepted.{IsAcceptedTree, IsNegatable}
 use Rattle.c_meaning_sound.proofs.Accepting.{Fitted, GlobalsFit, Whole_item, begins_standing, begins_tagged, item_good, items_good}
 use Rattle.c_meaning_sound.proofs.Ending.{Follows, Sums, item_follows, items_follow, struct_is, tree_ended, tree_is, tree_sums}
 use Rattle.c_meaning_sound.proofs.Globals.{global_good}
 use Rattle.c_meaning_sound.proofs.Items.{BodiesFit, Later, Standing, Tagged, reaches_structs}
 use Rattle.c_meaning_sound.proofs.Lengths.{strings_short}
-use Rattle.c_meaning_sound.proofs.Parting.{all_first, all_second}
 use Rattle.c_meaning_sound.proofs.Reaching.{Grown, begun_stays, comes, fine_known, function_is, grown_then, taken}
 use Rattle.c_meaning_sound.proofs.Reading.{all_spelled}
-use Rattle.c_meaning_sound.proofs.Spotting.{all_two}
 use Rattle.c_meaning_sound.proofs.Stating.{body_good}
 use Rattle.c_meaning_sound.proofs.Texts.{Spelled}
 use Rattle.lower_fits.proofs.CellsOfBodies.{function_keeps}
@@ -77,7 +69,7 @@ module _ (tree : SourceTree) (z : Walk) where
   -- one item, and those behind it
   both_counted : (x : ItemTree) (xs : List ItemTree) (w u v : Walk) → One x w u → Counted xs u v → Counted (x ∷ xs) w v
   both_counted x xs w u v a b = record {
-    each = all_two (Declared z) (starts_of x) (flat_map starts_of xs) a.each b.each;
+    each = all_join (Declared z) (starts_of x) (flat_map starts_of xs) a.each b.each;
     cells = omega (arith, a.cells, b.cells, sum_by-append (cells_at z) (starts_of x) (flat_map starts_of xs));
     few = λ q. b.few (a.few q);
   }

@@ -2,30 +2,22 @@
 use Rattle.std.proofs.Common.{◌≡◌, ℕ, ◌+◌, ◌≤◌, refl, ap, subst, sym, ◌∙◌, arith, Bool, true, false, List, [], ◌∷◌, ◌++◌, Option, Some, None, Ok, Err}
 use Rattle.std.proofs.Common.{length, length-append}
 use Rattle.std.specs.Prelude.{nat_le, nat_lt, sum_by, ◌==◌, ◌&&◌, ◌||◌, if◌then◌else◌}
-use Rattle.std.proofs.lemmas.Bool.{false≢true, leb-true}
+use Rattle.std.proofs.lemmas.Bool.{false≢true, leb-true, and_parts}
 use Rattle.std.proofs.lemmas.Bool.Decides.{nat_tests}
-use Rattle.cbi_base.proofs.NumberLemmas.{both}
+use Rattle.std.proofs.lemmas.Option.{same_Some}
 use Rattle.c_syntax.specs.declared.expr.PrefixOperator.{PrefixOperator}
 use Rattle.c_syntax.specs.ExprTree as e
-use Rattle.c_syntax.specs.ExprTree.{ExprTree, ExprList}
-use Rattle.c_syntax.specs.FirstToken.{first_token}
+use Rattle.c_syntax.specs.Words.{ExprTree, ExprList, first_token, InitialTree}
 use Rattle.c_syntax.specs.StatementTree as s
-use Rattle.c_syntax.specs.StatementTree.{InitialTree}
 use Rattle.c_types_rules.specs.declared.layout.StructType.{StructType}
 use Rattle.c_types_rules.specs.declared.operand.Operand.{Operand}
-use Rattle.c_types_rules.specs.Assigning.{assignable}
-use Rattle.c_types_rules.specs.Conversions.{is_scalar}
-use Rattle.c_types_rules.specs.Faults.{Looked}
-use Rattle.c_types_rules.specs.Sizes.{is_complete}
+use Rattle.c_types_rules.specs.Words.{assignable, is_scalar, Looked, is_complete, TypeTree}
 use Rattle.c_types_rules.specs.TypeTree as t
-use Rattle.c_types_rules.specs.TypeTree.{TypeTree}
 use Rattle.c_types_expressions.specs.declared.walk.Walk.{Walk}
-use Rattle.c_types_expressions.specs.ExprWalk.{looked, string_cells, walk_expr, walk_exprs}
+use Rattle.c_types_expressions.specs.Words.{looked, string_cells, walk_expr, walk_exprs, Walked, Fine, Faulty}
 pub use Rattle.c_types_expressions.specs.Room.{items_in}
 use Rattle.c_types_walk.specs.Initialisers.{all_initialise, cells_of_string, completes, initialises, is_constant, is_minus, is_number, listed_type, valued, walk_initial}
-use Rattle.c_types_expressions.specs.Walked.{Walked, Fine, Faulty}
 use Rattle.c_types.proofs.Noted.{Gives, gives_more, gives_then}
-use Rattle.c_types.proofs.Options.{some_is}
 use Rattle.c_meaning_sound.proofs.Constant.{AllConstant, all_constant}
 
 -- how many bytes an expression has, if it is a string
@@ -62,22 +54,17 @@ room_by false false element size n most u e f l h k = absurd (false≢true h)
 
 -- an array that is known whole has a length
 some_long : (structs : List StructType) (element : TypeTree) (size : ℕ) → is_complete structs (t.Array element size) ≡ true → (size == 0) ≡ false
-some_long structs element size h = let some = (both (nat_lt 0 size) (is_complete structs element) h).0 in grind (arith, nat_tests, some)
+some_long structs element size h = let some = (and_parts (nat_lt 0 size) (is_complete structs element) h).0 in grind (arith, nat_tests, some)
 
 -- one of two conditions gives something
 if_some : (b : Bool) (of u : TypeTree) → (if b then Some of else None) ≡ Some u → (b ≡ true) × (of ≡ u)
-if_some true of u h = (refl, some_is of u h)
+if_some true of u h = (refl, same_Some of u h)
 if_some false of u h = absurd (cc)
 
 -- a scalar takes one value
 scalar_takes : (u : TypeTree) (value : ExprTree) → is_scalar u ≡ true → Takes u (Some (s.Value value))
 scalar_takes (t.Array element size) value h = absurd (false≢true h)
-scalar_takes t.Void value h = h
-scalar_takes t.Char value h = h
-scalar_takes t.Int value h = h
-scalar_takes t.Unsigned value h = h
-scalar_takes (t.Pointer to) value h = h
-scalar_takes (t.Struct tag) value h = h
+scalar_takes u value h = h
 
 -- three conditions that hold together
 three : (p q r : Bool) → (p && q && r) ≡ true → (p ≡ true) × (r ≡ true)
@@ -114,18 +101,13 @@ string_completes : (of u : TypeTree) (token : ℕ) (parts : List (List ℕ)) (a 
     → valued true of (e.Strings token parts) a (Some (string_cells parts)) ≡ Some u
     → (is_constant (e.Strings token parts) ≡ true) × Completed of u (s.Value (e.Strings token parts))
 string_completes (t.Array t.Char size) u token parts a h = (refl, spelled_completes size token parts u h)
-string_completes (t.Array t.Void size) u token parts a h = absurd (cc)
-string_completes (t.Array t.Int size) u token parts a h = absurd (cc)
-string_completes (t.Array t.Unsigned size) u token parts a h = absurd (cc)
-string_completes (t.Array (t.Pointer to) size) u token parts a h = absurd (cc)
-string_completes (t.Array (t.Array element n) size) u token parts a h = absurd (cc)
-string_completes (t.Array (t.Struct tag) size) u token parts a h = absurd (cc)
 string_completes t.Void u token parts a h = expressed_completes t.Void u (e.Strings token parts) a h
 string_completes t.Char u token parts a h = expressed_completes t.Char u (e.Strings token parts) a h
 string_completes t.Int u token parts a h = expressed_completes t.Int u (e.Strings token parts) a h
 string_completes t.Unsigned u token parts a h = expressed_completes t.Unsigned u (e.Strings token parts) a h
 string_completes (t.Pointer to) u token parts a h = expressed_completes (t.Pointer to) u (e.Strings token parts) a h
 string_completes (t.Struct tag) u token parts a h = expressed_completes (t.Struct tag) u (e.Strings token parts) a h
+string_completes of u token parts a h = absurd (cc)
 
 -- one expression
 value_completes : (of u : TypeTree) (value : ExprTree) (a : Operand) → valued true of value a (cells_of_string value) ≡ Some u
@@ -139,8 +121,8 @@ array_completes : (element u : TypeTree) (size token : ℕ) (items : ExprList) (
 array_completes element u size token items comma own n h =
     let k = if_some (is_scalar element && (((size == 0) || nat_le (length own) size) && all_initialise true element items own))
     (t.Array element (if size == 0 then length own else size)) u h in
-    let parts = both (is_scalar element) (((size == 0) || nat_le (length own) size) && all_initialise true element items own) k.0 in
-    let more = both ((size == 0) || nat_le (length own) size) (all_initialise true element items own) parts.1 in
+    let parts = and_parts (is_scalar element) (((size == 0) || nat_le (length own) size) && all_initialise true element items own) k.0 in
+    let more = and_parts ((size == 0) || nat_le (length own) size) (all_initialise true element items own) parts.1 in
     let room : Roomy element size (items_in items) u =
     room_by (size == 0) (nat_le (length own) size) element size (length own) (items_in items) u refl
     (λ q. omega (arith, n, leb-true (length own) size q)) (omega (arith, n)) more.0 k.1 in (
@@ -155,12 +137,7 @@ array_completes element u size token items comma own n h =
 list_completes : (of u : TypeTree) (token : ℕ) (items : ExprList) (comma : Bool) (own : List Operand) → length own ≡ items_in items
     → listed_type true items own of ≡ Some u → AllConstant items × Completed of u (s.Braced token items comma)
 list_completes (t.Array element size) u token items comma own n h = array_completes element u size token items comma own n h
-list_completes t.Void u token items comma own n h = absurd (cc)
-list_completes t.Char u token items comma own n h = absurd (cc)
-list_completes t.Int u token items comma own n h = absurd (cc)
-list_completes t.Unsigned u token items comma own n h = absurd (cc)
-list_completes (t.Pointer to) u token items comma own n h = absurd (cc)
-list_completes (t.Struct tag) u token items comma own n h = absurd (cc)
+list_completes of u token items comma own n h = absurd (cc)
 
 -- the walk
 
@@ -184,7 +161,7 @@ constant_unnoted : (x : ExprTree) (w : Walk) → is_constant x ≡ true → Give
 constant_unnoted (e.Constant token kind value) w h = refl
 constant_unnoted (e.Strings token parts) w h = refl
 constant_unnoted (e.Null token) w h = refl
-constant_unnoted (e.Prefix token o operand) w h = minus_unnoted token o operand w (both (is_minus o) (is_number operand) h).1
+constant_unnoted (e.Prefix token o operand) w h = minus_unnoted token o operand w (and_parts (is_minus o) (is_number operand) h).1
 constant_unnoted x w h = absurd (false≢true h)
 
 -- what holds under a condition

@@ -5,30 +5,24 @@ use Rattle.std.specs.Prelude.{Option, is_some, not, nat_le, slice_set, ◌&&◌,
 use Rattle.std.specs.List.{AllByRecursion}
 use Rattle.std.proofs.lemmas.Bool.{lt-ltb, or_parts}
 use Rattle.std.proofs.lemmas.List.{append-nil, set_at}
-use Rattle.c_syntax.specs.ExprTree.{ExprTree}
-use Rattle.c_syntax.specs.StatementTree as s
-use Rattle.c_syntax.specs.StatementTree.{DeclarationTree, EntryList, ForStartTree, StartTree, StatementTree}
-use Rattle.c_types_rules.specs.declared.fault.FaultKind.{FaultKind}
+use Rattle.base_lists.proofs.Every.{all_join}
+use Rattle.c_syntax.specs.StatementTree.{DeclarationTree, EntryList, StartTree}
 use Rattle.c_types_rules.specs.declared.fault.FaultKind.TheVariants as fault
 use Rattle.c_types_rules.specs.declared.layout.StructType.{StructType}
-use Rattle.c_types_rules.specs.TypeTree.{TypeTree}
-use Rattle.c_types_rules.specs.Assigning.{assignable}
-use Rattle.c_types_rules.specs.Conversions.{is_struct, is_void}
-use Rattle.c_types_rules.specs.Operators.{is_scalar_value}
-use Rattle.c_types_rules.specs.Sizes.{cells_of, is_object, most_cells}
+use Rattle.c_types_rules.specs.Words.{TypeTree, cells_of, is_object, most_cells}
 use Rattle.c_types_expressions.specs.declared.names.Meaning.TheVariants as meaning
 use Rattle.c_types_expressions.specs.declared.names.ScopeEntry.TheVariants.{Declares}
 use Rattle.c_types_expressions.specs.declared.walk.Walk.{Walk}
+use Rattle.c_types_expressions.specs.Words.{with_call, with_offset, with_use, closed, is_here, is_name_taken, is_reserved, Walked, Done, Fine, Faulty, closing}
+use Rattle.c_types_expressions.specs.Words.{opened, replaced, with_type, with_variable}
+use Rattle.c_types_expressions.proofs.Kept.{IsKeptByExpressions, Keeps, by_notes}
 use Rattle.c_types_walk.specs.Declarators.{declared_type, is_open}
-use Rattle.c_types_expressions.specs.ExprWalk.{base_type, walk_expr, walk_whole}
 use Rattle.c_types_walk.specs.Initialisers.{walk_initial}
-use Rattle.c_types_expressions.specs.Names.{closed, is_here, is_name_taken, is_reserved}
-use Rattle.c_types_walk.specs.StatementWalk.{counted_cells, looped, sized, walk_closed, walk_declaration, walk_entries, walk_for_start, walk_open, walk_optional}
-use Rattle.c_types_walk.specs.StatementWalk.{walk_start, walk_starts, walk_statement, walk_typed, with_declared_type}
-use Rattle.c_types_expressions.specs.Walked.{Walked, Done, Fine, Faulty, ◌>>=◌, closing, opened, replaced, unless, with_variable}
+use Rattle.c_types_walk.specs.StatementWalk.{counted_cells, sized, walk_closed, walk_declaration, walk_entries, walk_open, walk_start, walk_typed}
+use Rattle.c_types_walk.specs.StatementWalk.{with_declared_type}
+use Rattle.c_types_walk.proofs.Kept.{IsKeptByStatements, declaration_keeps, entries_keep, initial_keeps}
 use Rattle.c_types.proofs.Noted.{Gives, gives_more, gives_then}
-use Rattle.c_meaning_sound.proofs.Spotting.{all_two}
-use Rattle.lower_fits.proofs.Leaving.{Leaves, LeavesIn, base_leaves, expr_leaves, initial_leaves, leaves_here, whole_leaves}
+use Rattle.lower_fits.proofs.Leaving.{Leaves, leaves_kept, notes_leave}
 
 -- each variable has its type
 abbrev pub Long : Walk → Type 0
@@ -52,9 +46,9 @@ pub record Lays (new : List TypeTree) (w v : Walk) : Type 0 where
 abbrev pub Laid : Walk → Walk → Type 0
 Laid w v = (new : List TypeTree) × Lays new w v
 
--- where this part meets no fault
-abbrev pub LaysIn : {A : Type 0} → Walk → Walked A → Type 0
-LaysIn w r = Long w → Gives (λ _ v. Laid w v) r
+-- where each variable has its type, a part adds variables of some types of objects
+abbrev pub Laying : Walk → Walk → Type 0
+Laying w v = Long w → Laid w v
 
 -- what leaves the variables as they were adds none
 pub lays_nothing : (w v : Walk) → Leaves w v → Long w → Lays [] w v
@@ -74,40 +68,30 @@ lays_two xs ys w u v a b = record {
   structs = b.structs ∙ a.structs;
   scope = b.scope ∙ a.scope;
   types = b.types ∙ ap (λ ts. ts ++ ys) a.types ∙ append_assoc w.declared_types xs ys;
-  objects = all_two (IsObject w.structs) xs ys a.objects (subst (λ structs. AllByRecursion (IsObject structs) ys) a.structs b.objects);
+  objects = all_join (IsObject w.structs) xs ys a.objects (subst (λ structs. AllByRecursion (IsObject structs) ys) a.structs b.objects);
   long = b.long;
   locals = omega (arith, a.locals, b.locals);
   most = omega (arith, a.most, b.most, length-append xs ys);
 }
 
 -- a part that leaves the variables as they were, of whatever types
-left_lays : (w v : Walk) → Leaves w v → Long w → Laid w v
+left_lays : (w v : Walk) → Leaves w v → Laying w v
 left_lays w v h l = ([], lays_nothing w v h l)
 
 -- one part and then another, of whatever types
 lays_then : (w u v : Walk) → Laid w u → Laid u v → Laid w v
 lays_then w u v a b = (a.0 ++ b.0, lays_two a.0 b.0 w u v a.1 b.1)
 
--- behind a part that added variables
-lays_on : {A : Type 0} (w u : Walk) (r : Walked A) → Laid w u → LaysIn u r → Gives (λ _ v. Laid w v) r
-lays_on w u (Fine x v) a b = lays_then w u v a (b a.1.long)
-lays_on w u (Faulty kind token) a b = tt
-
--- one part after another
-lays_both : {A B : Type 0} (w : Walk) (r : Walked A) (next : A → Walk → Walked B) → LaysIn w r → ((x : A) (v : Walk) → LaysIn v (next x v))
-    → LaysIn w (r >>= next)
-lays_both w (Fine x v) next h k l = lays_on w v (next x v) (h l) (k x v)
-lays_both w (Faulty kind token) next h k l = tt
-
--- a part that adds nothing
-none_laid : {A : Type 0} (w : Walk) (r : Walked A) → LeavesIn w r → LaysIn w r
-none_laid w (Fine x v) h l = left_lays w v h l
-none_laid w (Faulty kind token) h l = tt
-
--- a test adds nothing
-unless_laid : (wrong : Bool) (kind : FaultKind) (token : ℕ) (w : Walk) → LaysIn w (unless wrong kind token w)
-unless_laid true kind token w l = tt
-unless_laid false kind token w l = left_lays w w (leaves_here w) l
+-- an expression adds none
+laying_kept : IsKeptByExpressions Laying
+laying_kept = by_notes Laying (record {
+  here = λ w. left_lays w w (leaves_kept.here w);
+  next = λ w u v a b l. lays_then w u v (a l) (b (a l).1.long);
+  typed = λ token t w. left_lays w (with_type token t w) (notes_leave.typed token t w);
+  used = λ token index w. left_lays w (with_use token index w) (notes_leave.used token index w);
+  called = λ token index w. left_lays w (with_call token index w) (notes_leave.called token index w);
+  selected = λ token offset w. left_lays w (with_offset token offset w) (notes_leave.selected token offset w);
+})
 
 -- declarations: one variable
 
@@ -180,13 +164,13 @@ Sizes of w v = Leaves w v × IsObject w.structs of
 
 -- counting the cells of globals leaves the rest
 counted_by : (b c : Bool) (token cells : ℕ) (w : Walk)
-    → LeavesIn {A = Done} w (if b then Fine tt w else if c then Fine tt (record w { global_cells = cells }) else Faulty fault.Object token)
-counted_by true c token cells w = leaves_here w
+    → Keeps {A = Done} Leaves w (if b then Fine tt w else if c then Fine tt (record w { global_cells = cells }) else Faulty fault.Object token)
+counted_by true c token cells w = leaves_kept.here w
 counted_by false true token cells w = record { structs = refl; names = refl; variables = refl; types = refl; locals = refl }
 counted_by false false token cells w = tt
 
 -- where the type is refused there is a fault
-sized_by : (b : Bool) (token : ℕ) (of : TypeTree) (w : Walk) (r : Walked Done) → is_object w.structs of ≡ b → LeavesIn w r
+sized_by : (b : Bool) (token : ℕ) (of : TypeTree) (w : Walk) (r : Walked Done) → is_object w.structs of ≡ b → Keeps Leaves w r
     → Gives (λ _ v. Sizes of w v) (if b then r else Faulty fault.Object token)
 sized_by true token of w r e h = gives_more (λ _ v. Leaves w v) (λ _ v. Sizes of w v) r (λ _ v k. (k, e)) h
 sized_by false token of w r e h = tt
@@ -201,7 +185,7 @@ open_one : (global : Bool) (x : StartTree) (of : TypeTree) (w : Walk) → Long w
 open_one global x of w l =
     let first : Walk = with_variable global x.declarator.name_token x.declarator.name of w in
     let added : Adds x.declarator.name of w first = variable_adds global x.declarator.name_token x.declarator.name of w in
-    gives_then (λ _ v. Leaves first v) (λ _ v. One x.declarator.name w v) (walk_initial global of x.initial first) _ (initial_leaves global of x.initial first)
+    gives_then (λ _ v. Leaves first v) (λ _ v. One x.declarator.name w v) (walk_initial global of x.initial first) _ (initial_keeps Leaves leaves_kept global of x.initial first)
     (λ own u h. gives_then (λ _ v. Sizes own u v) (λ _ v. One x.declarator.name w v) (sized global x.token own u) _ (sizes global x.token own u)
     (λ _ v k. record {
       of = own;
@@ -217,7 +201,7 @@ closed_one global x of w =
     (λ _ u k.
     let first : Walk = with_variable global x.declarator.name_token x.declarator.name of u in
     let added : Adds x.declarator.name of u first = variable_adds global x.declarator.name_token x.declarator.name of u in
-    gives_then (λ _ v. Leaves first v) (λ _ v. One x.declarator.name w v) (walk_initial global of x.initial first) _ (initial_leaves global of x.initial first)
+    gives_then (λ _ v. Leaves first v) (λ _ v. One x.declarator.name w v) (walk_initial global of x.initial first) _ (initial_keeps Leaves leaves_kept global of x.initial first)
     (λ _ v h. record {
       of = of;
       object = k.1;
@@ -266,111 +250,50 @@ one_lays name of w v o a l = record {
   most = omega (arith, a.most);
 }
 
--- declared variables, one after another
-starts_laid : (global : Bool) (b : TypeTree) (xs : List StartTree) (w : Walk) → LaysIn w (walk_starts global b xs w)
-starts_laid global b [] w l = left_lays w w (leaves_here w) l
-starts_laid global b (x ∷ xs) w l =
-    lays_both w (walk_start global b x w) _ (λ k. gives_more (λ _ v. Starts x.declarator.name w v) (λ _ v. Laid w v) (walk_start global b x w)
-    (λ _ v h. (h.one.of ∷ [], one_lays x.declarator.name h.one.of w v h.one.object h.one.adds k)) (start_adds global b x w k))
-    (λ _ v. starts_laid global b xs v) l
+-- what a part gives where something holds before it
+needing : {A : Type 0} (P : Type 0) (Q : Walk → Type 0) (r : Walked A) → (P → Gives (λ _ v. Q v) r) → Gives (λ _ v. P → Q v) r
+needing P Q (Fine x v) h = h
+needing P Q (Faulty kind token) h = tt
+
+-- a declared variable
+start_laid : (global : Bool) (b : TypeTree) (x : StartTree) (w : Walk) → Keeps Laying w (walk_start global b x w)
+start_laid global b x w = needing (Long w) (λ v. Laid w v) (walk_start global b x w) (λ l.
+    gives_more (λ _ v. Starts x.declarator.name w v) (λ _ v. Laid w v) (walk_start global b x w)
+    (λ _ v h. (h.one.of ∷ [], one_lays x.declarator.name h.one.of w v h.one.object h.one.adds l)) (start_adds global b x w l))
+
+-- the end of a scope leaves the variables that were declared in it
+scope_laid : (w u : Walk) → Laying (opened w) u → Keeps Laying w (closing tt u)
+scope_laid w u h l =
+    let a : Laid (opened w) u = h l in (
+      a.0,
+      record {
+        structs = a.1.structs;
+        scope = ap closed a.1.scope;
+        types = a.1.types;
+        objects = a.1.objects;
+        long = a.1.long;
+        locals = a.1.locals;
+        most = a.1.most;
+      },
+    )
+
+-- a statement adds the variables that are declared in it
+laying_statements : IsKeptByStatements Laying
+laying_statements = record {
+  here = laying_kept.here;
+  next = laying_kept.next;
+  expr = laying_kept.expr;
+  whole = laying_kept.whole;
+  declaration = declaration_keeps false Laying laying_kept (start_laid false);
+  scope = scope_laid;
+}
 
 -- a declaration adds its variables
-pub declaration_laid : (global : Bool) (d : DeclarationTree) (w : Walk) → LaysIn w (walk_declaration global d w)
-declaration_laid global d w =
-    lays_both w (base_type d.base w) _ (none_laid w (base_type d.base w) (base_leaves d.base w)) (λ b v. starts_laid global b d.starts v)
+pub declaration_laid : (global : Bool) (d : DeclarationTree) (w : Walk) → Long w → Gives (λ _ v. Laid w v) (walk_declaration global d w)
+declaration_laid global d w l = gives_more (λ _ v. Laying w v) (λ _ v. Laid w v) (walk_declaration global d w) (λ _ v h. h l)
+    (declaration_keeps global Laying laying_kept (start_laid global) d w)
 
--- statements
-
--- an expression adds none
-expr_laid : (x : ExprTree) (w : Walk) → LaysIn w (walk_expr x w)
-expr_laid x w = none_laid w (walk_expr x w) (expr_leaves x w)
-
--- an expression that may be left out adds none
-optional_laid : (x : Option ExprTree) (w : Walk) → LaysIn w (walk_optional x w)
-optional_laid None w = λ l. left_lays w w (leaves_here w) l
-optional_laid (Some x) w = lays_both w (walk_expr x w) _ (expr_laid x w) (λ y v l. left_lays v v (leaves_here v) l)
-
--- the start of a `for` may add some
-for_start_laid : (start : ForStartTree) (w : Walk) → LaysIn w (walk_for_start start w)
-for_start_laid (s.Declares d) w = lays_both w (walk_declaration false d w) _ (declaration_laid false d w) (λ _ v l. left_lays v v (leaves_here v) l)
-for_start_laid (s.Computes x) w = optional_laid x w
-
--- the tests of a `return` add nothing
-returned_laid : (b c : Bool) (token : ℕ) (w : Walk) → LaysIn {A = Done} w (if b then Faulty fault.Jump token else unless c fault.Operands token w)
-returned_laid true c token w l = tt
-returned_laid false c token w l = unless_laid c fault.Operands token w l
-
--- what comes to the end of a scope adds to what was known before the scope
-abbrev Closes : Walk → Walk → Walked Done → Type 0
-Closes w u r = Laid (opened w) u → Gives (λ _ v. Laid w v) r
-
--- one part within the scope, and then what comes to its end
-closes_both : {A : Type 0} (w u : Walk) (r : Walked A) (next : A → Walk → Walked Done) → LaysIn u r → ((x : A) (v : Walk) → Closes w v (next x v))
-    → Closes w u (r >>= next)
-closes_both w u (Fine x v) next h k a = k x v (lays_then (opened w) u v a (h a.1.long))
-closes_both w u (Faulty kind token) next h k a = tt
-
--- the end of the scope
-closes_end : (w : Walk) (x : Done) (u : Walk) → Closes w u (closing x u)
-closes_end w x u a = (
-  a.0,
-  record {
-    structs = a.1.structs;
-    scope = ap closed a.1.scope;
-    types = a.1.types;
-    objects = a.1.objects;
-    long = a.1.long;
-    locals = a.1.locals;
-    most = a.1.most;
-  },
-)
-
--- a scope adds what is added in it
-scoped_laid : (w : Walk) (r : Walked Done) → Closes w (opened w) r → LaysIn w r
-scoped_laid w r h l = h (left_lays (opened w) (opened w) (leaves_here (opened w)) l)
-
-mutual
-  -- a statement adds the variables that are declared in it
-  pub statement_laid : (gives : TypeTree) (looping : Bool) (x : StatementTree) (w : Walk) → LaysIn w (walk_statement gives looping x w)
-  statement_laid gives looping (s.Block token entries) w =
-      scoped_laid w (walk_entries gives looping entries (opened w) >>= closing)
-      (closes_both w (opened w) (walk_entries gives looping entries (opened w)) closing (entries_laid gives looping entries (opened w)) (closes_end w))
-  statement_laid gives looping (s.Empty token) w = λ l. left_lays w w (leaves_here w) l
-  statement_laid gives looping (s.Expr token x) w =
-      lays_both w (walk_whole x w) _ (none_laid w (walk_whole x w) (whole_leaves x w)) (λ y v. unless_laid (is_struct y.ctype) fault.Operands token v)
-  statement_laid gives looping (s.If token condition first) w =
-      lays_both w (walk_expr condition w) _ (expr_laid condition w)
-      (λ x v. lays_both v (walk_statement gives looping first v) _ (statement_laid gives looping first v)
-      (λ _ u. unless_laid (not (is_scalar_value x)) fault.Operands token u))
-  statement_laid gives looping (s.IfElse token condition first second) w =
-      lays_both w (walk_expr condition w) _ (expr_laid condition w)
-      (λ x v. lays_both v (walk_statement gives looping first v) _ (statement_laid gives looping first v)
-      (λ _ u. lays_both u (walk_statement gives looping second u) _ (statement_laid gives looping second u)
-      (λ _ r. unless_laid (not (is_scalar_value x)) fault.Operands token r)))
-  statement_laid gives looping (s.While token condition body) w =
-      lays_both w (walk_expr condition w) _ (expr_laid condition w)
-      (λ x v. lays_both v (walk_statement gives true body v) _ (statement_laid gives true body v)
-      (λ _ u. unless_laid (not (is_scalar_value x)) fault.Operands token u))
-  statement_laid gives looping (s.Do token body condition) w =
-      lays_both w (walk_statement gives true body w) _ (statement_laid gives true body w)
-      (λ _ v. lays_both v (walk_expr condition v) _ (expr_laid condition v) (λ x u. unless_laid (not (is_scalar_value x)) fault.Operands token u))
-  statement_laid gives looping (s.For token start condition step body) w =
-      scoped_laid w (walk_statement gives looping (s.For token start condition step body) w)
-      (closes_both w (opened w) (walk_for_start start (opened w)) _ (for_start_laid start (opened w))
-      (λ x v. closes_both w v (walk_optional condition v) _ (optional_laid condition v)
-      (λ y u. closes_both w u (walk_optional step u) _ (optional_laid step u)
-      (λ z r. closes_both w r (walk_statement gives true body r) _ (statement_laid gives true body r)
-      (λ _ q. closes_both w q (looped token x y z q) closing (unless_laid _ fault.Operands token q) (closes_end w))))))
-  statement_laid gives looping (s.Return token None) w = unless_laid (not (is_void gives)) fault.Jump token w
-  statement_laid gives looping (s.Return token (Some value)) w =
-      lays_both w (walk_expr value w) _ (expr_laid value w) (λ x v. returned_laid (is_void gives) (not (assignable gives x)) token v)
-  statement_laid gives looping (s.Break token) w = unless_laid (not looping) fault.Jump token w
-  statement_laid gives looping (s.Continue token) w = unless_laid (not looping) fault.Jump token w
-
-  -- so do the entries of a block
-  pub entries_laid : (gives : TypeTree) (looping : Bool) (xs : EntryList) (w : Walk) → LaysIn w (walk_entries gives looping xs w)
-  entries_laid gives looping s.no_entries w = λ l. left_lays w w (leaves_here w) l
-  entries_laid gives looping (s.declared d rest) w =
-      lays_both w (walk_declaration false d w) _ (declaration_laid false d w) (λ _ v. entries_laid gives looping rest v)
-  entries_laid gives looping (s.stated x rest) w =
-      lays_both w (walk_statement gives looping x w) _ (statement_laid gives looping x w) (λ _ v. entries_laid gives looping rest v)
+-- the entries of a block add theirs
+pub entries_laid : (gives : TypeTree) (looping : Bool) (xs : EntryList) (w : Walk) → Long w → Gives (λ _ v. Laid w v) (walk_entries gives looping xs w)
+entries_laid gives looping xs w l = gives_more (λ _ v. Laying w v) (λ _ v. Laid w v) (walk_entries gives looping xs w) (λ _ v h. h l)
+    (entries_keep Laying laying_statements gives looping xs w)

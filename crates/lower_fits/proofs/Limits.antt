@@ -1,16 +1,13 @@
 -- The parts made of an accepted text are few, and its sites are ones that a program takes.
 use Rattle.std.proofs.Common.{◌≡◌, ℕ, ◌+◌, ◌*◌, ◌≤◌, ◌<◌, sym, subst₂, arith, inl, inr, List, [], map, length, sum_by, All}
 use Rattle.std.proofs.lemmas.List.Elements.{All-nil, All-same}
-use Rattle.c_syntax.specs.ItemTree.{SourceTree}
-use Rattle.c_syntax.specs.Limits.{most_tokens}
+use Rattle.c_syntax.specs.Words.{SourceTree, most_tokens}
 use Rattle.c_types_expressions.specs.declared.walk.Definition.{Definition}
 use Rattle.c_types_expressions.specs.declared.walk.Walk.{Walk}
 use Rattle.flow.specs.declared.program.Function.{Function}
 use Rattle.flow.specs.declared.site.Site.{Site}
-use Rattle.flow.specs.Limits.{function_limit, local_limit, site_limit}
-use Rattle.flow.specs.Program.{AreFew, AreSites}
-use Rattle.flow.specs.Sites.{IsSite}
-use Rattle.sites.specs.declared.schemes.Schemes.{Schemes}
+use Rattle.flow.specs.Words.{function_limit, local_limit, site_limit, AreFew, AreSites, IsSite}
+use Rattle.flow.specs.declared.choice.Schemes.{Schemes}
 use Rattle.sites.specs.Table.{sites_of}
 use Rattle.c_meaning_sound.specs.Sited.{count_of, local_counts}
 use Rattle.lower_fits.specs.Ready.{AreSitesOf}

@@ -2,9 +2,9 @@
 use Rattle.std.proofs.Common.{◌≡◌, ℕ, zero, suc, List, [], ◌∷◌, ◌++◌, Some, None, Bool, true, false, length}
 use Rattle.std.specs.Prelude.{IfSome, Option, if◌then◌else◌, nat_lt, replicate, slice_set}
 use Rattle.std.specs.List.{AllByRecursion}
+use Rattle.std.proofs.lemmas.Option.{same_Some}
 use Rattle.c_types.specs.Answers.{noted}
 use Rattle.c_types_expressions.specs.Walked.{replaced}
-use Rattle.c_types.proofs.Options.{some_is}
 
 module _ {A : Type 0} (P : A → Type 0) where
   -- what holds of both parts holds of the whole
@@ -34,7 +34,7 @@ module _ {A : Type 0} (P : A → Type 0) where
   -- and so of what was noted at a place
   pub noted_at : (notes : List (Option A)) (i : ℕ) (x : A) → AllNoted notes → noted notes i ≡ Some x → P x
   noted_at [] i x h e = cc
-  noted_at (Some y ∷ notes) zero x h e = rw (some_is y x e) at h.0
+  noted_at (Some y ∷ notes) zero x h e = rw (same_Some y x e) at h.0
   noted_at (None ∷ notes) zero x h e = cc
   noted_at (o ∷ notes) (suc i) x h e = noted_at notes i x h.1 e
 

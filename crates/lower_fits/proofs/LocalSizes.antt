@@ -3,23 +3,19 @@ use Rattle.std.proofs.Common.{◌≡◌, ℕ, ◌≤◌, refl, ap, subst, sym, �
 use Rattle.std.proofs.Common.{length-append}
 use Rattle.std.specs.Prelude.{IsTrue, Option, drop, map, nat_le, nat_lt, slice_get, take}
 use Rattle.std.specs.List.{All, AllByRecursion}
-use Rattle.std.proofs.lemmas.Bool.{and_from, false≢true, le-leb, leb-true, ltb-true}
+use Rattle.std.proofs.lemmas.Bool.{and_from, false≢true, le-leb, leb-true, ltb-true, and_parts}
 use Rattle.std.proofs.lemmas.List.{length-map, length-take, take-map, take-take, take_at}
 use Rattle.std.proofs.lemmas.List.Elements.{All-drop, All-from_recursion, All-map, All-take}
 use Rattle.std.proofs.lemmas.Nat.{mul-le}
-use Rattle.cbi_base.proofs.NumberLemmas.{both}
+use Rattle.std.proofs.lemmas.Option.{same_Some}
 use Rattle.c_syntax.specs.ItemTree.{SourceTree}
 use Rattle.c_types_rules.specs.declared.layout.StructType.{StructType}
 use Rattle.c_types_rules.specs.TypeTree as t
-use Rattle.c_types_rules.specs.TypeTree.{TypeTree}
-use Rattle.c_types_rules.specs.Sizes.{cells_of, is_complete, most_cells}
+use Rattle.c_types_rules.specs.Words.{TypeTree, cells_of, is_complete, most_cells}
 use Rattle.c_types_expressions.specs.declared.walk.Definition.{Definition}
 use Rattle.c_types_expressions.specs.declared.walk.Walk.{Walk}
-use Rattle.c_types.proofs.Options.{some_is}
-use Rattle.c_meaning.specs.Facts.{Signature}
-use Rattle.c_meaning.specs.Known.{computed_type, facts_of, signature_of, signature_with, sizes_of}
-use Rattle.flow.specs.Limits.{size_limit}
-use Rattle.flow.specs.Program.{AreLocals, is_size}
+use Rattle.c_meaning.specs.Words.{Signature, computed_type, facts_of, signature_of, signature_with, sizes_of}
+use Rattle.flow.specs.Words.{size_limit, AreLocals, is_size}
 use Rattle.c_meaning_sound.specs.Accepted.{IsAcceptedTree}
 use Rattle.c_meaning_sound.proofs.Ending.{small_structs, tree_sums}
 use Rattle.c_meaning_sound.proofs.Noting.{Small}
@@ -31,13 +27,10 @@ use Rattle.lower_fits.proofs.Definitions.{AllFit, FitsIn, all_fit, fits_at}
 
 -- scalars have one cell
 pub scalar_cells : (structs : List StructType) (of : TypeTree) → IsScalar of → cells_of structs of ≡ 1
-scalar_cells structs t.Char h = refl
-scalar_cells structs t.Int h = refl
-scalar_cells structs t.Unsigned h = refl
-scalar_cells structs (t.Pointer to) h = refl
 scalar_cells structs t.Void h = absurd (false≢true h)
 scalar_cells structs (t.Array element size) h = absurd (false≢true h)
 scalar_cells structs (t.Struct tag) h = absurd (false≢true h)
+scalar_cells structs of h = refl
 
 -- so have all scalars of a list
 all_single : (structs : List StructType) (types : List TypeTree) → AllByRecursion IsScalar types → AllByRecursion (λ of. cells_of structs of ≡ 1) types
@@ -48,16 +41,13 @@ module _ (tree : SourceTree) (z : Walk) (small : (tag : ℕ) → Small tree z (t
   -- what is known whole has a cell at least
   pub cells_some : (of : TypeTree) → is_complete z.structs of ≡ true → 1 ≤ cells_of z.structs of
   cells_some t.Void h = absurd (false≢true h)
-  cells_some t.Char h = omega arith
-  cells_some t.Int h = omega arith
-  cells_some t.Unsigned h = omega arith
-  cells_some (t.Pointer to) h = omega arith
   cells_some (t.Array element size) h =
-      let parts : (nat_lt 0 size ≡ true) × (is_complete z.structs element ≡ true) = both (nat_lt 0 size) (is_complete z.structs element) h in
+      let parts : (nat_lt 0 size ≡ true) × (is_complete z.structs element ≡ true) = and_parts (nat_lt 0 size) (is_complete z.structs element) h in
       mul-le 1 1 size (cells_of z.structs element) (ltb-true 0 size parts.0) (cells_some element parts.1)
   cells_some (t.Struct tag) h =
-      leb-true 1 (cells_of z.structs (t.Struct tag)) (both (nat_le 1 (cells_of z.structs (t.Struct tag)))
+      leb-true 1 (cells_of z.structs (t.Struct tag)) (and_parts (nat_le 1 (cells_of z.structs (t.Struct tag)))
       (nat_le (cells_of z.structs (t.Struct tag)) 1048576) (small tag h)).0
+  cells_some of h = omega arith
 
   -- types of objects have sizes that a local can have
   all_sizes : (types : List TypeTree) → AllByRecursion (Sized z.structs) types → AllByRecursion (λ of. IsTrue (is_size (cells_of z.structs of))) types
@@ -111,7 +101,7 @@ module _ (tree : SourceTree) (z : Walk) (small : (tag : ℕ) → Small tree z (t
   signature_locals (Some d) f number a e h =
       let named : (name : List ℕ) × FitsIn z d name = fits_at tree z a number d e in
       let k : FitsIn z d named.0 = named.1 in
-      let is = some_is (record {
+      let is = same_Some (record {
         params = map (computed_type z.structs) k.entry.own.ctype.params;
         result = computed_type z.structs k.entry.own.ctype.gives;
         locals = sizes_of z d;

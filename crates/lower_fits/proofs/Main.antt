@@ -1,8 +1,7 @@
 -- `main` of an accepted text gives a value, and has no parameters.
 use Rattle.std.proofs.Common.{◌≡◌, ℕ, refl, ap, ◌∙◌, arith, List, [], ◌∷◌, Some, None, true, length}
 use Rattle.std.specs.Prelude.{Option, codes, is_some, map, slice_get, unwrap_or, ◌==◌}
-use Rattle.std.proofs.lemmas.Bool.{eqb-true, false≢true}
-use Rattle.cbi_base.proofs.NumberLemmas.{both}
+use Rattle.std.proofs.lemmas.Bool.{eqb-true, false≢true, and_parts}
 use Rattle.c_syntax.specs.ItemTree.{SourceTree}
 use Rattle.c_types_rules.proofs.Same.{equal}
 use Rattle.c_types_rules.specs.declared.layout.StructType.{StructType}
@@ -15,13 +14,9 @@ use Rattle.c_types_expressions.specs.declared.walk.Walk.{Walk}
 use Rattle.c_types.specs.Answers.{noted}
 use Rattle.c_types.specs.Fault.{begins_program, is_main, walk_tree}
 use Rattle.c_types_walk.specs.ItemWalk.{is_defined}
-use Rattle.c_types_expressions.specs.Names.{found}
-use Rattle.c_types_expressions.specs.Walked.{Fine}
+use Rattle.c_types_expressions.specs.Words.{found, Fine}
 use Rattle.c_types.proofs.FunctionLaws.{functions_numbered}
-use Rattle.c_meaning.specs.Facts.{Signature}
-use Rattle.c_meaning.specs.Known.{computed_type, facts_of, signature_of}
-use Rattle.c_meaning.specs.Texts.{main_of, number_defined}
-use Rattle.c_meaning.specs.Trees.{has_value}
+use Rattle.c_meaning.specs.Words.{Signature, computed_type, facts_of, signature_of, main_of, number_defined, has_value}
 use Rattle.c_meaning_sound.proofs.Ending.{last_is, tree_is}
 use Rattle.c_meaning_sound.proofs.Forming.{Numbered}
 use Rattle.c_meaning_sound.proofs.Naming.{Signed, signed}
@@ -37,7 +32,7 @@ module _ (tree : SourceTree) (z : Walk) (walked : walk_tree tree ≡ Fine tt z) 
   begins_main : (g : FunctionEntry) (o : Option Signature) → begins_program (Some g) ≡ true → Signed z g o → IsMainSignature o
   begins_main g None h k = k
   begins_main g (Some f) h k =
-      let parts = both (same_type g.ctype.gives t.Int) (length g.ctype.params == 0) h in (
+      let parts = and_parts (same_type g.ctype.gives t.Int) (length g.ctype.params == 0) h in (
         k.0 ∙ no_types z.structs g.ctype.params parts.1,
         ap has_value (k.1 ∙ ap (computed_type z.structs) (equal g.ctype.gives t.Int parts.0)),
       )
@@ -58,13 +53,10 @@ module _ (tree : SourceTree) (z : Walk) (walked : walk_tree tree ≡ Fine tt z) 
 
   -- what the name means
   main_by : (m : Option Meaning) → is_main m z ≡ true → IsMainSignature (signature_of z (slice_get z.definitions (unwrap_or (number_defined z m) 0)))
-  main_by None h = absurd (false≢true h)
   main_by (Some (meaning.Function index)) h =
-      let parts = both (begins_program (slice_get z.functions index)) (is_defined index z.defined_as) h in
+      let parts = and_parts (begins_program (slice_get z.functions index)) (is_defined index z.defined_as) h in
       defined_main index (noted z.defined_as index) refl parts.0 parts.1
-  main_by (Some (meaning.Variable index)) h = absurd (false≢true h)
-  main_by (Some (meaning.Struct index)) h = absurd (false≢true h)
-  main_by (Some (meaning.Library function)) h = absurd (false≢true h)
+  main_by m h = absurd (false≢true h)
 
   -- `main` of a text without a fault
   pub main_is : IsMainSignature ((facts_of tree z).signature (main_of z))

@@ -2,20 +2,19 @@
 use Rattle.std.proofs.Common.{◌≡◌, ℕ, zero, suc, ◌≤◌, ◌+◌, refl, sym, subst, arith, List, [], ◌∷◌, ◌++◌, Some, None, Bool, true, false, length, length-append}
 use Rattle.std.specs.Prelude.{◌==◌, ◌||◌, Option, IsTrue, negsuc, pos, slice_get}
 use Rattle.std.proofs.lemmas.Bool.{eqb-true, lt-ltb}
+use Rattle.cbi_base.specs.Words.{pieces_of, lies_in}
 use Rattle.cbi_base.specs.declared.operators.Binary.TheVariants as op
 use Rattle.cbi_base.specs.declared.operators.Unary.{Unary}
 use Rattle.cbi_base.specs.declared.operators.Unary.TheVariants as unary
 use Rattle.cbi_base.specs.declared.scalar.Kind.{Kind}
 use Rattle.cbi_base.specs.declared.scalar.Kind.TheVariants.{Char, Int, Unsigned}
 use Rattle.cbi_base.specs.declared.scalar.Want.TheVariants as want
-use Rattle.cbi_base.specs.Kind.{lies_in}
 use Rattle.c_syntax.specs.declared.expr.PrefixOperator.{PrefixOperator}
 use Rattle.c_syntax.specs.declared.expr.PrefixOperator.TheVariants as prefix
 use Rattle.c_syntax.specs.declared.token.Sign.TheVariants as sign
 use Rattle.c_syntax.specs.ExprTree as e
-use Rattle.c_syntax.specs.ExprTree.{ExprTree, ExprList, LinkList, PostfixList}
-use Rattle.c_syntax.specs.Place.{ExprAt, ExprsAt, LinksAt, PostfixAt}
-use Rattle.c_syntax.specs.Spelling.{a_name, a_sign, expr_kinds, exprs_kinds, link_kinds, more_exprs_kinds, parenthesized, postfix_kinds, type_kinds}
+use Rattle.c_syntax.specs.Words.{ExprTree, ExprList, LinkList, PostfixList, ExprAt, ExprsAt, LinksAt, PostfixAt, a_name, a_sign, expr_kinds, exprs_kinds}
+use Rattle.c_syntax.specs.Words.{link_kinds, more_exprs_kinds, parenthesized, postfix_kinds, type_kinds}
 use Rattle.c_types_rules.specs.declared.library.Library.{Library}
 use Rattle.c_types_rules.specs.declared.library.Library.TheVariants as library
 use Rattle.c_types_expressions.specs.ExprWalk.{binary_of}
@@ -28,7 +27,6 @@ use Rattle.flow.specs.declared.scope.Names.{Names}
 use Rattle.flow.specs.declared.site.Slot.{Slot}
 use Rattle.flow.specs.declared.site.Slot.TheVariants as slot
 use Rattle.flow.specs.Nodes.{is_format, names_fit, step_limit}
-use Rattle.flow.specs.Printing.{pieces_of}
 use Rattle.c_meaning.specs.declared.conversion.Conversion.{Conversion}
 use Rattle.c_meaning.specs.declared.conversion.Conversion.TheVariants.{Keep, To, Misfit}
 use Rattle.c_meaning.specs.declared.operation.Operation.{Operation}
@@ -37,20 +35,15 @@ use Rattle.c_meaning.specs.declared.value_type.Called.{Called}
 use Rattle.c_meaning.specs.declared.value_type.Called.TheVariants as called
 use Rattle.c_meaning.specs.declared.value_type.ValueType.{ValueType}
 use Rattle.c_meaning.specs.declared.value_type.ValueType.TheVariants as type
-use Rattle.c_meaning.specs.Calls.{as_type, types_taken}
-use Rattle.c_meaning.specs.Conversions.{between, conversion, as_used, is_null_as}
-use Rattle.c_meaning.specs.Expressions.{is_other_pointer, is_struct_value}
-use Rattle.c_meaning.specs.Facts.{Facts, Signature, Sites}
-use Rattle.c_meaning.specs.Meaning.{text_of_string}
-use Rattle.c_meaning.specs.Operation.{left_kind, operation, right_kind, type_given}
+use Rattle.c_meaning.specs.Words.{as_type, types_taken, between, conversion, as_used, is_null_as, is_other_pointer, is_struct_value, Facts, Signature, Sites}
+use Rattle.c_meaning.specs.Words.{text_of_string, left_kind, operation, right_kind, type_given, Assignment, Plain, By, Joint, Both, Computes, Unjoined}
+use Rattle.c_meaning.specs.Words.{assignment, begins_null, called_as, count, ends_as_place, first_type, has_value, is_null_beside, is_place, joint, one_kind}
+use Rattle.c_meaning.specs.Words.{operand_type, other_types, step_of, token_of, type_of, listed, step_operation}
 use Rattle.c_meaning.specs.Trees as meaning
-use Rattle.c_meaning.specs.Trees.{Assignment, Plain, By, Joint, Both, Computes, Unjoined, assignment, begins_null, called_as, count, ends_as_place, first_type, has_value, is_null_beside, is_place, joint, one_kind, operand_type, other_types, step_of, token_of, type_of}
-use Rattle.c_meaning.specs.Visits.{listed}
 use Rattle.lower_relation.specs.Calls as c
 use Rattle.lower_relation.specs.Expressions as x
 use Rattle.lower_relation.specs.Expressions.{has_more, number_of_text}
 use Rattle.lower_relation.specs.Operators as o
-use Rattle.c_meaning.specs.Places.{step_operation}
 use Rattle.lower_relation.specs.Paths.{Graph, Path, Ways, Emitted, Does, HaltsAt, Stuck, MarksAll, ForkTo, Tests, Only}
 use Rattle.lower_relation.specs.Values as v
 use Rattle.c_meaning_laws.specs.Typed.{HasSlot, Typed, TypedLinks, TypedPostfix}
@@ -124,21 +117,16 @@ module _ (names : Names) (bounds : Bounds) (G : Graph) where
 
   -- a value is handed over
   pub handed : (of : Option ValueType) → Into (v.Handed G of) (v.Handed H of)
-  handed None = stuck
-  handed (Some type.Void) = stuck
   handed (Some (type.Number kind)) = free (node.Convert kind 0) tt
   handed (Some (type.Pointer size)) = then_into (free (node.Dup 0) tt) (then_into (free (node.Sole unary.Not 0) tt) (free (node.Drop 0) tt))
-  handed (Some (type.Array size)) = stuck
-  handed (Some type.Struct) = stuck
+  handed of = stuck
 
   -- the value of a place
   pub load : (of : Option ValueType) → Into (v.LoadAt G of) (v.LoadAt H of)
-  load None = stuck
-  load (Some type.Void) = stuck
   load (Some (type.Number kind)) = free (node.Load (want.Number kind) 0) tt
   load (Some (type.Pointer size)) = free (node.Load want.Pointer 0) tt
   load (Some (type.Array size)) = same
-  load (Some type.Struct) = stuck
+  load of = stuck
 
   -- a value that isn't taken
   pub dropped : {R R' : Path ℕ} → Into R R' → Into (v.Dropped G R) (v.Dropped H R')
@@ -193,12 +181,8 @@ module _ (names : Names) (bounds : Bounds) (G : Graph) where
 
   -- an arm whose value isn't taken
   pub arm_effect : (is_null : Bool) (have want : Option ValueType) {m n : Emitted} → EmittedInto m n → Into (v.ArmEffect G is_null have want m) (v.ArmEffect H is_null have want n)
-  arm_effect is_null have None a = dropped (arm is_null have None a)
   arm_effect is_null have (Some type.Void) a = a.effect
-  arm_effect is_null have (Some (type.Number kind)) a = dropped (arm is_null have (Some (type.Number kind)) a)
-  arm_effect is_null have (Some (type.Pointer size)) a = dropped (arm is_null have (Some (type.Pointer size)) a)
-  arm_effect is_null have (Some (type.Array size)) a = dropped (arm is_null have (Some (type.Array size)) a)
-  arm_effect is_null have (Some type.Struct) a = dropped (arm is_null have (Some type.Struct) a)
+  arm_effect is_null have want a = dropped (arm is_null have want a)
 
   -- a value as it is handed over
   pub handed_value : (is_null : Bool) (want : Option ValueType) {m n : Emitted} → EmittedInto m n → Into (v.HandedValue G is_null want m) (v.HandedValue H is_null want n)
@@ -227,12 +211,9 @@ module _ (names : Names) (bounds : Bounds) (G : Graph) where
 
   -- the value at a pointer
   load_through : (of : Option ValueType) → Into (o.LoadThrough G of) (o.LoadThrough H of)
-  load_through None = then_into pointed (load None)
-  load_through (Some type.Void) = then_into pointed (load (Some type.Void))
   load_through (Some (type.Number kind)) = load (Some (type.Number kind))
   load_through (Some (type.Pointer size)) = load (Some (type.Pointer size))
-  load_through (Some (type.Array size)) = then_into pointed (load (Some (type.Array size)))
-  load_through (Some type.Struct) = then_into pointed (load (Some type.Struct))
+  load_through of = then_into pointed (load of)
 
   -- the place that a pointer's value is
   pub through : (of : Option ValueType) {R R' : Path ℕ} → Into R R' → EmittedInto (o.Through G of R) (o.Through H of R')
@@ -260,12 +241,8 @@ module _ (names : Names) (bounds : Bounds) (G : Graph) where
 
   -- a cast
   pub cast : (is_null : Bool) (of : Option ValueType) {m n : Emitted} → EmittedInto m n → EmittedInto (o.Cast G is_null of m) (o.Cast H is_null of n)
-  cast is_null None a = valued (handed_value is_null None a)
   cast is_null (Some type.Void) a = effected a.effect
-  cast is_null (Some (type.Number kind)) a = valued (handed_value is_null (Some (type.Number kind)) a)
-  cast is_null (Some (type.Pointer size)) a = valued (handed_value is_null (Some (type.Pointer size)) a)
-  cast is_null (Some (type.Array size)) a = valued (handed_value is_null (Some (type.Array size)) a)
-  cast is_null (Some type.Struct) a = valued (handed_value is_null (Some type.Struct) a)
+  cast is_null of a = valued (handed_value is_null of a)
 
   -- one operand after another
   pub comma : (left : ℕ) {m n k l : Emitted} → EmittedInto m n → EmittedInto k l → EmittedInto (o.Comma G left m k) (o.Comma H left n l)
@@ -463,9 +440,6 @@ module _ (names : Names) (bounds : Bounds) (G : Graph) where
     prints : (number : Option ℕ) (format : Option Text) (n : ℕ) →
         ((k : ℕ) (t : Text) → number ≡ Some k → format ≡ Some t → IsTrue (is_format (slice_get names.conversions k) (length (types_taken (pieces_of t.bytes))))) →
         {R R' : c.ArgumentsPath} → ((types : List ValueType) → Into (R types) (R' types)) → Into (c.PrintPath G number format n R) (c.PrintPath H number format n R')
-    prints None None n fits a = stuck
-    prints None (Some format) n fits a = stuck
-    prints (Some number) None n fits a = stuck
     prints (Some number) (Some format) n fits a =
         let taken = types_taken (pieces_of format.bytes) in
         only (n == length taken) (λ as_many.
@@ -473,6 +447,9 @@ module _ (names : Names) (bounds : Bounds) (G : Graph) where
         let fit : IsTrue (is_format (slice_get names.conversions number) n) =
         subst (λ k. IsTrue (is_format (slice_get names.conversions number) k)) (sym same_number) (fits number format refl refl) in
         then_into (a taken) (does (node.Format number n 0) (format_fits names bounds number n fit)))
+    prints None None n fits a = stuck
+    prints None (Some format) n fits a = stuck
+    prints (Some number) None n fits a = stuck
 
     -- what is known of parts: that their nodes fit
     abbrev pub Fits : ExprTree → Type 0

@@ -2,17 +2,17 @@
 use Rattle.std.proofs.Common.{◌≡◌, ℕ, suc, ◌≤◌, ◌<◌, ◌+◌, refl, sym, subst, inl, inr, arith, List, [], ◌∷◌, ◌++◌, Some, None, Bool, true, false, length, length-append}
 use Rattle.std.specs.Prelude.{Option, IfSome, pos}
 use Rattle.std.proofs.lemmas.Option.{same_Some}
+use Rattle.sites.proofs.RisesBodies.{declarator-length}
 use Rattle.cbi_base.specs.declared.scalar.Kind.TheVariants.{Int}
 use Rattle.cbi_base.specs.declared.scalar.Want.{Want}
 use Rattle.c_syntax.specs.declared.token.Sign.TheVariants as sign
 use Rattle.c_syntax.specs.declared.token.Word.TheVariants as word
 use Rattle.c_syntax.specs.ExprTree as e
-use Rattle.c_syntax.specs.ExprTree.{ExprTree, ExprList}
-use Rattle.c_syntax.specs.Place.{DeclarationAt, EachAt, EntriesAt, ExprAt, ForStartAt, InitialAt, StartAt, StatementAt}
-use Rattle.c_syntax.specs.Spelling.{Kinds, after_commas, a_sign, a_word, base_kinds, comma_kinds, declaration_kinds, declarator_kinds, entry_kinds, expr_kinds, exprs_kinds}
-use Rattle.c_syntax.specs.Spelling.{for_start_kinds, optional, parenthesized, start_kinds, statement_kinds, with_commas}
+use Rattle.c_syntax.specs.Words.{ExprTree, ExprList, DeclarationAt, EachAt, EntriesAt, ExprAt, ForStartAt, InitialAt, StartAt, StatementAt, Kinds, after_commas}
+use Rattle.c_syntax.specs.Words.{a_sign, a_word, base_kinds, comma_kinds, declaration_kinds, declarator_kinds, entry_kinds, expr_kinds, exprs_kinds}
+use Rattle.c_syntax.specs.Words.{for_start_kinds, optional, parenthesized, start_kinds, statement_kinds, with_commas, InitialTree, StartTree, DeclarationTree}
+use Rattle.c_syntax.specs.Words.{ForStartTree, StatementTree, EntryList}
 use Rattle.c_syntax.specs.StatementTree as tree
-use Rattle.c_syntax.specs.StatementTree.{InitialTree, StartTree, DeclarationTree, ForStartTree, StatementTree, EntryList}
 use Rattle.flow.specs.declared.node.Node.TheVariants as node
 use Rattle.flow.specs.declared.program.Text.{Text}
 use Rattle.flow.specs.declared.scope.Bounds.{Bounds}
@@ -22,11 +22,7 @@ use Rattle.flow.specs.declared.site.Slot.TheVariants as slot
 use Rattle.flow.specs.Nodes.{step_limit}
 use Rattle.c_meaning.specs.declared.value_type.ValueType.{ValueType}
 use Rattle.c_meaning.specs.declared.value_type.ValueType.TheVariants as type
-use Rattle.c_meaning.specs.Conversions.{is_null_as}
-use Rattle.c_meaning.specs.Facts.{Facts, Signature, Sites}
-use Rattle.c_meaning.specs.Initialisers.{equals_token, want_of}
-use Rattle.c_meaning.specs.Meaning.{text_of_string}
-use Rattle.c_meaning.specs.Trees.{count, type_of}
+use Rattle.c_meaning.specs.Words.{is_null_as, Facts, Signature, Sites, equals_token, want_of, text_of_string, count, type_of}
 use Rattle.lower_relation.specs.Expressions.{number_of_text}
 use Rattle.lower_relation.specs.Functions as f
 use Rattle.lower_relation.specs.Initialisers as i
@@ -37,7 +33,6 @@ use Rattle.lower_relation.specs.Statements.{GoesOn}
 use Rattle.c_meaning_laws.specs.Typed.{HasSlot}
 use Rattle.c_meaning_laws.specs.TypedStatements.{IsLocal, TypedBeginning, TypedEntries, TypedInitial, TypedPart, TypedStarts, TypedStatement, TypedTest, TypedValue, TypedWhole}
 use Rattle.c_meaning_sound.proofs.Calling.{around}
-use Rattle.c_meaning_sound.proofs.Declaring.{name_inside}
 use Rattle.c_meaning_sound.proofs.Initialising.{equals_kinds}
 use Rattle.c_meaning_sound.proofs.Spotting.{elements_all}
 use Rattle.lower_fits.specs.Fitting.{FitsAsBody, Formatted, FormattedEntries, FormattedStatement, fitting}
@@ -123,11 +118,11 @@ module _ (names : Names) (bounds : Bounds) (G : Graph) where
     -- a string is stored in it
     spells : (number : Option ℕ) (text : Option Text) → ((n : ℕ) → number ≡ Some n → n < length names.conversions) → (index : ℕ) → index < bounds.locals →
         Into (i.Spells G number text index) (i.Spells H number text index)
+    spells (Some number) (Some text) named index h =
+        fit.does names bounds G (node.Spell index number 0) (spell_fits names bounds index number h (named number refl))
     spells None None named index h = fit.stuck names bounds G
     spells None (Some text) named index h = fit.stuck names bounds G
     spells (Some number) None named index h = fit.stuck names bounds G
-    spells (Some number) (Some text) named index h =
-        fit.does names bounds G (node.Spell index number 0) (spell_fits names bounds index number h (named number refl))
 
     -- the string that an expression is has a number below that of all strings
     text_named : (y : ExprTree) (n : ℕ) → number_of_text facts y ≡ Some n → n < length names.conversions
@@ -165,14 +160,10 @@ module _ (names : Names) (bounds : Bounds) (G : Graph) where
     value_set : (token at : ℕ) (of : Option ValueType) (value : ExprTree) → IsLocal facts sites bounds.locals (facts.slot_at token) →
         Inside lo hi (equals_token token) → ExprAt at value → Lies lo hi at (expr_kinds value) → TypedValue facts sites bounds.locals token of value →
         Into (i.ValueSet G facts sites token of value) (i.ValueSet H facts sites token of value)
-    value_set token at None value local mark p l t = scalar token local mark value (fit.expression names bounds G facts sites lo hi known value at p l t.0)
-    value_set token at (Some type.Void) value local mark p l t = scalar token local mark value (fit.expression names bounds G facts sites lo hi known value at p l t.0)
-    value_set token at (Some (type.Number kind)) value local mark p l t = scalar token local mark value (fit.expression names bounds G facts sites lo hi known value at p l t.0)
-    value_set token at (Some (type.Pointer size)) value local mark p l t = scalar token local mark value (fit.expression names bounds G facts sites lo hi known value at p l t.0)
     value_set token at (Some (type.Array size)) value local mark p l t =
         then_into (zeroed token local)
         (on_local (facts.slot_at token) local (spells (number_of_text facts value) (text_of_string facts value) (text_named value)))
-    value_set token at (Some type.Struct) value local mark p l t = scalar token local mark value (fit.expression names bounds G facts sites lo hi known value at p l t.0)
+    value_set token at of value local mark p l t = scalar token local mark value (fit.expression names bounds G facts sites lo hi known value at p l t.0)
 
     -- the initialiser of the variable whose name is at the token, from its `=` on
     initialised : (token equals : ℕ) (y : Option InitialTree) → IsLocal facts sites bounds.locals (facts.slot_at token) → lo ≤ token → token < equals →
@@ -201,7 +192,7 @@ module _ (names : Names) (bounds : Bounds) (G : Graph) where
         let initial_lies = back lo hi at (at + length (declarator_kinds y.declarator)) (declarator_kinds y.declarator) (equals_kinds y.initial) refl l in
         then_into (on_local (facts.slot_at y.declarator.name_token) local clears)
         (initialised y.declarator.name_token (at + length (declarator_kinds y.declarator)) y.initial local (omega (arith, p.1, l.from))
-        (omega (arith, p.1, name_inside y.declarator)) p.2 initial_lies t)
+        (omega (arith, p.1, declarator-length y.declarator)) p.2 initial_lies t)
 
     -- variables with commas between them
     all_start : (ys : List StartTree) (at : ℕ) → EachAt StartAt start_kinds 1 at ys → Lies lo hi at (with_commas start_kinds ys) →
@@ -268,7 +259,6 @@ module _ (names : Names) (bounds : Bounds) (G : Graph) where
           let within = front lo hi (at + 1) (entry_kinds entries) (a_sign sign.RightBrace)
           (after lo hi at (at + 1) _ (entry_kinds entries ++ a_sign sign.RightBrace) refl l) in
           record { leads = λ at' k h. (all_entries result looping entries (at + 1) p.1 within t f).leads at' k h }
-      statement result looping (tree.Empty token) at p l t f = record { leads = λ at' k h. h }
       statement result looping (tree.Expr token y) at p l t f =
           let fits = whole y at p.1 (front lo hi at (expr_kinds y) (a_sign sign.Semicolon) l) t f in
           record { leads = λ at' k h. fits.effect.leads at' k.next h }
@@ -341,8 +331,7 @@ module _ (names : Names) (bounds : Bounds) (G : Graph) where
           let value_lies = front lo hi (at + 1) (optional expr_kinds y) (a_sign sign.Semicolon)
           (after lo hi at (at + 1) _ (optional expr_kinds y ++ a_sign sign.Semicolon) refl l) in
           record { leads = λ at' k h. (return_into result looping token (at + 1) y p.1 value_lies t).leads at' k h }
-      statement result looping (tree.Break token) at p l t f = record { leads = λ at' k h. h }
-      statement result looping (tree.Continue token) at p l t f = record { leads = λ at' k h. h }
+      statement result looping y at p l t f = record { leads = λ at' k h. h }
 
       -- the declarations and statements of a block
       all_entries : (result : ValueType) (looping : Bool) (ys : EntryList) (at : ℕ) → EntriesAt at ys → Lies lo hi at (entry_kinds ys) →

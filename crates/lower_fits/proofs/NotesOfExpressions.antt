@@ -2,36 +2,31 @@
 use Rattle.std.proofs.Common.{◌≡◌, ℕ, ◌≤◌, refl, ap, subst, sym, ◌∙◌, List, [], ◌∷◌, ◌++◌, Some, None, Ok, Err, Bool, true, false}
 use Rattle.std.specs.Prelude.{IfSome, Option, Result, if◌then◌else◌, slice_get}
 use Rattle.std.specs.List.{AllByRecursion}
+use Rattle.c_types_expressions.proofs.Given.{Gives, and_then}
+use Rattle.base_lists.proofs.Every.{all_at}
 use Rattle.c_syntax.specs.declared.parts.Base.{Base}
 use Rattle.c_syntax.specs.declared.parts.Base.TheVariants as base
 use Rattle.c_syntax.specs.ExprTree as e
-use Rattle.c_syntax.specs.ExprTree.{ExprTree, ExprList, LinkList, PostfixList}
-use Rattle.c_syntax.specs.ItemTree.{SourceTree}
+use Rattle.c_syntax.specs.Words.{ExprTree, ExprList, LinkList, PostfixList, SourceTree}
 use Rattle.c_types_rules.specs.declared.fault.FaultKind.{FaultKind}
 use Rattle.c_types_rules.specs.declared.layout.Member.{Member}
 use Rattle.c_types_rules.specs.declared.layout.StructType.{StructType}
 use Rattle.c_types_rules.specs.declared.operand.Operand.{Operand}
 use Rattle.c_types_rules.specs.TypeTree as t
-use Rattle.c_types_rules.specs.TypeTree.{TypeTree}
+use Rattle.c_types_rules.specs.Words.{TypeTree, constant_of, decayed, enclosed, null_of, place_of, string_of, value_of, Looked, library_called, cast_to}
+use Rattle.c_types_rules.specs.Words.{measured, stepped, chosen, indexed, known_member, member_behind, member_in, member_named, member_of, sequenced}
 use Rattle.c_types_rules.specs.Conversions as rule
-use Rattle.c_types_rules.specs.Conversions.{constant_of, decayed, enclosed, null_of, place_of, string_of, value_of}
-use Rattle.c_types_rules.specs.Faults.{Looked}
 use Rattle.c_types_rules.specs.Functions as function
-use Rattle.c_types_rules.specs.Library.{library_called}
-use Rattle.c_types_rules.specs.Operators.{cast_to, measured, stepped}
-use Rattle.c_types_rules.specs.Selecting.{chosen, indexed, known_member, member_behind, member_in, member_named, member_of, sequenced}
 use Rattle.c_types_expressions.specs.declared.names.Meaning.{Meaning}
 use Rattle.c_types_expressions.specs.declared.names.Meaning.TheVariants as meaning
 use Rattle.c_types_expressions.specs.declared.walk.FunctionEntry.{FunctionEntry}
 use Rattle.c_types_expressions.specs.declared.walk.Walk.{Walk}
-use Rattle.c_types_expressions.specs.ExprWalk.{assigning, base_type, binary_of, called_name, chained, compound_of, format_of, is_printf, looked, named, of_function, of_variable}
-use Rattle.c_types_expressions.specs.ExprWalk.{prefixed, selected, string_cells, tagged_type, walk_expr, walk_exprs, walk_links, walk_postfix, walk_whole, with_call}
-use Rattle.c_types_expressions.specs.ExprWalk.{with_offset, with_stars, with_use}
-use Rattle.c_types_expressions.specs.Names.{found, meaning_of}
-use Rattle.c_types_expressions.specs.Walked.{Walked, ◌>>=◌, with_type}
+use Rattle.c_types_expressions.specs.Words.{assigning, base_type, binary_of, called_name, chained, compound_of, format_of, is_printf, looked, named}
+use Rattle.c_types_expressions.specs.Words.{of_function, of_variable, prefixed, selected, string_cells, tagged_type, walk_expr, walk_exprs, walk_links}
+use Rattle.c_types_expressions.specs.Words.{walk_postfix, walk_whole, with_call, with_offset, with_stars, with_use, found, meaning_of, Walked, ◌>>=◌, with_type}
 use Rattle.flow.specs.Nodes.{step_limit}
-use Rattle.c_meaning_sound.proofs.Ending.{Sums, all_at, core_is_deep}
-use Rattle.c_meaning_sound.proofs.Noting.{Deep, Gives, and_then}
+use Rattle.c_meaning_sound.proofs.Ending.{Sums, core_is_deep}
+use Rattle.c_meaning_sound.proofs.Noting.{Deep}
 use Rattle.c_meaning_sound.proofs.Reaching.{Flat, stars_flat}
 use Rattle.lower_fits.proofs.Lists.{AllNoted, all_join, all_replaced}
 use Rattle.lower_fits.proofs.Pointing.{Leads, Steady, assigning_leads, called_leads, cast_leads, chained_leads, chosen_leads, constant_steady, enclosed_steady}
@@ -50,11 +45,8 @@ either_gives false m k h g = g
 -- a tag leaves all as it was, and names no array
 tag_then : {A : Type 0} {Q : A → Walk → Type 0} (token : ℕ) (m : Option Meaning) (w : Walk) (k : TypeTree → Walk → Walked A)
     → ((of : TypeTree) → ((n : ℕ) → Flat (with_stars n of)) → Gives (k of w) Q) → Gives (tagged_type token m w >>= k) Q
-tag_then token None w k h = record { by = tt }
 tag_then token (Some (meaning.Struct index)) w k h = h (t.Struct index) (λ n. stars_flat n (t.Struct index) tt)
-tag_then token (Some (meaning.Variable index)) w k h = record { by = tt }
-tag_then token (Some (meaning.Function index)) w k h = record { by = tt }
-tag_then token (Some (meaning.Library own)) w k h = record { by = tt }
+tag_then token m w k h = record { by = tt }
 
 -- so does a base
 pub base_then : {A : Type 0} {Q : A → Walk → Type 0} (b : Base) (w : Walk) (k : TypeTree → Walk → Walked A)
@@ -163,11 +155,8 @@ module _ (tree : SourceTree) (z : Walk) (sums : Sums z) (structs : List StructTy
 
   -- a name that is not called
   named_good : (token : ℕ) (m : Option Meaning) (w : Walk) → Known w → Gives (named token m w) Good
-  named_good token None w k = record { by = tt }
   named_good token (Some (meaning.Variable index)) w k = variable_good token index (slice_get w.declared_types index) w refl k
-  named_good token (Some (meaning.Function index)) w k = record { by = tt }
-  named_good token (Some (meaning.Library own)) w k = record { by = tt }
-  named_good token (Some (meaning.Struct index)) w k = record { by = tt }
+  named_good token m w k = record { by = tt }
 
   -- a call of the function at a place
   function_good : (token index : ℕ) (o : Option FunctionEntry) (xs : List Operand) (w : Walk) → slice_get w.functions index ≡ o → Known w
@@ -180,11 +169,9 @@ module _ (tree : SourceTree) (z : Walk) (sums : Sums z) (structs : List StructTy
 
   -- a name that is called
   called_good : (token : ℕ) (m : Option Meaning) (xs : List Operand) (w : Walk) → Known w → Gives (called_name token m xs w) Good
-  called_good token None xs w k = record { by = tt }
   called_good token (Some (meaning.Function index)) xs w k = function_good token index (slice_get w.functions index) xs w refl k
   called_good token (Some (meaning.Library own)) xs w k = looked_good token (library_called own xs) w k (library_leads tree z own xs)
-  called_good token (Some (meaning.Variable index)) xs w k = record { by = tt }
-  called_good token (Some (meaning.Struct index)) xs w k = record { by = tt }
+  called_good token m xs w k = record { by = tt }
 
   -- the member that a rule answers fits
   abbrev MemberLeads : Result Member FaultKind → Type 0
@@ -204,22 +191,12 @@ module _ (tree : SourceTree) (z : Walk) (sums : Sums z) (structs : List StructTy
   -- a member of a struct
   member_leads : (name : List ℕ) (of : TypeTree) → MemberLeads (member_of structs name of)
   member_leads name (t.Struct tag) = in_leads name tag (slice_get structs tag) refl
-  member_leads name t.Void = tt
-  member_leads name t.Char = tt
-  member_leads name t.Int = tt
-  member_leads name t.Unsigned = tt
-  member_leads name (t.Pointer to) = tt
-  member_leads name (t.Array element size) = tt
+  member_leads name of = tt
 
   -- a member of the struct that is pointed to
   behind_leads : (name : List ℕ) (of : TypeTree) → MemberLeads (member_behind structs name of)
   behind_leads name (t.Pointer to) = member_leads name to
-  behind_leads name t.Void = tt
-  behind_leads name t.Char = tt
-  behind_leads name t.Int = tt
-  behind_leads name t.Unsigned = tt
-  behind_leads name (t.Array element size) = tt
-  behind_leads name (t.Struct tag) = tt
+  behind_leads name of = tt
 
   -- a member is selected
   selected_good : (token : ℕ) (is_place : Bool) (r : Result Member FaultKind) (w : Walk) → Known w → MemberLeads r → Gives (selected token is_place r w) Good

@@ -4,39 +4,32 @@ use Rattle.std.specs.Prelude.{Option, if◌then◌else◌, nat_le, ◌&&◌}
 use Rattle.std.specs.List.{AllByRecursion}
 use Rattle.std.specs.Str.{bytes_eq}
 use Rattle.std.proofs.lemmas.Bool.Decides.{nat_tests}
-use Rattle.cbi_base.proofs.NumberLemmas.{both}
-use Rattle.c_syntax.specs.StatementTree.{EntryList}
+use Rattle.std.proofs.lemmas.Bool.{and_parts}
+use Rattle.std.proofs.lemmas.Option.{same_Some}
+use Rattle.c_types_expressions.proofs.Giving.{Gives}
+use Rattle.base_lists.proofs.Lists.{Stays}
+use Rattle.base_lists.proofs.Every.{all_at}
+use Rattle.c_syntax.specs.Words.{EntryList, ItemTree, SourceTree, EachAt, ItemAt, ShapedItem, item_kinds, params_kinds, type_kinds}
 use Rattle.c_syntax.specs.ItemTree as item
-use Rattle.c_syntax.specs.ItemTree.{ItemTree, SourceTree}
-use Rattle.c_syntax.specs.Place.{EachAt, ItemAt}
-use Rattle.c_syntax.specs.Shape.{ShapedItem}
-use Rattle.c_syntax.specs.Spelling.{item_kinds, params_kinds, type_kinds}
 use Rattle.c_types_rules.specs.declared.function.FunctionType.{FunctionType}
 use Rattle.c_types_rules.specs.declared.layout.Member.{Member}
 use Rattle.c_types_rules.specs.declared.layout.StructType.{StructType}
 use Rattle.c_types_rules.specs.TypeTree as t
-use Rattle.c_types_rules.specs.TypeTree.{TypeTree}
-use Rattle.c_types_rules.specs.Conversions.{decayed}
-use Rattle.c_types_rules.specs.Selecting.{member_named}
-use Rattle.c_types_rules.specs.Sizes.{cells_of, is_complete}
+use Rattle.c_types_rules.specs.Words.{TypeTree, decayed, member_named, cells_of, is_complete}
 use Rattle.c_types_expressions.specs.declared.walk.Parameter.{Parameter}
 use Rattle.c_types_expressions.specs.declared.walk.Walk.{Walk}
 use Rattle.c_types.specs.Answers.{offset_at, type_at}
-use Rattle.c_types_expressions.specs.ExprWalk.{with_stars}
-use Rattle.c_types_expressions.specs.Beginning.{beginning}
+use Rattle.c_types_expressions.specs.Words.{with_stars, beginning, found, Done, Fine, opened}
 use Rattle.c_types_walk.specs.ItemWalk.{clashes, entered, known_as, types_of, walk_item, walk_items, with_function, with_param, with_params}
 use Rattle.c_types.specs.Laid.{AreLaid, IsSummed}
-use Rattle.c_types_expressions.specs.Names.{found}
-use Rattle.c_types_expressions.specs.Walked.{Done, Fine, opened}
-use Rattle.c_types.proofs.Options.{some_is}
 use Rattle.c_types.proofs.Summed.{structs_summed}
 use Rattle.flow.specs.Nodes.{step_limit}
 use Rattle.c_meaning.specs.Known.{element_cells}
 use Rattle.c_meaning_sound.specs.Accepted.{IsAcceptedTree}
-use Rattle.c_meaning_sound.proofs.Ending.{Follows, Sound, Structs, Sums, all_at, core_is_deep, item_follows, items_follow, struct_is, tree_ended, tree_is, tree_sums}
+use Rattle.c_meaning_sound.proofs.Ending.{Follows, Sound, Structs, Sums, core_is_deep, item_follows, items_follow, struct_is, tree_ended, tree_is, tree_sums}
 use Rattle.c_meaning_sound.proofs.Forming.{Ended, steps_known}
 use Rattle.c_meaning_sound.proofs.Growing.{Grows}
-use Rattle.c_meaning_sound.proofs.Noting.{Deep, GivesIn, Stays}
+use Rattle.c_meaning_sound.proofs.Noting.{Deep}
 use Rattle.c_meaning_sound.proofs.Reaching.{Defines, Grown, IsParam, begun_long, begun_stays, body_defines, comes, declaration_grown, declares_is, defines_onward}
 use Rattle.c_meaning_sound.proofs.Reaching.{fine_known, function_is, grown_then, longer_grows}
 use Rattle.lower_fits.proofs.Lists.{none_noted, noted_at}
@@ -51,7 +44,7 @@ laid_ends structs first end (m ∷ ms) h = omega (arith, laid_ends structs (firs
 -- one of two members
 either_before : (b : Bool) (x m : Member) (rest : Option Member) (end : ℕ) → x.offset ≤ end → (rest ≡ Some m → m.offset ≤ end)
     → (if b then Some x else rest) ≡ Some m → m.offset ≤ end
-either_before true x m rest end first behind h = subst (λ (r : Member). r.offset ≤ end) (some_is x m h) first
+either_before true x m rest end first behind h = subst (λ (r : Member). r.offset ≤ end) (same_Some x m h) first
 either_before false x m rest end first behind h = behind h
 
 -- a member begins before all end
@@ -114,11 +107,11 @@ module _ (tree : SourceTree) (z : Walk) (ends : Ended tree z) (sums : Sums z) (m
         noted = record { types = before.types; offsets = before.offsets; declared = before.declared };
       } in
       let inside : Inside u g (entered own u) = params_known u g lo hi own (opened (record u { locals = 0 })) params begun in
-      let behind : Inside u g d.behind = subst (GivesIn (λ done r. Inside u g r)) d.walked
+      let behind : Inside u g d.behind = subst (Gives (λ done r. Inside u g r)) d.walked
       (entries_good tree z ends sums u.structs u.functions (members_before u g) (results_before u g)
       (grows_before u g) (stays_before u g) f.gives false body
       (entered own u) inside).by in
-      let last : Inside u g d.last = subst (GivesIn (λ done r. Inside u g r)) d.closes
+      let last : Inside u g d.last = subst (Gives (λ done r. Inside u g r)) d.closes
       (closing_known tree z ends sums u.structs u.functions (members_before u g) (results_before u g)
       (grows_before u g) (stays_before u g) tt d.behind behind).by in
       subst (Noted tree z) (sym d.is) (record { types = last.noted.types; offsets = last.noted.offsets; declared = last.noted.declared })
@@ -146,7 +139,7 @@ module _ (tree : SourceTree) (z : Walk) (ends : Ended tree z) (sums : Sums z) (m
   item_noted (item.Declaration d) at w v a o p s g e n =
       let whole : Grown w z = grown_then w v z (declaration_grown d w v a e) g in
       let begun : Inside w whole w = record { structs_are = refl; functions_are = refl; noted = n } in
-      let behind : Inside w whole v = subst (GivesIn (λ done r. Inside w whole r)) e
+      let behind : Inside w whole v = subst (Gives (λ done r. Inside w whole r)) e
       (declaration_good tree z ends sums w.structs w.functions (members_before w whole) (results_before w whole)
       (grows_before w whole) (stays_before w whole) true d w begun).by in
       behind.noted
@@ -185,7 +178,7 @@ offsets_near tree z a token n h = noted_at IsNear z.offsets_at token n (accepted
 
 -- a step is by one cell at least
 step_some : (n : ℕ) → (nat_le 1 n && nat_le n 1048576) ≡ true → 1 ≤ n
-step_some n h = some_by (both (nat_le 1 n) (nat_le n 1048576) h).0
+step_some n h = some_by (and_parts (nat_le 1 n) (nat_le n 1048576) h).0
   where
     some_by : nat_le 1 n ≡ true → 1 ≤ n
     some_by k = grind (arith, nat_tests, k)

@@ -1,37 +1,31 @@
 -- What the walk through declarations and statements notes.
 use Rattle.std.proofs.Common.{◌≡◌, ℕ, refl, subst, List, [], ◌∷◌, Some, None, Bool, true, false, length}
-use Rattle.std.specs.Prelude.{Option, if◌then◌else◌, is_some, nat_le, not, ◌&&◌, ◌||◌, ◌+◌}
-use Rattle.c_syntax.specs.ExprTree.{ExprTree}
-use Rattle.c_syntax.specs.FirstToken.{first_token}
-use Rattle.c_syntax.specs.ItemTree.{SourceTree}
+use Rattle.std.specs.Prelude.{Option, if◌then◌else◌, is_some, nat_le, not, ◌&&◌, ◌+◌}
+use Rattle.c_types_expressions.proofs.Given.{Gives, and_then}
+use Rattle.base_lists.proofs.Lists.{Stays}
+use Rattle.c_syntax.specs.Words.{first_token, SourceTree, InitialTree, StartTree, DeclarationTree, EntryList}
 use Rattle.c_syntax.specs.StatementTree as s
-use Rattle.c_syntax.specs.StatementTree.{InitialTree, StartTree, DeclarationTree, ForStartTree, StatementTree, EntryList}
-use Rattle.c_types_rules.specs.declared.fault.FaultKind.{FaultKind}
 use Rattle.c_types_rules.specs.declared.fault.FaultKind.TheVariants as fault
 use Rattle.c_types_rules.specs.declared.layout.StructType.{StructType}
-use Rattle.c_types_rules.specs.TypeTree.{TypeTree}
-use Rattle.c_types_rules.specs.Assigning.{assignable}
-use Rattle.c_types_rules.specs.Conversions.{is_struct, is_void}
-use Rattle.c_types_rules.specs.Operators.{is_scalar_value}
-use Rattle.c_types_rules.specs.Sizes.{cells_of, is_object, most_cells}
+use Rattle.c_types_rules.specs.Words.{TypeTree, cells_of, is_object, most_cells}
 use Rattle.c_types_expressions.specs.declared.walk.FunctionEntry.{FunctionEntry}
 use Rattle.c_types_expressions.specs.declared.walk.Walk.{Walk}
 use Rattle.c_types_walk.specs.Declarators.{declared_type, is_open}
-use Rattle.c_types_expressions.specs.ExprWalk.{with_stars}
+use Rattle.c_types_expressions.specs.Words.{walk_expr, walk_whole, with_stars, is_name_taken, Walked, Done, Fine, Faulty, ◌>>=◌, closing, opened, with_variable}
 use Rattle.c_types_walk.specs.Initialisers.{cells_of_string, listed_type, valued, walk_initial}
-use Rattle.c_types_expressions.specs.Names.{is_name_taken}
-use Rattle.c_types_walk.specs.StatementWalk.{counted_cells, is_condition_part, is_struct_part, sized, walk_closed, walk_declaration, walk_entries, walk_for_start}
-use Rattle.c_types_walk.specs.StatementWalk.{walk_open, walk_optional, walk_start, walk_starts, walk_statement, walk_typed, with_declared_type}
-use Rattle.c_types_expressions.specs.Walked.{Walked, Done, Fine, Faulty, ◌>>=◌, closing, opened, unless, with_variable}
+use Rattle.c_types_walk.specs.StatementWalk.{counted_cells, sized, walk_closed, walk_declaration, walk_entries, walk_open, walk_start, walk_starts, walk_typed}
+use Rattle.c_types_walk.specs.StatementWalk.{with_declared_type}
+use Rattle.c_types_expressions.proofs.Kept.{Keeps}
+use Rattle.c_types_walk.proofs.Kept.{IsKeptByStatements, entries_keep}
 use Rattle.c_meaning_sound.proofs.Declaring.{if_faulty, long_core}
 use Rattle.c_meaning_sound.proofs.Ending.{Sums}
 use Rattle.c_meaning_sound.proofs.Forming.{Ended}
 use Rattle.c_meaning_sound.proofs.Growing.{Grows}
 use Rattle.c_meaning_sound.proofs.Initialising.{Lengthened, as_it_is, completed, listed_length, valued_length}
-use Rattle.c_meaning_sound.proofs.Noting.{Deep, Gives, Stays, and_then}
+use Rattle.c_meaning_sound.proofs.Noting.{Deep}
 use Rattle.c_meaning_sound.proofs.Sizing.{Open, core, core_deep, declared_core, object_stays, open_by, whole_by}
 use Rattle.lower_fits.proofs.Lists.{all_join, all_replaced}
-use Rattle.lower_fits.proofs.NotesOfExpressions.{Known, MembersFit, ResultsFit, base_then, expr_good, exprs_good, named_deep, whole_good}
+use Rattle.lower_fits.proofs.NotesOfExpressions.{Good, Known, MembersFit, ResultsFit, base_then, expr_good, exprs_good, named_deep, whole_good}
 
 module _ (tree : SourceTree) (z : Walk) (ends : Ended tree z) (sums : Sums z) (structs : List StructType) (functions : List FunctionEntry)
     (members : MembersFit tree z structs) (results : ResultsFit tree z functions) (grows : Grows structs z.structs) (stays : Stays structs z.structs) where
@@ -42,11 +36,6 @@ module _ (tree : SourceTree) (z : Walk) (ends : Ended tree z) (sums : Sums z) (s
   -- what is known behind a part of the walk
   abbrev pub Behind : {A : Type 0} → A → Walk → Type 0
   Behind x v = Within v
-
-  -- a fault, or nothing more
-  unless_known : (b : Bool) (kind : FaultKind) (token : ℕ) (w : Walk) → Within w → Gives (unless b kind token w) Behind
-  unless_known true kind token w k = record { by = tt }
-  unless_known false kind token w k = record { by = k }
 
   -- where a scope begins, the same is known
   opened_known : (w : Walk) → Within w → Within (opened w)
@@ -195,53 +184,32 @@ module _ (tree : SourceTree) (z : Walk) (ends : Ended tree z) (sums : Sums z) (s
   declaration_good global d w k = base_then d.base w (λ of v. walk_starts global of d.starts v) (λ of flat.
       starts_good global of d.starts w k (λ n. named_deep tree z sums structs functions members results (with_stars n of) (flat n)))
 
-  -- an expression that may be left out
-  optional_good : (x : Option ExprTree) (w : Walk) → Within w → Gives (walk_optional x w) Behind
-  optional_good None w k = record { by = k }
-  optional_good (Some x) w k = and_then (expr_good tree z sums structs functions members results x w k) (λ y v g. record { by = g.1 })
+  -- what was known before a part is known behind it
+  abbrev Lasts : Walk → Walk → Type 0
+  Lasts w v = Within w → Within v
 
-  -- the first part of a `for`
-  begun_good : (x : ForStartTree) (w : Walk) → Within w → Gives (walk_for_start x w) Behind
-  begun_good (s.Declares d) w k = and_then (declaration_good false d w k) (λ done v g. record { by = g })
-  begun_good (s.Computes x) w k = optional_good x w k
+  -- so it is with a part that gives what is known behind it, and perhaps more
+  lasting : {A : Type 0} (P : A → Walk → Type 0) (w : Walk) (r : Walked A) → ((x : A) (v : Walk) → P x v → Within v) → (Within w → Gives r P) → Keeps Lasts w r
+  lasting P w (Fine x v) f h = λ k. f x v (h k).by
+  lasting P w (Faulty kind token) f h = tt
 
-  mutual
-    -- a statement
-    statement_good : (gives : TypeTree) (looping : Bool) (x : StatementTree) (w : Walk) → Within w → Gives (walk_statement gives looping x w) Behind
-    statement_good gives looping (s.Block token entries) w k =
-        and_then (entries_good gives looping entries (opened w) (opened_known w k)) (λ done v g. closing_known done v g)
-    statement_good gives looping (s.Empty token) w k = record { by = k }
-    statement_good gives looping (s.Expr token x) w k = and_then (whole_good tree z sums structs functions members results x w k) (λ y v g.
-        unless_known (is_struct y.ctype) fault.Operands token v g.1)
-    statement_good gives looping (s.If token condition first) w k =
-        and_then (expr_good tree z sums structs functions members results condition w k) (λ x v g.
-        and_then (statement_good gives looping first v g.1) (λ done u h. unless_known (not (is_scalar_value x)) fault.Operands token u h))
-    statement_good gives looping (s.IfElse token condition first second) w k =
-        and_then (expr_good tree z sums structs functions members results condition w k) (λ x v g.
-        and_then (statement_good gives looping first v g.1) (λ done u h. and_then (statement_good gives looping second u h) (λ last r i.
-        unless_known (not (is_scalar_value x)) fault.Operands token r i)))
-    statement_good gives looping (s.While token condition body) w k =
-        and_then (expr_good tree z sums structs functions members results condition w k) (λ x v g.
-        and_then (statement_good gives true body v g.1) (λ done u h. unless_known (not (is_scalar_value x)) fault.Operands token u h))
-    statement_good gives looping (s.Do token body condition) w k = and_then (statement_good gives true body w k) (λ done v g.
-        and_then (expr_good tree z sums structs functions members results condition v g) (λ x u h.
-        unless_known (not (is_scalar_value x)) fault.Operands token u h.1))
-    statement_good gives looping (s.For token start condition step body) w k =
-        and_then (begun_good start (opened w) (opened_known w k)) (λ x v g. and_then (optional_good condition v g) (λ y u h.
-        and_then (optional_good step u h) (λ o r i. and_then (statement_good gives true body r i) (λ done q j.
-        and_then (unless_known (is_struct_part x || not (is_condition_part y) || is_struct_part o) fault.Operands token q j) (λ last p l.
-        closing_known last p l)))))
-    statement_good gives looping (s.Return token None) w k = unless_known (not (is_void gives)) fault.Jump token w k
-    statement_good gives looping (s.Return token (Some value)) w k = and_then (expr_good tree z sums structs functions members results value w k) (λ x v g.
-        if_faulty (is_void gives) (unless (not (assignable gives x)) fault.Operands token v) fault.Jump token (λ some.
-        unless_known (not (assignable gives x)) fault.Operands token v g.1))
-    statement_good gives looping (s.Break token) w k = unless_known (not looping) fault.Jump token w k
-    statement_good gives looping (s.Continue token) w k = unless_known (not looping) fault.Jump token w k
+  -- and what is so known is given
+  given : {A : Type 0} (w : Walk) (r : Walked A) → Keeps Lasts w r → Within w → Gives r Behind
+  given w (Fine x v) h k = record { by = h k }
+  given w (Faulty kind token) h k = record { by = tt }
 
-    -- the declarations and statements of a block
-    pub entries_good : (gives : TypeTree) (looping : Bool) (xs : EntryList) (w : Walk) → Within w → Gives (walk_entries gives looping xs w) Behind
-    entries_good gives looping s.no_entries w k = record { by = k }
-    entries_good gives looping (s.declared declaration rest) w k = and_then (declaration_good false declaration w k) (λ done v g.
-        entries_good gives looping rest v g)
-    entries_good gives looping (s.stated statement rest) w k = and_then (statement_good gives looping statement w k) (λ done v g.
-        entries_good gives looping rest v g)
+  lasts : IsKeptByStatements Lasts
+  lasts = record {
+    here = λ w k. k;
+    next = λ w u v a b k. b (a k);
+    expr = λ x w. lasting (Good tree z sums structs functions members results) w (walk_expr x w) (λ y v g. g.1)
+        (expr_good tree z sums structs functions members results x w);
+    whole = λ x w. lasting (Good tree z sums structs functions members results) w (walk_whole x w) (λ y v g. g.1)
+        (whole_good tree z sums structs functions members results x w);
+    declaration = λ d w. lasting Behind w (walk_declaration false d w) (λ y v g. g) (declaration_good false d w);
+    scope = λ w u h k. (closing_known tt u (h (opened_known w k))).by;
+  }
+
+  -- the declarations and statements of a block
+  pub entries_good : (gives : TypeTree) (looping : Bool) (xs : EntryList) (w : Walk) → Within w → Gives (walk_entries gives looping xs w) Behind
+  entries_good gives looping xs w k = given w (walk_entries gives looping xs w) (entries_keep Lasts lasts gives looping xs w) k

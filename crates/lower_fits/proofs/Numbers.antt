@@ -12,8 +12,7 @@ use Rattle.flow.specs.Nodes as node
 use Rattle.flow.specs.Nodes.{is_format, step_limit}
 use Rattle.c_meaning.specs.declared.value_type.ValueType.{ValueType}
 use Rattle.c_meaning.specs.declared.value_type.ValueType.TheVariants as type
-use Rattle.c_meaning.specs.Conversions.{as_used}
-use Rattle.c_meaning.specs.Operation.{is_step_size, moves_left, moves_right, on_pointers, on_values, operation, order_of, order_operation}
+use Rattle.c_meaning.specs.Words.{as_used, is_step_size, moves_left, moves_right, on_pointers, on_values, operation, order_of, order_operation}
 use Rattle.c_meaning.specs.declared.operation.Operation.{Operation}
 use Rattle.c_meaning.specs.declared.operation.Operation.TheVariants.{MoveLeft, MoveRight, Span, Wrong}
 use Rattle.cbi_base.specs.declared.operators.Order.{Order}

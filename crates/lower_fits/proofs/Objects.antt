@@ -6,32 +6,25 @@ use Rattle.std.specs.Option.{option_and_then, option_map}
 use Rattle.std.proofs.lemmas.Bool.{false≢true}
 use Rattle.std.proofs.lemmas.List.{length-drop}
 use Rattle.std.proofs.lemmas.List.Sums.{sum_by-cons}
+use Rattle.base_lists.proofs.Every.{all_first, all_join, all_second}
 use Rattle.cbi_base.specs.declared.scalar.Scalar.{Scalar}
 use Rattle.cbi_base.specs.Objects.{Object}
 use Rattle.c_syntax.specs.declared.token.Sign.TheVariants as sign
-use Rattle.c_syntax.specs.ExprTree.{ExprTree}
+use Rattle.c_syntax.specs.Words.{ExprTree, ItemTree, SourceTree, a_sign, after_commas, base_kinds, comma_kinds, declarator_kinds, expr_kinds, exprs_kinds}
+use Rattle.c_syntax.specs.Words.{item_kinds, start_kinds, with_commas, InitialTree, StartTree, KindFits}
 use Rattle.c_syntax.specs.ItemTree as item
-use Rattle.c_syntax.specs.ItemTree.{ItemTree, SourceTree}
-use Rattle.c_syntax.specs.Spelling.{a_sign, after_commas, base_kinds, comma_kinds, declarator_kinds, expr_kinds, exprs_kinds, item_kinds, start_kinds, with_commas}
 use Rattle.c_syntax.specs.StatementTree as s
-use Rattle.c_syntax.specs.StatementTree.{InitialTree, StartTree}
-use Rattle.c_syntax.specs.Tokens.{KindFits}
-use Rattle.c_types_rules.specs.Conversions.{is_scalar}
-use Rattle.c_types_rules.specs.Sizes.{cells_of}
+use Rattle.c_types_rules.specs.Words.{is_scalar, cells_of, TypeTree}
 use Rattle.c_types_rules.specs.TypeTree as t
-use Rattle.c_types_rules.specs.TypeTree.{TypeTree}
 use Rattle.c_types_expressions.specs.declared.walk.Walk.{Walk}
 use Rattle.c_types.specs.Answers.{declared_at}
 use Rattle.c_types.specs.Fault.{walk_tree}
 use Rattle.c_types_expressions.specs.Walked.{Fine}
-use Rattle.c_meaning.specs.Globals.{constant, filled_up, given_to, global_object, global_objects, object_with, one_more, starts_of, static_object, zeros_of}
-use Rattle.c_meaning.specs.Known.{computed_type, element_type, facts_of}
-use Rattle.c_meaning.specs.Literals.{strings_initial, strings_of_item}
+use Rattle.c_meaning.specs.Words.{constant, filled_up, given_to, global_object, global_objects, object_with, one_more, starts_of, static_object, zeros_of}
+use Rattle.c_meaning.specs.Words.{computed_type, element_type, facts_of, strings_initial, strings_of_item}
 use Rattle.c_meaning_laws.specs.TypedText.{GlobalInitial, IsConstant, TypedGlobal, TypedGlobals}
 use Rattle.c_meaning_sound.proofs.Initialising.{equals_kinds}
 use Rattle.c_meaning_sound.proofs.Noting.{Small}
-use Rattle.c_meaning_sound.proofs.Parting.{all_first, all_second}
-use Rattle.c_meaning_sound.proofs.Spotting.{all_two}
 use Rattle.c_meaning_sound.proofs.Texts.{Spelled}
 use Rattle.lower_fits.proofs.Declaring.{Declared, cells_at, cells_by}
 use Rattle.lower_fits.proofs.Initials.{Takes, bytes_in, items_in}
@@ -89,7 +82,7 @@ module _ (tree : SourceTree) where
       → AllByRecursion Plain (flat_map starts_of xs)
   plain_items [] h k = tt
   plain_items (x ∷ xs) h k =
-      all_two Plain (starts_of x) (flat_map starts_of xs)
+      all_join Plain (starts_of x) (flat_map starts_of xs)
       (plain_item x (all_first KindFits (item_kinds x) (flat_map item_kinds xs) h)
       (all_first (Spelled tree) (strings_of_item x) (flat_map strings_of_item xs) k))
       (plain_items xs (all_second KindFits (item_kinds x) (flat_map item_kinds xs) h)
@@ -122,10 +115,6 @@ module _ (tree : SourceTree) (z : Walk) (walked : walk_tree tree ≡ Fine tt z) 
       enough_by (bytes_in value) (t.Array element size) (given_to (facts_of tree z) (computed_type z.structs (t.Array element size))
       (element_type z.structs (t.Array element size)) (Some (s.Value value))) (text_given tree z value l)
       (array_room (bytes_in value) size (cells_of z.structs element) (ap (cells_of z.structs) k.0) k.1)
-  given_enough t.Char (Some (s.Value value)) h k f l = value_enough t.Char value k h.0 f.1
-  given_enough t.Int (Some (s.Value value)) h k f l = value_enough t.Int value k h.0 f.1
-  given_enough t.Unsigned (Some (s.Value value)) h k f l = value_enough t.Unsigned value k h.0 f.1
-  given_enough (t.Pointer to) (Some (s.Value value)) h k f l = value_enough (t.Pointer to) value k h.0 f.1
   given_enough t.Void (Some (s.Value value)) h k f l = absurd (false≢true k)
   given_enough (t.Struct tag) (Some (s.Value value)) h k f l = absurd (false≢true k)
   given_enough (t.Array element size) (Some (s.Braced token items comma)) h k f l =
@@ -134,12 +123,8 @@ module _ (tree : SourceTree) (z : Walk) (walked : walk_tree tree ≡ Fine tt z) 
       (constants_given tree z (Some (computed_type z.structs element)) items h (all_first KindFits (exprs_kinds items) (comma_kinds comma)
       (all_first KindFits (exprs_kinds items ++ comma_kinds comma) (a_sign sign.RightBrace) f.1.1)))
       (array_room (items_in items) size (cells_of z.structs element) (scalar_cells z.structs element k.0) k.1)
-  given_enough t.Char (Some (s.Braced token items comma)) h k f l = absurd k
-  given_enough t.Int (Some (s.Braced token items comma)) h k f l = absurd k
-  given_enough t.Unsigned (Some (s.Braced token items comma)) h k f l = absurd k
-  given_enough (t.Pointer to) (Some (s.Braced token items comma)) h k f l = absurd k
-  given_enough t.Void (Some (s.Braced token items comma)) h k f l = absurd k
-  given_enough (t.Struct tag) (Some (s.Braced token items comma)) h k f l = absurd k
+  given_enough of (Some (s.Braced token items comma)) h k f l = absurd k
+  given_enough of (Some (s.Value value)) h k f l = value_enough of value k h.0 f.1
 
   -- if there is an object, it has so many cells, and what may stand in them
   abbrev pub IfObject : ℕ → Option Object → Type 0
@@ -152,7 +137,7 @@ module _ (tree : SourceTree) (z : Walk) (walked : walk_tree tree ≡ Fine tt z) 
   filled_fits of None h = tt
   filled_fits of (Some given) h =
       let zeros : List Scalar = zeros_of z.structs of in (
-        all_two (IsCell (objects_of tree z)) given (drop (length given) zeros) h.0
+        all_join (IsCell (objects_of tree z)) given (drop (length given) zeros) h.0
             (dropped_cells (objects_of tree z) (length given) zeros (zeros_cells (objects_of tree z) z.structs of)),
         omega (arith, h.1, length-append given (drop (length given) zeros), length-drop (length given) zeros, zeros_long tree z walked of),
       )

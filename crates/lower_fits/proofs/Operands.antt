@@ -1,19 +1,14 @@
 -- The pointers among the operands of an accepted text can be moved.
 use Rattle.std.proofs.Common.{◌≡◌, ◌≤◌, ap, Some, None, true}
 use Rattle.std.specs.Prelude.{Option, option_map}
-use Rattle.c_syntax.specs.ExprTree.{ExprTree}
-use Rattle.c_syntax.specs.ItemTree.{SourceTree}
+use Rattle.std.proofs.lemmas.Option.{same_Some}
+use Rattle.c_syntax.specs.Words.{ExprTree, SourceTree}
 use Rattle.c_types_rules.specs.declared.operand.Operand.{Operand}
 use Rattle.c_types_rules.specs.TypeTree as t
-use Rattle.c_types_rules.specs.TypeTree.{TypeTree}
-use Rattle.c_types_rules.specs.Conversions.{value_type}
-use Rattle.c_types_rules.specs.Sizes.{is_complete}
+use Rattle.c_types_rules.specs.Words.{TypeTree, value_type, is_complete}
 use Rattle.c_types_expressions.specs.declared.walk.Walk.{Walk}
 use Rattle.c_types.specs.Answers.{type_at}
-use Rattle.c_types.proofs.Options.{some_is}
-use Rattle.c_meaning.specs.Conversions.{is_null_constant}
-use Rattle.c_meaning.specs.Known.{element_cells}
-use Rattle.c_meaning.specs.Trees.{token_of}
+use Rattle.c_meaning.specs.Words.{is_null_constant, element_cells, token_of}
 use Rattle.c_types_laws.specs.Fits.{is_lvalue, operand}
 use Rattle.c_meaning_sound.specs.Accepted.{IsAcceptedTree}
 use Rattle.lower_fits.proofs.NotesOfItems.{noted_moves}
@@ -23,7 +18,7 @@ operand_is : (x : ExprTree) (a : Operand) (o : Option TypeTree)
     → option_map (λ of. record { ctype = of; place = is_lvalue x; null = is_null_constant x }) o ≡ Some a → o ≡ Some a.ctype
 operand_is x a None h = cc
 operand_is x a (Some of) h =
-    let same = some_is (record { ctype = of; place = is_lvalue x; null = is_null_constant x }) a h in
+    let same = same_Some (record { ctype = of; place = is_lvalue x; null = is_null_constant x }) a h in
     ap (λ (y : Operand). Some y.ctype) same
 
 -- a value that is a pointer to an object can be moved

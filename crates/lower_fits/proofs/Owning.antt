@@ -4,50 +4,30 @@ use Rattle.std.specs.Prelude.{Option, ◌==◌, ◌&&◌, if◌then◌else◌, m
 use Rattle.std.specs.List.{All, AllByRecursion, flat_map}
 use Rattle.std.proofs.lemmas.Bool.Decides.{nat_tests}
 use Rattle.std.proofs.lemmas.List.Elements.{All-append, All-nil, recursion_from_All}
-use Rattle.cbi_base.proofs.NumberLemmas.{both}
-use Rattle.c_syntax.specs.StatementTree.{EntryList}
+use Rattle.std.proofs.lemmas.Bool.{and_parts}
+use Rattle.std.proofs.lemmas.Option.{same_Some}
+use Rattle.base_lists.proofs.Numbers.{same_number}
+use Rattle.base_lists.proofs.Every.{all_so}
+use Rattle.c_syntax.specs.Words.{EntryList, ItemTree, SourceTree, EachAt, EntriesAt, ItemAt, ShapedEntries, ShapedItem, entry_kinds, item_kinds, params_kinds}
+use Rattle.c_syntax.specs.Words.{type_kinds, IsShaped}
 use Rattle.c_syntax.specs.ItemTree as item
-use Rattle.c_syntax.specs.ItemTree.{ItemTree, SourceTree}
-use Rattle.c_syntax.specs.Place.{EachAt, EntriesAt, ItemAt}
-use Rattle.c_syntax.specs.Shape.{ShapedEntries, ShapedItem}
-use Rattle.c_syntax.specs.Spelling.{entry_kinds, item_kinds, params_kinds, type_kinds}
-use Rattle.c_syntax.specs.WellFormed.{IsShaped}
 use Rattle.c_types_expressions.specs.declared.walk.Walk.{Walk}
 use Rattle.flow.specs.declared.site.Site.{Site}
 use Rattle.flow.specs.declared.site.SiteKind.{SiteKind}
-use Rattle.c_meaning.specs.Known.{bodies, body_of_item}
-use Rattle.c_meaning.specs.Texts.{head_site, is_branch, is_pair, is_return, sites_from, sites_by_table}
-use Rattle.sites.specs.declared.schemes.Schemes.{Schemes}
+use Rattle.c_meaning.specs.Words.{bodies, body_of_item, head_site, is_branch, is_pair, is_return, sites_from, sites_by_table}
+use Rattle.flow.specs.declared.choice.Schemes.{Schemes}
 use Rattle.sites.specs.declared.spots.Spot.{Spot}
 use Rattle.sites.specs.Bodies.{entries_spots}
 use Rattle.sites.specs.Rising.{RisesWithin}
 use Rattle.sites.specs.SitesAt.{Body, sites_at, sites_at_token, sites_in, sites_standing, spot_token, stand_on}
 use Rattle.sites.specs.Table as table
 use Rattle.sites.specs.Table.{body_with, defined_by, item_sites, items_sites}
-use Rattle.sites.proofs.Owners.{BelongsTo, standing}
+use Rattle.sites.proofs.Owners.{BelongsTo, standing, in-body}
 use Rattle.sites.proofs.RisesTable.{rises-item}
-use Rattle.c_types.proofs.Options.{some_is}
 use Rattle.c_meaning_sound.proofs.Accepting.{body_long}
-use Rattle.c_meaning_sound.proofs.Covering.{all_so}
 use Rattle.lower_fits.proofs.Lists.{all_join}
 use Rattle.lower_fits.specs.FactsFit.{AllOwned, SitesOwned}
 use Rattle.lower_fits.specs.Owned.{BodyOwns}
-
--- the sites of a construct on a line are those of the body's function
-line_sites : (b : Body) (x : Spot) (token : ℕ) (line : Option ℕ)
-    → All (BelongsTo b.function) (sites_standing b x (option_map (stand_on b.function token) line))
-line_sites b x token None = All-nil (BelongsTo b.function)
-line_sites b x token (Some line) = standing (BelongsTo b.function) b (stand_on b.function token line) (λ k. refl) x
-
--- so are those of a construct at a token
-construct_sites : (b : Body) (x : Spot) (token : Option ℕ) → All (BelongsTo b.function) (sites_at_token b x token)
-construct_sites b x None = All-nil (BelongsTo b.function)
-construct_sites b x (Some token) = line_sites b x token (slice_get b.lines token)
-
--- so are all sites of the body
-body_sites_owned : (b : Body) (xs : List Spot) → All (BelongsTo b.function) (sites_in b xs)
-body_sites_owned b [] = All-nil (BelongsTo b.function)
-body_sites_owned b (x ∷ xs) = All-append (BelongsTo b.function) (sites_at b x) (sites_in b xs) (construct_sites b x (spot_token x)) (body_sites_owned b xs)
 
 -- the site stands between two tokens
 abbrev Between : ℕ → ℕ → Site → Type 0
@@ -102,7 +82,7 @@ module _ (tree : SourceTree) (z : Walk) (lines : List ℕ) (schemes : Schemes) w
         placed = p;
         own = all_join (Own lo end n) (sites_in b (entries_spots body)) rest
             (all_so (BelongsTo n) (Own lo end n) (sites_in b (entries_spots body)) (λ s owned l h. owned)
-            (recursion_from_All (BelongsTo n) (sites_in b (entries_spots body)) (body_sites_owned b (entries_spots body))))
+            (recursion_from_All (BelongsTo n) (sites_in b (entries_spots body)) (in-body b (entries_spots body))))
             (all_so (λ s. hi ≤ s.token) (Own lo end n) rest (λ s far l h. absurd (omega (arith, far, h, high))) behind);
       }
 
@@ -141,7 +121,7 @@ module _ (tree : SourceTree) (z : Walk) (lines : List ℕ) (schemes : Schemes) w
       let lo : ℕ = at + length (type_kinds b stars) + 2 + length (params_kinds ps) + 2 in
       let rest : List Site = items_sites z lines schemes (n + 1) xs in
       let sites : List Site = table.body_sites z lines schemes n (entries_spots own) ++ rest in
-      subst (λ m. Placed at sites m body) (omega arith) (subst (Placed at sites n) (some_is own body e)
+      subst (λ m. Placed at sites m body) (omega arith) (subst (Placed at sites n) (same_Some own body e)
       (first_placed name own n at hi lo rest (omega arith) (omega (arith, body_long tree z b stars name ps token own)) q.0.1 p.0.3
       (items_behind xs (n + 1) hi p.1)))
   items_placed (item.Function token b stars name ps (Some own) ∷ xs) n at (suc k) body q p e =
@@ -154,10 +134,6 @@ module _ (tree : SourceTree) (z : Walk) (lines : List ℕ) (schemes : Schemes) w
       (subst (λ m. Placed hi rest m body) (omega arith) (items_placed xs (n + 1) hi k body q.1 p.1 e))
 
 -- the numbers of the sites at a token that lies within a body are those of sites of its function
-
--- equal numbers are equal
-equal_by : (m n : ℕ) → (m == n) ≡ true → m ≡ n
-equal_by m n h = grind (arith, nat_tests, h)
 
 -- a site and those behind it
 one_owned : (b : Bool) (owners : List ℕ) (number k : ℕ) (rest : List ℕ) → (b ≡ true → slice_get owners k ≡ Some number) → AllOwned owners number rest
@@ -172,7 +148,7 @@ numbers_owned : (lo hi number : ℕ) (owners : List ℕ) (of_kind : SiteKind →
 numbers_owned lo hi number owners of_kind token k [] low high f h = tt
 numbers_owned lo hi number owners of_kind token k (s ∷ sites) low high f h =
     one_owned (s.token == token && of_kind s.kind) owners number k (sites_from (suc k) of_kind token sites) (λ is.
-    let here : s.token ≡ token = equal_by s.token token (both (s.token == token) (of_kind s.kind) is).0 in
+    let here : s.token ≡ token = same_number s.token token (and_parts (s.token == token) (of_kind s.kind) is).0 in
     let owner : slice_get owners k ≡ Some s.function = subst (λ n. slice_get owners n ≡ Some s.function) (omega arith) (f zero s refl) in
     owner ∙ ap (λ n. Some n) (h.0 (omega (arith, here, low)) (omega (arith, here, high))))
     (numbers_owned lo hi number owners of_kind token (suc k) sites low high
@@ -182,7 +158,7 @@ numbers_owned lo hi number owners of_kind token k (s ∷ sites) low high f h =
 first_owned : (owners : List ℕ) (number site : ℕ) (numbers : List ℕ) → AllOwned owners number numbers → head_site numbers ≡ Some site
     → slice_get owners site ≡ Some number
 first_owned owners number site [] h e = absurd cc
-first_owned owners number site (n ∷ numbers) h e = subst (λ m. slice_get owners m ≡ Some number) (some_is n site e) h.0
+first_owned owners number site (n ∷ numbers) h e = subst (λ m. slice_get owners m ≡ Some number) (same_Some n site e) h.0
 
 -- the owner of each site of a table
 owner_at : (sites : List Site) (i : ℕ) (s : Site) → slice_get sites i ≡ Some s → slice_get (map (λ s. s.function) sites) i ≡ Some s.function

@@ -3,22 +3,15 @@ use Rattle.std.proofs.Common.{◌≡◌, ℕ, zero, suc, ◌<◌, refl, sym, ap,
 use Rattle.std.specs.List.{AllByRecursion, sum}
 use Rattle.std.proofs.lemmas.List.Elements.{recursion_from_All}
 use Rattle.std.proofs.lemmas.List.Sums.{sum-map}
-use Rattle.cbi_base.proofs.NumberLemmas.{none-some, some-is}
+use Rattle.base_lists.proofs.Options.{none_some, some_is}
+use Rattle.base_lists.proofs.Lists.{item_there}
+use Rattle.base_lists.proofs.Every.{every_at}
 
--- there is an element with each number below the length
-pub element : {A : Type 0} (xs : List A) (number : ℕ) → number < length xs → (x : A) × (slice_get xs number ≡ Some x)
-element [] number l = absurd (omega (arith, l))
-element (x ∷ xs) zero l = (x, refl)
-element (x ∷ xs) (suc number) l = element xs number (omega (arith, l))
-
--- what holds of each element holds of this one
+-- what every_at of each item_there every_at of this one
 holds_by : {A : Type 0} (P : A → Type 0) (xs : List A) → AllByRecursion P xs → (number : ℕ) (x : A) → slice_get xs number ≡ Some x → P x
-holds_by P [] all number x h = absurd (none-some h)
-holds_by P (y ∷ xs) all zero x h = subst P (some-is h) all.0
+holds_by P [] all number x h = absurd (none_some h)
+holds_by P (y ∷ xs) all zero x h = subst P (some_is h) all.0
 holds_by P (y ∷ xs) all (suc number) x h = holds_by P xs all.1 number x h
-
-pub holds : {A : Type 0} (P : A → Type 0) (xs : List A) → All P xs → (number : ℕ) (x : A) → slice_get xs number ≡ Some x → P x
-holds P xs all number x h = holds_by P xs (recursion_from_All P xs all) number x h
 
 -- two lists of one length whose elements give the same at each number
 pub same_maps : {A B C : Type 0} (v : A → C) (w : B → C) (xs : List A) (ys : List B) → length xs ≡ length ys

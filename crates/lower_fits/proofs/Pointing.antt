@@ -10,8 +10,7 @@ use Rattle.cbi_base.specs.declared.scalar.Kind.TheVariants as kind
 use Rattle.c_syntax.specs.declared.expr.PrefixOperator.{PrefixOperator}
 use Rattle.c_syntax.specs.declared.expr.PrefixOperator.TheVariants as prefix
 use Rattle.c_syntax.specs.ExprTree as e
-use Rattle.c_syntax.specs.ExprTree.{ExprTree, ExprList}
-use Rattle.c_syntax.specs.ItemTree.{SourceTree}
+use Rattle.c_syntax.specs.Words.{ExprTree, ExprList, SourceTree}
 use Rattle.c_types_rules.specs.declared.fault.FaultKind.TheVariants as fault
 use Rattle.c_types_rules.specs.declared.function.FunctionType.{FunctionType}
 use Rattle.c_types_rules.specs.declared.layout.StructType.{StructType}
@@ -19,18 +18,12 @@ use Rattle.c_types_rules.specs.declared.library.Library.{Library}
 use Rattle.c_types_rules.specs.declared.library.Library.TheVariants as library
 use Rattle.c_types_rules.specs.declared.operand.Operand.{Operand}
 use Rattle.c_types_rules.specs.TypeTree as t
-use Rattle.c_types_rules.specs.TypeTree.{TypeTree, same_type}
-use Rattle.c_types_rules.specs.Assigning.{assignable, assigned, fits_parameters, is_left_side, pointers_join}
+use Rattle.c_types_rules.specs.Words.{TypeTree, same_type, assignable, assigned, fits_parameters, is_left_side, pointers_join, common, constant_of, decayed}
+use Rattle.c_types_rules.specs.Words.{enclosed, is_arithmetic, is_pointer, is_struct, is_unsigned, is_void, is_void_pointer, null_of, of_kind, place_of}
+use Rattle.c_types_rules.specs.Words.{promoted, string_of, value_of, Looked, ◌>>=◌, called, fits_format, library_called, one_scalar, added, both_arithmetic}
+use Rattle.c_types_rules.specs.Words.{cast_to, combined, gives, is_movable, is_scalar_value, measured, stepped, chosen, either, indexed, joined_pointer}
+use Rattle.c_types_rules.specs.Words.{pointed, pointed_type, sequenced, is_complete}
 use Rattle.c_types_rules.specs.Conversions as rule
-use Rattle.c_types_rules.specs.Conversions.{common, constant_of, decayed, enclosed, is_arithmetic, is_pointer, is_struct, is_unsigned, is_void, is_void_pointer}
-use Rattle.c_types_rules.specs.Conversions.{null_of, of_kind, place_of, promoted, string_of, value_of}
-use Rattle.c_types_rules.specs.Faults.{Looked, ◌>>=◌}
-use Rattle.c_types_rules.specs.Functions.{called}
-use Rattle.c_types_rules.specs.Library.{fits_format, library_called, one_scalar}
-use Rattle.c_types_rules.specs.Operators.{added, both_arithmetic, cast_to, combined, gives, is_movable, is_scalar_value, measured}
-use Rattle.c_types_rules.specs.Operators.{stepped}
-use Rattle.c_types_rules.specs.Selecting.{chosen, either, indexed, joined_pointer, pointed, pointed_type, sequenced}
-use Rattle.c_types_rules.specs.Sizes.{is_complete}
 use Rattle.c_types_expressions.specs.declared.walk.Walk.{Walk}
 use Rattle.c_types_expressions.specs.ExprWalk.{assigning, chained, flat, format_of, formatted_call, prefixed}
 use Rattle.c_meaning_sound.proofs.Forming.{decayed_deep}
@@ -81,12 +74,7 @@ module _ (tree : SourceTree) (z : Walk) where
   -- a promoted type points to what the type points to
   promoted_deep : (of : TypeTree) → Deep tree z of → Deep tree z (promoted of)
   promoted_deep t.Char d = tt
-  promoted_deep t.Void d = d
-  promoted_deep t.Int d = d
-  promoted_deep t.Unsigned d = d
-  promoted_deep (t.Pointer to) d = d
-  promoted_deep (t.Array element size) d = d
-  promoted_deep (t.Struct tag) d = d
+  promoted_deep of d = d
 
   -- the type of a constant points to nothing
   kind_deep : (k : Kind) → Deep tree z (decayed (of_kind k))
@@ -116,18 +104,13 @@ module _ (tree : SourceTree) (z : Walk) where
       (rule.value_type y) f.deep
   combined_leads structs op.Shl x y f g = gives_leads _ (promoted (rule.value_type x)) (promoted_deep (rule.value_type x) f.deep)
   combined_leads structs op.Shr x y f g = gives_leads _ (promoted (rule.value_type x)) (promoted_deep (rule.value_type x) f.deep)
-  combined_leads structs op.Lt x y f g = gives_leads _ t.Int tt
-  combined_leads structs op.Le x y f g = gives_leads _ t.Int tt
-  combined_leads structs op.Gt x y f g = gives_leads _ t.Int tt
-  combined_leads structs op.Ge x y f g = gives_leads _ t.Int tt
-  combined_leads structs op.Eq x y f g = gives_leads _ t.Int tt
-  combined_leads structs op.Ne x y f g = gives_leads _ t.Int tt
   combined_leads structs op.Mul x y f g = gives_leads _ (common (rule.value_type x) (rule.value_type y)) (common_deep (rule.value_type x) (rule.value_type y))
   combined_leads structs op.Div x y f g = gives_leads _ (common (rule.value_type x) (rule.value_type y)) (common_deep (rule.value_type x) (rule.value_type y))
   combined_leads structs op.Rem x y f g = gives_leads _ (common (rule.value_type x) (rule.value_type y)) (common_deep (rule.value_type x) (rule.value_type y))
   combined_leads structs op.And x y f g = gives_leads _ (common (rule.value_type x) (rule.value_type y)) (common_deep (rule.value_type x) (rule.value_type y))
   combined_leads structs op.Or x y f g = gives_leads _ (common (rule.value_type x) (rule.value_type y)) (common_deep (rule.value_type x) (rule.value_type y))
   combined_leads structs op.Xor x y f g = gives_leads _ (common (rule.value_type x) (rule.value_type y)) (common_deep (rule.value_type x) (rule.value_type y))
+  combined_leads structs o x y f g = gives_leads _ t.Int tt
 
   -- an operator of a chain
   pub chained_leads : (structs : List StructType) (o : Option Binary) (x y : Operand) → Steady x → Steady y → Leads (chained structs o x y)
@@ -164,12 +147,7 @@ module _ (tree : SourceTree) (z : Walk) where
   -- `*` gives what is pointed to
   pointed_leads : (of : TypeTree) → Deep tree z of → Leads (pointed_type of)
   pointed_leads (t.Pointer to) d = if_leads (is_void to) (Err fault.Operands) (Ok (place_of to)) tt (place_steady to d)
-  pointed_leads t.Void d = tt
-  pointed_leads t.Char d = tt
-  pointed_leads t.Int d = tt
-  pointed_leads t.Unsigned d = tt
-  pointed_leads (t.Array element size) d = tt
-  pointed_leads (t.Struct tag) d = tt
+  pointed_leads of d = tt
 
   -- an operator before its operand
   pub prefixed_leads : (structs : List StructType) (o : PrefixOperator) (x : Operand) → Steady x → Leads (prefixed structs o x)
@@ -178,10 +156,8 @@ module _ (tree : SourceTree) (z : Walk) where
   prefixed_leads structs prefix.SizeOf x f = measured_leads structs x.ctype
   prefixed_leads structs prefix.Address x f = address_leads x.place x.ctype f.place
   prefixed_leads structs prefix.Indirection x f = pointed_leads (rule.value_type x) f.deep
-  prefixed_leads structs prefix.Plus x f = gives_leads _ (promoted (rule.value_type x)) (promoted_deep (rule.value_type x) f.deep)
-  prefixed_leads structs prefix.Minus x f = gives_leads _ (promoted (rule.value_type x)) (promoted_deep (rule.value_type x) f.deep)
-  prefixed_leads structs prefix.Complement x f = gives_leads _ (promoted (rule.value_type x)) (promoted_deep (rule.value_type x) f.deep)
   prefixed_leads structs prefix.Not x f = gives_leads _ t.Int tt
+  prefixed_leads structs o x f = gives_leads _ (promoted (rule.value_type x)) (promoted_deep (rule.value_type x) f.deep)
 
   -- `[ ]` gives what a sum points to
   pub indexed_leads : (structs : List StructType) (x y : Operand) → Steady x → Steady y → Leads (indexed structs x y)

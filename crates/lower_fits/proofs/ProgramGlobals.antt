@@ -7,26 +7,19 @@ use Rattle.std.proofs.lemmas.Bool.{lt-ltb}
 use Rattle.std.proofs.lemmas.List.{append_cancel_right, length-map}
 use Rattle.std.proofs.lemmas.List.Elements.{All-from_recursion}
 use Rattle.std.proofs.lemmas.List.Sums.{sum_by-cons}
+use Rattle.std.proofs.lemmas.Option.{same_Some}
 use Rattle.cbi_base.specs.Objects.{Object}
-use Rattle.c_syntax.specs.ItemTree.{SourceTree}
-use Rattle.c_syntax.specs.Spelling.{tree_kinds}
-use Rattle.c_syntax.specs.StatementTree.{StartTree}
-use Rattle.c_syntax.specs.Tokens.{KindFits}
+use Rattle.c_syntax.specs.Words.{SourceTree, tree_kinds, StartTree, KindFits}
 use Rattle.c_types_rules.specs.TypeTree as t
 use Rattle.c_types_expressions.specs.declared.walk.Walk.{Walk}
-use Rattle.c_types_expressions.specs.Beginning.{beginning}
+use Rattle.c_types_expressions.specs.Words.{beginning, Fine}
 use Rattle.c_types.specs.Fault.{walk_tree}
-use Rattle.c_types_expressions.specs.Walked.{Fine}
-use Rattle.c_types.proofs.Options.{some_is}
-use Rattle.c_meaning.specs.Globals.{first_objects, global_objects, starts_of, then_strings}
-use Rattle.c_meaning.specs.Known.{facts_of}
-use Rattle.c_meaning.specs.Literals.{literals, texts_of}
+use Rattle.c_meaning.specs.Words.{first_objects, global_objects, starts_of, then_strings, facts_of, literals, texts_of}
 use Rattle.flow.specs.declared.program.Cell.{Cell}
 use Rattle.flow.specs.declared.program.Cell.TheVariants as cell
 use Rattle.flow.specs.declared.program.Global.{Global}
 use Rattle.flow.specs.declared.program.Text.{Text}
-use Rattle.flow.specs.Machine.{cell_value, object_of_global, text_object}
-use Rattle.flow.specs.Program.{AreGlobals, GlobalFits, cell_fits}
+use Rattle.flow.specs.Words.{cell_value, object_of_global, text_object, AreGlobals, GlobalFits, cell_fits}
 use Rattle.lower_globals.specs.Objects.{begun_with}
 use Rattle.lower_globals.proofs.Counted.{globals_are}
 use Rattle.c_meaning_sound.specs.Accepted.{IsAcceptedTree}
@@ -87,7 +80,7 @@ module _ (tree : SourceTree) (z : Walk) (walked : walk_tree tree ≡ Fine tt z) 
       let texts : List Text = texts_of (literals tree) in
       let first : List Object = map (object_of_global (length gs)) gs in
       let same : first ≡ objects = append_cancel_right first objects (map text_object texts)
-      (some_is (first ++ map text_object texts) (objects ++ map text_object texts) e) in
+      (same_Some (first ++ map text_object texts) (objects ++ map text_object texts) e) in
       subst (AreObjects tree z walked small xs) (sym same) h
 
 -- the globals of an accepted text are those of a program

@@ -2,10 +2,9 @@
 use Rattle.std.proofs.Common.{ℕ, ◌≤◌, arith, [], ◌++◌, ◌+◌, length, length-append}
 use Rattle.c_syntax.specs.declared.token.Sign.TheVariants as sign
 use Rattle.c_syntax.specs.ExprTree as e
-use Rattle.c_syntax.specs.ExprTree.{ExprTree, ExprList, LinkList, PostfixList}
-use Rattle.c_syntax.specs.Place.{ExprAt, ExprsAt, LinksAt, PostfixAt}
-use Rattle.c_syntax.specs.Shape.{HasLink, HasTwo, ShapedExpr, ShapedExprs, ShapedLinks, ShapedPostfix, rank}
-use Rattle.c_syntax.specs.Spelling.{a_sign, expr_kinds, exprs_kinds, link_kinds, more_exprs_kinds, parenthesized, postfix_kinds, type_kinds}
+use Rattle.c_syntax.specs.Words.{ExprTree, ExprList, LinkList, PostfixList, ExprAt, ExprsAt, LinksAt, PostfixAt, HasLink, HasTwo, ShapedExpr, ShapedExprs}
+use Rattle.c_syntax.specs.Words.{ShapedLinks, ShapedPostfix, rank, a_sign, expr_kinds, exprs_kinds, link_kinds, more_exprs_kinds, parenthesized, postfix_kinds}
+use Rattle.c_syntax.specs.Words.{type_kinds}
 use Rattle.c_meaning.specs.Facts.{Sites}
 use Rattle.lower_relation.specs.Room.{expr_room, exprs_room, links_room, postfix_room}
 use Rattle.c_meaning_sound.proofs.Calling.{around}

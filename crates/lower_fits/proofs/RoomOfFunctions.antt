@@ -5,17 +5,12 @@ use Rattle.std.specs.List.{flat_map}
 use Rattle.std.proofs.lemmas.List.{length-map}
 use Rattle.std.proofs.lemmas.List.Sums.{count_by-le-length, sum_by-cons}
 use Rattle.c_syntax.specs.ItemTree as i
-use Rattle.c_syntax.specs.ItemTree.{ItemTree, SourceTree}
-use Rattle.c_syntax.specs.StatementTree.{EntryList}
-use Rattle.c_syntax.specs.Spelling.{tree_kinds}
-use Rattle.c_syntax.specs.WellFormed.{IsShaped}
+use Rattle.c_syntax.specs.Words.{ItemTree, SourceTree, EntryList, tree_kinds, IsShaped}
 use Rattle.c_types_expressions.specs.declared.walk.Definition.{Definition}
 use Rattle.c_types.specs.Numbers.{frame, frame_of, frames_from, variables_in}
 use Rattle.c_types.specs.Parts.{item_parts}
 use Rattle.flow.specs.declared.site.Site.{Site}
-use Rattle.c_meaning.specs.Facts.{Sites}
-use Rattle.c_meaning.specs.Known.{bodies, body_of_item}
-use Rattle.c_meaning.specs.Texts.{sites_by_table}
+use Rattle.c_meaning.specs.Words.{Sites, bodies, body_of_item, sites_by_table}
 use Rattle.lower_relation.specs.Room.{function_room, functions_room}
 use Rattle.lower_fits.proofs.Allowing.{Allows, none_allowed}
 use Rattle.lower_fits.proofs.SitesAtTokens.{before, table_allows}

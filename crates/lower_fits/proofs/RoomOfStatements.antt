@@ -3,24 +3,22 @@ use Rattle.std.proofs.Common.{ℕ, ◌<◌, arith, List, [], ◌∷◌, ◌++◌
 use Rattle.std.specs.Prelude.{Option, IfSome}
 use Rattle.std.specs.List.{AllByRecursion, flat_map, sum_by}
 use Rattle.std.proofs.lemmas.List.Sums.{sum_by-append, sum_by-cons}
+use Rattle.sites.proofs.RisesBodies.{brace-length, declarator-length}
 use Rattle.c_syntax.specs.declared.token.Sign.TheVariants as sign
 use Rattle.c_syntax.specs.declared.token.Word.TheVariants as word
-use Rattle.c_syntax.specs.ExprTree.{ExprTree}
+use Rattle.c_syntax.specs.Words.{ExprTree, InitialTree, StartTree, DeclarationTree, ForStartTree, StatementTree, EntryList, ItemTree, DeclarationAt, EachAt}
+use Rattle.c_syntax.specs.Words.{EntriesAt, ExprAt, ForStartAt, InitialAt, ItemAt, StartAt, StatementAt, ShapedDeclaration, ShapedEntries, ShapedExpr}
+use Rattle.c_syntax.specs.Words.{ShapedForStart, ShapedInitial, ShapedItem, ShapedStart, ShapedStatement, a_name, a_sign, a_word, base_kinds, braced}
+use Rattle.c_syntax.specs.Words.{declaration_kinds, declarator_kinds, entry_kinds, expr_kinds, for_start_kinds, item_kinds, optional, params_kinds}
+use Rattle.c_syntax.specs.Words.{parenthesized, start_kinds, statement_kinds, type_kinds, with_commas}
 use Rattle.c_syntax.specs.StatementTree as s
-use Rattle.c_syntax.specs.StatementTree.{InitialTree, StartTree, DeclarationTree, ForStartTree, StatementTree, EntryList}
 use Rattle.c_syntax.specs.ItemTree as i
-use Rattle.c_syntax.specs.ItemTree.{ItemTree}
-use Rattle.c_syntax.specs.Place.{DeclarationAt, EachAt, EntriesAt, ExprAt, ForStartAt, InitialAt, ItemAt, StartAt, StatementAt}
-use Rattle.c_syntax.specs.Shape.{ShapedDeclaration, ShapedEntries, ShapedExpr, ShapedForStart, ShapedInitial, ShapedItem, ShapedStart, ShapedStatement}
-use Rattle.c_syntax.specs.Spelling.{a_name, a_sign, a_word, base_kinds, braced, declaration_kinds, declarator_kinds, entry_kinds, expr_kinds}
-use Rattle.c_syntax.specs.Spelling.{for_start_kinds, item_kinds, optional, params_kinds, parenthesized, start_kinds, statement_kinds, type_kinds, with_commas}
-use Rattle.c_meaning.specs.Facts.{Sites}
-use Rattle.c_meaning.specs.Known.{body_of_item}
+use Rattle.c_meaning.specs.Words.{Sites, body_of_item}
 use Rattle.lower_relation.specs.Room.{declaration_room, entries_room, for_start_room, function_room, initial_room, part_room, start_room, statement_room}
 use Rattle.c_meaning_sound.proofs.Calling.{around}
-use Rattle.c_meaning_sound.proofs.Declaring.{commas_long, name_inside}
+use Rattle.c_meaning_sound.proofs.Declaring.{commas_long}
 use Rattle.c_meaning_sound.proofs.Initialising.{braced_long, equals_kinds}
-use Rattle.c_meaning_sound.proofs.Stating.{for_long, in_braces}
+use Rattle.c_meaning_sound.proofs.Stating.{for_long}
 use Rattle.lower_fits.proofs.Allowing.{Allows, nothing, one, two, wide}
 use Rattle.lower_fits.proofs.RoomOfExpressions.{expr_allowed, exprs_allowed, list_leaves}
 
@@ -51,7 +49,7 @@ module _ (sites : Sites) where
   start_allowed x at q p =
       let long = length-append (declarator_kinds x.declarator) (equals_kinds x.initial) in
       wide (initial_allowed x.initial x.declarator.name_token (at + length (declarator_kinds x.declarator))
-      (omega (arith, name_inside x.declarator)) q p.2) (omega arith) (omega arith) (omega arith)
+      (omega (arith, declarator-length x.declarator)) q p.2) (omega arith) (omega arith) (omega arith)
 
   -- variables with commas between them
   starts_allowed : (xs : List StartTree) (at : ℕ) → AllByRecursion ShapedStart xs → EachAt StartAt start_kinds 1 at xs
@@ -85,8 +83,7 @@ module _ (sites : Sites) where
     statement_allowed : (x : StatementTree) (at : ℕ) → ShapedStatement x → StatementAt at x
         → Allows sites at (at + length (statement_kinds x)) (statement_room sites x)
     statement_allowed (s.Block token entries) at q p =
-        wide (entries_allowed entries (at + 1) q p.1) (omega arith) (omega (arith, in_braces (entry_kinds entries))) (omega arith)
-    statement_allowed (s.Empty token) at q p = nothing (omega arith)
+        wide (entries_allowed entries (at + 1) q p.1) (omega arith) (omega (arith, brace-length (entry_kinds entries))) (omega arith)
     statement_allowed (s.Expr token x) at q p =
         let long = length-append (expr_kinds x) (a_sign sign.Semicolon) in
         wide (expr_allowed sites x at q p.1) (omega arith) (omega arith) (omega arith)
@@ -126,8 +123,7 @@ module _ (sites : Sites) where
     statement_allowed (s.Return token value) at q p =
         let long = length-append (optional expr_kinds value) (a_sign sign.Semicolon) in
         wide (two (one token) (option_allowed value (at + 1) q p.1) (omega arith)) (omega arith) (omega arith) (omega arith)
-    statement_allowed (s.Break token) at q p = nothing (omega arith)
-    statement_allowed (s.Continue token) at q p = nothing (omega arith)
+    statement_allowed x at q p = nothing (omega arith)
 
     -- the declarations and statements of a block
     entries_allowed : (xs : EntryList) (at : ℕ) → ShapedEntries xs → EntriesAt at xs → Allows sites at (at + length (entry_kinds xs)) (entries_room sites xs)
@@ -143,16 +139,14 @@ module _ (sites : Sites) where
 
   -- an item, of which only a defined function needs room
   item_allowed : (x : ItemTree) (at : ℕ) → ShapedItem x → ItemAt at x → Allows sites at (at + length (item_kinds x)) (bodies_room sites (body_of_item x))
-  item_allowed (i.Struct token tag members) at q p = nothing (omega arith)
-  item_allowed (i.Function token b stars name ps None) at q p = nothing (omega arith)
   item_allowed (i.Function token b stars name ps (Some body)) at q p =
       let with_body = length-append (type_kinds b stars ++ a_name name ++ parenthesized (params_kinds ps)) (braced (entry_kinds body)) in
       let with_params = length-append (type_kinds b stars ++ a_name name) (parenthesized (params_kinds ps)) in
       let with_name = length-append (type_kinds b stars) (a_name name) in
       wide (two (one (at + length (type_kinds b stars)))
       (entries_allowed body (at + length (type_kinds b stars) + 2 + length (params_kinds ps) + 2) q.1 p.3) (omega arith)) (omega arith)
-      (omega (arith, in_braces (entry_kinds body), around (params_kinds ps))) (omega arith)
-  item_allowed (i.Declaration declaration) at q p = nothing (omega arith)
+      (omega (arith, brace-length (entry_kinds body), around (params_kinds ps))) (omega arith)
+  item_allowed x at q p = nothing (omega arith)
 
   -- all items of a text
   pub items_allowed : (xs : List ItemTree) (at : ℕ) → AllByRecursion ShapedItem xs → EachAt ItemAt item_kinds 0 at xs

@@ -7,8 +7,7 @@ use Rattle.std.proofs.lemmas.List.Sums.{sum_by-cons}
 use Rattle.flow.specs.declared.site.Site.{Site}
 use Rattle.flow.specs.declared.site.SiteKind.{SiteKind}
 use Rattle.flow.specs.declared.site.SiteKind.TheVariants.{Branch, Return, Pair}
-use Rattle.c_meaning.specs.Texts.{head_site, is_branch, is_pair, is_return, sites_from, sites_by_table}
-use Rattle.c_meaning.specs.Visits.{listed}
+use Rattle.c_meaning.specs.Words.{head_site, is_branch, is_pair, is_return, sites_from, sites_by_table, listed}
 use Rattle.lower_fits.proofs.Allowing.{allowed, next_allowed, none_allowed}
 
 -- how many sites of the table stand before the token

@@ -2,19 +2,15 @@
 use Rattle.std.proofs.Common.{◌≡◌, ℕ, ◌≤◌, ◌<◌, ◌+◌, refl, arith, List, ◌∷◌, ◌++◌, Some, None, length, length-append}
 use Rattle.std.specs.Prelude.{Option, slice_get}
 use Rattle.std.specs.List.{AllByRecursion}
+use Rattle.base_lists.proofs.Every.{all_first, all_second}
 use Rattle.c_syntax.specs.declared.token.Sign.TheVariants as sign
 use Rattle.c_syntax.specs.declared.token.TokenKind.{TokenKind}
 use Rattle.c_syntax.specs.ExprTree as e
-use Rattle.c_syntax.specs.ExprTree.{ExprTree, ExprList}
-use Rattle.c_syntax.specs.Spelling.{Kinds, a_sign, expr_kinds, exprs_kinds, more_exprs_kinds, parenthesized}
-use Rattle.c_syntax.specs.Tokens.{KindFits}
+use Rattle.c_syntax.specs.Words.{ExprTree, ExprList, Kinds, a_sign, expr_kinds, exprs_kinds, more_exprs_kinds, parenthesized, KindFits}
 use Rattle.flow.specs.declared.scope.Bounds.{Bounds}
 use Rattle.flow.specs.declared.scope.Names.{Names}
 use Rattle.flow.specs.Nodes.{step_limit}
-use Rattle.c_meaning.specs.Facts.{Facts, Sites}
-use Rattle.c_meaning.specs.Trees.{count}
-use Rattle.c_meaning.specs.Visits.{listed}
-use Rattle.c_meaning_sound.proofs.Parting.{all_first, all_second}
+use Rattle.c_meaning.specs.Words.{Facts, Sites, count, listed}
 use Rattle.lower_fits.specs.FactsFit.{AllOwned, FactsFit, SitesOwned}
 use Rattle.lower_fits.specs.Fitting.{TextsNamed}
 

@@ -2,23 +2,22 @@
 use Rattle.std.proofs.Common.{◌≡◌, ℕ, ◌+◌, ◌≤◌, refl, ap, subst, sym, ◌∙◌, Bool, true, false, [], ◌∷◌, ◌++◌, Option, Some, None, length}
 use Rattle.std.proofs.Common.{length-append}
 use Rattle.std.specs.Prelude.{is_some, nat_le, ◌&&◌, if◌then◌else◌}
-use Rattle.std.proofs.lemmas.Bool.{leb-true}
-use Rattle.cbi_base.proofs.NumberLemmas.{both}
+use Rattle.std.proofs.lemmas.Bool.{leb-true, and_parts}
+use Rattle.c_types.proofs.FunctionLaws.{gives_two}
 use Rattle.c_syntax.specs.StatementTree.{StartTree}
 use Rattle.c_types_rules.specs.declared.fault.FaultKind.TheVariants as fault
-use Rattle.c_types_rules.specs.TypeTree.{TypeTree}
-use Rattle.c_types_rules.specs.Sizes.{cells_of, is_complete, is_object, most_cells}
+use Rattle.c_types_rules.specs.Words.{TypeTree, cells_of, is_complete, is_object, most_cells}
 use Rattle.c_types_expressions.specs.declared.walk.Walk.{Walk}
 use Rattle.c_types_walk.specs.Declarators.{declared_type, is_open}
 use Rattle.c_types_walk.specs.Initialisers.{walk_initial}
-use Rattle.c_types_expressions.specs.Names.{is_name_taken}
+use Rattle.c_types_expressions.specs.Words.{is_name_taken, Walked, Done, Fine, Faulty, replaced, with_variable}
 use Rattle.c_types_walk.specs.StatementWalk.{sized, walk_closed, walk_open, walk_start, walk_typed}
-use Rattle.c_types_expressions.specs.Walked.{Walked, Done, Fine, Faulty, replaced, with_variable}
+use Rattle.c_types_walk.proofs.Kept.{initial_keeps}
 use Rattle.c_types.proofs.Noted.{Gives, gives_more, gives_then}
 use Rattle.lower_fits.proofs.Laying.{IsObject, Long, last_replaced}
-use Rattle.lower_fits.proofs.Leaving.{Leaves, initial_leaves}
+use Rattle.lower_fits.proofs.Leaving.{Leaves, leaves_kept}
 use Rattle.lower_fits.proofs.Initials.{Initial, Takes, initial_is}
-use Rattle.lower_fits.proofs.GlobalCells.{Keeps, initial_keeps}
+use Rattle.lower_fits.proofs.GlobalCells.{SameCells, cells_kept}
 
 -- one global more: its type, its initialiser, and its note
 pub record Begins (x : StartTree) (w v : Walk) : Type 0 where
@@ -62,25 +61,20 @@ counts_by false c token of w e h = tt
 counts : (token : ℕ) (of : TypeTree) (w : Walk) → Gives (λ _ v. Counts of w v) (sized true token of w)
 counts token of w = counts_by (is_object w.structs of) (nat_le (w.global_cells + cells_of w.structs of) most_cells) token of w refl refl
 
--- two things that hold of one part
-gives_and : {A : Type 0} (P Q : A → Walk → Type 0) (r : Walked A) → Gives P r → Gives Q r → Gives (λ a v. P a v × Q a v) r
-gives_and P Q (Fine a v) h k = (h, k)
-gives_and P Q (Faulty kind token) h k = tt
-
 -- what an initialiser is, and what it leaves
 record Initialised (of : TypeTree) (x : StartTree) (w : Walk) (u : TypeTree) (v : Walk) : Type 0 where
   initial : Initial of x.initial w u v
   leaves : Leaves w v
-  keeps : Keeps w v
+  keeps : SameCells w v
 
 -- the walk through an initialiser
 initialised : (of : TypeTree) (x : StartTree) (w : Walk) → Gives (Initialised of x w) (walk_initial true of x.initial w)
 initialised of x w =
-    gives_more (λ u v. Initial of x.initial w u v × (Leaves w v × Keeps w v)) (Initialised of x w) (walk_initial true of x.initial w)
+    gives_more (λ u v. Initial of x.initial w u v × (Leaves w v × SameCells w v)) (Initialised of x w) (walk_initial true of x.initial w)
     (λ u v k. record { initial = k.0; leaves = k.1.0; keeps = k.1.1 })
-    (gives_and (Initial of x.initial w) (λ _ v. Leaves w v × Keeps w v) (walk_initial true of x.initial w) (initial_is of x.initial w)
-    (gives_and (λ _ v. Leaves w v) (λ _ v. Keeps w v) (walk_initial true of x.initial w) (initial_leaves true of x.initial w)
-    (initial_keeps true of x.initial w)))
+    (gives_two (Initial of x.initial w) (λ _ v. Leaves w v × SameCells w v) (walk_initial true of x.initial w) (initial_is of x.initial w)
+    (gives_two (λ _ v. Leaves w v) (λ _ v. SameCells w v) (walk_initial true of x.initial w) (initial_keeps Leaves leaves_kept true of x.initial w)
+    (initial_keeps SameCells cells_kept true of x.initial w)))
 
 -- an array whose length its initialiser gives
 open_begins : (x : StartTree) (of : TypeTree) (w : Walk) → Long w → Gives (λ _ v. Begins x w v) (walk_open true x of w)
@@ -111,7 +105,7 @@ closed_begins x of w =
     (λ own v h. record {
       of = of;
       object = k.object;
-      takes = subst (λ t. Takes t x.initial) (h.initial.kept w.structs (both (is_complete w.structs of) (nat_le (cells_of w.structs of) most_cells) k.object).0) h.initial.takes;
+      takes = subst (λ t. Takes t x.initial) (h.initial.kept w.structs (and_parts (is_complete w.structs of) (nat_le (cells_of w.structs of) most_cells) k.object).0) h.initial.takes;
       structs = h.leaves.structs ∙ k.structs;
       types = h.leaves.types ∙ ap (λ ts. ts ++ of ∷ []) k.types;
       more = ap length h.leaves.variables ∙ length-append u.variables _ ∙ ap (λ xs. length xs + 1) k.variables;

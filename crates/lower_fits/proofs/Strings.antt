@@ -5,18 +5,16 @@ use Rattle.std.specs.List.{flat_map, sum_by}
 use Rattle.c_syntax.specs.declared.token.Sign.TheVariants as sign
 use Rattle.c_syntax.specs.declared.token.Word.TheVariants as word
 use Rattle.c_syntax.specs.ExprTree as e
-use Rattle.c_syntax.specs.ExprTree.{ExprTree, ExprList, LinkList, PostfixList}
+use Rattle.c_syntax.specs.Words.{ExprTree, ExprList, LinkList, PostfixList, InitialTree, StartTree, DeclarationTree, ForStartTree, StatementTree, EntryList}
+use Rattle.c_syntax.specs.Words.{ItemTree, SourceTree, Kinds, a_name, a_sign, a_word, after_commas, base_kinds, body_kinds, comma_kinds, declaration_kinds}
+use Rattle.c_syntax.specs.Words.{declarator_kinds, entry_kinds, expr_kinds, exprs_kinds, for_start_kinds, initial_kinds, item_kinds, link_kinds}
+use Rattle.c_syntax.specs.Words.{more_exprs_kinds, optional, params_kinds, parenthesized, postfix_kinds, prefix_kinds, start_kinds, statement_kinds, text_kinds}
+use Rattle.c_syntax.specs.Words.{type_kinds, with_commas}
 use Rattle.c_syntax.specs.StatementTree as s
-use Rattle.c_syntax.specs.StatementTree.{InitialTree, StartTree, DeclarationTree, ForStartTree, StatementTree, EntryList}
 use Rattle.c_syntax.specs.ItemTree as item
-use Rattle.c_syntax.specs.ItemTree.{ItemTree, SourceTree}
-use Rattle.c_syntax.specs.Spelling.{Kinds, a_name, a_sign, a_word, after_commas, base_kinds, body_kinds, comma_kinds, declaration_kinds, declarator_kinds}
-use Rattle.c_syntax.specs.Spelling.{entry_kinds, expr_kinds, exprs_kinds, for_start_kinds, initial_kinds, item_kinds, link_kinds, more_exprs_kinds, optional}
-use Rattle.c_syntax.specs.Spelling.{params_kinds, parenthesized, postfix_kinds, prefix_kinds, start_kinds, statement_kinds, text_kinds, type_kinds}
-use Rattle.c_syntax.specs.Spelling.{with_commas}
 use Rattle.c_syntax.specs.declared.token.TokenKind.{TokenKind}
-use Rattle.c_meaning.specs.Literals.{Literal, strings_begun, strings_behind, strings_declared, strings_entered, strings_if, strings_in}
-use Rattle.c_meaning.specs.Literals.{strings_initial, strings_of_all, strings_of_body, strings_of_item, strings_of_links, strings_stated}
+use Rattle.c_meaning.specs.Words.{Literal, strings_begun, strings_behind, strings_declared, strings_entered, strings_if, strings_in, strings_initial}
+use Rattle.c_meaning.specs.Words.{strings_of_all, strings_of_body, strings_of_item, strings_of_links, strings_stated}
 use Rattle.lower_fits.proofs.Measuring.{Within, before, behind, between, enclosed, join, nothing}
 
 module _ (f : Literal → ℕ) (g : TokenKind → ℕ)
@@ -41,17 +39,13 @@ module _ (f : Literal → ℕ) (g : TokenKind → ℕ)
         join f g (strings_in first) (strings_of_links links) (expr_kinds first) (link_kinds links) (expr_fewer first) (links_fewer links)
     expr_fewer (e.Cast token b stars x) = before f g (strings_in x) (parenthesized (type_kinds b stars)) (expr_kinds x) (expr_fewer x)
     expr_fewer (e.Prefix token o x) = before f g (strings_in x) (prefix_kinds o) (expr_kinds x) (expr_fewer x)
-    expr_fewer (e.SizeOfType token b stars) = nothing f g (expr_kinds (e.SizeOfType token b stars))
     expr_fewer (e.Postfix x operators) =
         join f g (strings_in x) (strings_behind operators) (expr_kinds x) (postfix_kinds operators) (expr_fewer x) (postfix_fewer operators)
-    expr_fewer (e.Name token name) = nothing f g (expr_kinds (e.Name token name))
     expr_fewer (e.Call token name arguments) = before f g (strings_of_all arguments) (a_name name) (parenthesized (exprs_kinds arguments))
         (enclosed f g (strings_of_all arguments) (exprs_kinds arguments) (exprs_fewer arguments))
-    expr_fewer (e.Constant token kind value) = nothing f g (expr_kinds (e.Constant token kind value))
     expr_fewer (e.Strings token parts) = omega (arith, own token parts, one (record { token = token; bytes = flat_map (λ bytes. bytes) parts }))
     expr_fewer (e.Paren token x) = enclosed f g (strings_in x) (expr_kinds x) (expr_fewer x)
-    expr_fewer (e.Null token) = nothing f g (expr_kinds (e.Null token))
-    expr_fewer (e.EndOfFile token) = nothing f g (expr_kinds (e.EndOfFile token))
+    expr_fewer x = nothing f g (expr_kinds x)
 
     -- those of expressions with commas between them
     exprs_fewer : (xs : ExprList) → Within f g (strings_of_all xs) (exprs_kinds xs)
@@ -139,7 +133,6 @@ module _ (f : Literal → ℕ) (g : TokenKind → ℕ)
     stated_fewer : (x : StatementTree) → Within f g (strings_stated x) (statement_kinds x)
     stated_fewer (s.Block token entries) =
         between f g (strings_entered entries) (a_sign sign.LeftBrace) (entry_kinds entries) (a_sign sign.RightBrace) (entered_fewer entries)
-    stated_fewer (s.Empty token) = nothing f g (statement_kinds (s.Empty token))
     stated_fewer (s.Expr token x) = behind f g (strings_in x) (expr_kinds x) (a_sign sign.Semicolon) (expr_fewer x)
     stated_fewer (s.If token c first) = conditioned (strings_stated first) (a_word word.If) c (statement_kinds first) (stated_fewer first)
     stated_fewer (s.IfElse token c first second) =
@@ -164,8 +157,7 @@ module _ (f : Literal → ℕ) (g : TokenKind → ℕ)
         (join f g (strings_begun start) (strings_if c) (for_start_kinds start) (optional expr_kinds c) (begun_fewer start) (if_fewer c))) (if_fewer step))))
         (stated_fewer body)
     stated_fewer (s.Return token value) = between f g (strings_if value) (a_word word.Return) (optional expr_kinds value) (a_sign sign.Semicolon) (if_fewer value)
-    stated_fewer (s.Break token) = nothing f g (statement_kinds (s.Break token))
-    stated_fewer (s.Continue token) = nothing f g (statement_kinds (s.Continue token))
+    stated_fewer x = nothing f g (statement_kinds x)
 
     -- those of the entries of a block
     entered_fewer : (xs : EntryList) → Within f g (strings_entered xs) (entry_kinds xs)

@@ -8,15 +8,11 @@ use Rattle.std.proofs.lemmas.List.Elements.{All-from_recursion, All-map, recursi
 use Rattle.std.proofs.lemmas.List.Sums.{sum_by-append, sum_by-cons}
 use Rattle.c_syntax.specs.declared.token.TokenKind.{TokenKind}
 use Rattle.c_syntax.specs.declared.token.TokenKind.TheVariants as kind
-use Rattle.c_syntax.specs.ItemTree.{SourceTree}
-use Rattle.c_syntax.specs.Spelling.{Kinds, text_kinds, tree_kinds}
-use Rattle.c_syntax.specs.Tokens.{IsOfBytes, kind_text_len}
+use Rattle.c_syntax.specs.Words.{SourceTree, Kinds, text_kinds, tree_kinds, IsOfBytes, kind_text_len}
 use Rattle.c_types_expressions.specs.declared.walk.Walk.{Walk}
-use Rattle.c_meaning.specs.Known.{facts_of}
-use Rattle.c_meaning.specs.Literals.{Literal, literals, texts_of}
+use Rattle.c_meaning.specs.Words.{facts_of, Literal, literals, texts_of}
 use Rattle.flow.specs.declared.program.Text.{Text}
-use Rattle.flow.specs.Limits.{byte_limit, text_limit}
-use Rattle.flow.specs.Program.{AreTexts}
+use Rattle.flow.specs.Words.{byte_limit, text_limit, AreTexts}
 use Rattle.c_meaning_sound.specs.Accepted.{IsAcceptedTree}
 use Rattle.c_meaning_sound.specs.Sited.{IsSited}
 use Rattle.c_meaning_sound.proofs.Rising.{Rise, items_rise}
@@ -118,10 +114,7 @@ string_large (p ∷ parts) = omega (
 -- of a token of bytes none counts
 one_none : (k : TokenKind) → IsOfBytes k → kind_large k ≡ 0
 one_none (kind.Text bytes) h = none_large bytes (recursion_from_All (λ b. b < 256) bytes h)
-one_none (kind.Name name) h = refl
-one_none (kind.Constant of value) h = refl
-one_none (kind.Word word) h = refl
-one_none (kind.Punctuator sign) h = refl
+one_none k h = refl
 
 -- nor of all such tokens
 tokens_none : (ks : Kinds) → AllByRecursion IsOfBytes ks → sum_by kind_large ks ≡ 0

@@ -5,45 +5,34 @@ use Rattle.std.specs.Prelude.{IsTrue, ℤ, drop, map, neg_ℤ, pos, replicate, s
 use Rattle.std.specs.List.{AllByRecursion, flat_map}
 use Rattle.std.specs.Option.{option_map, unwrap_or}
 use Rattle.std.proofs.lemmas.List.{length-map}
+use Rattle.std.proofs.lemmas.Option.{same_Some}
+use Rattle.base_lists.proofs.Lists.{bytes_long}
+use Rattle.base_lists.proofs.Every.{all_first, all_join, all_second}
 use Rattle.cbi_base.specs.declared.scalar.Kind.TheVariants as kind
 use Rattle.cbi_base.specs.declared.scalar.Scalar.{Scalar}
 use Rattle.cbi_base.specs.declared.scalar.Scalar.TheVariants.{Number, Place, Null, Undefined}
 use Rattle.cbi_base.specs.declared.trap.Trap.{Trap}
 use Rattle.cbi_base.specs.declared.trap.Trap.TheVariants as trap
-use Rattle.cbi_base.specs.Kind.{lies_in}
-use Rattle.cbi_base.specs.Scalars.{applied_to_one, as_number, converted}
+use Rattle.cbi_base.specs.Words.{lies_in, applied_to_one, as_number, converted, char_of}
 use Rattle.c_values.proofs.Ranges.{wrapped-LiesIn}
 use Rattle.c_syntax.specs.declared.expr.PrefixOperator.TheVariants as prefix
 use Rattle.c_syntax.specs.declared.token.TokenKind.{TokenKind}
 use Rattle.c_syntax.specs.ExprTree as e
-use Rattle.c_syntax.specs.ExprTree.{ExprTree, ExprList}
-use Rattle.c_syntax.specs.ItemTree.{SourceTree}
-use Rattle.c_syntax.specs.Spelling.{expr_kinds, exprs_kinds, more_exprs_kinds}
-use Rattle.c_syntax.specs.Tokens.{KindFits}
+use Rattle.c_syntax.specs.Words.{ExprTree, ExprList, SourceTree, expr_kinds, exprs_kinds, more_exprs_kinds, KindFits}
 use Rattle.c_types_rules.specs.declared.layout.Member.{Member}
 use Rattle.c_types_rules.specs.declared.layout.StructType.{StructType}
 use Rattle.c_types_rules.specs.TypeTree as t
 use Rattle.c_types_rules.specs.TypeTree.{TypeTree}
 use Rattle.c_types_expressions.specs.declared.walk.Walk.{Walk}
-use Rattle.flow.specs.Rows.{char_of}
 use Rattle.c_meaning.specs.declared.conversion.Conversion.{Conversion}
 use Rattle.c_meaning.specs.declared.conversion.Conversion.TheVariants.{Keep, To, Misfit}
 use Rattle.c_meaning.specs.declared.value_type.ValueType.{ValueType}
-use Rattle.c_meaning.specs.Conversions.{as_wanted, conversion, converts, is_null_as}
-use Rattle.c_meaning.specs.Expressions.{Sense, wanted_value}
-use Rattle.c_meaning.specs.Globals.{before_all, before_cells, cells_of_structs, constant, constants, given_by, nowhere, spelled_cells, zero_cells}
-use Rattle.c_meaning.specs.Globals.{zeros_of}
-use Rattle.c_meaning.specs.Known.{facts_of}
-use Rattle.c_meaning.specs.Literals.{Literal, literals, number_from, strings_in}
-use Rattle.c_meaning.specs.Meaning.{expr, text_of_string, text_place}
-use Rattle.c_meaning.specs.Trees.{type_of}
-use Rattle.c_meaning.specs.World.{Out, Go, Stop, World, answered, bind}
-use Rattle.c_types.proofs.Options.{some_is}
+use Rattle.c_meaning.specs.Words.{as_wanted, conversion, converts, is_null_as, Sense, wanted_value, before_all, before_cells, cells_of_structs, constant}
+use Rattle.c_meaning.specs.Words.{constants, given_by, nowhere, spelled_cells, zero_cells, zeros_of, facts_of, Literal, literals, number_from, strings_in, expr}
+use Rattle.c_meaning.specs.Words.{text_of_string, text_place, type_of, Out, Go, Stop, World, answered, bind}
 use Rattle.lower_globals.specs.Cells.{given, negative_given, wanted_given}
 use Rattle.lower_globals.proofs.ConstantLaws.{as_negative}
 use Rattle.c_meaning_laws.specs.TypedText.{GlobalItems, IsConstant}
-use Rattle.c_meaning_sound.proofs.Parting.{all_first, all_second, bytes_long}
-use Rattle.c_meaning_sound.proofs.Spotting.{all_two}
 use Rattle.c_meaning_sound.proofs.Texts.{Spelled}
 use Rattle.lower_fits.proofs.Initials.{bytes_in, items_in}
 
@@ -71,7 +60,7 @@ IfCell n (Some v) = IsCell n v
 
 -- some cells behind others
 cells_two : (n : Firsts) (xs ys : List Scalar) → AllCells n xs → AllCells n ys → AllCells n (xs ++ ys)
-cells_two n xs ys h k = all_two (IsCell n) xs ys h k
+cells_two n xs ys h k = all_join (IsCell n) xs ys h k
 
 -- cells that are repeated
 repeated_cells : (n : Firsts) (m : ℕ) (cells : List Scalar) → AllCells n cells → AllCells n (flat_map (λ c. c) (replicate m cells))
@@ -88,12 +77,10 @@ module _ (n : Firsts) (zeros : List (List Scalar)) (all : AllByRecursion (AllCel
   -- zeros of a type
   type_zeros : (of : TypeTree) → AllCells n (zero_cells zeros of)
   type_zeros t.Void = tt
-  type_zeros t.Char = (refl, tt)
-  type_zeros t.Int = (refl, tt)
-  type_zeros t.Unsigned = (refl, tt)
   type_zeros (t.Pointer to) = (tt, tt)
   type_zeros (t.Array element m) = repeated_cells n m (zero_cells zeros element) (type_zeros element)
   type_zeros (t.Struct tag) = slot_cells n zeros tag all
+  type_zeros of = (refl, tt)
 
   -- zeros of members
   members_zeros : (ms : List Member) → AllCells n (flat_map (λ m. zero_cells zeros m.ctype) ms)
@@ -106,7 +93,7 @@ structs_zeros : (n : Firsts) (structs : List StructType) (before : List (List Sc
 structs_zeros n [] before h = h
 structs_zeros n (s ∷ structs) before h =
     structs_zeros n structs (before ++ flat_map (λ m. zero_cells before m.ctype) s.members ∷ [])
-    (all_two (AllCells n) before (flat_map (λ m. zero_cells before m.ctype) s.members ∷ []) h (members_zeros n before h s.members, tt))
+    (all_join (AllCells n) before (flat_map (λ m. zero_cells before m.ctype) s.members ∷ []) h (members_zeros n before h s.members, tt))
 
 -- zeros may stand in the cells of a global
 pub zeros_cells : (n : Firsts) (structs : List StructType) (of : TypeTree) → AllCells n (zeros_of structs of)
@@ -130,9 +117,9 @@ converted_cell : (n : Firsts) (c : Conversion) (v : Scalar) → IsCell n v → I
 unfolding converted
 converted_cell n Keep v h = h
 converted_cell n (To k) (Number from value) h = wrapped-LiesIn k value
+converted_cell n (To k) Undefined h = absurd h
 converted_cell n (To k) (Place number offset) h = tt
 converted_cell n (To k) Null h = tt
-converted_cell n (To k) Undefined h = absurd h
 converted_cell n Misfit v h = tt
 
 -- what a conversion makes of a value, if there is one
@@ -148,13 +135,10 @@ fitted_cell n value false h = tt
 -- the negative of a value, if there is one
 negated_cell : (n : Firsts) (o : Option Scalar) → IfCell n o → IfCell n (negative_given o)
 unfolding applied_to_one
-negated_cell n None h = tt
-negated_cell n (Some (Number kind.Char value)) h = tt
 negated_cell n (Some (Number kind.Int value)) h = fitted_cell n (neg_ℤ value) (lies_in kind.Int (neg_ℤ value)) refl
 negated_cell n (Some (Number kind.Unsigned value)) h = wrapped-LiesIn kind.Unsigned (neg_ℤ value)
-negated_cell n (Some (Place number offset)) h = tt
-negated_cell n (Some Null) h = tt
 negated_cell n (Some Undefined) h = absurd h
+negated_cell n o h = tt
 
 -- what an operation answers
 answered_cell : (n : Firsts) (r : Result Scalar Trap) (w : World) → IfCell n (given r) → IfCell n (given_by (answered r w))
@@ -174,7 +158,7 @@ sensed_cell n false own of m h = bound_cell n (m.value nowhere) (conversion own 
 
 -- the number of a string is this one, or a later one
 number_by : (b : Bool) (k m number : ℕ) (o : Option ℕ) → (if b then Some k else o) ≡ Some number → (o ≡ Some number → number < suc k + m) → number < k + suc m
-number_by true k m number o h f = omega (arith, some_is k number h)
+number_by true k m number o h f = omega (arith, same_Some k number h)
 number_by false k m number o h f = omega (arith, f h)
 
 -- the number of a string is below their count

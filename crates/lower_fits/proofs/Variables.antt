@@ -3,6 +3,7 @@ use Rattle.std.proofs.Common.{◌≡◌, ℕ, ◌≤◌, ◌+◌, refl, ap, sym,
 use Rattle.std.specs.Prelude.{Option, map}
 use Rattle.std.specs.List.{flat_map, sum_by}
 use Rattle.std.proofs.lemmas.List.Sums.{sum_by-append, sum_by-cons}
+use Rattle.sites.proofs.RisesBodies.{declarator-length}
 use Rattle.c_syntax.specs.declared.parts.Param.{Param}
 use Rattle.c_syntax.specs.declared.parts.ParamName.{ParamName}
 use Rattle.c_syntax.specs.declared.parts.Params.{Params}
@@ -11,14 +12,12 @@ use Rattle.c_syntax.specs.declared.token.Sign.TheVariants as sign
 use Rattle.c_syntax.specs.declared.token.TokenKind.{TokenKind}
 use Rattle.c_syntax.specs.declared.token.Word.TheVariants as word
 use Rattle.c_syntax.specs.ExprTree as e
-use Rattle.c_syntax.specs.ExprTree.{ExprTree, ExprList, LinkList, PostfixList}
+use Rattle.c_syntax.specs.Words.{ExprTree, ExprList, LinkList, PostfixList, InitialTree, StartTree, DeclarationTree, ForStartTree, StatementTree, EntryList}
+use Rattle.c_syntax.specs.Words.{ItemTree, SourceTree, Kinds, a_name, a_sign, a_word, after_commas, base_kinds, body_kinds, bound_kinds, declaration_kinds}
+use Rattle.c_syntax.specs.Words.{declarator_kinds, entry_kinds, expr_kinds, for_start_kinds, item_kinds, optional, param_kinds, param_name_kinds, params_kinds}
+use Rattle.c_syntax.specs.Words.{parenthesized, start_kinds, statement_kinds, type_kinds, with_commas}
 use Rattle.c_syntax.specs.StatementTree as s
-use Rattle.c_syntax.specs.StatementTree.{InitialTree, StartTree, DeclarationTree, ForStartTree, StatementTree, EntryList}
 use Rattle.c_syntax.specs.ItemTree as item
-use Rattle.c_syntax.specs.ItemTree.{ItemTree, SourceTree}
-use Rattle.c_syntax.specs.Spelling.{Kinds, a_name, a_sign, a_word, after_commas, base_kinds, body_kinds, bound_kinds, declaration_kinds, declarator_kinds}
-use Rattle.c_syntax.specs.Spelling.{entry_kinds, expr_kinds, for_start_kinds, item_kinds, optional, param_kinds, param_name_kinds, params_kinds}
-use Rattle.c_syntax.specs.Spelling.{parenthesized, start_kinds, statement_kinds, type_kinds, with_commas}
 use Rattle.c_types_expressions.specs.declared.walk.Definition.{Definition}
 use Rattle.c_types_expressions.specs.declared.walk.Walk.{Walk}
 use Rattle.c_types_walk.specs.ItemWalk.{listed_params}
@@ -29,7 +28,6 @@ use Rattle.c_types.proofs.FunctionLaws.{frames_are}
 use Rattle.flow.specs.Limits.{local_limit}
 use Rattle.c_meaning_sound.specs.Accepted.{IsAcceptedTree}
 use Rattle.c_meaning_sound.specs.Sited.{IsSited, count_of}
-use Rattle.c_meaning_sound.proofs.Declaring.{name_inside}
 use Rattle.c_meaning_sound.proofs.Initialising.{equals_kinds}
 use Rattle.lower_fits.proofs.Measuring.{Within, before, behind, between, enclosed, join, nothing}
 
@@ -93,15 +91,10 @@ mutual
   expr_quiet (e.Chain level first links) = quiet_two (expr_parts first) (links_parts links) (expr_quiet first) (links_quiet links)
   expr_quiet (e.Cast token b stars operand) = quiet_last (expr_parts operand) token (expr_quiet operand)
   expr_quiet (e.Prefix token o operand) = quiet_last (expr_parts operand) token (expr_quiet operand)
-  expr_quiet (e.SizeOfType token b stars) = refl
   expr_quiet (e.Postfix primary operators) = quiet_two (expr_parts primary) (postfix_parts operators) (expr_quiet primary) (postfix_quiet operators)
-  expr_quiet (e.Name token name) = refl
   expr_quiet (e.Call token name arguments) = quiet_last (exprs_parts arguments) token (exprs_quiet arguments)
-  expr_quiet (e.Constant token of value) = refl
-  expr_quiet (e.Strings token parts) = refl
   expr_quiet (e.Paren token inner) = quiet_last (expr_parts inner) token (expr_quiet inner)
-  expr_quiet (e.Null token) = refl
-  expr_quiet (e.EndOfFile token) = refl
+  expr_quiet x = refl
 
   -- nor do several
   exprs_quiet : (xs : ExprList) → Quiet (exprs_parts xs)
@@ -147,7 +140,7 @@ start_fewer x = omega (
   initial_quiet x.initial,
   ones (start_kinds x),
   length-append (declarator_kinds x.declarator) (equals_kinds x.initial),
-  name_inside x.declarator,
+  declarator-length x.declarator,
 )
 
 -- declarators behind a comma each
@@ -178,7 +171,6 @@ mutual
   stated_fewer : (x : StatementTree) → Fewer (statement_parts x) (statement_kinds x)
   stated_fewer (s.Block token xs) =
       between one_local one_token (entries_parts xs) (a_sign sign.LeftBrace) (entry_kinds xs) (a_sign sign.RightBrace) (entered_fewer xs)
-  stated_fewer (s.Empty token) = nothing one_local one_token (statement_kinds (s.Empty token))
   stated_fewer (s.Expr token x) = quiet_fewer (expr_parts x) (statement_kinds (s.Expr token x)) (expr_quiet x)
   stated_fewer (s.If token c first) =
       quiet_first (expr_parts c) (statement_parts first) (statement_kinds (s.If token c first)) (expr_quiet c)
@@ -210,8 +202,7 @@ mutual
       (quiet_first (optional_parts c) (optional_parts step ++ statement_parts body) (statement_kinds body) (option_quiet c)
       (quiet_first (optional_parts step) (statement_parts body) (statement_kinds body) (option_quiet step) (stated_fewer body)))
   stated_fewer (s.Return token value) = quiet_fewer (optional_parts value) (statement_kinds (s.Return token value)) (option_quiet value)
-  stated_fewer (s.Break token) = nothing one_local one_token (statement_kinds (s.Break token))
-  stated_fewer (s.Continue token) = nothing one_local one_token (statement_kinds (s.Continue token))
+  stated_fewer x = nothing one_local one_token (statement_kinds x)
 
   -- the entries of a block
   entered_fewer : (xs : EntryList) → Fewer (entries_parts xs) (entry_kinds xs)

@@ -9,10 +9,7 @@ use Rattle.cbi_base.specs.declared.scalar.Kind.TheVariants as kind
 use Rattle.cbi_base.specs.Kind.{greatest_of, least_of}
 use Rattle.c_syntax.specs.declared.token.TokenKind.{TokenKind}
 use Rattle.c_syntax.specs.declared.token.TokenKind.TheVariants as token
-use Rattle.c_syntax.specs.ItemTree.{SourceTree}
-use Rattle.c_syntax.specs.Kept.{IsKeptTree}
-use Rattle.c_syntax.specs.Spelling.{Kinds, tree_kinds}
-use Rattle.c_syntax.specs.Tokens.{AtLeastChar, ConstantFits, IsAtLeastChar, KindFits, NameFits}
+use Rattle.c_syntax.specs.Words.{SourceTree, IsKeptTree, Kinds, tree_kinds, AtLeastChar, ConstantFits, IsAtLeastChar, KindFits, NameFits}
 use Rattle.c_types_expressions.specs.declared.walk.Walk.{Walk}
 use Rattle.c_types_expressions.specs.Walked.{Fine}
 use Rattle.c_types.specs.Fault.{walk_tree}
@@ -36,9 +33,7 @@ constant_kept kind.Char value h low = absurd (false≢true h.0)
 token_kept : (k : TokenKind) → KindFits k → IsAtLeastChar k → NameFits k → IsSitedToken k
 token_kept (token.Constant kind value) fits low named = constant_kept kind value fits low
 token_kept (token.Name name) fits low named = named
-token_kept (token.Word word) fits low named = tt
-token_kept (token.Text bytes) fits low named = tt
-token_kept (token.Punctuator sign) fits low named = tt
+token_kept k fits low named = tt
 
 tokens_kept : (ks : Kinds) → AllByRecursion KindFits ks → AllByRecursion IsAtLeastChar ks → AllByRecursion NameFits ks → AllByRecursion IsSitedToken ks
 tokens_kept [] fits low named = tt

@@ -16,27 +16,23 @@ use Rattle.c_types_rules.specs.declared.fault.FaultKind.TheVariants as fault
 use Rattle.c_types_rules.specs.declared.layout.Member.{Member}
 use Rattle.c_types_rules.specs.declared.layout.StructType.{StructType}
 use Rattle.c_types_rules.specs.TypeTree as t
-use Rattle.c_types_rules.specs.TypeTree.{TypeTree}
-use Rattle.c_types_rules.specs.Selecting.{member_named}
+use Rattle.c_types_rules.specs.Words.{TypeTree, member_named, cells_of, empty_struct, is_object, most_cells, with_member}
 use Rattle.c_types_rules.specs.Sizes as size
-use Rattle.c_types_rules.specs.Sizes.{cells_of, empty_struct, is_object, most_cells, with_member}
 use Rattle.c_types_expressions.specs.declared.walk.Walk.{Walk}
 use Rattle.c_types_walk.specs.Declarators.{declared_type}
-use Rattle.c_types_expressions.specs.ExprWalk.{base_type}
-use Rattle.c_types_expressions.specs.Beginning.{beginning}
+use Rattle.c_types_expressions.specs.Words.{base_type, beginning, is_here, Walked, Done, Fine, Faulty}
 use Rattle.c_types.specs.Fault.{walk_tree}
 use Rattle.c_types_walk.specs.ItemWalk.{typed_member, walk_declarators, walk_item, walk_items, walk_member, walk_members, walk_struct, with_tag}
 use Rattle.c_types.specs.Laid.{member_cells}
-use Rattle.c_types_expressions.specs.Names.{is_here}
 use Rattle.c_types.specs.Parts.{Part, declaration_parts, item_parts}
 use Rattle.c_types_walk.specs.StatementWalk.{walk_declaration}
-use Rattle.c_types_expressions.specs.Walked.{Walked, Done, Fine, Faulty}
+use Rattle.c_types_expressions.proofs.Kept.{base_keeps}
 use Rattle.c_types.proofs.Noted.{Gives, Seen, gives_more, gives_then, seen, stage, structs_stay}
 use Rattle.c_types.proofs.NotedItems.{Outer, declaration_outer, function_notes}
 use Rattle.c_meaning.specs.Globals.{cells_of_structs, zero_cells, zeros_of}
 use Rattle.c_meaning_sound.proofs.Ending.{tree_is}
 use Rattle.c_meaning_sound.proofs.Reaching.{taken}
-use Rattle.lower_fits.proofs.Leaving.{base_leaves}
+use Rattle.lower_fits.proofs.Leaving.{Leaves, leaves_kept}
 
 -- how many cells a struct has
 abbrev cells_in : StructType → ℕ
@@ -70,13 +66,9 @@ repeated_long (suc n) cells =
 module _ (zeros : List (List Scalar)) (structs : List StructType) (long : AreLong zeros structs) where
   -- so has each type of these structs
   type_long : (of : TypeTree) → length (zero_cells zeros of) ≡ cells_of structs of
-  type_long t.Void = refl
-  type_long t.Char = refl
-  type_long t.Int = refl
-  type_long t.Unsigned = refl
-  type_long (t.Pointer to) = refl
   type_long (t.Array element n) = repeated_long n (zero_cells zeros element) ∙ ap (λ m. n * m) (type_long element)
   type_long (t.Struct tag) = slot_long zeros structs tag long
+  type_long of = refl
 
   -- so have all members of a struct
   members_long : (ms : List Member) → length (flat_map (λ m. zero_cells zeros m.ctype) ms) ≡ sum_by (member_cells structs) ms
@@ -160,7 +152,7 @@ declarators_add b (d ∷ ds) s w =
 members_add : (ms : List Members) (s : StructType) (w : Walk) → Gives (Adds s w) (walk_members ms s w)
 members_add [] s w = (refl, λ h. h)
 members_add (m ∷ ms) s w =
-    gives_then _ (Adds s w) (base_type m.base w) _ (base_leaves m.base w)
+    gives_then _ (Adds s w) (base_type m.base w) _ (base_keeps Leaves leaves_kept.here m.base w)
     (λ b v same. gives_then (Adds s v) (Adds s w) (walk_declarators b m.declarators s v) _ (declarators_add b m.declarators s v)
     (λ r u h. gives_more (Adds r u) (Adds s w) (walk_members ms r u)
     (λ q p k. added_after s s q w v p (same.structs, λ sum. sum) (added_after s r q v u p h k)) (members_add ms r u)))

@@ -1,8 +1,7 @@
 -- What a program takes of a text.
 use Rattle.std.specs.Prelude.{ℕ, length, ◌≡◌, [], Option, Some, None, true}
 use Rattle.c_types_expressions.specs.declared.walk.Definition.{Definition}
-use Rattle.c_meaning.specs.Facts.{Facts, Signature}
-use Rattle.c_meaning.specs.Trees.{has_value}
+use Rattle.c_meaning.specs.Words.{Facts, Signature, has_value}
 
 -- The function that a run enters gives a value, and has no parameters.
 abbrev pub IsMainSignature : Option Signature → Type 0

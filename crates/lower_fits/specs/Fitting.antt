@@ -3,13 +3,8 @@ use Rattle.std.specs.Prelude.{◌≡◌, ℕ, ◌≤◌, ◌+◌, Bool, true, fa
 use Rattle.std.specs.List.{AllByRecursion}
 use Rattle.cbi_base.specs.Format.{conversions_of}
 use Rattle.c_syntax.specs.ExprTree as e
-use Rattle.c_syntax.specs.ExprTree.{ExprTree, ExprList}
-use Rattle.c_syntax.specs.ItemTree.{SourceTree}
-use Rattle.c_syntax.specs.Place.{EntriesAt}
-use Rattle.c_syntax.specs.Spelling.{entry_kinds, tree_kinds}
+use Rattle.c_syntax.specs.Words.{ExprTree, ExprList, SourceTree, EntriesAt, entry_kinds, tree_kinds, StatementTree, EntryList, KindFits}
 use Rattle.c_syntax.specs.StatementTree as tree
-use Rattle.c_syntax.specs.StatementTree.{StatementTree, EntryList}
-use Rattle.c_syntax.specs.Tokens.{KindFits}
 use Rattle.c_types_rules.specs.declared.library.Library.TheVariants as library
 use Rattle.flow.specs.declared.node.View.{View}
 use Rattle.flow.specs.declared.node.View.TheVariants as view
@@ -18,9 +13,7 @@ use Rattle.flow.specs.declared.scope.Names.{Names}
 use Rattle.flow.specs.Nodes.{is_own, names_fit, step_limit}
 use Rattle.c_meaning.specs.declared.value_type.Called.{Called}
 use Rattle.c_meaning.specs.declared.value_type.Called.TheVariants as called
-use Rattle.c_meaning.specs.Facts.{Facts, Signature, Sites}
-use Rattle.c_meaning.specs.Meaning.{text_of_string}
-use Rattle.c_meaning.specs.Trees.{called_as}
+use Rattle.c_meaning.specs.Words.{Facts, Signature, Sites, text_of_string, called_as}
 use Rattle.lower_relation.specs.Paths.{Graph}
 use Rattle.c_meaning_laws.specs.TypedSource.{TypedBody}
 use Rattle.lower_fits.specs.FactsFit.{FactsFit, SitesOwned}

@@ -1,9 +1,6 @@
 -- Where the tokens of a body stand, and whose sites stand at them.
 use Rattle.std.specs.Prelude.{ℕ, ◌+◌, List, length, map}
-use Rattle.c_syntax.specs.StatementTree.{EntryList}
-use Rattle.c_syntax.specs.Place.{EntriesAt}
-use Rattle.c_syntax.specs.Shape.{ShapedEntries}
-use Rattle.c_syntax.specs.Spelling.{entry_kinds}
+use Rattle.c_syntax.specs.Words.{EntryList, EntriesAt, ShapedEntries, entry_kinds}
 use Rattle.flow.specs.declared.site.Site.{Site}
 use Rattle.c_meaning.specs.Texts.{sites_by_table}
 use Rattle.lower_fits.specs.FactsFit.{SitesOwned}

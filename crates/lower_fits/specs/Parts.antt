@@ -1,18 +1,13 @@
 -- The parts that the program of a text is made of.
 use Rattle.std.specs.Prelude.{◌≡◌, ℕ, ◌<◌, ◌≤◌, ◌+◌, ◌*◌, List, length, map, Some, slice_get}
 use Rattle.std.specs.List.{sum_by}
-use Rattle.c_syntax.specs.ItemTree.{SourceTree}
-use Rattle.c_syntax.specs.Spelling.{tree_kinds}
+use Rattle.c_syntax.specs.Words.{SourceTree, tree_kinds}
 use Rattle.c_types_expressions.specs.declared.walk.Walk.{Walk}
-use Rattle.c_meaning.specs.Facts.{Signature}
-use Rattle.c_meaning.specs.Globals.{first_objects}
-use Rattle.c_meaning.specs.Known.{facts_of}
-use Rattle.c_meaning.specs.Trees.{has_value}
+use Rattle.c_meaning.specs.Words.{Signature, first_objects, facts_of, has_value}
 use Rattle.flow.specs.declared.program.Function.{Function}
 use Rattle.flow.specs.declared.program.Global.{Global}
 use Rattle.flow.specs.declared.site.TableParts.{TableParts}
-use Rattle.flow.specs.Nodes.{NodesFit}
-use Rattle.flow.specs.Program.{bounds_of}
+use Rattle.flow.specs.Words.{NodesFit, bounds_of}
 use Rattle.lower_globals.specs.Objects.{begun_with}
 use Rattle.lower_fits.specs.TextNames.{names_of_text}
 

@@ -1,14 +1,11 @@
 -- What a program is made of: a checked text with a site table.
 use Rattle.std.specs.Prelude.{◌≡◌, ◌≤◌, ◌⊎◌, List, [], length}
 use Rattle.std.specs.List.{AllByRecursion}
-use Rattle.c_syntax.specs.ItemTree.{SourceTree}
-use Rattle.c_syntax.specs.Limits.{most_tokens}
-use Rattle.c_syntax.specs.Spelling.{tree_kinds}
-use Rattle.c_syntax.specs.Tokens.{IsOfBytes, KindFits}
+use Rattle.c_syntax.specs.Words.{SourceTree, most_tokens, tree_kinds, IsOfBytes, KindFits}
 use Rattle.c_types_expressions.specs.declared.walk.Walk.{Walk}
 use Rattle.flow.specs.declared.site.Site.{Site}
 use Rattle.flow.specs.declared.site.TableParts.{TableParts}
-use Rattle.sites.specs.declared.schemes.Schemes.{Schemes}
+use Rattle.flow.specs.declared.choice.Schemes.{Schemes}
 use Rattle.sites.specs.Table.{functions_of, sites_of}
 use Rattle.c_meaning_sound.specs.Accepted.{IsAcceptedTree}
 use Rattle.c_meaning_sound.specs.Sited.{IsSited}

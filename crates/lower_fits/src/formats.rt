@@ -1,6 +1,5 @@
 ghost use Rattle.std.specs.Prelude.{◌≡◌, ℕ, Some, slice_get};
-ghost use Rattle.c_syntax.specs.ItemTree.{SourceTree};
-ghost use Rattle.c_syntax.specs.StatementTree.{EntryList};
+ghost use Rattle.c_syntax.specs.Words.{SourceTree, EntryList};
 ghost use Rattle.c_types_expressions.specs.declared.walk.Walk.{Walk};
 ghost use Rattle.c_meaning.specs.Known.{bodies, facts_of};
 ghost use Rattle.c_meaning_sound.specs.Accepted.{IsAcceptedTree};

@@ -1,14 +1,10 @@
 ghost use Rattle.std.specs.Prelude.{◌≡◌, ◌≤◌, IsSome, List, Some, length};
 ghost use Rattle.std.specs.List.{All, AllByRecursion};
-ghost use Rattle.c_syntax.specs.ItemTree.{SourceTree};
-ghost use Rattle.c_syntax.specs.Spelling.{tree_kinds};
-ghost use Rattle.c_syntax.specs.Tokens.{KindFits};
+ghost use Rattle.c_syntax.specs.Words.{SourceTree, tree_kinds, KindFits};
 ghost use Rattle.c_types_expressions.specs.declared.walk.Walk.{Walk};
-ghost use Rattle.c_meaning.specs.Globals.{first_objects};
-ghost use Rattle.c_meaning.specs.Known.{facts_of};
-ghost use Rattle.flow.specs.Limits.{global_limit};
+ghost use Rattle.c_meaning.specs.Words.{first_objects, facts_of};
+ghost use Rattle.flow.specs.Words.{global_limit, AreGlobals};
 ghost use Rattle.flow.specs.declared.program.Global.{Global};
-ghost use Rattle.flow.specs.Program.{AreGlobals};
 ghost use Rattle.lower_globals.specs.Objects.{begun_with};
 ghost use Rattle.lower_globals.specs.Starts.{IsBegunItem};
 ghost use Rattle.c_meaning_sound.specs.Accepted.{IsAcceptedTree};

@@ -1,16 +1,13 @@
 ghost use Rattle.std.specs.Prelude.{◌≡◌, ◌≤◌, List, length};
-ghost use Rattle.c_syntax.specs.ItemTree.{SourceTree};
-ghost use Rattle.c_syntax.specs.Kept.{IsKeptTree};
+ghost use Rattle.c_syntax.specs.Words.{SourceTree, IsKeptTree};
 ghost use Rattle.c_types_expressions.specs.declared.walk.Walk.{Walk};
 ghost use Rattle.c_types_expressions.specs.Walked.{Fine};
 ghost use Rattle.c_types.specs.Fault.{walk_tree};
-ghost use Rattle.c_meaning.specs.Known.{facts_of};
-ghost use Rattle.c_meaning.specs.Texts.{main_of};
+ghost use Rattle.c_meaning.specs.Words.{facts_of, main_of};
 ghost use Rattle.flow.specs.declared.program.Function.{Function};
 ghost use Rattle.flow.specs.declared.program.Global.{Global};
 ghost use Rattle.flow.specs.declared.site.TableParts.{TableParts};
-ghost use Rattle.flow.specs.Limits.{site_limit};
-ghost use Rattle.flow.specs.Program.{IsProgram, parts_of};
+ghost use Rattle.flow.specs.Words.{site_limit, IsProgram, parts_of};
 ghost use Rattle.lower_fits.specs.Parts.{ArePartsOf};
 ghost use Rattle.lower_fits.specs.Ready.{IsReadyText, IsWholeText};
 

@@ -1,10 +1,8 @@
 ghost use Rattle.std.specs.Prelude.{ℕ, ◌+◌, ◌*◌, ◌≤◌, length, List, slice_get};
-ghost use Rattle.c_syntax.specs.ItemTree.{SourceTree};
-ghost use Rattle.c_syntax.specs.Spelling.{tree_kinds};
+ghost use Rattle.c_syntax.specs.Words.{SourceTree, tree_kinds};
 ghost use Rattle.c_types_expressions.specs.declared.walk.Walk.{Walk};
 ghost use Rattle.flow.specs.declared.site.Site.{Site};
-ghost use Rattle.c_meaning.specs.Known.{bodies};
-ghost use Rattle.c_meaning.specs.Texts.{sites_by_table};
+ghost use Rattle.c_meaning.specs.Words.{bodies, sites_by_table};
 ghost use Rattle.lower_relation.specs.Room.{functions_room};
 ghost use Rattle.c_meaning_sound.specs.Accepted.{IsAcceptedTree};
 

@@ -5,15 +5,13 @@ use Rattle.std.specs.List.{flat_map}
 use Rattle.std.specs.Option.{option_map}
 use Rattle.std.proofs.lemmas.List.{length-map}
 use Rattle.cbi_base.specs.Objects.{Object}
-use Rattle.c_syntax.specs.ItemTree.{ItemTree}
-use Rattle.c_syntax.specs.StatementTree.{StartTree}
+use Rattle.c_syntax.specs.Words.{ItemTree, StartTree}
 use Rattle.c_types_expressions.specs.declared.walk.Walk.{Walk}
 use Rattle.c_types.specs.Fault.{walk_tree}
 use Rattle.c_types_expressions.specs.Walked.{Fine}
 use Rattle.flow.specs.declared.program.Global.{Global}
-use Rattle.flow.specs.Machine as machine
-use Rattle.c_meaning.specs.Facts.{Facts}
-use Rattle.c_meaning.specs.Globals.{global_object, global_objects, one_more, starts_of, then_strings}
+use Rattle.flow.specs.Statics as statics
+use Rattle.c_meaning.specs.Words.{Facts, global_object, global_objects, one_more, starts_of, then_strings}
 use Rattle.lower_facts.specs.declared.facts.TreeFacts.{TreeFacts}
 use Rattle.lower_facts.specs.Facts.{facts_in, known_in, source_in, tree_in}
 use Rattle.lower_globals.specs.Objects.{all_objects, begun_with, objects_in}
@@ -45,12 +43,12 @@ module _ (f : TreeFacts) where
   -- as many globals as are known of
   pub counted : (gs : List Global) → walk_tree (tree_in f) ≡ Fine tt (known_in f) → objects_in f (Some gs) ≡ all_objects f declared → length gs ≡ (facts_in f).statics.globals
   counted gs fine is =
-      sym (length-map gs (machine.object_of_global (facts_in f).statics.globals))
-      ∙ as_many (facts_in f) (known_in f) declared (map (machine.object_of_global (facts_in f).statics.globals) gs) is
+      sym (length-map gs (statics.object_of_global (facts_in f).statics.globals))
+      ∙ as_many (facts_in f) (known_in f) declared (map (statics.object_of_global (facts_in f).statics.globals) gs) is
       ∙ sym (globals_are (tree_in f) (known_in f) fine)
 
   pub begun : (gs : List Global) → walk_tree (tree_in f) ≡ Fine tt (known_in f) → objects_in f (Some gs) ≡ all_objects f declared →
       Some (begun_with (facts_in f).statics.texts gs) ≡ (source_in f).objects
   begun gs fine is =
-      ap (λ n. Some (map (machine.object_of_global n) gs ++ map machine.text_object (facts_in f).statics.texts)) (counted gs fine is)
+      ap (λ n. Some (map (statics.object_of_global n) gs ++ map statics.text_object (facts_in f).statics.texts)) (counted gs fine is)
       ∙ ap (option_map (then_strings (tree_in f))) is

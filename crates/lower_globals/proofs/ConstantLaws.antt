@@ -11,18 +11,12 @@ use Rattle.c_syntax.specs.declared.expr.PrefixOperator.TheVariants.{Minus}
 use Rattle.c_syntax.specs.declared.expr.Expr.{Expr}
 use Rattle.c_syntax.specs.declared.expr.Expr.TheVariants as variant
 use Rattle.c_syntax.specs.ExprTree as e
-use Rattle.c_syntax.specs.ExprTree.{ExprTree}
-use Rattle.c_syntax.specs.Plain.{plain_expr}
+use Rattle.c_syntax.specs.Words.{ExprTree, plain_expr}
 use Rattle.c_syntax.proofs.PlainExprs.{plain_constant}
 use Rattle.c_meaning.specs.declared.conversion.Conversion.{Conversion}
 use Rattle.c_meaning.specs.declared.value_type.ValueType.{ValueType}
-use Rattle.c_meaning.specs.Conversions.{as_wanted, conversion, converts, is_null_as, is_pointer_value}
-use Rattle.c_meaning.specs.Expressions.{wanted_value}
-use Rattle.c_meaning.specs.Facts.{Facts}
-use Rattle.c_meaning.specs.Globals.{before_all, constant, given_by, nowhere}
-use Rattle.c_meaning.specs.Meaning.{expr}
-use Rattle.c_meaning.specs.Trees.{type_of}
-use Rattle.c_meaning.specs.World.{Go, answered, bind}
+use Rattle.c_meaning.specs.Words.{as_wanted, conversion, converts, is_null_as, is_pointer_value, wanted_value, Facts, before_all, constant, given_by, nowhere}
+use Rattle.c_meaning.specs.Words.{expr, type_of, Go, answered, bind}
 use Rattle.lower_globals.specs.Cells.{given, negative, negative_given, wanted_given}
 
 given_answered : (r : Result Scalar Trap) → given_by (answered r nowhere) ≡ given r

@@ -5,17 +5,15 @@ use Rattle.std.proofs.lemmas.List.Concat.{flat_map-cons}
 use Rattle.c_syntax.specs.declared.parts.Param.{Param}
 use Rattle.c_syntax.specs.declared.parts.ParamName.{ParamName}
 use Rattle.c_syntax.specs.ExprTree as e
-use Rattle.c_syntax.specs.ExprTree.{ExprTree, ExprList, LinkList, PostfixList}
+use Rattle.c_syntax.specs.Words.{ExprTree, ExprList, LinkList, PostfixList, InitialTree, StartTree, ForStartTree, StatementTree, EntryList, ItemTree}
+use Rattle.c_syntax.specs.Words.{SourceTree}
 use Rattle.c_syntax.specs.StatementTree as s
-use Rattle.c_syntax.specs.StatementTree.{InitialTree, StartTree, ForStartTree, StatementTree, EntryList}
 use Rattle.c_syntax.specs.ItemTree as i
-use Rattle.c_syntax.specs.ItemTree.{ItemTree, SourceTree}
 use Rattle.c_types_expressions.specs.declared.walk.Walk.{Walk}
-use Rattle.c_types_expressions.specs.Beginning.{beginning}
+use Rattle.c_types_expressions.specs.Words.{beginning, Fine}
 use Rattle.c_types.specs.Fault.{walk_tree}
 use Rattle.c_types_walk.specs.ItemWalk.{listed_params}
 use Rattle.c_types.specs.Parts.{Part, Expression, Use, Declared, Begins, entries_parts, expr_parts, exprs_parts, for_start_parts, initial_parts, item_parts, items_parts, links_parts, named_parts, optional_parts, params_parts, parts_of, postfix_parts, starts_parts, statement_parts}
-use Rattle.c_types_expressions.specs.Walked.{Fine}
 use Rattle.c_types.proofs.Noted.{Seen, noting, noting_all, plainly, seen}
 use Rattle.c_types.proofs.NotedItems.{text_notes}
 use Rattle.c_meaning.specs.Globals.{starts_of}
@@ -60,15 +58,10 @@ mutual
   in_expr (e.Chain level first links) = none_in (expr_parts first) (links_parts links) (in_expr first) (in_links links)
   in_expr (e.Cast token b stars operand) = none_in (expr_parts operand) (Expression token ∷ []) (in_expr operand) refl
   in_expr (e.Prefix token operator operand) = none_in (expr_parts operand) (Expression token ∷ []) (in_expr operand) refl
-  in_expr (e.SizeOfType token b stars) = refl
   in_expr (e.Postfix primary operators) = none_in (expr_parts primary) (postfix_parts operators) (in_expr primary) (in_postfix operators)
-  in_expr (e.Name token name) = refl
   in_expr (e.Call token name arguments) = none_in (exprs_parts arguments) (Expression token ∷ []) (in_exprs arguments) refl
-  in_expr (e.Constant token kind value) = refl
-  in_expr (e.Strings token parts) = refl
   in_expr (e.Paren token inner) = none_in (expr_parts inner) (Expression token ∷ []) (in_expr inner) refl
-  in_expr (e.Null token) = refl
-  in_expr (e.EndOfFile token) = refl
+  in_expr x = refl
 
   in_exprs : (xs : ExprList) → globals_in (exprs_parts xs) ≡ 0
   in_exprs e.no_exprs = refl
@@ -112,7 +105,6 @@ in_for_start (s.Computes x) = in_optional x
 mutual
   in_statement : (x : StatementTree) → globals_in (statement_parts x) ≡ 0
   in_statement (s.Block token entries) = in_entries entries
-  in_statement (s.Empty token) = refl
   in_statement (s.Expr token x) = in_expr x
   in_statement (s.If token condition first) = none_in (expr_parts condition) (statement_parts first) (in_expr condition) (in_statement first)
   in_statement (s.IfElse token condition first second) =
@@ -125,8 +117,7 @@ mutual
       (none_in (optional_parts condition) (optional_parts step ++ statement_parts body) (in_optional condition)
       (none_in (optional_parts step) (statement_parts body) (in_optional step) (in_statement body)))
   in_statement (s.Return token value) = in_optional value
-  in_statement (s.Break token) = refl
-  in_statement (s.Continue token) = refl
+  in_statement x = refl
 
   in_entries : (xs : EntryList) → globals_in (entries_parts xs) ≡ 0
   in_entries s.no_entries = refl

@@ -4,16 +4,14 @@ use Rattle.std.specs.Prelude.{map}
 use Rattle.std.specs.List.{flat_map}
 use Rattle.std.proofs.lemmas.List.{append-nil, drop_all}
 use Rattle.std.proofs.lemmas.List.Concat.{flat_map-cons}
+use Rattle.base_lists.proofs.Lists.{first_left}
 use Rattle.cbi_base.specs.Objects.{Object}
 use Rattle.c_syntax.specs.declared.tree.Item.{Item}
-use Rattle.c_syntax.specs.StatementTree.{StartTree}
-use Rattle.c_syntax.specs.Plain.{plain_item}
+use Rattle.c_syntax.specs.Words.{StartTree, plain_item}
 use Rattle.c_types_expressions.specs.declared.walk.Walk.{Walk}
-use Rattle.c_meaning.specs.Facts.{Facts}
+use Rattle.c_meaning.specs.Words.{Facts, global_objects, one_more, starts_of}
 use Rattle.c_meaning.specs.Globals as meaning
-use Rattle.c_meaning.specs.Globals.{global_objects, one_more, starts_of}
 use Rattle.lower_globals.specs.Objects.{objects_behind}
-use Rattle.lower_trees.proofs.Placed.{first_left}
 
 abbrev both : Option (List Object) → Option (List Object) → Option (List Object)
 both None q = None

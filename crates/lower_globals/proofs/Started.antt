@@ -2,14 +2,13 @@
 use Rattle.std.proofs.Common.{◌≡◌, ℕ, suc, ◌+◌, ◌<◌, ◌≤◌, List, [], ◌∷◌, ◌++◌, length, get_or, drop, Option, Some, None, refl, sym, ap, ◌∙◌, append_assoc, add-one}
 use Rattle.std.specs.Prelude.{map}
 use Rattle.std.proofs.lemmas.List.{append-nil, drop_all}
+use Rattle.base_lists.proofs.Lists.{first_left}
 use Rattle.cbi_base.specs.Objects.{Object}
 use Rattle.c_syntax.specs.declared.statement.Start.{Start}
 use Rattle.c_syntax.specs.Plain.{plain_start}
 use Rattle.c_types_expressions.specs.declared.walk.Walk.{Walk}
-use Rattle.c_meaning.specs.Facts.{Facts}
-use Rattle.c_meaning.specs.Globals.{global_object, global_objects, one_more}
+use Rattle.c_meaning.specs.Words.{Facts, global_object, global_objects, one_more}
 use Rattle.lower_globals.specs.Objects.{objects_behind}
-use Rattle.lower_trees.proofs.Placed.{first_left}
 
 behind_one : (before : List Object) (object : Object) (q : Option (List Object)) → objects_behind before (one_more (Some object) q) ≡ objects_behind (before ++ object ∷ []) q
 behind_one before object None = refl

@@ -7,10 +7,8 @@ use Rattle.c_types_rules.specs.TypeTree.{TypeTree}
 use Rattle.c_types_expressions.specs.declared.walk.Walk.{Walk}
 use Rattle.flow.specs.declared.program.Global.{Global}
 use Rattle.flow.specs.declared.program.Text.{Text}
-use Rattle.flow.specs.Machine as machine
-use Rattle.c_meaning.specs.Facts.{Facts}
-use Rattle.c_meaning.specs.Globals.{filled_up, given_to, global_objects, static_object, zeros_of}
-use Rattle.c_meaning.specs.Known.{computed_type, element_type}
+use Rattle.flow.specs.Statics as statics
+use Rattle.c_meaning.specs.Words.{Facts, filled_up, given_to, global_objects, static_object, zeros_of, computed_type, element_type}
 use Rattle.lower_facts.specs.declared.facts.TreeFacts.{TreeFacts}
 use Rattle.lower_facts.specs.Facts.{facts_in, known_in}
 
@@ -22,7 +20,7 @@ initial_object facts w of initial =
 
 -- the objects that these globals of a program are
 abbrev pub objects_in : TreeFacts → Option (List Global) → Option (List Object)
-objects_in f globals = option_map (map (machine.object_of_global (facts_in f).statics.globals)) globals
+objects_in f globals = option_map (map (statics.object_of_global (facts_in f).statics.globals)) globals
 
 -- the objects of the declared variables
 abbrev pub all_objects : TreeFacts → List StartTree → Option (List Object)
@@ -34,4 +32,4 @@ objects_behind before objects = option_map (λ more. before ++ more) objects
 
 -- the objects that these globals of a program are, and its texts behind them
 abbrev pub begun_with : List Text → List Global → List Object
-begun_with texts globals = map (machine.object_of_global (length globals)) globals ++ map machine.text_object texts
+begun_with texts globals = map (statics.object_of_global (length globals)) globals ++ map statics.text_object texts

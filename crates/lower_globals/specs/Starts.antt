@@ -3,18 +3,14 @@ use Rattle.std.specs.Prelude.{◌≡◌, ℕ, ◌+◌, ◌<◌, ◌≤◌, Optio
 use Rattle.std.specs.List.{All}
 use Rattle.cbi_base.specs.declared.scalar.Scalar.{Scalar}
 use Rattle.cbi_base.specs.declared.scalar.Scalar.TheVariants.{Number, Place, Null, Undefined}
-use Rattle.cbi_base.specs.Kind.{LiesIn}
-use Rattle.cbi_base.specs.Objects.{Object}
+use Rattle.cbi_base.specs.Words.{LiesIn, Object}
 use Rattle.c_syntax.specs.declared.expr.PrefixOperator.TheVariants as prefix
 use Rattle.c_syntax.specs.ExprTree as e
-use Rattle.c_syntax.specs.ExprTree.{ExprTree, ExprList}
-use Rattle.c_syntax.specs.ItemTree.{ItemTree}
+use Rattle.c_syntax.specs.Words.{ExprTree, ExprList, ItemTree, InitialTree, StartTree}
 use Rattle.c_syntax.specs.StatementTree as tree
-use Rattle.c_syntax.specs.StatementTree.{InitialTree, StartTree}
 use Rattle.c_types_expressions.specs.declared.walk.Walk.{Walk}
 use Rattle.flow.specs.Limits.{text_limit}
-use Rattle.c_meaning.specs.Facts.{Facts}
-use Rattle.c_meaning.specs.Globals.{global_object, starts_of}
+use Rattle.c_meaning.specs.Words.{Facts, global_object, starts_of}
 
 -- a constant that initialises a global: a number in its kind's range, one behind a `-`, a string, or NULL (C99 6.6)
 abbrev pub IsStart : ExprTree → Type 0

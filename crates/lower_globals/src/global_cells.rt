@@ -1,9 +1,8 @@
 ghost use Rattle.std.specs.Prelude.{◌≡◌, ◌∷◌, [], Some, IfOk, map, option_map, slice_get};
 ghost use Rattle.std.specs.Option.{option_copied};
 ghost use Rattle.c_syntax.specs.Plain.{plain_expr, plain_exprs, plain_initial};
-ghost use Rattle.flow.specs.Rows.{char_of};
-ghost use Rattle.c_meaning.specs.Globals.{constant, constants, given_to, spelled_cells};
-ghost use Rattle.c_meaning.specs.Meaning.{text_of_string};
+ghost use Rattle.cbi_base.specs.Scalars.{char_of};
+ghost use Rattle.c_meaning.specs.Words.{constant, constants, given_to, spelled_cells, text_of_string};
 ghost use Rattle.lower_facts.specs.Facts.{facts_in};
 ghost use Rattle.lower_globals.specs.Starts.{AreStarts, IsGlobalStart, IsStart};
 

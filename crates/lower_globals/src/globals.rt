@@ -3,8 +3,8 @@ ghost use Rattle.std.specs.List.{All};
 ghost use Rattle.c_syntax.specs.Plain.{plain_initial, plain_start};
 ghost use Rattle.c_types_rules.specs.Plain.{plain_type};
 ghost use Rattle.cbi_base.specs.declared.scalar.Scalar.TheVariants.{Place};
-ghost use Rattle.flow.specs.Machine as machine;
-ghost use Rattle.flow.specs.Machine.{cell_value};
+ghost use Rattle.flow.specs.Statics as statics;
+ghost use Rattle.flow.specs.Statics.{cell_value};
 ghost use Rattle.c_meaning.specs.Globals.{cells_of_structs, static_object};
 ghost use Rattle.c_meaning.specs.Globals as meaning;
 ghost use Rattle.lower_facts.specs.Facts.{facts_in, known_in};
@@ -47,7 +47,7 @@ fn cell_of(globals: u32, value: Scalar) -> Cell
 /// The global that begins with these values.
 fn global_with(alloc: Heap, globals: u32, values: &[Scalar]) -> Result<Global, Memory>
     requires { All (IsFirst globals) values.now }
-    ensures { IfOk result (λ g. machine.object_of_global globals g ≡ static_object values.now) }
+    ensures { IfOk result (λ g. statics.object_of_global globals g ≡ static_object values.now) }
 {
     let mut cells = Vec::new(alloc);
     for value in values {
@@ -70,7 +70,7 @@ fn object_with(
     requires begins { IsGlobalStart (option_map plain_initial initial.now) }
     requires cells { IfFirst (facts_in facts.now).statics.globals
         (initial_object (facts_in facts.now) (known_in facts.now) (plain_type ctype.now) (option_map plain_initial initial.now)) }
-    ensures { IfOk result (λ g. option_map (machine.object_of_global (facts_in facts.now).statics.globals) g
+    ensures { IfOk result (λ g. option_map (statics.object_of_global (facts_in facts.now).statics.globals) g
         ≡ initial_object (facts_in facts.now) (known_in facts.now) (plain_type ctype.now) (option_map plain_initial initial.now)) }
 {
     let structs = facts.structs();
@@ -93,7 +93,7 @@ fn global_of(
 ) -> Result<Option<Global>, Memory>
     requires zeros { zeros.now ≡ cells_of_structs (known_in facts.now).structs [] }
     requires begun { IsBegun (facts_in facts.now) (known_in facts.now) (plain_start start.now) }
-    ensures { IfOk result (λ g. option_map (machine.object_of_global (facts_in facts.now).statics.globals) g
+    ensures { IfOk result (λ g. option_map (statics.object_of_global (facts_in facts.now).statics.globals) g
         ≡ meaning.global_object (facts_in facts.now) (known_in facts.now) (plain_start start.now)) }
 {
     match facts.declared_type(start.declarator.name_token) {

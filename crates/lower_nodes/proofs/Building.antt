@@ -9,9 +9,7 @@ use Rattle.flow.specs.declared.node.Node.{Node}
 use Rattle.flow.specs.declared.node.Node.TheVariants as node
 use Rattle.flow.specs.declared.node.View.{View}
 use Rattle.flow.specs.declared.node.View.TheVariants as view
-use Rattle.flow.specs.Code.{view_at}
-use Rattle.flow.specs.Nodes.{is_again, led_to}
-use Rattle.flow.specs.View.{view as view_of}
+use Rattle.flow.specs.Words.{view_at, is_again, led_to, view as view_of}
 use Rattle.lower_relation.specs.Paths as paths
 use Rattle.lower_relation.specs.Paths.{Graph, Path, Ways, ◌then◌, Either, Nothing}
 use Rattle.lower_relation.specs.Functions.{standing}

@@ -6,12 +6,8 @@ use Rattle.flow.specs.declared.node.Node.{Node}
 use Rattle.flow.specs.declared.node.Node.TheVariants as node
 use Rattle.c_meaning.specs.declared.operation.Operation.{Operation}
 use Rattle.c_meaning.specs.declared.value_type.ValueType.{ValueType}
-use Rattle.c_meaning.specs.Conversions.{conversion}
-use Rattle.c_meaning.specs.Facts.{Facts, Sites}
-use Rattle.c_meaning.specs.Operation.{type_given}
-use Rattle.c_meaning.specs.Trees.{one_kind}
+use Rattle.c_meaning.specs.Words.{conversion, Facts, Sites, type_given, one_kind, step_operation}
 use Rattle.lower_relation.specs.Operators.{Assigned, Changed, Operates, Stepped, SteppedBehind, Updates}
-use Rattle.c_meaning.specs.Places.{step_operation}
 use Rattle.lower_relation.specs.Values.{Converts, LoadAt}
 use Rattle.lower_nodes.specs.Made.{Made}
 use Rattle.lower_nodes.specs.Replacing.{StoresResult}

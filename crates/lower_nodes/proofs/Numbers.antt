@@ -5,8 +5,7 @@ use Rattle.std.proofs.lemmas.Option.{slice_get_within, slice_get-get_or}
 use Rattle.flow.specs.declared.node.Node.{Node}
 use Rattle.flow.specs.declared.node.View.{View}
 use Rattle.flow.specs.declared.node.View.TheVariants as view
-use Rattle.flow.specs.Nodes.{led_to}
-use Rattle.flow.specs.View.{moved_to, view as view_of}
+use Rattle.flow.specs.Words.{led_to, moved_to, view as view_of}
 use Rattle.lower_relation.specs.Stands.{renamed}
 use Rattle.lower_nodes.specs.Finished.{Finished, turned_number}
 use Rattle.lower_nodes.proofs.Building.{slice_append, slice_end}

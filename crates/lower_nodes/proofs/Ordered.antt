@@ -3,11 +3,11 @@ use Rattle.std.proofs.Common.{◌≡◌, ℕ, ◌-◌, ◌<◌, refl, ap, sym, s
 use Rattle.std.proofs.lemmas.Bool.Decides.{nat_tests}
 use Rattle.std.proofs.lemmas.Option.{slice_get_within, slice_get-get_or}
 use Rattle.std.specs.List.{list_all}
+use Rattle.base_lists.proofs.Tests.{both_true}
 use Rattle.flow.specs.declared.node.Node.{Node}
 use Rattle.flow.specs.declared.node.View.{View}
 use Rattle.flow.specs.declared.node.View.TheVariants as view
-use Rattle.flow.specs.Nodes.{is_again, leads_rightly, led_to}
-use Rattle.flow.specs.View.{view as view_of}
+use Rattle.flow.specs.Words.{is_again, leads_rightly, led_to, view as view_of}
 use Rattle.lower_relation.specs.Stands.{renamed}
 use Rattle.lower_nodes.specs.Ends.{AllBelow}
 use Rattle.lower_nodes.specs.Finished.{Finished, turned_number}
@@ -55,10 +55,6 @@ one_on : (count place i : ℕ) (again : Bool) (x : ℕ) → place ≡ turned_num
     IsTrue (leads_to count place again (turned_number (count - 1) x))
 one_on count place i true x e inside low = grind (arith, nat_tests)
 one_on count place i false x e inside low = grind (arith, nat_tests)
-
-both_true : (a b : Bool) → IsTrue a → IsTrue b → IsTrue (a && b)
-both_true true b p q = q
-both_true false b p q = p
 
 all_on : (count place i : ℕ) (again : Bool) (xs : List ℕ) → place ≡ turned_number (count - 1) i → i < count → AllBelow (if again then count else i) xs →
     IsTrue (list_all (leads_to count place again) (map (turned_number (count - 1)) xs))

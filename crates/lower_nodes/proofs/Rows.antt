@@ -6,8 +6,7 @@ use Rattle.flow.specs.declared.node.Node.{Node}
 use Rattle.flow.specs.declared.node.Node.TheVariants as node
 use Rattle.c_meaning.specs.declared.conversion.Conversion.{Conversion}
 use Rattle.c_meaning.specs.declared.operation.Operation.TheVariants.{Numbers}
-use Rattle.c_meaning.specs.Conversions.{between}
-use Rattle.c_meaning.specs.Operation.{left_kind, right_kind}
+use Rattle.c_meaning.specs.Words.{between, left_kind, right_kind}
 use Rattle.lower_relation.specs.Paths.{Does, ◌then◌}
 use Rattle.lower_relation.specs.Values.{Converts, ConvertsBelow}
 use Rattle.lower_relation.specs.Operators.{Operates}

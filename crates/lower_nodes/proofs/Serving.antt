@@ -91,15 +91,10 @@ is_valued operator = true
 
 prefix_valued : (G : Graph) (facts : Facts) (sites : Sites) (token : ℕ) (operator : PrefixOperator) (of : Option ValueType) (cells : Option ℕ) (m : Emitted) →
     is_valued operator ≡ true → Valued G (PrefixValue G facts sites token operator of m) ≡ Prefixed G facts sites token operator of cells m
-prefix_valued G facts sites token prefix.Increment of cells m is = refl
-prefix_valued G facts sites token prefix.Decrement of cells m is = refl
-prefix_valued G facts sites token prefix.Address of cells m is = refl
-prefix_valued G facts sites token prefix.Plus of cells m is = refl
-prefix_valued G facts sites token prefix.Minus of cells m is = refl
-prefix_valued G facts sites token prefix.Complement of cells m is = refl
 prefix_valued G facts sites token prefix.Indirection of cells m is = cc
 prefix_valued G facts sites token prefix.Not of cells m is = cc
 prefix_valued G facts sites token prefix.SizeOf of cells m is = cc
+prefix_valued G facts sites token operator of cells m is = refl
 
 abbrev negation : (Graph → Emitted) → GraphPath ℕ
 negation m G = (m G).value then Does G (node.Sole unary.Not 0)

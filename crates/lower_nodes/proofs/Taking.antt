@@ -96,21 +96,14 @@ pub ruleset places_made = (place_value, place_effect, place_truth)
 pub ruleset pointers_made = (pointed_made, through_value, through_effect, through_truth)
 
 pub load_single : (of : Option ValueType) (n0 n1 : List Node) (i next : ℕ) → is_single of ≡ true → Made (λ G. LoadAt G of) n0 n1 i next → Made (λ G. LoadThrough G of) n0 n1 i next
-load_single None n0 n1 i next single made = cc
 load_single (Some (type.Number kind)) n0 n1 i next single made = made
 load_single (Some (type.Pointer size)) n0 n1 i next single made = made
-load_single (Some (type.Array size)) n0 n1 i next single made = cc
-load_single (Some type.Struct) n0 n1 i next single made = cc
-load_single (Some type.Void) n0 n1 i next single made = cc
+load_single of n0 n1 i next single made = cc
 
 pub load_pointed : (of : Option ValueType) (n0 n1 n2 : List Node) (m i next : ℕ) → is_single of ≡ false → Made (λ G. LoadAt G of) n0 n1 m next →
     Made (λ G. Pointed G) n1 n2 i m → Made (λ G. LoadThrough G of) n0 n2 i next
-load_pointed None n0 n1 n2 m i next several load pointed = then_made (λ G. Pointed G) (λ G. LoadAt G None) n0 n1 n2 i m next load pointed
 load_pointed (Some (type.Number kind)) n0 n1 n2 m i next several load pointed = cc
 load_pointed (Some (type.Pointer size)) n0 n1 n2 m i next several load pointed = cc
-load_pointed (Some (type.Array size)) n0 n1 n2 m i next several load pointed =
-    then_made (λ G. Pointed G) (λ G. LoadAt G (Some (type.Array size))) n0 n1 n2 i m next load pointed
-load_pointed (Some type.Struct) n0 n1 n2 m i next several load pointed = then_made (λ G. Pointed G) (λ G. LoadAt G (Some type.Struct)) n0 n1 n2 i m next load pointed
-load_pointed (Some type.Void) n0 n1 n2 m i next several load pointed = then_made (λ G. Pointed G) (λ G. LoadAt G (Some type.Void)) n0 n1 n2 i m next load pointed
+load_pointed of n0 n1 n2 m i next several load pointed = then_made (λ G. Pointed G) (λ G. LoadAt G of) n0 n1 n2 i m next load pointed
 
 pub ruleset loads_made = (load_single, load_pointed)

@@ -3,8 +3,7 @@ use Rattle.std.proofs.Common.{◌≡◌, ℕ, ◌+◌, ◌<◌, refl, subst, Lis
 use Rattle.flow.specs.declared.node.Node.{Node}
 use Rattle.flow.specs.declared.node.Node.TheVariants as node
 use Rattle.flow.specs.declared.node.View.TheVariants as view
-use Rattle.c_meaning.specs.Facts.{Facts, Sites}
-use Rattle.c_meaning.specs.Visits.{listed}
+use Rattle.c_meaning.specs.Words.{Facts, Sites, listed}
 use Rattle.lower_relation.specs.Operators.{Assigned, Decided}
 use Rattle.lower_relation.specs.Paths.{Does, ForkTo, MarksAll, Nothing}
 use Rattle.lower_nodes.specs.Made.{Made, MadeWays}

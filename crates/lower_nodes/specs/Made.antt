@@ -2,8 +2,7 @@
 use Rattle.std.specs.Prelude.{◌≡◌, ℕ, ◌≤◌, ◌<◌, if◌then◌else◌, List, length, Some, slice_get}
 use Rattle.flow.specs.declared.node.Node.{Node}
 use Rattle.flow.specs.declared.node.View.{View}
-use Rattle.flow.specs.Nodes.{is_again, led_to}
-use Rattle.flow.specs.View.{view}
+use Rattle.flow.specs.Words.{is_again, led_to, view}
 use Rattle.lower_relation.specs.Functions.{standing}
 use Rattle.lower_relation.specs.Paths.{Exits, Graph, Path, Ways}
 use Rattle.lower_nodes.specs.Ends.{AllBelow, Any, WantedAlike, all_ends, no_ends, one_end, purpose_ends, two_ends}

@@ -2,8 +2,7 @@
 use Rattle.std.specs.Prelude.{◌≡◌, ℕ, List, length, Some, IsTrue, slice_get}
 use Rattle.flow.specs.declared.node.Node.{Node}
 use Rattle.flow.specs.declared.scope.Bounds.{Bounds}
-use Rattle.flow.specs.Nodes.{leads_rightly}
-use Rattle.flow.specs.View.{view}
+use Rattle.flow.specs.Words.{leads_rightly, view}
 
 abbrev pub among : ℕ → Bounds
 among count = record { function = 0; locals = 0; nodes = count }

@@ -3,9 +3,7 @@ use Rattle.std.specs.Prelude.{ℕ, Option}
 use Rattle.flow.specs.declared.node.Node.TheVariants as node
 use Rattle.c_meaning.specs.declared.operation.Operation.{Operation}
 use Rattle.c_meaning.specs.declared.value_type.ValueType.{ValueType}
-use Rattle.c_meaning.specs.Conversions.{conversion}
-use Rattle.c_meaning.specs.Facts.{Facts, Sites}
-use Rattle.c_meaning.specs.Operation.{type_given}
+use Rattle.c_meaning.specs.Words.{conversion, Facts, Sites, type_given}
 use Rattle.lower_relation.specs.Operators.{Assigned, Operates}
 use Rattle.lower_relation.specs.Paths.{Graph, Path, ◌then◌, Does}
 use Rattle.lower_relation.specs.Values.{Converts}

@@ -4,8 +4,7 @@ use Rattle.std.specs.Prelude.{◌≡◌, ℕ, ◌≤◌, Bool, true, false, ◌|
 use Rattle.flow.specs.declared.node.Node.{Node}
 use Rattle.flow.specs.declared.node.View.{View}
 use Rattle.flow.specs.declared.node.View.TheVariants.{Forks, Marks}
-use Rattle.flow.specs.Code.{view_at}
-use Rattle.flow.specs.View.{view}
+use Rattle.flow.specs.Words.{view_at, view}
 use Rattle.lower_relation.specs.Stands.{renamed}
 
 abbrev pub forks : View → Bool

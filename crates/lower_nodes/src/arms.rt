@@ -1,7 +1,6 @@
 ghost use Rattle.flow.specs.Limits.{node_limit};
 ghost use Rattle.std.specs.Prelude.{◌≡◌, IfOk, length, ◌≤◌, ◌+◌};
-ghost use Rattle.c_meaning.specs.Conversions.{as_used};
-ghost use Rattle.c_meaning.specs.Expressions.{is_other_pointer};
+ghost use Rattle.c_meaning.specs.Words.{as_used, is_other_pointer};
 ghost use Rattle.lower_relation.specs.Operators.{Flagged};
 ghost use Rattle.lower_relation.specs.Values.{ArmAs};
 ghost use Rattle.lower_nodes.specs.Made.{Made};

@@ -1,10 +1,8 @@
 ghost use Rattle.flow.specs.Limits.{node_limit};
 ghost use Rattle.std.specs.Prelude.{◌≡◌, IfOk, length, ◌≤◌, ◌+◌};
 ghost use Rattle.cbi_base.specs.Arithmetic.{kind_given};
-ghost use Rattle.c_meaning.specs.Conversions.{conversion};
-ghost use Rattle.c_meaning.specs.Operation.{type_given};
+ghost use Rattle.c_meaning.specs.Words.{conversion, type_given, step_operation};
 ghost use Rattle.lower_relation.specs.Operators.{Changed, Operates, Stepped, SteppedAs, SteppedBehind, Updates};
-ghost use Rattle.c_meaning.specs.Places.{step_operation};
 ghost use Rattle.lower_relation.specs.Values.{Converts};
 ghost use Rattle.lower_relation.specs.Room.{pairs};
 ghost use Rattle.lower_nodes.specs.Made.{Made};

@@ -1,6 +1,5 @@
 ghost use Rattle.std.specs.Prelude.{◌≡◌, ◌≤◌, ◌-◌, IfOk, length};
-ghost use Rattle.flow.specs.Limits.{node_limit};
-ghost use Rattle.flow.specs.View.{view};
+ghost use Rattle.flow.specs.Words.{node_limit, view};
 ghost use Rattle.lower_relation.specs.Stands.{renamed};
 ghost use Rattle.lower_nodes.specs.Finished.{Finished, turned_number};
 ghost use Rattle.lower_nodes.specs.Made.{LeadBack};

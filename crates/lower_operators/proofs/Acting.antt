@@ -2,16 +2,14 @@
 use Rattle.std.proofs.Common.{◌≡◌, ◌≤◌, arith, ℕ, suc, ◌∙◌, ap, subst, refl, List, [], ◌∷◌, ◌++◌, length, Option, Some, None}
 use Rattle.c_types_rules.specs.declared.library.Library.{Library}
 use Rattle.c_types_rules.specs.declared.library.Library.TheVariants as library
-use Rattle.c_syntax.specs.ExprTree.{ExprList}
+use Rattle.c_syntax.specs.Words.{ExprList, plain_exprs}
 use Rattle.c_syntax.specs.declared.expr.Expr.{Expr}
-use Rattle.c_syntax.specs.Plain.{plain_exprs}
 use Rattle.flow.specs.declared.node.Node.{Node}
 use Rattle.flow.specs.declared.node.Node.TheVariants as node
 use Rattle.flow.specs.declared.node.View.TheVariants as view
 use Rattle.flow.specs.View.{view as view_of}
 use Rattle.c_meaning.specs.declared.value_type.Called.TheVariants as called
-use Rattle.c_meaning.specs.Facts.{Facts}
-use Rattle.c_meaning.specs.Trees.{count}
+use Rattle.c_meaning.specs.Words.{Facts, count}
 use Rattle.lower_nodes.specs.Made.{Made}
 use Rattle.lower_nodes.proofs.Building.{nothing_made, one_made, view_made}
 use Rattle.lower_operators.specs.Passing.{Acts, Formats, LibraryActs, library_node, number_of_first, others}
@@ -45,15 +43,8 @@ library_acted library.Printf number n x n0 n1 i k e at is = cc
 
 pub printf_acted : (f : Library) (number : Option ℕ) (n : ℕ) (n0 n1 : List Node) (i k : ℕ) → None ≡ library_node f k →
     Made (λ G. Formats G number n) n0 n1 i k → Made (λ G. LibraryActs G f number n) n0 n1 i k
-printf_acted library.Getchar number n n0 n1 i k e made = cc
-printf_acted library.Putchar number n n0 n1 i k e made = cc
-printf_acted library.Puts number n n0 n1 i k e made = cc
-printf_acted library.Malloc number n n0 n1 i k e made = cc
-printf_acted library.Free number n n0 n1 i k e made = cc
-printf_acted library.Exit number n n0 n1 i k e made = cc
-printf_acted library.Abort number n n0 n1 i k e made = cc
-printf_acted library.Assert number n n0 n1 i k e made = cc
 printf_acted library.Printf number n n0 n1 i k e made = made
+printf_acted f number n n0 n1 i k e made = cc
 
 module _ (facts : Facts) (xs : ExprList) where
   pub function_acted : (number : ℕ) (n0 n1 : List Node) (i k : ℕ) → i ≡ length n0 → n1 ≡ n0 ++ node.Call number k ∷ [] →

@@ -5,9 +5,7 @@ use Rattle.c_types_rules.specs.declared.library.Library.TheVariants as library
 use Rattle.flow.specs.declared.node.Node.{Node}
 use Rattle.c_meaning.specs.declared.value_type.Called.{Called}
 use Rattle.c_meaning.specs.declared.value_type.Called.TheVariants as called
-use Rattle.c_meaning.specs.Facts.{Facts, Signature, Sites}
-use Rattle.c_meaning.specs.Trees.{has_value}
-use Rattle.c_meaning.specs.Visits.{listed}
+use Rattle.c_meaning.specs.Words.{Facts, Signature, Sites, has_value, listed}
 use Rattle.lower_relation.specs.Calls.{ArgumentPath, ArgumentsPath, CallDoes, CallFunction, CallLibrary, WithResult}
 use Rattle.lower_relation.specs.Paths.{Graph, Path, ◌then◌, MarksAll, Nothing, Stuck}
 use Rattle.lower_operators.specs.Giving.{CalledDoes, FunctionDoes, Given, GivenTakes, LibraryDoes, function_gives, giving_of, is_refused, library_gives, result_gives}
@@ -99,19 +97,19 @@ module _ (facts : Facts) (sites : Sites) (token : ℕ) where
   -- where a value is wanted and there is none, control goes nowhere
   pub serves_refused : (G : Graph) (g : Giving) (R : Path ℕ) (p : Purpose) (i k : ℕ) → is_refused g p ≡ true → Serves (Given G facts sites token g R) i p →
       Stuck G i k
+  serves_refused G giving.Nothing R (purpose.Value next) i k e h = h
+  serves_refused G giving.Nothing R (purpose.Truth yes_at no_at) i k e h = h
   serves_refused G giving.Value R p i k e h = cc
   serves_refused G giving.Returned R p i k e h = cc
-  serves_refused G giving.Nothing R (purpose.Value next) i k e h = h
   serves_refused G giving.Nothing R (purpose.Effect next) i k e h = cc
-  serves_refused G giving.Nothing R (purpose.Truth yes_at no_at) i k e h = h
 
   pub refused_serves : (G : Graph) (g : Giving) (R : Path ℕ) (p : Purpose) (i k : ℕ) → is_refused g p ≡ true → Stuck G i k →
       Serves (Given G facts sites token g R) i p
+  refused_serves G giving.Nothing R (purpose.Value next) i k e h = h
+  refused_serves G giving.Nothing R (purpose.Truth yes_at no_at) i k e h = h
   refused_serves G giving.Value R p i k e h = cc
   refused_serves G giving.Returned R p i k e h = cc
-  refused_serves G giving.Nothing R (purpose.Value next) i k e h = h
   refused_serves G giving.Nothing R (purpose.Effect next) i k e h = cc
-  refused_serves G giving.Nothing R (purpose.Truth yes_at no_at) i k e h = h
 
   result_is : (G : Graph) (b : Bool) (R : Path ℕ) → Given G facts sites token (result_gives b) R ≡ WithResult G facts sites token b R
   result_is G true R = refl

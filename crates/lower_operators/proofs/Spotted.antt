@@ -1,10 +1,9 @@
 -- What stands before an operator behind an operand, and whether one stands behind it.
 use Rattle.std.proofs.Common.{◌≡◌, ℕ, zero, suc, ◌+◌, ◌<◌, ◌≤◌, ◌∙◌, ap, sym, refl, arith, List, [], ◌∷◌, length, drop, get_or, Option, Bool, true, false}
 use Rattle.c_syntax.specs.ExprTree as e
-use Rattle.c_syntax.specs.ExprTree.{PostfixList}
+use Rattle.c_syntax.specs.Words.{PostfixList, plain_operators, plain_postfix}
 use Rattle.c_syntax.specs.declared.expr.PostfixOperator.{PostfixOperator}
 use Rattle.c_syntax.specs.declared.expr.PostfixOperator.TheVariants as postfix
-use Rattle.c_syntax.specs.Plain.{plain_operators, plain_postfix}
 use Rattle.c_syntax.proofs.PlainExprs.{plain_arrow_before, plain_decrement_before, plain_increment_before, plain_index_before, plain_member_before}
 use Rattle.c_meaning.specs.declared.value_type.ValueType.{ValueType}
 use Rattle.c_meaning.specs.Facts.{Facts, Sites}

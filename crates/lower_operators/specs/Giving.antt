@@ -8,11 +8,7 @@ use Rattle.flow.specs.declared.node.View.TheVariants as view
 use Rattle.c_meaning.specs.declared.value_type.Called.{Called}
 use Rattle.c_meaning.specs.declared.value_type.Called.TheVariants as called
 use Rattle.c_meaning.specs.declared.value_type.ValueType.TheVariants as type
-use Rattle.c_meaning.specs.Calls.{as_type}
-use Rattle.c_meaning.specs.Conversions.{as_used}
-use Rattle.c_meaning.specs.Facts.{Facts, Signature, Sites}
-use Rattle.c_meaning.specs.Trees.{has_value}
-use Rattle.c_meaning.specs.Visits.{listed}
+use Rattle.c_meaning.specs.Words.{as_type, as_used, Facts, Signature, Sites, has_value, listed}
 use Rattle.lower_relation.specs.Calls.{ArgumentPath, ArgumentsPath, Returned}
 use Rattle.lower_relation.specs.Paths.{Graph, Path, ◌then◌, Does, Emitted, HaltsAt, MarksAll, Nothing, Only, Stuck}
 use Rattle.lower_relation.specs.Values.{Effected, Valued}

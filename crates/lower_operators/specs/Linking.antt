@@ -7,8 +7,7 @@ use Rattle.c_syntax.specs.declared.token.Sign.{Sign}
 use Rattle.flow.specs.declared.node.Node.TheVariants as node
 use Rattle.c_types_expressions.specs.ExprWalk.{binary_of}
 use Rattle.c_meaning.specs.declared.value_type.ValueType.{ValueType}
-use Rattle.c_meaning.specs.Facts.{Facts, Sites}
-use Rattle.c_meaning.specs.Trees.{is_null_beside, joint, operand_type, type_of}
+use Rattle.c_meaning.specs.Words.{Facts, Sites, is_null_beside, joint, operand_type, type_of}
 use Rattle.lower_relation.specs.Expressions.{emitted}
 use Rattle.lower_relation.specs.Operators.{Decided, Linked}
 use Rattle.lower_relation.specs.Paths.{Graph, Path, Does, Either}

@@ -1,5 +1,6 @@
 -- Which arguments a call passes, as which types, and what is done behind them.
 use Rattle.std.specs.Prelude.{ℕ, ◌==◌, Bool, true, false, List, [], ◌∷◌, length, Option, Some, None}
+use Rattle.cbi_base.specs.Printing.{pieces_of}
 use Rattle.cbi_base.specs.declared.scalar.Kind.TheVariants.{Int, Unsigned}
 use Rattle.c_types_rules.specs.declared.library.Library.{Library}
 use Rattle.c_types_rules.specs.declared.library.Library.TheVariants as library
@@ -9,16 +10,11 @@ use Rattle.flow.specs.declared.node.Node.{Node}
 use Rattle.flow.specs.declared.node.Node.TheVariants as node
 use Rattle.flow.specs.declared.node.View.TheVariants as view
 use Rattle.flow.specs.declared.program.Text.{Text}
-use Rattle.flow.specs.Printing.{pieces_of}
 use Rattle.c_meaning.specs.declared.value_type.Called.{Called}
 use Rattle.c_meaning.specs.declared.value_type.Called.TheVariants as called
 use Rattle.c_meaning.specs.declared.value_type.ValueType.{ValueType}
 use Rattle.c_meaning.specs.declared.value_type.ValueType.TheVariants as type
-use Rattle.c_meaning.specs.Calls.{types_taken}
-use Rattle.c_meaning.specs.Conversions.{as_used}
-use Rattle.c_meaning.specs.Facts.{Facts, Signature}
-use Rattle.c_meaning.specs.Meaning.{text_of_string}
-use Rattle.c_meaning.specs.Trees.{count, type_of}
+use Rattle.c_meaning.specs.Words.{types_taken, as_used, Facts, Signature, text_of_string, count, type_of}
 use Rattle.lower_relation.specs.Expressions.{number_of_text}
 use Rattle.lower_relation.specs.Paths.{Graph, Path, Does, HaltsAt, Nothing}
 

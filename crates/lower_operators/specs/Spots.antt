@@ -4,9 +4,7 @@ use Rattle.cbi_base.specs.declared.operators.Binary.TheVariants as op
 use Rattle.c_syntax.specs.ExprTree as e
 use Rattle.c_syntax.specs.ExprTree.{ExprTree, PostfixList}
 use Rattle.c_meaning.specs.declared.value_type.ValueType.{ValueType}
-use Rattle.c_meaning.specs.Facts.{Facts, Sites}
-use Rattle.c_meaning.specs.Operation.{operation}
-use Rattle.c_meaning.specs.Trees.{is_place, type_of}
+use Rattle.c_meaning.specs.Words.{Facts, Sites, operation, is_place, type_of}
 use Rattle.lower_relation.specs.Expressions.{Behind, emitted}
 use Rattle.lower_relation.specs.Operators.{Member, Operates, Settled, Spot, SteppedAs}
 use Rattle.lower_relation.specs.Paths.{◌then◌, Nothing, Only}

@@ -10,14 +10,11 @@ use Rattle.c_meaning.specs.declared.value_type.Called.{Called}
 use Rattle.c_meaning.specs.declared.value_type.Called.TheVariants as called
 use Rattle.c_meaning.specs.declared.value_type.ValueType.{ValueType}
 use Rattle.c_meaning.specs.declared.value_type.ValueType.TheVariants as type
-use Rattle.c_meaning.specs.Conversions.{is_null_as}
-use Rattle.c_meaning.specs.Facts.{Facts, Signature, Sites}
-use Rattle.c_meaning.specs.Trees.{called_as, count, ends_as_place, has_value, is_place, token_of, type_of}
+use Rattle.c_meaning.specs.Words.{is_null_as, Facts, Signature, Sites, called_as, count, ends_as_place, has_value, is_place, token_of, type_of, listed}
 use Rattle.lower_relation.specs.Calls.{ArgumentPath, ArgumentsPath, CallDoes, CallFunction, CallLibrary, WithResult}
 use Rattle.lower_relation.specs.Expressions.{LastDoes, emitted}
 use Rattle.lower_relation.specs.Operators.{Cast, Comma, DecidesAt, Postfixed, Prefixed, SizeValue}
 use Rattle.lower_relation.specs.Paths.{Emitted, Graph, MarksAll, Path, ◌then◌, Tests, ForkTo, Ways}
-use Rattle.c_meaning.specs.Visits.{listed}
 
 module _ (G : Graph) where
   -- an expression's truth may be that of its value
@@ -26,11 +23,7 @@ module _ (G : Graph) where
 
   cast_by : (is_null : Bool) (want : Option ValueType) (m : Emitted) → ByValue (Cast G is_null want m)
   cast_by is_null (Some type.Void) m i k h = h.1
-  cast_by is_null None m i k h = h
-  cast_by is_null (Some type.Struct) m i k h = h
-  cast_by is_null (Some (type.Number kind)) m i k h = h
-  cast_by is_null (Some (type.Pointer size)) m i k h = h
-  cast_by is_null (Some (type.Array size)) m i k h = h
+  cast_by is_null want m i k h = h
 
   size_by : (o : Option ℕ) → ByValue (SizeValue G o)
   size_by None i k h = h
@@ -43,15 +36,9 @@ module _ (G : Graph) where
   module _ (facts : Facts) (sites : Sites) where
     prefixed_by : (token : ℕ) (o : PrefixOperator) (of : Option ValueType) (cells : Option ℕ) (m : Emitted)
         → ByValue (Prefixed G facts sites token o of cells m)
-    prefixed_by token prefix.Increment of cells m i k h = h
-    prefixed_by token prefix.Decrement of cells m i k h = h
-    prefixed_by token prefix.Address of cells m i k h = h
-    prefixed_by token prefix.Indirection of cells m i k h = h
-    prefixed_by token prefix.Plus of cells m i k h = h
-    prefixed_by token prefix.Minus of cells m i k h = h
-    prefixed_by token prefix.Complement of cells m i k h = h
     prefixed_by token prefix.Not of cells m i k h = inl h
     prefixed_by token prefix.SizeOf of cells m i k h = size_by cells i k h
+    prefixed_by token o of cells m i k h = h
 
     result_by : (token : ℕ) (b : Bool) (R : Path ℕ) → ByValue (WithResult G facts sites token b R)
     result_by token true R i k h = h
@@ -66,11 +53,7 @@ module _ (G : Graph) where
     library_by token library.Putchar n R P i k h = h
     library_by token library.Puts n R P i k h = h
     library_by token library.Malloc n R P i k h = h
-    library_by token library.Free n R P i k h = h.1
-    library_by token library.Exit n R P i k h = h.1
-    library_by token library.Abort n R P i k h = h.1
-    library_by token library.Assert n R P i k h = h.1
-    library_by token library.Printf n R P i k h = h.1
+    library_by token f n R P i k h = h.1
 
     call_by : (token : ℕ) (c : Called) (n : ℕ) (R : ArgumentsPath) (S : ArgumentPath) (P : Path ℕ) → ByValue (CallDoes G facts sites token c n R S P)
     call_by token (called.Function number) n R S P i k h = function_by token number (facts.signature number) n R i k h
@@ -84,8 +67,6 @@ module _ (G : Graph) where
     mutual
       pub by_value : (x : ExprTree) → ByValue (emitted G facts sites x)
       by_value (e.Comma token operands) i k h = last_by_value operands i k h
-      by_value (e.Assign token sign target value) i k h = h
-      by_value (e.Conditional token condition first second) i k h = h
       by_value (e.Chain level first links) i k h = inl h
       by_value (e.Cast token base stars operand) i k h =
           cast_by (is_null_as (facts.type_at token) operand) (facts.type_at token) (emitted G facts sites operand) i k h
@@ -94,13 +75,9 @@ module _ (G : Graph) where
       by_value (e.SizeOfType token base stars) i k h = size_by (facts.named_cells base stars) i k h
       by_value (e.Postfix primary operators) i k h =
           postfixed_by (ends_as_place (is_place primary) operators) (type_of facts (e.Postfix primary operators)) _ _ i k h
-      by_value (e.Name token name) i k h = h
       by_value (e.Call token name arguments) i k h = call_by token (called_as (facts.function_at token) name) (count arguments) _ _ _ i k h
-      by_value (e.Constant token kind value) i k h = h
-      by_value (e.Strings token parts) i k h = h
       by_value (e.Paren token inner) i k h = by_value inner i k h
-      by_value (e.Null token) i k h = h
-      by_value (e.EndOfFile token) i k h = h
+      by_value x i k h = h
 
       last_by_value : (x : ExprList) → ByValue (LastDoes G facts sites x)
       last_by_value e.no_exprs i k h = h

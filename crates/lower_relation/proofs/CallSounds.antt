@@ -2,34 +2,27 @@
 use Rattle.std.proofs.Common.{◌≡◌, ℕ, refl, ap, sym, ◌∙◌, List, ◌∷◌, ◌++◌, Option, Some, None, Ok, Err, Bool, true, false, length, true-eqb}
 use Rattle.std.specs.Prelude.{◌==◌, Result, slice_get}
 use Rattle.std.specs.Option.{option_and_then}
+use Rattle.cbi_base.specs.Words.{pieces_of, released, truth_of}
+use Rattle.base_lists.proofs.Numbers.{same_number}
 use Rattle.cbi_base.specs.declared.scalar.Kind.TheVariants.{Char, Int, Unsigned}
 use Rattle.cbi_base.specs.declared.scalar.Scalar.{Scalar}
 use Rattle.cbi_base.specs.declared.scalar.Scalar.TheVariants.{Number, Place, Null, Undefined}
 use Rattle.cbi_base.specs.declared.trap.Trap.{Trap}
-use Rattle.cbi_base.specs.Objects.{released}
-use Rattle.cbi_base.specs.Scalars.{truth_of}
 use Rattle.c_types_rules.specs.declared.library.Library.{Library}
 use Rattle.c_types_rules.specs.declared.library.Library.TheVariants as library
 use Rattle.flow.specs.declared.node.Node.TheVariants as node
 use Rattle.flow.specs.declared.node.View.TheVariants as view
 use Rattle.flow.specs.declared.program.Text.{Text}
-use Rattle.flow.specs.Machine.{go_on, step}
-use Rattle.flow.specs.Now.{with_answer}
-use Rattle.flow.specs.Printing.{pieces_of}
+use Rattle.flow.specs.Words.{go_on, step, with_answer, act}
 use Rattle.flow.specs.Rows as machine
-use Rattle.flow.specs.Rows.{act}
 use Rattle.flow.proofs.Endings.{ends_over, leads_one}
 use Rattle.c_meaning.specs.declared.value_type.Called.{Called}
 use Rattle.c_meaning.specs.declared.value_type.Called.TheVariants as called
 use Rattle.c_meaning.specs.declared.value_type.ValueType.{ValueType}
 use Rattle.c_meaning.specs.declared.value_type.ValueType.TheVariants as type
 use Rattle.c_meaning.specs.Calls as mean
-use Rattle.c_meaning.specs.Calls.{Argument, Arguments, as_type, types_taken}
-use Rattle.c_meaning.specs.Conversions.{as_used}
-use Rattle.c_meaning.specs.Facts.{Facts, Setting, Signature, Sites}
-use Rattle.c_meaning.specs.Trees.{has_value}
-use Rattle.c_meaning.specs.Visits.{listed, truth}
-use Rattle.c_meaning.specs.World.{World, Out, Caller, OutDone, answered, bind}
+use Rattle.c_meaning.specs.Words.{Argument, Arguments, as_type, types_taken, as_used, Facts, Setting, Signature, Sites, has_value, listed, truth, World, Out}
+use Rattle.c_meaning.specs.Words.{Caller, OutDone, answered, bind}
 use Rattle.lower_relation.specs.Calls as way
 use Rattle.lower_relation.specs.Paths.{Path, Does, HaltsAt}
 use Rattle.lower_relation.specs.Stands.{Agrees}
@@ -38,9 +31,6 @@ use Rattle.lower_relation.proofs.Sounds.{CallsSound, Standing, Sound, SenseSound
 use Rattle.lower_relation.proofs.ValueSounds.{effected_ok, valued_ok}
 use Rattle.lower_relation.proofs.OperatorSounds.{marks_ok}
 use Rattle.lower_relation.proofs.PrintSounds.{format_ok, get_ok, put_ok, puts_ok}
-
-equal_numbers : (a b : ℕ) → (a == b) ≡ true → a ≡ b
-equal_numbers a b e = true-eqb a b (sym e)
 
 module _ (z : Standing) where
   alloc_ok : (v : Scalar) → Sound z (plus v) (mean.allocate v) (Does z.graph (node.Alloc 0)) to plus
@@ -130,7 +120,7 @@ module _ (z : Standing) where
     call_function_ok token number None n e a = valued_ok z (stuck_ok z bare to plus)
     call_function_ok token number (Some f) n e a = with_result_ok token (has_value f.result) (only_ok z (n == length f.params) (λ same.
         seq_with z (λ found. length found ≡ n) (a.many f.params) (a.sound f.params)
-        (λ found l. call_ok number f found e (l ∙ equal_numbers n (length f.params) same))))
+        (λ found l. call_ok number f found e (l ∙ same_number n (length f.params) same))))
 
     call_library_ok : (token : ℕ) (function : Library) (n : ℕ) {m : Argument} {R : way.ArgumentPath} {p : World → OutDone} {P : Path ℕ}
         → ArgumentSound m R → Sound z bare p P to none

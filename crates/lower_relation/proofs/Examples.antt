@@ -2,6 +2,7 @@
 use Rattle.std.proofs.Common.{◌≡◌, ℕ, zero, suc, refl, sym, ◌∙◌, subst, List, [], ◌∷◌, Some, None, true, codes}
 use Rattle.std.specs.Prelude.{Option, pos, slice_get, ◌==◌, if◌then◌else◌}
 use Rattle.std.specs.Option.{option_map}
+use Rattle.std.proofs.lemmas.Option.{none-some, same_Some}
 use Rattle.cbi_base.specs.declared.observation.Observation.{Observation}
 use Rattle.cbi_base.specs.declared.observation.Seen.{Seen}
 use Rattle.cbi_base.specs.declared.observation.Seen.TheVariants.{First, Second}
@@ -10,9 +11,8 @@ use Rattle.cbi_base.specs.declared.scalar.Kind.TheVariants.{Char, Int}
 use Rattle.cbi_base.specs.Scalars.{applied, applied_to_one, converted}
 use Rattle.c_syntax.specs.declared.token.Sign.TheVariants as sign
 use Rattle.c_syntax.specs.ExprTree as e
-use Rattle.c_syntax.specs.ExprTree.{ExprTree}
+use Rattle.c_syntax.specs.Words.{ExprTree, EntryList, StatementTree}
 use Rattle.c_syntax.specs.StatementTree as tree
-use Rattle.c_syntax.specs.StatementTree.{EntryList, StatementTree}
 use Rattle.flow.specs.declared.node.Node.{Node}
 use Rattle.flow.specs.declared.node.Node.TheVariants as node
 use Rattle.flow.specs.declared.node.View.{View}
@@ -24,14 +24,10 @@ use Rattle.flow.specs.declared.site.BranchWord.{BranchWord}
 use Rattle.flow.specs.declared.site.BranchWord.TheVariants as word
 use Rattle.flow.specs.declared.site.Site.{Site}
 use Rattle.flow.specs.declared.site.SiteKind.TheVariants.{Branch}
-use Rattle.flow.specs.Code.{code_of, view_at}
-use Rattle.flow.specs.Machine.{MachineEnds, no_work}
-use Rattle.flow.specs.Truths.{looked}
+use Rattle.flow.specs.Words.{code_of, view_at, MachineEnds, no_work, looked}
 use Rattle.flow.specs.View as flow_view
 use Rattle.c_meaning.specs.declared.value_type.ValueType.TheVariants as type
-use Rattle.c_meaning.specs.Facts.{Facts, Signature}
-use Rattle.c_meaning.specs.Operation.{operate}
-use Rattle.c_meaning.specs.Runs.{Behaviour, Source, meaning}
+use Rattle.c_meaning.specs.Words.{Facts, Signature, operate, Behaviour, Source, meaning}
 use Rattle.lower_relation.specs.Functions.{Stays, BodyIn, IsGraphOf, callee_with, ending_of, standing}
 use Rattle.lower_relation.specs.Paths.{Exits}
 use Rattle.lower_relation.specs.Stands.{Stands, renamed}
@@ -136,12 +132,6 @@ renamed_same (view.Imports next) = refl
 renamed_same (view.Exports next) = refl
 renamed_same view.Nowhere = refl
 
-none_is_some : {A : Type 0} (x : A) → None ≡ Some x → ⊥
-none_is_some x e = cc
-
-some_same : {A : Type 0} (x y : A) → Some x ≡ Some y → x ≡ y
-some_same x y e = cc
-
 seen_as : (o : Option Node) (v : View) → option_map flow_view.view o ≡ Some v → view_at o ≡ v
 seen_as None v h = cc
 seen_as (Some n) v h = cc
@@ -178,8 +168,8 @@ main_does bank = record {
 }
 
 bodies_do : (bank : ℕ → ℕ) (number : ℕ) (s : Signature) → slice_get (main ∷ []) number ≡ Some s → BodyIn (code_of program bank) text number s
-bodies_do bank zero s is = subst (BodyIn (code_of program bank) text 0) (some_same main s is) (main_does bank)
-bodies_do bank (suc number) s is = absurd (none_is_some s is)
+bodies_do bank zero s is = subst (BodyIn (code_of program bank) text 0) (same_Some main s is) (main_does bank)
+bodies_do bank (suc number) s is = absurd (none-some s is)
 
 is_graph : IsGraphOf text program
 is_graph = record {

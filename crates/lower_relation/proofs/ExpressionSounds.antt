@@ -12,17 +12,11 @@ use Rattle.c_types_expressions.specs.ExprWalk.{binary_of}
 use Rattle.flow.specs.declared.node.Node.TheVariants as node
 use Rattle.flow.specs.Rows.{act}
 use Rattle.c_meaning.specs.declared.value_type.ValueType.{ValueType}
-use Rattle.c_meaning.specs.Calls.{print_by}
-use Rattle.c_meaning.specs.Conversions.{is_null_as}
+use Rattle.c_meaning.specs.Words.{print_by, is_null_as, Facts, Setting, Sites, text_of_string, operation, stepped_behind, token_of, type_of, ends_as_place}
+use Rattle.c_meaning.specs.Words.{is_place, count, assignment, joint, is_null_beside, begins_null, operand_type, called_as, first_type, other_types, truth}
+use Rattle.c_meaning.specs.Words.{World, Go, Out, Caller, bind, choose, done, stuck}
 use Rattle.c_meaning.specs.Expressions as mean_of
-use Rattle.c_meaning.specs.Facts.{Facts, Setting, Sites}
 use Rattle.c_meaning.specs.Meaning as mean
-use Rattle.c_meaning.specs.Meaning.{text_of_string}
-use Rattle.c_meaning.specs.Operation.{operation}
-use Rattle.c_meaning.specs.Places.{stepped_behind}
-use Rattle.c_meaning.specs.Trees.{token_of, type_of, ends_as_place, is_place, count, assignment, joint, is_null_beside, begins_null, operand_type, called_as, first_type, other_types}
-use Rattle.c_meaning.specs.Visits.{truth}
-use Rattle.c_meaning.specs.World.{World, Go, Out, Caller, bind, choose, done, stuck}
 use Rattle.lower_relation.specs.Calls.{PrintPath}
 use Rattle.lower_relation.specs.Expressions as way_of
 use Rattle.lower_relation.specs.Expressions.{has_more, number_of_text}
@@ -118,11 +112,7 @@ module _ (z : Standing) (facts : Facts) (sites : Sites) (agrees : Agrees z.code 
       (Dropped z.graph (Only z.graph known (SteppedAs z.graph facts sites (has_more rest) is_up token of)
       then way_of.Behind z.graph facts sites false false (facts.type_at token) rest)) to none
   untaken_step_ok known is_up token of e.no_postfix v a = last_step_ok known is_up token of v
-  untaken_step_ok known is_up token of (e.index next i rest) v a = seq_done z _ (step_ok known is_up token of v) a
-  untaken_step_ok known is_up token of (e.member next name rest) v a = seq_done z _ (step_ok known is_up token of v) a
-  untaken_step_ok known is_up token of (e.arrow next name rest) v a = seq_done z _ (step_ok known is_up token of v) a
-  untaken_step_ok known is_up token of (e.increment next rest) v a = seq_done z _ (step_ok known is_up token of v) a
-  untaken_step_ok known is_up token of (e.decrement next rest) v a = seq_done z _ (step_ok known is_up token of v) a
+  untaken_step_ok known is_up token of rest v a = seq_done z _ (step_ok known is_up token of v) a
 
   mutual
     pub expr_ok : (x : ExprTree) → SenseSound z (mean.expr s x) (way_of.emitted z.graph facts sites x)

@@ -2,8 +2,7 @@
 use Rattle.std.proofs.Common.{◌≡◌, ℕ, ◌≤◌, refl, sym, arith, Some, None, ◌∷◌}
 use Rattle.std.specs.Prelude.{Option}
 use Rattle.cbi_base.specs.declared.scalar.Scalar.{Scalar}
-use Rattle.c_meaning.specs.Statements.{after_entry}
-use Rattle.c_meaning.specs.World.{World, Out, Go, OutDone, Flow, Next, Broken, Continued, Returned, bind}
+use Rattle.c_meaning.specs.Words.{after_entry, World, Out, Go, OutDone, Flow, Next, Broken, Continued, Returned, bind}
 use Rattle.lower_relation.specs.Paths.{Path, Exits}
 use Rattle.lower_relation.specs.Statements.{Before}
 use Rattle.lower_relation.proofs.Reach.{Stack, Reach, here, le_self, reach_bind}

@@ -3,31 +3,21 @@ use Rattle.std.proofs.Common.{◌≡◌, ℕ, zero, suc, ◌≤◌, ap, subst, s
 use Rattle.std.specs.Prelude.{Option, ◌==◌, if◌then◌else◌, nat_lt, reverse}
 use Rattle.std.specs.List.{list_all}
 use Rattle.std.specs.Option.{option_map}
+use Rattle.cbi_base.specs.Words.{is_defined_value, active_limit, all_made, first_cells, Locals, Objects}
 use Rattle.cbi_base.specs.declared.outcome.Outcome.TheVariants.{CutTurns, Trapped}
 use Rattle.cbi_base.specs.declared.scalar.Scalar.{Scalar}
 use Rattle.cbi_base.specs.declared.trap.Trap.TheVariants as trap
-use Rattle.cbi_base.specs.Frames.{all_made, first_cells}
-use Rattle.cbi_base.specs.Objects.{Objects}
 use Rattle.c_syntax.specs.StatementTree.{EntryList}
 use Rattle.flow.specs.declared.node.View.TheVariants as view
-use Rattle.flow.specs.Calls.{call_with, entered, has_result, params_of, waiting}
+use Rattle.flow.specs.Words.{call_with, entered, has_result, params_of, waiting, Code, next_of, step, Lacks, Takes, several, Frame, State, Watch, over}
 use Rattle.flow.specs.Calls as flow_calls
-use Rattle.flow.specs.Code.{Code}
-use Rattle.flow.specs.Limits.{active_limit}
-use Rattle.flow.specs.Machine.{next_of, step}
-use Rattle.flow.specs.Now.{Lacks, Locals, Takes, is_defined, several}
-use Rattle.flow.specs.State.{Frame, State, Watch, over}
 use Rattle.flow.proofs.Endings.{ends_over, leads_one}
-use Rattle.c_meaning.specs.Calls.{all_defined}
-use Rattle.c_meaning.specs.Facts.{Signature}
-use Rattle.c_meaning.specs.Runs.{Source, call_at, enter_function, enter_with, inside, left_function, locals_at, run_body, value_left, locals_of, gives_value}
-use Rattle.c_meaning.specs.Trees.{has_value}
-use Rattle.c_meaning.specs.Visits.{now_of}
-use Rattle.c_meaning.specs.World.{World, Out, Go, Stop, Flow, bind, spend}
+use Rattle.c_meaning.specs.Words.{all_defined, Signature, Source, call_at, enter_function, enter_with, inside, left_function, locals_at, run_body, value_left}
+use Rattle.c_meaning.specs.Words.{locals_of, gives_value, has_value, World, Out, Go, Stop, Flow, bind, spend}
 use Rattle.lower_relation.specs.Functions.{BodyDoes, BodyIn, Lowered, callee_with, standing}
 use Rattle.lower_relation.proofs.Flows.{Executes, flow_at, flow_post}
 use Rattle.lower_relation.proofs.Leaving.{comes_ok, frame_of, leave_ok}
-use Rattle.lower_relation.proofs.Reach.{Stack, Reach, first, le_self, reach_bind, state_at}
+use Rattle.lower_relation.proofs.Reach.{now_of, Stack, Reach, first, le_self, reach_bind, state_at}
 use Rattle.lower_relation.proofs.Sounds.{CallsSound, Standing, bare, result_on, state, stuck_ok}
 use Rattle.lower_relation.proofs.StatementSounds.{exec_all_ok}
 use Rattle.lower_relation.proofs.Taken.{several_on}
@@ -120,7 +110,7 @@ module _ (code : Code) (watch : Watch) (src : Source) (lowered : Lowered code sr
       call_step : (i : ℕ) (args : Stack) (u : World) (m : ℕ) → code.at f i ≡ view.Calls number node → length args ≡ length s.params
           → step code (state_at watch f below locals i (args ++ operands) (record u { turns = suc m }))
           ≡ call_with (Some (callee_with s)) number node
-          (if list_all is_defined args then Takes (reverse args) (now_of locals operands u) else Lacks trap.Undefined)
+          (if list_all is_defined_value args then Takes (reverse args) (now_of locals operands u) else Lacks trap.Undefined)
           (state_at watch f below locals i (args ++ operands) (record u { turns = m }))
       unfolding next_of
       call_step i args u m at l =
@@ -138,7 +128,7 @@ module _ (code : Code) (watch : Watch) (src : Source) (lowered : Lowered code sr
       turn_ok i args w zero le at l =
           ends_over code _ _ (ap (λ v. next_of code v (state_at watch f below locals i (args ++ operands) (record w { turns = 0 }))) at)
       turn_ok i args w (suc t) le at l =
-          taken_ok i (suc t) args (record w { turns = suc t }) (record w { turns = t }) (list_all is_defined args) (omega (arith, le)) (omega arith)
+          taken_ok i (suc t) args (record w { turns = suc t }) (record w { turns = t }) (list_all is_defined_value args) (omega (arith, le)) (omega arith)
           (call_step i args w t at l)
 
   -- no turn is left

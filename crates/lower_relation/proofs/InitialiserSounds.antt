@@ -2,31 +2,23 @@
 use Rattle.std.proofs.Common.{◌≡◌, ℕ, suc, refl, ap, subst, sym, ◌∙◌, List, [], ◌∷◌, Option, Some, None, Ok, Err}
 use Rattle.std.specs.Prelude.{Result, slice_get}
 use Rattle.std.specs.Option.{option_and_then}
+use Rattle.cbi_base.specs.Words.{zero_value, filled, local_at, Objects, cleared, stored_bytes}
 use Rattle.cbi_base.specs.declared.scalar.Want.{Want}
 use Rattle.cbi_base.specs.declared.trap.Trap.{Trap}
-use Rattle.cbi_base.specs.Frames.{filled}
-use Rattle.cbi_base.specs.Objects.{Objects, cleared}
 use Rattle.c_syntax.specs.ExprTree as e
-use Rattle.c_syntax.specs.ExprTree.{ExprTree, ExprList}
+use Rattle.c_syntax.specs.Words.{ExprTree, ExprList, InitialTree, StartTree, DeclarationTree}
 use Rattle.c_syntax.specs.StatementTree as tree
-use Rattle.c_syntax.specs.StatementTree.{InitialTree, StartTree, DeclarationTree}
 use Rattle.flow.specs.declared.node.Node.TheVariants as node
 use Rattle.flow.specs.declared.program.Text.{Text}
 use Rattle.flow.specs.declared.site.Slot.{Slot}
 use Rattle.flow.specs.declared.site.Slot.TheVariants as slot
-use Rattle.flow.specs.Machine.{go_on, step}
-use Rattle.flow.specs.Now.{Goes, local_at, with_answer, with_named, with_objects}
-use Rattle.flow.specs.Rows.{act, spelled, zero_value}
+use Rattle.flow.specs.Words.{go_on, step, Goes, with_answer, with_named, with_objects, act}
 use Rattle.flow.proofs.Endings.{ends_over, leads_one}
 use Rattle.c_meaning.specs.declared.value_type.ValueType.{ValueType}
 use Rattle.c_meaning.specs.declared.value_type.ValueType.TheVariants as type
-use Rattle.c_meaning.specs.Conversions.{is_null_as}
-use Rattle.c_meaning.specs.Facts.{Facts, Setting, Sites}
+use Rattle.c_meaning.specs.Words.{is_null_as, Facts, Setting, Sites, equals_token, object_of, on_object, want_of, text_of_string, type_of, World, Caller}
+use Rattle.c_meaning.specs.Words.{OutDone, answered, bind, nothing, stuck}
 use Rattle.c_meaning.specs.Initialisers as mean
-use Rattle.c_meaning.specs.Initialisers.{equals_token, object_of, on_object, want_of}
-use Rattle.c_meaning.specs.Meaning.{text_of_string}
-use Rattle.c_meaning.specs.Trees.{type_of}
-use Rattle.c_meaning.specs.World.{World, Caller, OutDone, answered, bind, nothing, stuck}
 use Rattle.lower_relation.specs.Expressions.{number_of_text}
 use Rattle.lower_relation.specs.Initialisers as way
 use Rattle.lower_relation.specs.Paths.{Path}
@@ -72,10 +64,10 @@ module _ (z : Standing) where
 
   spells_on : (i k : ℕ) (xs : Stack) (w : World) (o : Option ℕ) (text : Text)
       → step z.code (state z i xs w) ≡ go_on (z.ren k) (state z i xs w) (with_named o (now z xs w) (λ number.
-      with_answer (spelled number 0 text.bytes w.objects) (now z xs w) (λ objects. Goes (with_objects (now z xs w) objects))))
+      with_answer (stored_bytes number 0 text.bytes w.objects) (now z xs w) (λ objects. Goes (with_objects (now z xs w) objects))))
       → Reach z.code z.watch (state z i xs w) w.turns (on_object o (mean.spell (Some text)) w) (λ a u. state z k xs u)
   spells_on i k xs w None text e = ends_over z.code _ _ e
-  spells_on i k xs w (Some number) text e = spelt i k xs w (spelled number 0 text.bytes w.objects) e
+  spells_on i k xs w (Some number) text e = spelt i k xs w (stored_bytes number 0 text.bytes w.objects) e
 
   spells_by : (number index : ℕ) (o : Option Text) → slice_get z.code.statics.texts number ≡ o
       → Sound z bare (on_object (local_at index z.locals) (mean.spell o)) (way.Spells z.graph (Some number) o index) to none
@@ -85,7 +77,7 @@ module _ (z : Standing) where
     runs = λ i k xs w le h.
         spells_on i k xs w (local_at index z.locals) text (row z (node.Spell index number 0) i k xs w h
         ∙ ap (λ o. go_on (z.ren k) (state z i xs w) (with_named (local_at index z.locals) (now z xs w) (λ number. with_named o (now z xs w) (λ t.
-        with_answer (spelled number 0 t.bytes w.objects) (now z xs w) (λ objects. Goes (with_objects (now z xs w) objects)))))) at);
+        with_answer (stored_bytes number 0 t.bytes w.objects) (now z xs w) (λ objects. Goes (with_objects (now z xs w) objects)))))) at);
   }
 
   module _ (facts : Facts) (sites : Sites) (agrees : Agrees z.code facts sites) (call : Caller) (calls : CallsSound z.code z.watch facts z.turns call) where
@@ -138,12 +130,8 @@ module _ (z : Standing) where
 
     value_ok : (token : ℕ) (of : Option ValueType) (value : ExprTree)
         → Sound z bare (mean.value_set s token of value) (way.ValueSet z.graph facts sites token of value) to none
-    value_ok token None value = scalar_ok token value
-    value_ok token (Some type.Void) value = scalar_ok token value
-    value_ok token (Some type.Struct) value = scalar_ok token value
-    value_ok token (Some (type.Number kind)) value = scalar_ok token value
-    value_ok token (Some (type.Pointer size)) value = scalar_ok token value
     value_ok token (Some (type.Array size)) value = seq z (zeroed_ok token) (λ _. on_local_ok (facts.slot_at token) _ _ (text_ok value))
+    value_ok token of value = scalar_ok token value
 
     initialised_ok : (token : ℕ) (x : Option InitialTree) → Sound z bare (mean.initialised s token x) (way.Initialised z.graph facts sites token x) to none
     initialised_ok token None = nothing_ok z

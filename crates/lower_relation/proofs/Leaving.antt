@@ -1,19 +1,15 @@
 -- How control comes to the body of a function, and how the function is left as its body comes to its end.
 use Rattle.std.proofs.Common.{◌≡◌, ℕ, ◌≤◌, refl, ap, ◌∙◌, [], ◌∷◌, Some, None, Bool, true, false}
 use Rattle.std.specs.Prelude.{pos}
+use Rattle.cbi_base.specs.Frames.{Locals}
 use Rattle.cbi_base.specs.declared.scalar.Kind.TheVariants.{Int}
 use Rattle.cbi_base.specs.declared.scalar.Scalar.{Scalar}
 use Rattle.cbi_base.specs.declared.scalar.Scalar.TheVariants.{Number, Place, Null, Undefined}
 use Rattle.flow.specs.declared.node.Node.TheVariants as node
 use Rattle.flow.specs.declared.node.View.TheVariants as view
-use Rattle.flow.specs.Calls.{give, has_result, quit}
-use Rattle.flow.specs.Machine.{RunLeads, next_of, step}
-use Rattle.flow.specs.Now.{Locals, Takes}
-use Rattle.flow.specs.Rows.{act}
-use Rattle.flow.specs.State.{Frame, State}
+use Rattle.flow.specs.Words.{give, has_result, quit, RunLeads, next_of, step, Takes, act, Frame, State}
 use Rattle.flow.proofs.Endings.{ends_over, leads_one}
-use Rattle.c_meaning.specs.Runs.{left_function, value_left}
-use Rattle.c_meaning.specs.World.{World, Out, Go, Flow, Next, Broken, Continued, Returned, bind, stuck}
+use Rattle.c_meaning.specs.Words.{left_function, value_left, World, Out, Go, Flow, Next, Broken, Continued, Returned, bind, stuck}
 use Rattle.lower_relation.specs.Functions.{ComesTo, Stays, Passes, EndsAt, GivesAt, Leaves}
 use Rattle.lower_relation.specs.Paths.{Does, Exits, Stuck}
 use Rattle.lower_relation.proofs.Flows.{flow_at, flow_post}
@@ -61,9 +57,7 @@ module _ (below_it : Standing) (f node : ℕ) (operands : Stack) (locals : Local
   given_ok : (i : ℕ) (v : Scalar) (u : World) → step z.code (state z i (v ∷ []) u) ≡ give true (Takes v (now z [] u)) (state z i (v ∷ []) u)
       → (is_main : Bool) → Returns i (v ∷ []) u true (value_left is_main true (Returned (Some v)) u)
   given_ok i Undefined u e is_main = ends_over z.code _ _ e
-  given_ok i Null u e is_main = (leads_one z.code _ _ e, le_self u.turns)
-  given_ok i (Place object offset) u e is_main = (leads_one z.code _ _ e, le_self u.turns)
-  given_ok i (Number kind value) u e is_main = (leads_one z.code _ _ e, le_self u.turns)
+  given_ok i v u e is_main = (leads_one z.code _ _ e, le_self u.turns)
 
   left_ok : (i : ℕ) (u : World) (has : Bool) → step z.code (state z i [] u) ≡ quit z.below has (state z i [] u) → Returns i [] u has (Go Undefined u)
   left_ok i u true e = (leads_one z.code _ _ e, le_self u.turns)

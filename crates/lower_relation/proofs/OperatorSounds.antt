@@ -1,6 +1,8 @@
 -- Each operator does what it means.
 use Rattle.std.proofs.Common.{◌≡◌, ℕ, zero, suc, refl, ap, sym, ◌∙◌, List, [], ◌∷◌, Option, Some, None, Ok, Err, Bool, true, false}
 use Rattle.std.specs.Prelude.{ℤ, pos, not, Result, if◌then◌else◌}
+use Rattle.cbi_base.specs.Words.{Locals, local_at, flag, is_zero, Objects, compared, difference, loaded, moved, stored, moved_by, applied, applied_to_one}
+use Rattle.cbi_base.specs.Words.{opposite, truth_of}
 use Rattle.cbi_base.specs.declared.observation.Seen.{Seen}
 use Rattle.cbi_base.specs.declared.scalar.Kind.{Kind}
 use Rattle.cbi_base.specs.declared.scalar.Kind.TheVariants.{Int, Unsigned}
@@ -14,9 +16,7 @@ use Rattle.cbi_base.specs.declared.operators.Unary.{Unary}
 use Rattle.cbi_base.specs.declared.operators.Unary.TheVariants as unary
 use Rattle.cbi_base.specs.declared.trap.Trap.{Trap}
 use Rattle.cbi_base.specs.declared.trap.Trap.TheVariants as trap
-use Rattle.cbi_base.specs.Arithmetic.{flag, is_zero}
-use Rattle.cbi_base.specs.Objects.{Objects, ◌>>=◌, compared, difference, loaded, moved, stored}
-use Rattle.cbi_base.specs.Scalars.{applied, applied_to_one, opposite, truth_of}
+use Rattle.cbi_base.specs.Objects.{◌>>=◌}
 use Rattle.c_syntax.specs.declared.expr.PrefixOperator.{PrefixOperator}
 use Rattle.c_syntax.specs.declared.expr.PrefixOperator.TheVariants as prefix
 use Rattle.flow.specs.declared.node.Node.TheVariants as node
@@ -28,28 +28,19 @@ use Rattle.flow.specs.declared.site.SiteKind.{SiteKind}
 use Rattle.flow.specs.declared.site.SiteKind.TheVariants.{Branch, Return, Pair}
 use Rattle.flow.specs.declared.site.Slot.{Slot}
 use Rattle.flow.specs.declared.site.Slot.TheVariants as slot
-use Rattle.flow.specs.Countdown.{at_node, observed}
-use Rattle.flow.specs.Machine.{RunLeads, branch, go_on, next_of, step}
-use Rattle.flow.specs.Now.{Goes, Locals, Now, gives, local_at, with_answer, with_named}
-use Rattle.flow.specs.Rows.{act, moved_by}
-use Rattle.flow.specs.State.{On}
-use Rattle.flow.specs.Truths.{looked, number_at, partner_number, seen_by, seen_pair}
+use Rattle.flow.specs.Words.{at_node, observed, RunLeads, branch, go_on, next_of, step, Goes, Now, gives, with_answer, with_named, act, On, sees_now, looked}
 use Rattle.flow.proofs.Endings.{ends_over, leads_one}
 use Rattle.c_meaning.specs.declared.operation.Operation.{Operation}
 use Rattle.c_meaning.specs.declared.operation.Operation.TheVariants.{Numbers, MoveLeft, MoveRight, Span, Ordered, Wrong}
 use Rattle.c_meaning.specs.declared.value_type.ValueType.{ValueType}
 use Rattle.c_meaning.specs.declared.value_type.ValueType.TheVariants as type
-use Rattle.c_meaning.specs.Conversions.{as_wanted, between, conversion, converts, load_at}
+use Rattle.c_meaning.specs.Words.{as_wanted, between, conversion, converts, load_at, Sense, Facts, Setting, Sites, counted_value, flag_value, flagged}
+use Rattle.c_meaning.specs.Words.{left_kind, operate, operation, right_kind, type_given, Assignment, Plain, By, Joint, Both, Computes, Unjoined, one_kind}
+use Rattle.c_meaning.specs.Words.{listed, truth, world_with_seen, World, Out, Go, Caller, OutDone, answered, bind, choose, done, stuck}
 use Rattle.c_meaning.specs.Expressions as mean
-use Rattle.c_meaning.specs.Expressions.{Sense}
-use Rattle.c_meaning.specs.Facts.{Facts, Setting, Sites}
-use Rattle.c_meaning.specs.Operation.{counted_value, flag_value, flagged, left_kind, operate, operation, right_kind, type_given}
 use Rattle.c_meaning.specs.Places as place
 use Rattle.c_meaning.specs.Trees as tree
-use Rattle.c_meaning.specs.Trees.{Assignment, Plain, By, Joint, Both, Computes, Unjoined, one_kind}
 use Rattle.c_meaning.specs.Visits as visit
-use Rattle.c_meaning.specs.Visits.{listed, now_of, truth, world_with_seen}
-use Rattle.c_meaning.specs.World.{World, Out, Go, Caller, OutDone, answered, bind, choose, done, stuck}
 use Rattle.lower_relation.specs.Operators as way
 use Rattle.lower_relation.specs.Values.{Dropped}
 use Rattle.lower_relation.specs.Paths.{Path, ◌then◌, Does, Either, Emitted, ForkTo, MarksAll, Nothing, Ways}
@@ -57,25 +48,6 @@ use Rattle.lower_relation.specs.Stands.{Agrees}
 use Rattle.lower_relation.proofs.Reach.{Reach, Stack, bind_bind, bind_same, first, le_self}
 use Rattle.lower_relation.proofs.Sounds.{Standing, Sound, SenseSound, answers, bare, before, changes, choice_ok, fork_ok, none, now, one_of_ok, plus, pushes, row, same_meaning, seq, setting, state, stay, stuck_ok, falsely_ok, to, truly_ok, turned_ok, unchanged, under, way}
 use Rattle.lower_relation.proofs.ValueSounds.{converts_below_ok, converts_ok, done_ok, dropped_ok, effected_ok, handed_ok, handed_value_ok, load_ok, placed_ok, push_ok, sole_ok, tests_ok, valued_ok, wanted_ok}
-
--- what a site sees doesn't rest on the operands below the top one
-seen_pair_same : (p : Partner) (s : Slot) (locals : Locals) (xs ys : Stack) (w : World)
-    → seen_pair (number_at s (now_of locals xs w)) (partner_number p (now_of locals xs w)) ≡ seen_pair (number_at s (now_of locals ys w))
-    (partner_number p (now_of locals ys w))
-seen_pair_same (Variable name other) s locals xs ys w = refl
-seen_pair_same (Constant value) s locals xs ys w = refl
-
-seen_same : (k : SiteKind) (locals : Locals) (v : Scalar) (xs ys : Stack) (w : World)
-    → seen_by k (v ∷ xs) (now_of locals (v ∷ xs) w) ≡ seen_by k (v ∷ ys) (now_of locals (v ∷ ys) w)
-seen_same (Branch word) locals v xs ys w = refl
-seen_same (Return callee) locals v xs ys w = refl
-seen_same (Pair target s partner) locals v xs ys w = seen_pair_same partner s locals (v ∷ xs) (v ∷ ys) w
-
-looked_same : (s : Option Site) (locals : Locals) (v : Scalar) (xs ys : Stack) (w : World)
-    → looked s (now_of locals (v ∷ xs) w) ≡ looked s (now_of locals (v ∷ ys) w)
-unfolding looked
-looked_same None locals v xs ys w = refl
-looked_same (Some s) locals v xs ys w = seen_same s.kind locals v xs ys w
 
 two_steps : {A B C : Type 0} (r : Result A Trap) (q : Result B Trap) (g : A → B → Result C Trap) (w : World)
     → bind (answered r w) (λ a u. bind (answered q u) (λ b v. answered (g a b) v)) ≡ answered (r >>= λ a. q >>= λ b. g a b) w
@@ -234,19 +206,14 @@ module _ (z : Standing) where
   looked_at : (wanted : Want) (v : Scalar) (w : World)
       → answered (loaded wanted v w.objects) w ≡ bind (answered (place.pointed_place v) w) (λ p u. answered (loaded wanted p u.objects) u)
   unfolding loaded
-  looked_at wanted Undefined w = refl
-  looked_at wanted Null w = refl
-  looked_at wanted (Place o a) w = refl
   looked_at wanted (Number kind value) w = number_looked_at wanted kind value (is_zero value) w
+  looked_at wanted v w = refl
 
   load_through_ok : (of : Option ValueType) (v : Scalar)
       → Sound z (plus v) (λ w. bind (answered (place.pointed_place v) w) (load_at of)) (way.LoadThrough z.graph of) to plus
-  load_through_ok None v = seq z (pointed_ok v) (λ p. load_ok z None p)
-  load_through_ok (Some type.Void) v = seq z (pointed_ok v) (λ p. load_ok z (Some type.Void) p)
-  load_through_ok (Some type.Struct) v = seq z (pointed_ok v) (λ p. load_ok z (Some type.Struct) p)
-  load_through_ok (Some (type.Array size)) v = seq z (pointed_ok v) (λ p. load_ok z (Some (type.Array size)) p)
   load_through_ok (Some (type.Number kind)) v = same_meaning z (looked_at (want.Number kind) v) (load_ok z (Some (type.Number kind)) v)
   load_through_ok (Some (type.Pointer size)) v = same_meaning z (looked_at want.Pointer v) (load_ok z (Some (type.Pointer size)) v)
+  load_through_ok of v = seq z (pointed_ok v) (λ p. load_ok z of p)
 
   through_ok : (of : Option ValueType) {m : World → Out Scalar} {R : Path ℕ} → Sound z bare m R to plus
       → SenseSound z (mean.placed of (λ w. bind (m w) (λ v u. answered (place.pointed_place v) u))) (way.Through z.graph of R)
@@ -278,11 +245,7 @@ module _ (z : Standing) where
   pub cast_ok : (b : Bool) (want : Option ValueType) {m : Sense} {R : Emitted} → SenseSound z m R
       → SenseSound z (mean.cast b want m) (way.Cast z.graph b want R)
   cast_ok b (Some type.Void) a = effected_ok z a.effect
-  cast_ok b None a = valued_ok z (handed_value_ok z b None a)
-  cast_ok b (Some type.Struct) a = valued_ok z (handed_value_ok z b (Some type.Struct) a)
-  cast_ok b (Some (type.Number kind)) a = valued_ok z (handed_value_ok z b (Some (type.Number kind)) a)
-  cast_ok b (Some (type.Pointer size)) a = valued_ok z (handed_value_ok z b (Some (type.Pointer size)) a)
-  cast_ok b (Some (type.Array size)) a = valued_ok z (handed_value_ok z b (Some (type.Array size)) a)
+  cast_ok b want a = valued_ok z (handed_value_ok z b want a)
 
   pub comma_ok : (rest : ℕ) {m q : Sense} {R S : Emitted} → SenseSound z m R → SenseSound z q S
       → SenseSound z (mean.comma rest m q) (way.Comma z.graph rest R S)
@@ -320,14 +283,14 @@ module _ (z : Standing) where
     marked site i k v xs w (Ok seen) e = (leads_one z.code _ _ e, le_self w.turns)
     marked site i k v xs w (Err t) e = ends_over z.code _ _ e
 
-    sees : (site : ℕ) (v : Scalar) (xs : Stack) (w : World) → looked (z.code.site site) (now z (v ∷ xs) w) ≡ looked (sites.site site) (now z (v ∷ []) w)
-    sees site v xs w = ap (λ o. looked o (now z (v ∷ xs) w)) (agrees.site site) ∙ looked_same (sites.site site) z.locals v xs [] w
+    sees : (site : ℕ) (v : Scalar) (xs : Stack) (w : World) → sees_now (z.code.site site) (now z (v ∷ xs) w) ≡ looked (sites.site site) (Some v) z.locals w.objects
+    sees site v xs w = ap (λ o. looked o (Some v) z.locals w.objects) (agrees.site site)
 
     mark_ok : (site : ℕ) (v : Scalar) → Sound z (plus v) (visit.observed_value s site v) (λ i k. z.graph i (view.Marks site k)) to plus
     unfolding next_of
     mark_ok site v = record {
       runs = λ i k xs w le h.
-          marked site i k v xs w (looked (sites.site site) (now z (v ∷ []) w))
+          marked site i k v xs w (looked (sites.site site) (Some v) z.locals w.objects)
           (ap (λ x. next_of z.code x (state z i (v ∷ xs) w)) (z.stands.at i _ h)
           ∙ ap (λ r. observed r site (state z i (v ∷ xs) w) (λ t. On (at_node (z.ren k) t))) (sees site v xs w));
     }

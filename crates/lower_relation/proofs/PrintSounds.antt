@@ -2,6 +2,7 @@
 use Rattle.std.proofs.Common.{◌≡◌, ℕ, refl, ap, sym, subst, ◌∙◌, List, [], ◌∷◌, ◌++◌, ◌+◌, ◌-◌, Option, Some, None, Bool, true, false, length, take, nat_le}
 use Rattle.std.specs.Prelude.{pos, reverse, slice_get, if◌then◌else◌}
 use Rattle.std.specs.List.{list_all}
+use Rattle.cbi_base.specs.Words.{is_defined_value, Printed, pieces_of, printed_format, string_at, take_values, then_print, these, output_limit, low_byte}
 use Rattle.cbi_base.specs.declared.outcome.Outcome.TheVariants.{CutOutput, Trapped}
 use Rattle.cbi_base.specs.declared.scalar.Kind.TheVariants.{Char, Int, Unsigned}
 use Rattle.cbi_base.specs.declared.scalar.Scalar.{Scalar}
@@ -10,18 +11,11 @@ use Rattle.cbi_base.specs.declared.trap.Trap.{Trap}
 use Rattle.cbi_base.specs.declared.trap.Trap.TheVariants as trap
 use Rattle.flow.specs.declared.node.Node.TheVariants as node
 use Rattle.flow.specs.declared.program.Text.{Text}
-use Rattle.flow.specs.Limits.{output_limit}
-use Rattle.flow.specs.Machine.{go_on, step}
-use Rattle.flow.specs.Now.{Effect, Goes, Lacks, Now, Stops, Takes, byte_of, gives, is_defined, next_on, several, with_named, with_taken}
-use Rattle.flow.specs.Printing.{Printed, pieces_of, printed, string_at, take_values, then_print, these}
+use Rattle.flow.specs.Words.{go_on, step, Effect, Goes, Lacks, Now, Stops, Takes, gives, next_on, several, with_named, with_taken, act, State}
 use Rattle.flow.specs.Printing as machine
-use Rattle.flow.specs.Rows.{act}
-use Rattle.flow.specs.State.{State}
 use Rattle.flow.proofs.Endings.{ends_over, leads_one}
-use Rattle.c_meaning.specs.Calls.{all_defined}
-use Rattle.c_meaning.specs.Output.{next_byte, print, put_byte, put_format, put_string, written}
+use Rattle.c_meaning.specs.Words.{all_defined, next_byte, print, put_byte, put_format, put_string, written, World, Out, Go, Stop, bind, choose, stuck}
 use Rattle.c_meaning.specs.Output as mean
-use Rattle.c_meaning.specs.World.{World, Out, Go, Stop, bind, choose, stuck}
 use Rattle.lower_relation.specs.Paths.{Does}
 use Rattle.lower_relation.proofs.Reach.{Reach, Stack, bind_bind, bind_go, le_self}
 use Rattle.lower_relation.proofs.Sounds.{Standing, Sound, bare, none, now, plus, row, state, to}
@@ -81,8 +75,8 @@ module _ (z : Standing) where
   put_ok (Number Unsigned v) = record { runs = λ i k xs w le h. ends_over z.code _ _ (row z (node.Put 0) i k (Number Unsigned v ∷ xs) w h) }
   put_ok (Number Int v) = record {
     runs = λ i k xs w le h.
-        written_on i k (Number Int v ∷ xs) xs w (byte_of v ∷ []) (nat_le (length w.output + 1) output_limit) (λ d. gives d (Number Int (pos (byte_of v))))
-        (λ _. Go (Number Int (pos (byte_of v)))) (λ a u. state z k (a ∷ xs) u) (row z (node.Put 0) i k (Number Int v ∷ xs) w h)
+        written_on i k (Number Int v ∷ xs) xs w (low_byte v ∷ []) (nat_le (length w.output + 1) output_limit) (λ d. gives d (Number Int (pos (low_byte v))))
+        (λ _. Go (Number Int (pos (low_byte v)))) (λ a u. state z k (a ∷ xs) u) (row z (node.Put 0) i k (Number Int v ∷ xs) w h)
         (λ e. (leads_one z.code _ _ e, le_self w.turns));
   }
 
@@ -104,11 +98,11 @@ module _ (z : Standing) where
   -- the values by the format, where each conversion takes its value
   formatted_on : (i k : ℕ) (ys xs : Stack) (w : World) (format : List ℕ) (values : List Scalar) (takes : Bool)
       → step z.code (state z i ys w) ≡ go_on (z.ren k) (state z i ys w)
-      (if takes then machine.print_then (printed (pieces_of format) values w.objects) (now z xs w) (λ d. Goes d) else Stops (Trapped trap.Internal) w.output)
-      → Reach z.code z.watch (state z i ys w) w.turns (choose takes (print (printed (pieces_of format) values w.objects)) stuck w) (λ a u. state z k xs u)
+      (if takes then machine.print_then (printed_format (pieces_of format) values w.objects) (now z xs w) (λ d. Goes d) else Stops (Trapped trap.Internal) w.output)
+      → Reach z.code z.watch (state z i ys w) w.turns (choose takes (print (printed_format (pieces_of format) values w.objects)) stuck w) (λ a u. state z k xs u)
   formatted_on i k ys xs w format values true e =
-      subst (λ o. Reach z.code z.watch (state z i ys w) w.turns o (λ a u. state z k xs u)) (bind_go (print (printed (pieces_of format) values w.objects) w))
-      (print_on tt i k ys xs (λ _. xs) w (printed (pieces_of format) values w.objects) (λ d. Goes d) (λ u. refl) e)
+      subst (λ o. Reach z.code z.watch (state z i ys w) w.turns o (λ a u. state z k xs u)) (bind_go (print (printed_format (pieces_of format) values w.objects) w))
+      (print_on tt i k ys xs (λ _. xs) w (printed_format (pieces_of format) values w.objects) (λ d. Goes d) (λ u. refl) e)
   formatted_on i k ys xs w format values false e = ends_over z.code _ _ e
 
   all_on : (i k : ℕ) (ys xs : Stack) (w : World) (format : Text) (vs : List Scalar) (defined : Bool)
@@ -125,7 +119,7 @@ module _ (z : Standing) where
   unfolding act
   format_ok number count format vs at l = record {
     runs = λ i k xs w le h.
-        all_on i k (vs ++ xs) xs w format vs (list_all is_defined vs)
+        all_on i k (vs ++ xs) xs w format vs (list_all is_defined_value vs)
         (row z (node.Format number count 0) i k (vs ++ xs) w h
         ∙ ap (λ t. go_on (z.ren k) (state z i (vs ++ xs) w)
         (with_named t (now z (vs ++ xs) w) (λ text. with_taken (several count (now z (vs ++ xs) w)) (now z (vs ++ xs) w)

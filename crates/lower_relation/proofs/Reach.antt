@@ -2,14 +2,11 @@
 use Rattle.std.proofs.Common.{◌≡◌, refl, ℕ, ◌≤◌, arith, List}
 use Rattle.cbi_base.specs.declared.outcome.Outcome.{Outcome}
 use Rattle.cbi_base.specs.declared.scalar.Scalar.{Scalar}
-use Rattle.flow.specs.Code.{Code}
-use Rattle.flow.specs.Machine.{Ends, RunLeads}
-use Rattle.flow.specs.Now.{Locals}
-use Rattle.flow.specs.State.{Ending, Frame, State, Watch}
+use Rattle.flow.specs.Words.{Code, Ends, RunLeads, Now, Ending, Frame, State, Watch}
 use Rattle.flow.proofs.Endings.{leads_self, leads_trans}
-use Rattle.c_meaning.specs.Visits.{now_of}
 use Rattle.c_meaning.specs.World.{World, Out, Go, Stop, bind}
 use Rattle.std.specs.Prelude.{None}
+use Rattle.cbi_base.specs.Frames.{Locals}
 
 abbrev pub Stack : Type 0
 Stack = List Scalar
@@ -20,6 +17,10 @@ ending watch outcome w = record { outcome = outcome; output = w.output; seen = w
 
 abbrev pub watched : Watch → World → Watch
 watched watch w = record watch { seen = w.seen }
+
+-- what the rows of the machine take and change, where the text has this world
+abbrev pub now_of : Locals → Stack → World → Now
+now_of locals operands w = record { operands = operands; locals = locals; objects = w.objects; input = w.input; output = w.output }
 
 -- the machine in a function, at a node, with these operands, where the text has this world
 abbrev pub state_at : Watch → ℕ → List Frame → Locals → ℕ → Stack → World → State

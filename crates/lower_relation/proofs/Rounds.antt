@@ -2,11 +2,10 @@
 use Rattle.std.proofs.Common.{◌≡◌, ℕ, zero, suc, ◌≤◌, refl, ap, arith, Bool, true, false}
 use Rattle.cbi_base.specs.declared.outcome.Outcome.TheVariants.{CutTurns}
 use Rattle.flow.specs.declared.node.View.TheVariants as view
-use Rattle.flow.specs.Machine.{next_of}
-use Rattle.flow.specs.State.{State}
+use Rattle.flow.specs.Words.{next_of, State}
 use Rattle.flow.proofs.Endings.{ends_over, leads_one}
-use Rattle.c_meaning.specs.Statements.{after_body, do_round, for_round, rounds, while_round}
-use Rattle.c_meaning.specs.World.{World, Out, Go, Stop, OutDone, Flow, Next, Broken, Continued, Returned, bind, choose, spend}
+use Rattle.c_meaning.specs.Words.{after_body, do_round, for_round, rounds, while_round, World, Out, Go, Stop, OutDone, Flow, Next, Broken, Continued, Returned}
+use Rattle.c_meaning.specs.Words.{bind, choose, spend}
 use Rattle.lower_relation.specs.Paths.{Path, Exits, Ways}
 use Rattle.lower_relation.specs.Statements.{DoDo, ForLoop, WhileDo, within_loop}
 use Rattle.lower_relation.proofs.Flows.{Executes, Flows, flow_at, flow_post, returned_on}

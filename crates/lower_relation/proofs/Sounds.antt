@@ -1,30 +1,22 @@
 -- A path of a graph is sound where it does what a part of a text means: how paths are put together.
 use Rattle.std.proofs.Common.{◌≡◌, inl, inr, ℕ, ◌≤◌, refl, ap, sym, subst, arith, List, ◌∷◌, ◌++◌, Some, Ok, Err, Bool, true, false, length}
 use Rattle.std.specs.Prelude.{Result, not, if◌then◌else◌, pos}
+use Rattle.cbi_base.specs.Words.{Locals, Objects, truth_of}
 use Rattle.cbi_base.specs.declared.scalar.Kind.TheVariants.{Char}
 use Rattle.cbi_base.specs.declared.scalar.Scalar.{Scalar}
 use Rattle.cbi_base.specs.declared.scalar.Scalar.TheVariants.{Number}
 use Rattle.cbi_base.specs.declared.trap.Trap.{Trap}
-use Rattle.cbi_base.specs.Objects.{Objects}
-use Rattle.cbi_base.specs.Scalars.{truth_of}
 use Rattle.flow.specs.declared.node.Node.{Node}
 use Rattle.flow.specs.declared.node.Node.TheVariants as node
 use Rattle.flow.specs.declared.node.View.TheVariants as view
-use Rattle.flow.specs.Code.{Code}
-use Rattle.flow.specs.Machine.{RunLeads, next_of, step, go_on, halt, branch}
-use Rattle.flow.specs.Now.{Locals, Now, Goes, with_answer}
-use Rattle.flow.specs.Rows.{act}
-use Rattle.flow.specs.State.{Frame, State, Watch}
+use Rattle.flow.specs.Words.{Code, RunLeads, next_of, step, go_on, halt, branch, Now, Goes, with_answer, act, Frame, State, Watch}
 use Rattle.flow.proofs.Endings.{ends_over, leads_one}
-use Rattle.c_meaning.specs.Expressions.{Sense}
-use Rattle.c_meaning.specs.Facts.{Facts, Setting, Signature, Sites}
-use Rattle.c_meaning.specs.Trees.{has_value}
-use Rattle.c_meaning.specs.Visits.{now_of, truth}
+use Rattle.c_meaning.specs.Words.{Sense, Facts, Setting, Signature, Sites, has_value, truth, World, Out, Go, Caller, answered, bind, choose, done, nothing}
+use Rattle.c_meaning.specs.Words.{stuck}
 use Rattle.c_meaning.specs.Visits as visit
-use Rattle.c_meaning.specs.World.{World, Out, Go, Caller, answered, bind, choose, done, nothing, stuck}
 use Rattle.lower_relation.specs.Paths.{Graph, Path, ◌then◌, Ways, Does, Either, Emitted, Falsely, ForkTo, Nothing, OneOf, Only, Stuck, Truly, Turned}
 use Rattle.lower_relation.specs.Stands.{Stands}
-use Rattle.lower_relation.proofs.Reach.{Stack, Reach, bind_bind, first, here, le_self, reach_bind, reach_with, Holds, state_at}
+use Rattle.lower_relation.proofs.Reach.{now_of, Stack, Reach, bind_bind, first, here, le_self, reach_bind, reach_with, Holds, state_at}
 
 -- a graph in a running function: with the functions below it, its locals, what the watch was, and at most so many turns
 pub record Standing : Type 1 where

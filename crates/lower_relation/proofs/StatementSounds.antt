@@ -1,17 +1,11 @@
 -- A graph that does a statement does what the statement means.
 use Rattle.std.proofs.Common.{ℕ, refl, Some, None}
 use Rattle.std.specs.Prelude.{Option}
-use Rattle.c_syntax.specs.ExprTree.{ExprTree}
+use Rattle.c_syntax.specs.Words.{ExprTree, DeclarationTree, ForStartTree, StatementTree, EntryList}
 use Rattle.c_syntax.specs.StatementTree as tree
-use Rattle.c_syntax.specs.StatementTree.{DeclarationTree, ForStartTree, StatementTree, EntryList}
 use Rattle.c_meaning.specs.declared.value_type.ValueType.{ValueType}
-use Rattle.c_meaning.specs.Conversions.{is_null_as}
-use Rattle.c_meaning.specs.Expressions.{wanted_value}
-use Rattle.c_meaning.specs.Facts.{Facts, Setting, Sites}
-use Rattle.c_meaning.specs.Meaning.{expr}
-use Rattle.c_meaning.specs.Statements.{exec, exec_all, for_started, optional_condition, optional_effect, returned_value}
-use Rattle.c_meaning.specs.Trees.{type_of}
-use Rattle.c_meaning.specs.World.{Caller, Next, Broken, Continued}
+use Rattle.c_meaning.specs.Words.{is_null_as, wanted_value, Facts, Setting, Sites, expr, exec, exec_all, for_started, optional_condition, optional_effect}
+use Rattle.c_meaning.specs.Words.{returned_value, type_of, Caller, Next, Broken, Continued}
 use Rattle.lower_relation.specs.Stands.{Agrees}
 use Rattle.lower_relation.specs.Statements.{ForStarts, OptionalCondition, OptionalEffect, ReturnDo, Runs, RunsAll}
 use Rattle.lower_relation.proofs.ExpressionSounds.{condition_ok, expr_ok}

@@ -8,11 +8,9 @@ use Rattle.cbi_base.specs.declared.scalar.Want.{Want}
 use Rattle.cbi_base.specs.declared.scalar.Want.TheVariants as want
 use Rattle.cbi_base.specs.declared.operators.Unary.{Unary}
 use Rattle.cbi_base.specs.declared.operators.Unary.TheVariants as unary
-use Rattle.cbi_base.specs.Objects.{loaded}
-use Rattle.cbi_base.specs.Scalars.{applied_to_one, converted}
+use Rattle.cbi_base.specs.Words.{loaded, applied_to_one, converted}
 use Rattle.flow.specs.declared.node.Node.TheVariants as node
-use Rattle.flow.specs.Now.{Goes, with_answer}
-use Rattle.flow.specs.Rows.{act}
+use Rattle.flow.specs.Words.{Goes, with_answer, act}
 use Rattle.flow.proofs.Endings.{ends_over}
 use Rattle.c_meaning.specs.declared.conversion.Conversion.{Conversion}
 use Rattle.c_meaning.specs.declared.conversion.Conversion.TheVariants.{Keep, To, Misfit}
@@ -20,9 +18,7 @@ use Rattle.c_meaning.specs.declared.value_type.ValueType.{ValueType}
 use Rattle.c_meaning.specs.declared.value_type.ValueType.TheVariants as type
 use Rattle.c_meaning.specs.Conversions as mean
 use Rattle.c_meaning.specs.Expressions as mean_of
-use Rattle.c_meaning.specs.Expressions.{Sense}
-use Rattle.c_meaning.specs.Visits.{truth}
-use Rattle.c_meaning.specs.World.{World, Out, Go, OutDone, answered, bind, choose, done, nothing}
+use Rattle.c_meaning.specs.Words.{Sense, truth, World, Out, Go, OutDone, answered, bind, choose, done, nothing}
 use Rattle.lower_relation.specs.Paths.{Path, ◌then◌, Does, Emitted, Tests}
 use Rattle.lower_relation.specs.Values as way
 use Rattle.lower_relation.proofs.Reach.{bind_go}
@@ -78,12 +74,10 @@ module _ (z : Standing) where
   converts_below_ok Misfit x y = stuck_ok z (λ xs. y ∷ x ∷ xs) to (λ v xs. y ∷ v ∷ xs)
 
   pub load_ok : (of : Option ValueType) (p : Scalar) → Sound z (plus p) (mean.load_at of p) (way.LoadAt z.graph of) to plus
-  load_ok None p = stuck_ok z (plus p) to plus
-  load_ok (Some type.Void) p = stuck_ok z (plus p) to plus
-  load_ok (Some type.Struct) p = stuck_ok z (plus p) to plus
   load_ok (Some (type.Number kind)) p = load_row_ok (want.Number kind) p
   load_ok (Some (type.Pointer size)) p = load_row_ok want.Pointer p
   load_ok (Some (type.Array size)) p = unchanged z p
+  load_ok of p = stuck_ok z (plus p) to plus
 
   -- a copy of a defined value is looked at, and dropped
   looked_ok : (v x : Scalar) → applied_to_one unary.Not v ≡ Ok x
@@ -107,12 +101,9 @@ module _ (z : Standing) where
   defined_ok Null = looked_ok Null _ refl
 
   pub handed_ok : (of : Option ValueType) (v : Scalar) → Sound z (plus v) (mean.handed of v) (way.Handed z.graph of) to plus
-  handed_ok None v = stuck_ok z (plus v) to plus
-  handed_ok (Some type.Void) v = stuck_ok z (plus v) to plus
-  handed_ok (Some type.Struct) v = stuck_ok z (plus v) to plus
-  handed_ok (Some (type.Array size)) v = stuck_ok z (plus v) to plus
   handed_ok (Some (type.Number kind)) v = convert_ok kind v
   handed_ok (Some (type.Pointer size)) v = defined_ok v
+  handed_ok of v = stuck_ok z (plus v) to plus
 
   pub tests_ok : {m : World → Out Scalar} {R : Path ℕ} → Sound z bare m R to plus → Sound z bare (λ w. bind (m w) truth) (Tests z.graph R) sound.way none
   tests_ok a = seq z a (λ v. fork_ok z v)
@@ -168,8 +159,4 @@ module _ (z : Standing) where
   pub arm_effect_ok : (b : Bool) (have want : Option ValueType) {m : Sense} {R : Emitted}
       → SenseSound z m R → Sound z bare (mean_of.arm_effect b have want m) (way.ArmEffect z.graph b have want R) to none
   arm_effect_ok b have (Some type.Void) a = a.effect
-  arm_effect_ok b have None a = done_ok (arm_ok b have None a)
-  arm_effect_ok b have (Some type.Struct) a = done_ok (arm_ok b have (Some type.Struct) a)
-  arm_effect_ok b have (Some (type.Number kind)) a = done_ok (arm_ok b have (Some (type.Number kind)) a)
-  arm_effect_ok b have (Some (type.Pointer size)) a = done_ok (arm_ok b have (Some (type.Pointer size)) a)
-  arm_effect_ok b have (Some (type.Array size)) a = done_ok (arm_ok b have (Some (type.Array size)) a)
+  arm_effect_ok b have want a = done_ok (arm_ok b have want a)

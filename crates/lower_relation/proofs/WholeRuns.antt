@@ -2,23 +2,19 @@
 use Rattle.std.proofs.Common.{◌≡◌, ℕ, ◌≤◌, refl, ap, subst, sym, arith, List, [], ◌∷◌, Some, None, Bool, true, false, eq-eqb}
 use Rattle.std.specs.Prelude.{Option, pos}
 use Rattle.std.specs.Option.{option_map}
+use Rattle.cbi_base.specs.Words.{each_made, Objects, no_objects}
 use Rattle.cbi_base.specs.declared.scalar.Kind.TheVariants.{Char, Int, Unsigned}
 use Rattle.cbi_base.specs.declared.scalar.Scalar.{Scalar}
 use Rattle.cbi_base.specs.declared.scalar.Scalar.TheVariants.{Number, Place, Null, Undefined}
-use Rattle.cbi_base.specs.Objects.{Objects, no_objects}
 use Rattle.flow.specs.declared.node.View.TheVariants as view
 use Rattle.flow.specs.declared.program.ProgramParts.{ProgramParts}
-use Rattle.flow.specs.Calls.{give, has_result, quit}
+use Rattle.flow.specs.Words.{give, has_result, quit, Code, code_of, Ends, EndsFrom, MachineEnds, at_start, begin, begin_with, no_work, step, program_objects}
+use Rattle.flow.specs.Words.{Takes, Ending, State, Watch}
 use Rattle.flow.specs.Calls as flow_calls
-use Rattle.flow.specs.Code.{Code, code_of}
-use Rattle.flow.specs.Machine.{Ends, EndsFrom, MachineEnds, at_start, begin, begin_with, each_made, no_work, program_objects, step}
-use Rattle.flow.specs.Now.{Takes}
-use Rattle.flow.specs.State.{Ending, State, Watch}
 use Rattle.flow.proofs.Endings.{ends_over, one_end_from}
-use Rattle.c_meaning.specs.Facts.{Signature}
-use Rattle.c_meaning.specs.Runs.{Source, behaves, call_at, enter_function, enter_with, first_world, gives_value, inside, locals_at, meaning, run_body, run_from, run_main, value_left}
-use Rattle.c_meaning.specs.Trees.{has_value}
-use Rattle.c_meaning.specs.World.{World, Out, Go, Stop, Flow, Next, Broken, Continued, Returned, bind, stuck}
+use Rattle.c_meaning.specs.Words.{Signature, Source, behaves, call_at, enter_function, enter_with, first_world, gives_value, inside, locals_at, meaning}
+use Rattle.c_meaning.specs.Words.{run_body, run_from, run_main, value_left, has_value, World, Out, Go, Stop, Flow, Next, Broken, Continued, Returned, bind}
+use Rattle.c_meaning.specs.Words.{stuck}
 use Rattle.lower_relation.specs.Functions.{BodyIn, EndsAt, GivesAt, IsGraphOf, Leaves, Lowered, callee_with, ending_of}
 use Rattle.lower_relation.specs.Paths.{Exits, Stuck}
 use Rattle.lower_relation.proofs.FunctionSounds.{body_does, callee_is, calls_ok, running}

@@ -7,12 +7,8 @@ use Rattle.c_syntax.specs.ExprTree.{ExprTree, ExprList, LinkList, PostfixList}
 use Rattle.c_types_expressions.specs.ExprWalk.{binary_of}
 use Rattle.flow.specs.declared.node.Node.TheVariants as node
 use Rattle.c_meaning.specs.declared.value_type.ValueType.{ValueType}
-use Rattle.c_meaning.specs.Conversions.{is_null_as}
-use Rattle.c_meaning.specs.Facts.{Facts, Sites}
-use Rattle.c_meaning.specs.Meaning.{text_of_string}
-use Rattle.c_meaning.specs.Operation.{operation}
-use Rattle.c_meaning.specs.Trees.{token_of, type_of, ends_as_place, is_place, count, assignment, joint, is_null_beside, begins_null, operand_type}
-use Rattle.c_meaning.specs.Trees.{called_as, first_type, other_types}
+use Rattle.c_meaning.specs.Words.{is_null_as, Facts, Sites, text_of_string, operation, token_of, type_of, ends_as_place, is_place, count, assignment, joint}
+use Rattle.c_meaning.specs.Words.{is_null_beside, begins_null, operand_type, called_as, first_type, other_types}
 use Rattle.lower_relation.specs.Calls.{CallDoes, PrintPath}
 use Rattle.lower_relation.specs.Operators.{Assign, Cast, Comma, Conditional, Decides, Linked, LinkedTruth, Member, Operates, Postfixed, Prefixed, Settled}
 use Rattle.lower_relation.specs.Operators.{SizeValue, Spot, SteppedAs, Variable}

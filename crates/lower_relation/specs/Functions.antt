@@ -8,14 +8,9 @@ use Rattle.flow.specs.declared.node.Node.TheVariants as node
 use Rattle.flow.specs.declared.node.View.{View}
 use Rattle.flow.specs.declared.node.View.TheVariants.{Gives, Quits}
 use Rattle.flow.specs.declared.program.ProgramParts.{ProgramParts}
-use Rattle.flow.specs.Code.{Callee, Code, code_of}
-use Rattle.flow.specs.Machine.{MachineEnds, no_work, program_objects}
-use Rattle.flow.specs.State.{Ending}
-use Rattle.flow.specs.View.{view}
+use Rattle.flow.specs.Words.{Callee, Code, code_of, MachineEnds, no_work, program_objects, Ending, view}
 use Rattle.c_meaning.specs.declared.value_type.ValueType.{ValueType}
-use Rattle.c_meaning.specs.Facts.{Facts, Signature, Sites}
-use Rattle.c_meaning.specs.Runs.{Behaviour, Source, meaning}
-use Rattle.c_meaning.specs.Trees.{has_value}
+use Rattle.c_meaning.specs.Words.{Facts, Signature, Sites, Behaviour, Source, meaning, has_value}
 use Rattle.lower_relation.specs.Paths.{Graph, Path, Exits, Does, Stuck}
 use Rattle.lower_relation.specs.Stands.{Stands, Agrees}
 use Rattle.lower_relation.specs.Statements.{RunsAll}

@@ -13,13 +13,9 @@ use Rattle.c_meaning.specs.declared.operation.Operation.{Operation}
 use Rattle.c_meaning.specs.declared.operation.Operation.TheVariants.{Numbers, MoveLeft, MoveRight, Span, Ordered, Wrong}
 use Rattle.c_meaning.specs.declared.value_type.ValueType.{ValueType}
 use Rattle.c_meaning.specs.declared.value_type.ValueType.TheVariants as type
-use Rattle.c_meaning.specs.Conversions.{between, conversion}
-use Rattle.c_meaning.specs.Facts.{Facts, Sites}
-use Rattle.c_meaning.specs.Operation.{left_kind, operation, right_kind, type_given}
-use Rattle.c_meaning.specs.Places.{step_operation}
+use Rattle.c_meaning.specs.Words.{between, conversion, Facts, Sites, left_kind, operation, right_kind, type_given, step_operation, Assignment, Plain, By, Joint}
+use Rattle.c_meaning.specs.Words.{Both, Computes, Unjoined, one_kind, listed}
 use Rattle.c_meaning.specs.Trees as tree
-use Rattle.c_meaning.specs.Trees.{Assignment, Plain, By, Joint, Both, Computes, Unjoined, one_kind}
-use Rattle.c_meaning.specs.Visits.{listed}
 use Rattle.lower_relation.specs.Paths.{Graph, Path, ◌then◌, Does, Either, Emitted, Falsely, ForkTo, MarksAll, Nothing, OneOf, Stuck, Tests, Truly, Turned, Ways}
 use Rattle.lower_relation.specs.Values.{Converts, ConvertsBelow, Dropped, Effected, Handed, HandedValue, LoadAt, Placed, Pushed, Valued, WantedValue}
 

@@ -2,12 +2,9 @@
 use Rattle.std.specs.Prelude.{ℕ, zero, suc, ◌+◌, length, Option, Some, None}
 use Rattle.std.specs.List.{sum_by}
 use Rattle.c_syntax.specs.ExprTree as e
-use Rattle.c_syntax.specs.ExprTree.{ExprTree, ExprList, LinkList, PostfixList}
+use Rattle.c_syntax.specs.Words.{ExprTree, ExprList, LinkList, PostfixList, InitialTree, StartTree, DeclarationTree, ForStartTree, StatementTree, EntryList}
 use Rattle.c_syntax.specs.StatementTree as s
-use Rattle.c_syntax.specs.StatementTree.{InitialTree, StartTree, DeclarationTree, ForStartTree, StatementTree, EntryList}
-use Rattle.c_meaning.specs.Facts.{Sites}
-use Rattle.c_meaning.specs.Initialisers.{equals_token}
-use Rattle.c_meaning.specs.Visits.{listed}
+use Rattle.c_meaning.specs.Words.{Sites, equals_token, listed}
 
 module _ (sites : Sites) where
   -- how many sites a condition, a returned value and an assignment at the token visit

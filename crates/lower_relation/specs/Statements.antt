@@ -1,13 +1,10 @@
 -- What it is for a graph to do a statement (C99 6.8).
 use Rattle.std.specs.Prelude.{◌≡◌, ℕ, Option, Some, None}
-use Rattle.c_syntax.specs.ExprTree.{ExprTree}
+use Rattle.c_syntax.specs.Words.{ExprTree, ForStartTree, StatementTree, EntryList}
 use Rattle.c_syntax.specs.StatementTree as tree
-use Rattle.c_syntax.specs.StatementTree.{ForStartTree, StatementTree, EntryList}
 use Rattle.flow.specs.declared.node.View.TheVariants.{Turns}
 use Rattle.c_meaning.specs.declared.value_type.ValueType.{ValueType}
-use Rattle.c_meaning.specs.Conversions.{is_null_as}
-use Rattle.c_meaning.specs.Facts.{Facts, Sites}
-use Rattle.c_meaning.specs.Trees.{type_of}
+use Rattle.c_meaning.specs.Words.{is_null_as, Facts, Sites, type_of}
 use Rattle.lower_relation.specs.Paths.{Graph, Path, ◌then◌, Ways, Exits, Nothing, Either, Truly}
 use Rattle.lower_relation.specs.Expressions.{Condition, emitted}
 use Rattle.lower_relation.specs.Initialisers.{DeclarationPath}

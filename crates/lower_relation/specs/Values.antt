@@ -8,8 +8,7 @@ use Rattle.c_meaning.specs.declared.conversion.Conversion.{Conversion}
 use Rattle.c_meaning.specs.declared.conversion.Conversion.TheVariants.{Keep, To, Misfit}
 use Rattle.c_meaning.specs.declared.value_type.ValueType.{ValueType}
 use Rattle.c_meaning.specs.declared.value_type.ValueType.TheVariants as type
-use Rattle.c_meaning.specs.Conversions.{conversion, as_used}
-use Rattle.c_meaning.specs.Expressions.{is_other_pointer, is_struct_value}
+use Rattle.c_meaning.specs.Words.{conversion, as_used, is_other_pointer, is_struct_value}
 use Rattle.lower_relation.specs.Paths.{Graph, Path, ◌then◌, Does, Emitted, Nothing, Stuck, Tests, Ways}
 
 module _ (G : Graph) where

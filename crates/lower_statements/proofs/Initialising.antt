@@ -3,17 +3,12 @@ use Rattle.std.proofs.Common.{◌≡◌, ℕ, suc, ◌+◌, ◌<◌, refl, ap, s
 use Rattle.std.proofs.lemmas.List.{drop_all, drop_more}
 use Rattle.c_syntax.specs.declared.expr.Expr.{Expr}
 use Rattle.c_syntax.specs.declared.statement.Start.{Start}
-use Rattle.c_syntax.specs.ExprTree.{ExprTree}
-use Rattle.c_syntax.specs.StatementTree.{StartTree}
-use Rattle.c_syntax.specs.Plain.{plain_expr, plain_exprs, plain_start}
+use Rattle.c_syntax.specs.Words.{ExprTree, StartTree, plain_expr, plain_exprs, plain_start}
 use Rattle.flow.specs.declared.node.Node.{Node}
 use Rattle.flow.specs.declared.node.Node.TheVariants as node
 use Rattle.flow.specs.declared.site.Slot.{Slot}
 use Rattle.c_meaning.specs.declared.value_type.ValueType.{ValueType}
-use Rattle.c_meaning.specs.Conversions.{is_null_as}
-use Rattle.c_meaning.specs.Facts.{Facts, Sites}
-use Rattle.c_meaning.specs.Initialisers.{equals_token}
-use Rattle.c_meaning.specs.Trees.{type_of}
+use Rattle.c_meaning.specs.Words.{is_null_as, Facts, Sites, equals_token, type_of}
 use Rattle.lower_relation.specs.Expressions.{emitted}
 use Rattle.lower_relation.specs.Initialisers.{AllStart, Clears, ElementSet, ElementsSet, Initialised, OnLocal, ScalarSet, Starts}
 use Rattle.lower_relation.specs.Operators.{Assigned, Member, Variable}

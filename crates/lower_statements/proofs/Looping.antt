@@ -9,21 +9,16 @@ use Rattle.c_syntax.specs.declared.statement.Entry.TheVariants as entry
 use Rattle.c_syntax.specs.declared.statement.Statement.{Statement}
 use Rattle.c_syntax.specs.declared.statement.Statement.TheVariants as statement
 use Rattle.c_syntax.specs.declared.expr.Expr.{Expr}
-use Rattle.c_syntax.specs.ExprTree.{ExprTree}
+use Rattle.c_syntax.specs.Words.{ExprTree, EntryList, no_entries, plain_declaration, plain_entries, plain_entry, plain_expr, plain_second, plain_statement}
 use Rattle.c_syntax.specs.StatementTree as tree
-use Rattle.c_syntax.specs.StatementTree.{EntryList, no_entries}
 use Rattle.std.specs.Global.{Global}
-use Rattle.c_syntax.specs.Plain.{plain_declaration, plain_entries, plain_entry, plain_expr, plain_second, plain_statement}
 use Rattle.c_syntax.proofs.PlainStatements.{plain_declared_before, plain_if, plain_if_else, plain_stated_before}
 use Rattle.flow.specs.declared.node.Node.{Node}
 use Rattle.flow.specs.declared.node.Node.TheVariants as node
 use Rattle.flow.specs.declared.node.View.TheVariants as view
-use Rattle.flow.specs.Code.{view_at}
-use Rattle.flow.specs.View.{view as view_of}
+use Rattle.flow.specs.Words.{view_at, view as view_of}
 use Rattle.c_meaning.specs.declared.value_type.ValueType.{ValueType}
-use Rattle.c_meaning.specs.Conversions.{is_null_as}
-use Rattle.c_meaning.specs.Facts.{Facts, Sites}
-use Rattle.c_meaning.specs.Trees.{type_of}
+use Rattle.c_meaning.specs.Words.{is_null_as, Facts, Sites, type_of}
 use Rattle.lower_relation.specs.Expressions.{Condition, emitted}
 use Rattle.lower_relation.specs.Initialisers.{DeclarationPath}
 use Rattle.lower_relation.specs.Paths.{Graph, Exits, Ways}
@@ -38,11 +33,11 @@ use Rattle.lower_nodes.specs.Purposes.{ways}
 use Rattle.lower_nodes.proofs.Building.{Joined, below_more, both_ways, either_made, joined_made, later_self, likes_more, slice_append, slice_end, stands_by, stays_put, stood_put}
 
 set_other : (xs : List Node) (a j : ℕ) (x : Node) → a ≢ j → slice_get (slice_set xs a x) j ≡ slice_get xs j
-set_other [] a j x ne = refl
 set_other (y ∷ xs) zero zero x ne = absurd (ne refl)
+set_other (y ∷ xs) (suc a) (suc j) x ne = set_other xs a j x (λ e. ne (ap suc e))
+set_other [] a j x ne = refl
 set_other (y ∷ xs) zero (suc j) x ne = refl
 set_other (y ∷ xs) (suc a) zero x ne = refl
-set_other (y ∷ xs) (suc a) (suc j) x ne = set_other xs a j x (λ e. ne (ap suc e))
 
 set_same : (xs : List Node) (a : ℕ) (x : Node) → a < length xs → slice_get (slice_set xs a x) a ≡ Some x
 set_same [] a x l = absurd (omega (arith, l))

@@ -9,8 +9,7 @@ use Rattle.c_syntax.specs.declared.statement.Entry.TheVariants as entry
 use Rattle.c_syntax.specs.declared.statement.Start.{Start}
 use Rattle.c_syntax.specs.declared.statement.Statement.{Statement}
 use Rattle.c_syntax.specs.declared.statement.Statement.TheVariants as statement
-use Rattle.c_syntax.specs.StatementTree.{EntryList, no_entries}
-use Rattle.c_syntax.specs.Plain.{plain_entries, plain_entry, plain_exprs, plain_start}
+use Rattle.c_syntax.specs.Words.{EntryList, no_entries, plain_entries, plain_entry, plain_exprs, plain_start}
 use Rattle.c_syntax.proofs.PlainStatements.{plain_declared_before, plain_stated_before}
 use Rattle.c_meaning.specs.Facts.{Sites}
 use Rattle.lower_relation.specs.Room.{entries_room, exprs_room, start_room}

@@ -2,9 +2,8 @@
 use Rattle.std.proofs.Common.{◌≡◌, ℕ, Bool, true, false, refl, sym, subst, List, [], ◌∷◌, ◌++◌, length, option_map, slice_get, Option, Some, None}
 use Rattle.std.proofs.lemmas.Option.{same_Some}
 use Rattle.c_syntax.specs.ExprTree as e
-use Rattle.c_syntax.specs.ExprTree.{ExprTree, ExprList}
+use Rattle.c_syntax.specs.Words.{ExprTree, ExprList, InitialTree}
 use Rattle.c_syntax.specs.StatementTree as tree
-use Rattle.c_syntax.specs.StatementTree.{InitialTree}
 use Rattle.flow.specs.declared.node.Node.{Node}
 use Rattle.flow.specs.declared.node.Node.TheVariants as node
 use Rattle.flow.specs.declared.program.Text.{Text}
@@ -12,9 +11,7 @@ use Rattle.flow.specs.declared.site.Slot.{Slot}
 use Rattle.flow.specs.declared.site.Slot.TheVariants.{Global, Local}
 use Rattle.c_meaning.specs.declared.value_type.ValueType.{ValueType}
 use Rattle.c_meaning.specs.declared.value_type.ValueType.TheVariants as type
-use Rattle.c_meaning.specs.Facts.{Facts, Sites}
-use Rattle.c_meaning.specs.Initialisers.{want_of}
-use Rattle.c_meaning.specs.Meaning.{text_of_string}
+use Rattle.c_meaning.specs.Words.{Facts, Sites, want_of, text_of_string}
 use Rattle.lower_relation.specs.Expressions.{number_of_text}
 use Rattle.lower_relation.specs.Initialisers.{ArrayZeroed, ElementsSet, Initialised, OnLocal, ScalarSet, Spells, ValueSet, Zeroes}
 use Rattle.lower_relation.specs.Paths.{Graph, Path, ◌then◌, Stuck}
@@ -98,18 +95,10 @@ braced_made facts sites token initial at comma items slot element n0 n1 n2 m i k
 -- an array takes a string, and any other variable a value
 pub by_string : (facts : Facts) (sites : Sites) (token : ℕ) (of : Option ValueType) (x : ExprTree) (n0 n1 : List Node) (i k : ℕ) → is_array of ≡ true →
     Made (λ G. StringSet G facts sites token x) n0 n1 i k → Made (λ G. ValueSet G facts sites token of x) n0 n1 i k
-by_string facts sites token None x n0 n1 i k h made = absurd (cc)
-by_string facts sites token (Some type.Void) x n0 n1 i k h made = absurd (cc)
-by_string facts sites token (Some (type.Number kind)) x n0 n1 i k h made = absurd (cc)
-by_string facts sites token (Some (type.Pointer size)) x n0 n1 i k h made = absurd (cc)
 by_string facts sites token (Some (type.Array size)) x n0 n1 i k h made = made
-by_string facts sites token (Some type.Struct) x n0 n1 i k h made = absurd (cc)
+by_string facts sites token of x n0 n1 i k h made = absurd (cc)
 
 pub by_value : (facts : Facts) (sites : Sites) (token : ℕ) (of : Option ValueType) (x : ExprTree) (n0 n1 : List Node) (i k : ℕ) → is_array of ≡ false →
     Made (λ G. ScalarSet G facts sites token x) n0 n1 i k → Made (λ G. ValueSet G facts sites token of x) n0 n1 i k
-by_value facts sites token None x n0 n1 i k h made = made
-by_value facts sites token (Some type.Void) x n0 n1 i k h made = made
-by_value facts sites token (Some (type.Number kind)) x n0 n1 i k h made = made
-by_value facts sites token (Some (type.Pointer size)) x n0 n1 i k h made = made
 by_value facts sites token (Some (type.Array size)) x n0 n1 i k h made = absurd (cc)
-by_value facts sites token (Some type.Struct) x n0 n1 i k h made = made
+by_value facts sites token of x n0 n1 i k h made = made

@@ -5,8 +5,7 @@ use Rattle.c_syntax.specs.ExprTree.{ExprTree}
 use Rattle.flow.specs.declared.program.Text.{Text}
 use Rattle.c_meaning.specs.declared.value_type.ValueType.{ValueType}
 use Rattle.c_meaning.specs.declared.value_type.ValueType.TheVariants as type
-use Rattle.c_meaning.specs.Facts.{Facts, Sites}
-use Rattle.c_meaning.specs.Meaning.{text_of_string}
+use Rattle.c_meaning.specs.Words.{Facts, Sites, text_of_string}
 use Rattle.lower_relation.specs.Expressions.{number_of_text}
 use Rattle.lower_relation.specs.Initialisers.{ArrayZeroed, OnLocal, Spells}
 use Rattle.lower_relation.specs.Paths.{Graph, Path, ◌then◌}

@@ -1,8 +1,7 @@
 ghost use Rattle.flow.specs.Limits.{node_limit};
 ghost use Rattle.std.specs.Prelude.{◌≡◌, IfOk, Some, map, option_map, length, ◌≤◌, ◌+◌};
 ghost use Rattle.std.specs.List.{sum_by};
-ghost use Rattle.c_meaning.specs.Initialisers.{equals_token, want_of};
-ghost use Rattle.c_meaning.specs.Meaning.{text_of_string};
+ghost use Rattle.c_meaning.specs.Words.{equals_token, want_of, text_of_string};
 ghost use Rattle.c_syntax.specs.Plain.{plain_declaration, plain_expr, plain_exprs, plain_initial, plain_start};
 ghost use Rattle.lower_relation.specs.Expressions.{number_of_text};
 ghost use Rattle.lower_relation.specs.Initialisers.{AllStart, ArrayZeroed, Clears, DeclarationPath, ElementSet, ElementsSet, Initialised, OnLocal};

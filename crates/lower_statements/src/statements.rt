@@ -1,7 +1,6 @@
 ghost use Rattle.flow.specs.Limits.{node_limit};
 ghost use Rattle.std.specs.Prelude.{IfOk, option_map, length, ◌≤◌, ◌+◌};
-ghost use Rattle.c_syntax.specs.Plain.{plain_entries, plain_entry, plain_expr, plain_for_start, plain_second, plain_statement};
-ghost use Rattle.c_syntax.specs.StatementTree.{no_entries};
+ghost use Rattle.c_syntax.specs.Words.{plain_entries, plain_entry, plain_expr, plain_for_start, plain_second, plain_statement, no_entries};
 ghost use Rattle.lower_relation.specs.Expressions.{Condition};
 ghost use Rattle.lower_relation.specs.Statements.{DoDo, ForLoop, ForStarts, OptionalCondition, OptionalEffect, ReturnDo, Runs, RunsAll, WhileDo};
 ghost use Rattle.lower_statements.specs.Exits.{SecondRuns, exits_of};

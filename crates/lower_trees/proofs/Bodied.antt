@@ -5,14 +5,13 @@ use Rattle.std.specs.List.{flat_map}
 use Rattle.std.proofs.Math.Seq.{get_or-append_seam}
 use Rattle.std.proofs.lemmas.List.Concat.{flat_map-cons}
 use Rattle.std.proofs.lemmas.Option.{slice_get-get_or, slice_get-map}
+use Rattle.base_lists.proofs.Lists.{first_left}
 use Rattle.c_syntax.specs.declared.tree.Item.{Item}
 use Rattle.c_syntax.specs.ItemTree as item
-use Rattle.c_syntax.specs.ItemTree.{ItemTree}
-use Rattle.c_syntax.specs.StatementTree.{EntryList}
-use Rattle.c_syntax.specs.Plain.{plain_item}
+use Rattle.c_syntax.specs.Words.{ItemTree, EntryList, plain_item}
 use Rattle.c_meaning.specs.Known.{body_of_item}
 use Rattle.lower_trees.specs.Bodies.{body_at, body_in, defining}
-use Rattle.lower_trees.proofs.Placed.{first_left, step}
+use Rattle.lower_trees.proofs.Placed.{step}
 
 -- the places so far and those in what is left, after one more item
 pub places_next : (xs : List Item) (i n later : ℕ) (x : Item) (now before total : List ℕ) → later ≡ n + 1 → i < length xs → x ≡ get_or xs i x →

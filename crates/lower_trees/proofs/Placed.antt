@@ -5,17 +5,17 @@ use Rattle.std.proofs.Math.Seq.{drop-cons}
 use Rattle.std.proofs.lemmas.Bool.{cond-true, cond-false}
 use Rattle.std.proofs.lemmas.Bool.Decides.{eqb_tells}
 use Rattle.std.proofs.lemmas.List.{get_or-set_same, get_or-set_other}
+use Rattle.base_lists.proofs.Lists.{first_left}
 use Rattle.flow.specs.declared.site.Site.{Site}
 use Rattle.flow.specs.declared.site.SiteKind.{SiteKind}
-use Rattle.c_meaning.specs.Literals.{Literal, number_from}
-use Rattle.c_meaning.specs.Texts.{head_site, sites_from}
+use Rattle.c_meaning.specs.Words.{Literal, number_from, head_site, sites_from}
 use Rattle.lower_trees.specs.Places.{all_at, first_or}
 
 pub listed_grown : (lists : List (List ℕ)) (token : ℕ) → all_at (lists ++ [] ∷ []) token ≡ all_at lists token
+listed_grown (x ∷ xs) (suc n) = listed_grown xs n
 listed_grown [] zero = refl
 listed_grown [] (suc n) = refl
 listed_grown (x ∷ xs) zero = refl
-listed_grown (x ∷ xs) (suc n) = listed_grown xs n
 
 -- one more number at a token, after more places came
 pub added : (old grown new : List (List ℕ)) (token number : ℕ) → ((t : ℕ) → all_at grown t ≡ all_at old t) → token < length grown →
@@ -37,10 +37,6 @@ added old grown new token number same inside is other =
 pub step : (b : Bool) (n : ℕ) (before more now : List ℕ) → now ≡ (if b then before ++ n ∷ [] else before) → now ++ more ≡ before ++ (if b then n ∷ more else more)
 step true n before more now is = ap (λ l. l ++ more) is ∙ append_assoc before (n ∷ []) more
 step false n before more now is = ap (λ l. l ++ more) is
-
--- the item at the index comes first in what is left
-pub first_left : {A : Type 0} (xs : List A) (i : ℕ) (x : A) → i < length xs → x ≡ get_or xs i x → drop i xs ≡ x ∷ drop (suc i) xs
-first_left xs i x inside is = drop-cons xs i x inside ∙ ap (λ y. y ∷ drop (suc i) xs) (sym is)
 
 -- the sites at a token, after one more site
 pub sites_next : (of_kind : SiteKind → Bool) (sites : List Site) (i n later token : ℕ) (s : Site) (now before total : List ℕ) → later ≡ n + 1 → i < length sites → s ≡ get_or sites i s →

@@ -1,8 +1,7 @@
 -- The bodies of the defined functions, by the items that define them.
 use Rattle.std.specs.Prelude.{ℕ, suc, if◌then◌else◌, List, [], ◌∷◌, Option, Some, None, is_some, slice_get}
 use Rattle.c_syntax.specs.ItemTree as item
-use Rattle.c_syntax.specs.ItemTree.{ItemTree}
-use Rattle.c_syntax.specs.StatementTree.{EntryList}
+use Rattle.c_syntax.specs.Words.{ItemTree, EntryList}
 
 -- the body of an item, if it is a function's definition
 abbrev pub body_in : Option ItemTree → Option EntryList

@@ -1,8 +1,7 @@
 -- Strings, one after another.
 use Rattle.std.specs.Prelude.{ℕ, List}
 use Rattle.std.specs.List.{flat_map}
-use Rattle.c_syntax.specs.ItemTree.{ItemTree}
-use Rattle.c_syntax.specs.StatementTree.{StartTree}
+use Rattle.c_syntax.specs.Words.{ItemTree, StartTree}
 use Rattle.c_meaning.specs.Literals.{Literal, strings_initial, strings_of_item}
 
 -- the bytes of adjacent strings (C99 5.1.1.2p1)

@@ -1,8 +1,7 @@
 ghost use Rattle.std.specs.Prelude.{◌≡◌, ◌≤◌, ℕ, length, map, IfOk, OnOk};
 ghost use Rattle.c_syntax.specs.Plain.{plain_tree};
 ghost use Rattle.flow.specs.Limits.{text_limit};
-ghost use Rattle.c_meaning.specs.Literals.{literals, number_from, texts_of};
-ghost use Rattle.c_meaning.specs.Texts.{head_site};
+ghost use Rattle.c_meaning.specs.Words.{literals, number_from, texts_of, head_site};
 ghost use Rattle.lower_trees.specs.Places.{all_at};
 
 use crate::places::add;

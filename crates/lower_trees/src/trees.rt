@@ -1,7 +1,6 @@
 ghost use Rattle.std.specs.Prelude.{◌≡◌};
 ghost use Rattle.c_syntax.specs.Plain.{plain_expr, plain_links, plain_operators};
-ghost use Rattle.c_meaning.specs.Conversions.{is_null_as, is_null_constant};
-ghost use Rattle.c_meaning.specs.Trees.{ends_as_place, is_null_beside, is_place, link_token, postfix_token, token_of};
+ghost use Rattle.c_meaning.specs.Words.{is_null_as, is_null_constant, ends_as_place, is_null_beside, is_place, link_token, postfix_token, token_of};
 
 use c_meaning::{ValueType, is_pointer};
 use c_syntax::{Expr, Link, PostfixOperator, PrefixOperator};

@@ -1,4 +1,3 @@
-pub mod LookLemmas
 pub mod CallLemmas
 pub mod DoneLemmas
 pub mod StandingLemmas

@@ -1,13 +1,9 @@
 ghost use Rattle.std.specs.Prelude.{◌≡◌, ◌<◌, ◌≤◌, ◌+◌, ◌∷◌, [], None, Some, length, drop, OnOk, slice_get};
 ghost use Rattle.std.specs.Option.{option_map};
 ghost use Rattle.flow.specs.declared.node.View.TheVariants as view;
-ghost use Rattle.flow.specs.Calls.{ended_with, has_result};
+ghost use Rattle.flow.specs.Words.{ended_with, has_result, over, callee_of, IsLater, node_limit, local_limit, IsProgram};
 ghost use Rattle.flow.specs.State as machine;
-ghost use Rattle.flow.specs.State.{over};
-ghost use Rattle.flow.specs.Code.{callee_of};
-ghost use Rattle.flow.specs.Fits.{IsLater};
-ghost use Rattle.flow.specs.Limits.{node_limit, local_limit, active_limit};
-ghost use Rattle.flow.specs.Program.{IsProgram};
+ghost use Rattle.cbi_base.specs.Limits.{active_limit};
 ghost use Rattle.machine.specs.Entering.{IsEntered, IsArrival};
 ghost use Rattle.machine_rows.specs.Operands.{several_on};
 ghost use Rattle.machine_code.specs.Prepared.{nodes_of};

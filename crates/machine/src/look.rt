@@ -1,5 +1,5 @@
 ghost use Rattle.std.specs.Prelude.{◌≡◌, slice_get};
-ghost use Rattle.flow.specs.Truths.{seen_truth, seen_order, seen_sign, object_at, number_at, partner_number, seen_pair, seen_by, looked};
+ghost use Rattle.flow.specs.Words.{seen_truth, seen_order, seen_sign, object_at, number_at, partner_number, seen_pair, seen_by, sees_now};
 ghost use Rattle.cbi_base.specs.Scalars.{truth_of, sign_of};
 ghost use Rattle.machine_rows.specs.Data.{data_of};
 
@@ -31,7 +31,7 @@ fn object_at(now: &Now<'_>, slot: Slot) -> Option<u64>
 
 /// The number in a variable's first cell, where it holds one.
 fn number_at(now: &Now<'_>, slot: Slot) -> Option<i64>
-    ensures { result ≡ number_at slot (data_of now.now) }
+    ensures { result ≡ number_at slot (data_of now.now).locals (data_of now.now).objects }
 {
     let number = object_at(now, slot)?;
     let cells = now.objects.cells(number)?;
@@ -40,7 +40,7 @@ fn number_at(now: &Now<'_>, slot: Slot) -> Option<i64>
 
 /// The number that a variable's new value is compared with, where there is one.
 fn partner_number(now: &Now<'_>, partner: &Partner) -> Option<i64>
-    ensures { result ≡ partner_number partner.now (data_of now.now) }
+    ensures { result ≡ partner_number partner.now (data_of now.now).locals (data_of now.now).objects }
 {
     match partner {
         Partner::Variable { slot, .. } => number_at(now, *slot),
@@ -50,7 +50,8 @@ fn partner_number(now: &Now<'_>, partner: &Partner) -> Option<i64>
 
 /// How a variable's new value stands to its partner.
 fn seen_pair(now: &Now<'_>, slot: Slot, partner: &Partner) -> Result<Seen, Trap>
-    ensures { result ≡ seen_pair (number_at slot (data_of now.now)) (partner_number partner.now (data_of now.now)) }
+    ensures { result ≡ seen_pair (number_at slot (data_of now.now).locals (data_of now.now).objects)
+        (partner_number partner.now (data_of now.now).locals (data_of now.now).objects) }
 {
     let value = number_at(now, slot).ok_or(Trap::Internal)?;
     match partner_number(now, partner) {
@@ -83,9 +84,8 @@ fn seen_sign(value: Word) -> Seen
 }
 
 /// What a site of this kind sees.
-#[tactic(auto, using(crate::proofs::LookLemmas::branch_top, crate::proofs::LookLemmas::branch_none, crate::proofs::LookLemmas::return_top, crate::proofs::LookLemmas::return_none))]
 fn seen_by(now: &Now<'_>, kind: &SiteKind) -> Result<Seen, Trap>
-    ensures { result ≡ seen_by kind.now (data_of now.now).operands (data_of now.now) }
+    ensures { result ≡ seen_by kind.now (slice_get (data_of now.now).operands 0) (data_of now.now).locals (data_of now.now).objects }
 {
     match kind {
         SiteKind::Branch { .. } => match now.operands.peek() {
@@ -103,7 +103,7 @@ fn seen_by(now: &Now<'_>, kind: &SiteKind) -> Result<Seen, Trap>
 /// What a site sees.
 #[tactic(auto, unfolding(flow::specs::Truths::looked))]
 pub fn look(program: &Program, now: &Now<'_>, site: u32) -> Result<Seen, Trap>
-    ensures { result ≡ looked (slice_get program.now.sites site) (data_of now.now) }
+    ensures { result ≡ sees_now (slice_get program.now.sites site) (data_of now.now) }
 {
     match program.table().sites().get(site as usize) {
         None => Err(Trap::Internal),

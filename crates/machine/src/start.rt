@@ -1,5 +1,5 @@
 ghost use Rattle.std.specs.Prelude.{◌≡◌, ◌<◌, [], IfOk, OnOk};
-ghost use Rattle.flow.specs.Limits.{active_limit};
+ghost use Rattle.cbi_base.specs.Limits.{active_limit};
 ghost use Rattle.machine.specs.Begun.{EntersMain, RunBegins, IsFresh, LooksAtNone};
 ghost use Rattle.machine.specs.Steps.{IsRunning};
 

@@ -1,12 +1,10 @@
 -- Each run of a program ends, and what its steps keep of what was observed holds of the ending.
 use Rattle.std.proofs.Common.{◌≡◌, ℕ, zero, suc, ◌+◌, ◌*◌, ◌<◌, List, [], Option, None, Some, refl, subst, sym, arith}
+use Rattle.cbi_base.specs.Words.{each_made, Objects, no_objects}
 use Rattle.cbi_base.specs.declared.observation.Observation.{Observation}
-use Rattle.cbi_base.specs.Objects.{Objects, no_objects}
 use Rattle.flow.specs.declared.program.ProgramParts.{ProgramParts}
-use Rattle.flow.specs.Code.{Code, code_of}
-use Rattle.flow.specs.Machine.{Ends, EndsFrom, MachineEnds, at_start, begin, begin_with, each_made, program_objects, step}
-use Rattle.flow.specs.Program.{IsProgram}
-use Rattle.flow.specs.State.{Ending, Next, State, On, Over}
+use Rattle.flow.specs.Words.{Code, code_of, Ends, EndsFrom, MachineEnds, at_start, begin, begin_with, step, program_objects, IsProgram, Ending, Next, State, On}
+use Rattle.flow.specs.Words.{Over}
 use Rattle.flow.proofs.Endings.{ends_over, leads_one}
 use Rattle.flow.proofs.Programs.{code_fits}
 use Rattle.machine_laws.proofs.Stepping.{Sees, Steps, enter_steps, left, placed, step_steps}

@@ -6,43 +6,38 @@ use Rattle.cbi_base.specs.declared.observation.Seen.{Seen}
 use Rattle.cbi_base.specs.declared.observation.Seen.TheVariants.{First, Second, Third, Nothing}
 use Rattle.cbi_base.specs.declared.scalar.Scalar.{Scalar}
 use Rattle.cbi_base.specs.declared.trap.Trap.{Trap}
-use Rattle.cbi_base.specs.Scalars.{truth_of}
+use Rattle.cbi_base.specs.Words.{truth_of, Locals, Objects}
 use Rattle.flow.specs.declared.program.ProgramParts.{ProgramParts}
 use Rattle.flow.specs.declared.site.Site.{Site}
 use Rattle.flow.specs.declared.site.SiteKind.{SiteKind}
 use Rattle.flow.specs.declared.site.SiteKind.TheVariants.{Branch, Return, Pair}
-use Rattle.flow.specs.Code.{code_of}
-use Rattle.flow.specs.Machine.{MachineEnds, begin}
-use Rattle.flow.specs.Now.{Now}
-use Rattle.flow.specs.Program.{IsProgram}
-use Rattle.flow.specs.State.{Ending}
-use Rattle.flow.specs.Truths.{looked, seen_by, seen_truth}
+use Rattle.flow.specs.Words.{code_of, MachineEnds, begin, Now, IsProgram, Ending, looked, seen_by, seen_truth, sees_now}
 use Rattle.flow.proofs.Endings.{one_end_from}
 use Rattle.machine_laws.specs.Laws.{AreSeenAt, MaySee, SeesAt}
 use Rattle.machine_laws.proofs.Ends.{run_ends}
 use Rattle.machine_laws.proofs.Stepping.{Sees}
 
 truth_sees : (word : _) (truth : Result Bool Trap) (seen : Seen) → seen_truth truth ≡ Ok seen → MaySee (Branch word) seen
-truth_sees word (Ok true) First e = tt
-truth_sees word (Ok true) Second e = tt
 truth_sees word (Ok true) Third e = cc
 truth_sees word (Ok true) Nothing e = cc
-truth_sees word (Ok false) First e = tt
-truth_sees word (Ok false) Second e = tt
 truth_sees word (Ok false) Third e = cc
 truth_sees word (Ok false) Nothing e = cc
 truth_sees word (Err t) seen e = absurd (cc)
+truth_sees word (Ok true) First e = tt
+truth_sees word (Ok true) Second e = tt
+truth_sees word (Ok false) First e = tt
+truth_sees word (Ok false) Second e = tt
 
-kind_sees : (kind : SiteKind) (operands : List Scalar) (d : Now) (seen : Seen) → seen_by kind operands d ≡ Ok seen → MaySee kind seen
-kind_sees (Branch word) [] d seen e = absurd (cc)
-kind_sees (Branch word) (top ∷ below) d seen e = truth_sees word (truth_of top) seen e
-kind_sees (Return callee) operands d seen e = tt
-kind_sees (Pair target slot partner) operands d seen e = tt
+kind_sees : (kind : SiteKind) (value : Option Scalar) (locals : Locals) (objects : Objects) (seen : Seen) → seen_by kind value locals objects ≡ Ok seen → MaySee kind seen
+kind_sees (Branch word) None locals objects seen e = absurd (cc)
+kind_sees (Branch word) (Some value) locals objects seen e = truth_sees word (truth_of value) seen e
+kind_sees (Return callee) value locals objects seen e = tt
+kind_sees (Pair target slot partner) value locals objects seen e = tt
 
-site_sees : (found : Option Site) (d : Now) (seen : Seen) → looked found d ≡ Ok seen → SeesAt found seen
+site_sees : (found : Option Site) (d : Now) (seen : Seen) → sees_now found d ≡ Ok seen → SeesAt found seen
 unfolding looked
 site_sees None d seen e = absurd (cc)
-site_sees (Some site) d seen e = kind_sees site.kind d.operands d seen e
+site_sees (Some site) d seen e = kind_sees site.kind (slice_get d.operands 0) d.locals d.objects seen e
 
 step_sees : (p : ProgramParts) (bank : ℕ → ℕ) (before after : List Observation) → Sees (code_of p bank) before after → AreSeenAt p.sites before → AreSeenAt p.sites after
 step_sees p bank before after (inl same) here = subst (AreSeenAt p.sites) (sym same) here

@@ -2,6 +2,7 @@
 -- leads to a later node or leaves a function.
 use Rattle.std.proofs.Common.{◌≡◌, ℕ, zero, suc, ◌+◌, ◌-◌, ◌*◌, ◌<◌, ◌≤◌, ◌++◌, ◌⊎◌, inl, inr, Bool, true, false, List, [], ◌∷◌, Option, None, Some, Result, Ok, Err, nat_lt, if◌then◌else◌, length, slice_get, refl, ap, ◌∙◌, arith}
 use Rattle.std.proofs.lemmas.Option.{slice_get_within}
+use Rattle.cbi_base.specs.Words.{active_limit, Objects, truth_of}
 use Rattle.cbi_base.specs.declared.observation.Observation.{Observation}
 use Rattle.cbi_base.specs.declared.observation.Seen.{Seen}
 use Rattle.cbi_base.specs.declared.scalar.Scalar.{Scalar}
@@ -10,24 +11,15 @@ use Rattle.cbi_base.specs.declared.scalar.Kind.TheVariants.{Char, Int, Unsigned}
 use Rattle.cbi_base.specs.declared.outcome.Outcome.TheVariants.{Trapped}
 use Rattle.cbi_base.specs.declared.trap.Trap.{Trap}
 use Rattle.cbi_base.specs.declared.trap.Trap.TheVariants.{Internal, StackOverflow}
-use Rattle.cbi_base.specs.Objects.{Objects}
-use Rattle.cbi_base.specs.Scalars.{truth_of}
 use Rattle.flow.specs.declared.node.Node.{Node}
 use Rattle.flow.specs.declared.node.View.{View}
 use Rattle.flow.specs.declared.node.View.TheVariants.{Row, Halts, Forks, Turns, Calls, Gives, Quits, Marks, Skips, Tests, Picks, Imports, Exports, Nowhere}
 use Rattle.flow.specs.declared.program.Function.{Function}
 use Rattle.flow.specs.declared.program.ProgramParts.{ProgramParts}
-use Rattle.flow.specs.Calls.{call, call_with, enter, entered, give, give_to, ended_with, has_result, locals_made, params_of, quit, waiting}
-use Rattle.flow.specs.Code.{Callee, Code, code_of, view_at, view_in}
-use Rattle.flow.specs.Countdown.{at_node, export, in_force, lowered, observed, pick, redrawn, set_force, skip, with_fast, with_force, with_seen, with_slow, with_test}
-use Rattle.flow.specs.Fits.{IsLater, LeadsOn}
-use Rattle.flow.specs.Limits.{active_limit, node_limit}
-use Rattle.flow.specs.Machine.{branch, fork, go_on, halt, next_of, spend_turn}
-use Rattle.flow.specs.Now.{Now, Effect, Goes, Stops, Taken, Takes, Lacks, any, several}
-use Rattle.flow.specs.Program.{IsProgram}
-use Rattle.flow.specs.Rows.{act}
-use Rattle.flow.specs.State.{Frame, State, Next, Over, On, over}
-use Rattle.flow.specs.Truths.{looked}
+use Rattle.flow.specs.Words.{call, call_with, enter, entered, give, give_to, ended_with, has_result, locals_made, params_of, quit, waiting, Callee, Code}
+use Rattle.flow.specs.Words.{code_of, view_at, view_in, at_node, export, in_force, lowered, observed, pick, redrawn, set_force, skip, with_fast, with_force}
+use Rattle.flow.specs.Words.{with_seen, with_slow, with_test, sees_now, IsLater, LeadsOn, node_limit, branch, fork, go_on, halt, next_of, spend_turn, Now}
+use Rattle.flow.specs.Words.{Effect, Goes, Stops, Taken, Takes, Lacks, any, several, IsProgram, act, Frame, State, Next, Over, On, over}
 use Rattle.flow.proofs.Programs.{few_nodes}
 
 -- what the functions that wait can still pass
@@ -42,7 +34,7 @@ left s = s.turns * (node_limit + 1) + (node_limit - s.node) + left_below s.below
 abbrev pub Sees : Code → List Observation → List Observation → Type 0
 Sees code before after =
     (after ≡ before)
-    ⊎ ((site : ℕ) × (seen : Seen) × (d : Now) × (looked (code.site site) d ≡ Ok seen) × (after ≡ before ++ record { site = site; seen = seen } ∷ []))
+    ⊎ ((site : ℕ) × (seen : Seen) × (d : Now) × (sees_now (code.site site) d ≡ Ok seen) × (after ≡ before ++ record { site = site; seen = seen } ∷ []))
 
 -- the run is over with what it had observed, or it has less left
 abbrev pub Steps : Code → ℕ → List Observation → Next → Type 0
@@ -130,11 +122,11 @@ given_steps code (f ∷ below) value s bound h = (omega (arith, h), inl refl)
 
 give_steps : (code : Code) (has : Bool) (taken : Taken Scalar) (s : State) (bound : ℕ) → s.turns * (node_limit + 1) + left_below s.below < bound →
     Steps code bound s.watch.seen (give has taken s)
-give_steps code has (Lacks t) s bound h = refl
-give_steps code has (Takes Undefined rest) s bound h = refl
 give_steps code true (Takes (Number kind value) rest) s bound h = given_steps code s.below (Number kind value) s bound h
 give_steps code true (Takes (Place object offset) rest) s bound h = given_steps code s.below (Place object offset) s bound h
 give_steps code true (Takes Null rest) s bound h = given_steps code s.below Null s bound h
+give_steps code has (Lacks t) s bound h = refl
+give_steps code has (Takes Undefined rest) s bound h = refl
 give_steps code false (Takes (Number kind value) rest) s bound h = refl
 give_steps code false (Takes (Place object offset) rest) s bound h = refl
 give_steps code false (Takes Null rest) s bound h = refl
@@ -157,7 +149,7 @@ forced (Some was) count s = record { turns = refl; below = refl; seen = refl }
 forced_left : (next : ℕ) (s t : State) → IsLater s.node next → IsForced s t → left (at_node next t) < left s
 forced_left next s t later is = later_left next s t later is.turns is.below
 
-observed_steps : (code : Code) (site next : ℕ) (s t : State) (after : State → State) (result : Result Seen Trap) → looked (code.site site) t.now ≡ result → IsLater s.node next → IsForced s t →
+observed_steps : (code : Code) (site next : ℕ) (s t : State) (after : State → State) (result : Result Seen Trap) → sees_now (code.site site) t.now ≡ result → IsLater s.node next → IsForced s t →
     ((u : State) → IsForced u (after u)) → Steps code (left s) s.watch.seen (observed result site t (λ u. On (at_node next (after u))))
 observed_steps code site next s t after (Err trap) looks later is keeps = is.seen
 observed_steps code site next s t after (Ok seen) looks later is keeps =
@@ -183,7 +175,7 @@ lowered_steps : (count : ℕ) (code : Code) (site next : ℕ) (s : State) → Is
 lowered_steps zero code site next s later =
     let zeroed : State = with_force 0 (with_test s) in
     let is = forced s.copy 0 (with_test s) in
-    observed_steps code site next s zeroed (redrawn code) (looked (code.site site) zeroed.now) refl later
+    observed_steps code site next s zeroed (redrawn code) (sees_now (code.site site) zeroed.now) refl later
     (record { turns = is.turns; below = is.below; seen = is.seen }) (redraws code)
 lowered_steps (suc count) code site next s later =
     let is = forced s.copy (suc count) (with_test s) in
@@ -208,7 +200,7 @@ step_steps code (Calls function next) s leads placed =
     spend_steps code s.turns s (call (code.callee function) function next) (left s) (λ t turns. called_steps code (code.callee function) function next t s leads turns)
 step_steps code Gives s leads placed = give_steps code (has_result (code.callee s.function)) (any s.now) s (left s) (omega (arith, placed))
 step_steps code Quits s leads placed = quit_steps code s.below (has_result (code.callee s.function)) s (left s) (omega (arith, placed))
-step_steps code (Marks site next) s leads placed = observed_steps code site next s s (λ t. t) (looked (code.site site) s.now) refl leads (itself s) itself
+step_steps code (Marks site next) s leads placed = observed_steps code site next s s (λ t. t) (sees_now (code.site site) s.now) refl leads (itself s) itself
 step_steps code (Skips by next) s leads placed = skip_steps code (in_force s.copy s.watch) by next s leads
 step_steps code (Tests site next) s leads placed = lowered_steps (in_force s.copy s.watch - 1) code site next s leads
 step_steps code (Picks weight fast slow) s leads placed = pick_steps code (nat_lt weight (in_force s.copy s.watch)) fast slow s leads.0 leads.1
@@ -218,19 +210,7 @@ step_steps code Nowhere s leads placed = refl
 
 place_known : (v : View) (place : ℕ) → place < node_limit → IsPlaced place v
 place_known Nowhere place h = tt
-place_known (Row node next) place h = h
-place_known (Halts node) place h = h
-place_known (Forks when_true when_false) place h = h
-place_known (Turns next) place h = h
-place_known (Calls function next) place h = h
-place_known Gives place h = h
-place_known Quits place h = h
-place_known (Marks site next) place h = h
-place_known (Skips by next) place h = h
-place_known (Tests site next) place h = h
-place_known (Picks weight fast slow) place h = h
-place_known (Imports next) place h = h
-place_known (Exports next) place h = h
+place_known v place h = h
 
 placed_at : (nodes : List Node) (place : ℕ) (found : Option Node) → length nodes ≤ node_limit → slice_get nodes place ≡ found → IsPlaced place (view_at found)
 placed_at nodes place None few e = tt

@@ -14,10 +14,7 @@ use Rattle.flow.specs.declared.program.ProgramParts.{ProgramParts}
 use Rattle.flow.specs.declared.site.Site.{Site}
 use Rattle.flow.specs.declared.site.SiteKind.{SiteKind}
 use Rattle.flow.specs.declared.site.SiteKind.TheVariants.{Branch, Return, Pair}
-use Rattle.flow.specs.Counting.{counts_at, counts_from, counts_of, is_third}
-use Rattle.flow.specs.Machine.{MachineEnds}
-use Rattle.flow.specs.Program.{IsProgram}
-use Rattle.flow.specs.State.{Ending}
+use Rattle.flow.specs.Words.{counts_at, counts_from, counts_of, is_third, MachineEnds, IsProgram, Ending}
 use Rattle.report_file.specs.declared.report.Entry.{Entry}
 use Rattle.report_file.specs.Report.{entries_of, entry_of, is_positive}
 use Rattle.machine_laws.specs.Laws.{AreSeenAt, MaySee, SeesAt}
@@ -31,9 +28,9 @@ never_both false b never = refl
 -- no branch sees the third
 kind_third : (kind : SiteKind) (seen : Seen) → is_branch_kind kind ≡ true → IsTrue (is_third seen) → MaySee kind seen → ⊥
 kind_third (Branch word) Third branch third may = may
+kind_third (Branch word) Nothing branch third may = may
 kind_third (Branch word) First branch third may = cc
 kind_third (Branch word) Second branch third may = cc
-kind_third (Branch word) Nothing branch third may = may
 kind_third (Return callee) seen branch third may = cc
 kind_third (Pair target slot partner) seen branch third may = cc
 

@@ -9,10 +9,7 @@ use Rattle.flow.specs.declared.program.ProgramParts.{ProgramParts}
 use Rattle.flow.specs.declared.site.Site.{Site}
 use Rattle.flow.specs.declared.site.SiteKind.{SiteKind}
 use Rattle.flow.specs.declared.site.SiteKind.TheVariants.{Branch, Return, Pair}
-use Rattle.flow.specs.Counting.{counts_of}
-use Rattle.flow.specs.Machine.{MachineEnds}
-use Rattle.flow.specs.Program.{IsProgram}
-use Rattle.flow.specs.State.{Ending}
+use Rattle.flow.specs.Words.{counts_of, MachineEnds, IsProgram, Ending}
 use Rattle.report_file.specs.Report.{entries_of}
 
 -- each run ends, traps or is cut

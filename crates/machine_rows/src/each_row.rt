@@ -1,8 +1,5 @@
 ghost use Rattle.std.specs.Prelude.{◌≡◌, OnOk, IfSome, IfNone, is_none};
-ghost use Rattle.flow.specs.Code.{statics_of};
-ghost use Rattle.flow.specs.Fits.{NumbersFit};
-ghost use Rattle.flow.specs.Rows.{act};
-ghost use Rattle.flow.specs.View.{view};
+ghost use Rattle.flow.specs.Words.{statics_of, NumbersFit, act, view};
 ghost use Rattle.machine_rows.specs.Data.{data_of};
 ghost use Rattle.machine_rows.specs.Effects.{IsActed, is_control};
 

@@ -1,9 +1,7 @@
 ghost use Rattle.std.specs.Prelude.{◌≡◌, ◌≤◌, ◌<◌, ◌++◌, ◌∷◌, [], map, length, IfOk};
 ghost use Rattle.std.specs.List.{All};
-ghost use Rattle.flow.specs.Limits.{global_limit};
-ghost use Rattle.flow.specs.Machine.{cell_value, object_of_global, text_object, program_objects, each_made};
-ghost use Rattle.flow.specs.Rows.{char_of};
-ghost use Rattle.cbi_base.specs.Objects.{made_with};
+ghost use Rattle.flow.specs.Words.{global_limit, cell_value, object_of_global, text_object, program_objects};
+ghost use Rattle.cbi_base.specs.Words.{each_made, char_of, made_with};
 ghost use Rattle.machine_rows.specs.Starting.{IsAllMade, NumberFits};
 
 use crate::texts::char_of;

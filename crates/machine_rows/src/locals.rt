@@ -1,7 +1,6 @@
 ghost use Rattle.std.specs.Prelude.{◌≡◌, ◌≤◌, IfSome};
-ghost use Rattle.cbi_base.specs.Objects.{object_limit};
+ghost use Rattle.cbi_base.specs.Words.{object_limit, local_at};
 ghost use Rattle.machine_rows.specs.LocalsFit.{LocalsFit};
-ghost use Rattle.flow.specs.Now.{local_at};
 
 use std::marker::Model;
 
@@ -13,7 +12,7 @@ pub struct Locals {
 }
 
 impl Model for Locals {
-    ghost use Rattle.flow.specs.Now.{Locals};
+    ghost use Rattle.cbi_base.specs.Frames.{Locals};
     ghost use Rattle.machine_rows.specs.LocalsFit.{LocalsFit};
 
     ghost Value = { Locals };

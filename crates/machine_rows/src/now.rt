@@ -1,8 +1,8 @@
 ghost use Rattle.std.specs.Prelude.{◌≡◌, ◌≤◌, ◌∷◌, [], length, IfOk, IfErr, IfSome, IfNone, OnOk};
 ghost use Rattle.std.specs.Result.{result_ok};
 ghost use Rattle.cbi_base.specs.declared.trap.Trap.TheVariants as trap;
-ghost use Rattle.cbi_base.specs.Objects.{object_limit};
-ghost use Rattle.flow.specs.Now.{any, int, unsigned, two, local_at, pushed, next_on, write, Goes};
+ghost use Rattle.cbi_base.specs.Words.{object_limit, local_at};
+ghost use Rattle.flow.specs.Now.{any, int, unsigned, two, pushed, next_on, write, Goes};
 ghost use Rattle.machine_rows.specs.Data.{data_of, without};
 ghost use Rattle.machine_rows.specs.Effects.{taken_of, IsEffect};
 

@@ -1,6 +1,5 @@
 ghost use Rattle.std.specs.Prelude.{◌≡◌, ◌≤◌, ◌+◌, ◌∷◌, ◌++◌, [], length, IfSome, IfNone};
-ghost use Rattle.flow.specs.Limits.{output_limit};
-ghost use Rattle.flow.specs.Printing.{these};
+ghost use Rattle.cbi_base.specs.Words.{output_limit, these};
 ghost use Rattle.machine_rows.specs.Printed.{IsPrinted, stop_in};
 
 use crate::stop::Stop;
@@ -19,7 +18,7 @@ pub struct Output {
 
 impl Model for Output {
     ghost use Rattle.std.specs.Prelude.{◌≤◌, ℕ, List, length};
-    ghost use Rattle.flow.specs.Limits.{output_limit};
+    ghost use Rattle.cbi_base.specs.Limits.{output_limit};
 
     ghost Value = { List ℕ };
 

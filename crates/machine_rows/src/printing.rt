@@ -1,12 +1,8 @@
 ghost use Rattle.std.specs.Prelude.{◌≡◌, ◌≤◌, ◌<◌, ◌∷◌, [], List, ℕ, drop, length, IsTrue, IfOk, IfErr, OnOk, MatchOption, MatchResult, Some};
 ghost use Rattle.std.specs.Fmt.{signed_decimal};
-ghost use Rattle.cbi_base.specs.Arithmetic.{is_zero};
-ghost use Rattle.cbi_base.specs.Format.{is_conversion};
-ghost use Rattle.cbi_base.specs.Kind.{LiesIn};
-ghost use Rattle.flow.specs.Now.{byte_of};
-ghost use Rattle.flow.specs.Limits.{output_limit};
-ghost use Rattle.flow.specs.Printing as flow;
-ghost use Rattle.flow.specs.Printing.{string_on, string_at, stopped, then_print, these, pieces_of, takes_value, take_values, converted_by, printed};
+ghost use Rattle.cbi_base.specs.Words.{is_zero, is_conversion, LiesIn, low_byte, output_limit, string_on, string_at, stopped, then_print, these, pieces_of};
+ghost use Rattle.cbi_base.specs.Words.{takes_value, take_values, converted_by, printed_format};
+ghost use Rattle.cbi_base.specs.Printing as print;
 ghost use Rattle.machine_rows.specs.Printed.{IsPrinted, stop_in};
 ghost use Rattle.machine_rows.specs.Strings.{IsCellPut, Continues, piece_of};
 
@@ -36,7 +32,7 @@ fn after(cells: &[Word], offset: usize) -> &[Word]
 }
 
 /// The cells from a pointer on, to the end of its object.
-#[tactic(auto, using(crate::proofs::StringLemmas::live, crate::proofs::StringLemmas::dead), unfolding(flow::specs::Printing::string_at))]
+#[tactic(auto, using(crate::proofs::StringLemmas::live, crate::proofs::StringLemmas::dead), unfolding(cbi_base::specs::Printing::string_at))]
 fn cells_at(objects: &Objects, pointer: Word) -> Result<&[Word], Trap>
     ensures { MatchResult result (λ cells. string_at pointer objects.now ≡ string_on cells.now) (λ t. string_at pointer objects.now ≡ stopped t) }
 {
@@ -60,7 +56,7 @@ fn is_zero(value: i64) -> bool
 /// The byte of a `char`.
 fn char_byte(value: i64) -> u8
     requires { LiesIn Kind.Char value }
-    ensures { result ≡ byte_of value }
+    ensures { result ≡ low_byte value }
 {
     byte_of(value as i32)
 }
@@ -221,11 +217,11 @@ fn put_piece<'a>(
     piece: Piece,
     values: &'a [Word],
 ) -> Result<&'a [Word], Stop>
-    ensures ok { IfOk result (λ left. (pieces : List flow.Piece) → IsTrue (take_values (piece_of piece ∷ pieces) values.now)
-        → IsTrue (take_values pieces left.now) × Continues (printed pieces left.now objects.now)
-        (printed (piece_of piece ∷ pieces) values.now objects.now) output.old output.new) }
-    ensures err { IfErr result (λ e. (pieces : List flow.Piece) → IsTrue (take_values (piece_of piece ∷ pieces) values.now)
-        → IsPrinted (printed (piece_of piece ∷ pieces) values.now objects.now) output.old (Some e) output.new) }
+    ensures ok { IfOk result (λ left. (pieces : List print.FormatPiece) → IsTrue (take_values (piece_of piece ∷ pieces) values.now)
+        → IsTrue (take_values pieces left.now) × Continues (printed_format pieces left.now objects.now)
+        (printed_format (piece_of piece ∷ pieces) values.now objects.now) output.old output.new) }
+    ensures err { IfErr result (λ e. (pieces : List print.FormatPiece) → IsTrue (take_values (piece_of piece ∷ pieces) values.now)
+        → IsPrinted (printed_format (piece_of piece ∷ pieces) values.now objects.now) output.old (Some e) output.new) }
 {
     match piece {
         Piece::Byte(byte) => {
@@ -253,7 +249,7 @@ pub fn put_format(
     values: &[Word],
 ) -> Result<(), Stop>
     requires { IsTrue (take_values (pieces_of format.now) values.now) }
-    ensures { IsPrinted (printed (pieces_of format.now) values.now objects.now) output.old (stop_in result) output.new }
+    ensures { IsPrinted (printed_format (pieces_of format.now) values.now objects.now) output.old (stop_in result) output.new }
 {
     let mut rest = format;
     let mut left = values;

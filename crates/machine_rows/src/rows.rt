@@ -1,13 +1,8 @@
 ghost use Rattle.std.specs.Prelude.{◌≡◌, ◌≤◌, ◌<◌, ◌^◌, ◌*ℤ◌, false, unsigned_abs, OnOk, IfOk, IfSome, Ok};
 ghost use Rattle.c_store.specs.Word.{is_undefined};
-ghost use Rattle.cbi_base.specs.Arithmetic.{flag};
-ghost use Rattle.cbi_base.specs.Kind.{LiesIn};
-ghost use Rattle.cbi_base.specs.Objects.{allocated, loaded};
-ghost use Rattle.cbi_base.specs.Scalars.{applied};
+ghost use Rattle.cbi_base.specs.Words.{flag, LiesIn, allocated, loaded, applied, low_byte, moved_by, zero_value};
 ghost use Rattle.flow.specs.declared.node.Node.TheVariants as node;
-ghost use Rattle.flow.specs.Now.{byte_of};
-ghost use Rattle.flow.specs.Rows.{act, moved_by, zero_value};
-ghost use Rattle.flow.specs.View.{view};
+ghost use Rattle.flow.specs.Words.{act, view};
 ghost use Rattle.machine_rows.specs.Data.{data_of, no_statics};
 ghost use Rattle.machine_rows.specs.Effects.{IsActed, IsDone};
 
@@ -20,7 +15,7 @@ use cbi_base::{Binary, Class, Kind, Memory, Order, Scalar, Trap, Unary, Want};
 
 /// The number modulo 256.
 pub fn byte_of(value: i32) -> u8
-    ensures { result ≡ byte_of value }
+    ensures { result ≡ low_byte value }
 {
     value.rem_euclid(256) as u8
 }

@@ -2,10 +2,8 @@ ghost use Rattle.std.specs.Prelude.{◌≡◌, ◌≤◌, ◌+◌, OnOk, IfSome,
 ghost use Rattle.std.specs.Option.{option_map};
 ghost use Rattle.c_store.specs.Written.{after};
 ghost use Rattle.flow.specs.declared.node.Node.TheVariants as node;
-ghost use Rattle.flow.specs.Code.{statics_of};
-ghost use Rattle.flow.specs.Limits.{byte_limit};
-ghost use Rattle.flow.specs.Rows.{act, char_of, spelled};
-ghost use Rattle.flow.specs.View.{view};
+ghost use Rattle.flow.specs.Words.{statics_of, byte_limit, act, view};
+ghost use Rattle.cbi_base.specs.Words.{stored_bytes as spelled, char_of};
 ghost use Rattle.machine_rows.specs.Data.{data_of, no_statics};
 ghost use Rattle.machine_rows.specs.Effects.{IsActed};
 

@@ -4,8 +4,7 @@ use Rattle.std.specs.Prelude.{All}
 use Rattle.std.specs.Global.{Global}
 use Rattle.std.proofs.lemmas.List.{append-nil}
 use Rattle.std.proofs.lemmas.List.Elements.{All-head, All-tail, All-cons, All-nil}
-use Rattle.cbi_base.specs.Lines.{LeadsOnce, LeadsTo, ReadsLines}
-use Rattle.cbi_base.specs.Text.{AreLines, text_of}
+use Rattle.cbi_base.specs.Words.{LeadsOnce, LeadsTo, ReadsLines, AreLines, text_of}
 use Rattle.cbi_base.proofs.LineLemmas.{nothing-line, same-line}
 use Rattle.name_lists.specs.declared.draft.Draft.{Draft}
 use Rattle.name_lists.specs.Grammar.{ListEnds, NameFollows, start_of_list}

@@ -14,9 +14,7 @@ use Rattle.expected.specs.Expected.{agrees}
 use Rattle.flow.specs.declared.program.ProgramParts.{ProgramParts}
 use Rattle.flow.specs.declared.result.RunResult.{RunResult}
 use Rattle.flow.specs.declared.site.Site.{Site}
-use Rattle.flow.specs.Counting.{counts_from}
-use Rattle.flow.specs.Machine.{MachineEnds}
-use Rattle.flow.specs.Program.{IsProgram}
+use Rattle.flow.specs.Words.{counts_from, MachineEnds, IsProgram}
 use Rattle.machine.specs.Going.{AreBounded, HasRun, IsBounded}
 use Rattle.machine_laws.specs.Laws.{ReportsOfRunsAreTaken}
 use Rattle.report_file.specs.declared.label.Label.{Label}

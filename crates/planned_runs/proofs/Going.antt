@@ -6,8 +6,7 @@ use Rattle.cbi_base.specs.declared.outcome.Outcome.{Outcome}
 use Rattle.cbi_base.specs.declared.outcome.Outcome.TheVariants.{Ended, Trapped, CutTurns, CutOutput}
 use Rattle.cbi_base.specs.declared.refusal.Refusal.{Refusal}
 use Rattle.cbi_base.specs.declared.refusal.Refusal.TheVariants.{TooManyMarks}
-use Rattle.cbi_base.specs.Faults.{Rose}
-use Rattle.cbi_base.specs.Store.{Held as Store}
+use Rattle.cbi_base.specs.Words.{Rose, Held as Store}
 use Rattle.collector.specs.declared.collection.Held.{Held}
 use Rattle.collector.specs.Collected.{mark_limit, marks_of, report_at, report_limit, with_report}
 use Rattle.collector.specs.Sites.{branches_of}
@@ -260,10 +259,8 @@ module _ {B : Type 0} (p : ProgramParts) (id : ProgramId) (gives : ℕ → RunIn
     caused names refuses rose fault.Memory more h r = tt
 
     pub precedes : (names : ℕ → List (List ℕ)) (refuses : ℕ → Refusal → Type 0) (e : Fault) → NextFailed p id number turns told now later gives names refuses c e → Precedes e
-    precedes names refuses (fault.Read name) h = tt
     precedes names refuses fault.Write h = absurd h
-    precedes names refuses (fault.Refused refusal) h = tt
-    precedes names refuses fault.Memory h = tt
+    precedes names refuses e h = tt
 
 -- what is said of a program and a store is said of the same ones
 module _ {B : Type 0} (p q : ProgramParts) (id : ProgramId) (number turns : ℕ) (told : B → List Observation) (before after : List B) (gives : Option Store → ℕ → RunInput → Type 0)

@@ -5,10 +5,10 @@ use Rattle.std.proofs.lemmas.Bool.Decides.{nat_tests}
 use Rattle.std.proofs.lemmas.List.{map-append}
 use Rattle.std.proofs.lemmas.List.Concat.{flat_map-append}
 use Rattle.std.proofs.lemmas.List.Sums.{sum_by-cons, sum_by_push}
+use Rattle.base_lists.proofs.Numbers.{more_apart}
 use Rattle.cbi_base.specs.declared.identity.ProgramId.{ProgramId}
 use Rattle.flow.specs.declared.program.ProgramParts.{ProgramParts}
-use Rattle.flow.specs.Counting.{counts_of}
-use Rattle.flow.specs.State.{Ending}
+use Rattle.flow.specs.Words.{counts_of, Ending}
 use Rattle.report_file.specs.declared.report.Report.{Report}
 use Rattle.report_file.specs.Report.{entries_of}
 use Rattle.collector.specs.Collected.{marks_of, report_at, with_report}
@@ -39,22 +39,18 @@ reports_more p id number (x ∷ rs) r =
     ap (λ rest. planned_report p id number x ∷ rest) (reports_more p id (suc number) rs r
     ∙ ap (λ n. planned_reports p id (suc number) rs ++ planned_report p id n r ∷ []) (omega arith))
 
--- no report of a greater run is there, and one stands behind all
-above : (run number : ℕ) → number < run → (run == number) ≡ false
-above run number less = grind (arith, nat_tests)
-
 not_below : (run number : ℕ) → number < run → nat_lt run number ≡ false
 not_below run number less = grind (arith, nat_tests)
 
 pub none_at : (p : ProgramParts) (id : ProgramId) (number run : ℕ) (rs : List JudgedRun) → number + length rs ≤ run → report_at run (planned_reports p id number rs) ≡ None
 none_at p id number run [] fits = refl
-none_at p id number run (x ∷ rs) fits = rw (above run number (omega arith)) (none_at p id (suc number) run rs (omega arith))
+none_at p id number run (x ∷ rs) fits = rw (more_apart run number (omega arith)) (none_at p id (suc number) run rs (omega arith))
 
 pub with_last : (p : ProgramParts) (id : ProgramId) (number : ℕ) (r : Report) (rs : List JudgedRun) → number + length rs ≤ r.run
     → with_report r (planned_reports p id number rs) ≡ planned_reports p id number rs ++ r ∷ []
 with_last p id number r [] fits = refl
 with_last p id number r (x ∷ rs) fits =
-    rw (not_below r.run number (omega arith), above r.run number (omega arith))
+    rw (not_below r.run number (omega arith), more_apart r.run number (omega arith))
     (ap (λ rest. planned_report p id number x ∷ rest) (with_last p id (suc number) r rs (omega arith)))
 
 pub length_reports : (p : ProgramParts) (id : ProgramId) (number : ℕ) (rs : List JudgedRun) → length (planned_reports p id number rs) ≡ length rs

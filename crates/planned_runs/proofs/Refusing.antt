@@ -6,10 +6,7 @@ use Rattle.collector.specs.Collected.{mark_limit}
 use Rattle.countdown_bank.specs.Bank.{number_after}
 use Rattle.expected.specs.Expected.{agrees}
 use Rattle.flow.specs.declared.program.ProgramParts.{ProgramParts}
-use Rattle.flow.specs.Counting.{counts_of}
-use Rattle.flow.specs.Laws.{OneEnding}
-use Rattle.flow.specs.Machine.{MachineEnds}
-use Rattle.flow.specs.State.{Ending}
+use Rattle.flow.specs.Words.{counts_of, OneEnding, MachineEnds, Ending}
 use Rattle.report_file.specs.Report.{entries_of}
 use Rattle.planned_runs.specs.declared.input.RunInput.{RunInput}
 use Rattle.planned_runs.specs.Left.{PlanRefusedBy}

@@ -12,8 +12,7 @@ use Rattle.command_base.specs.declared.fault.Fault.TheVariants as fault
 use Rattle.command_base.specs.Names.{IsOneOf}
 use Rattle.countdown_bank.specs.Bank.{number_after}
 use Rattle.flow.specs.declared.program.ProgramParts.{ProgramParts}
-use Rattle.flow.specs.Machine.{MachineEnds}
-use Rattle.flow.specs.State.{Ending}
+use Rattle.flow.specs.Words.{MachineEnds, Ending}
 use Rattle.probes.specs.Told.{AllGrew, AllGrewByPrefix}
 use Rattle.planned_runs.specs.declared.input.RunInput.{RunInput}
 use Rattle.planned_runs.specs.declared.runs.PlannedRuns.{PlannedRuns}

@@ -5,9 +5,7 @@ use Rattle.cbi_base.specs.declared.observation.Observation.{Observation}
 use Rattle.countdown_bank.specs.Bank.{number_after}
 use Rattle.expected.specs.Expected.{agrees}
 use Rattle.flow.specs.declared.program.ProgramParts.{ProgramParts}
-use Rattle.flow.specs.Counting.{counts_of}
-use Rattle.flow.specs.Machine.{MachineEnds}
-use Rattle.flow.specs.State.{Ending}
+use Rattle.flow.specs.Words.{counts_of, MachineEnds, Ending}
 use Rattle.report_file.specs.declared.report.Report.{Report}
 use Rattle.report_file.specs.Label.{label_of}
 use Rattle.report_file.specs.Report.{entries_of}

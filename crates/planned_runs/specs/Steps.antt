@@ -13,8 +13,7 @@ use Rattle.command_base.specs.Names.{IsOneOf}
 use Rattle.countdown_bank.specs.Bank.{number_after}
 use Rattle.expected.specs.Expected.{agrees}
 use Rattle.flow.specs.declared.program.ProgramParts.{ProgramParts}
-use Rattle.flow.specs.Machine.{MachineEnds}
-use Rattle.flow.specs.State.{Ending}
+use Rattle.flow.specs.Words.{MachineEnds, Ending}
 use Rattle.probes.specs.Told.{AllGrew, AllGrewByPrefix}
 use Rattle.report_file.specs.declared.report.Report.{Report}
 use Rattle.report_file.specs.Report.{IsWork}

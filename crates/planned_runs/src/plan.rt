@@ -1,6 +1,5 @@
 ghost use Rattle.std.specs.Prelude.{◌≡◌, ◌≤◌, ℕ, List, Option, IsSome, length, IfOk, IfErr};
-ghost use Rattle.cbi_base.specs.Faults.{Rose};
-ghost use Rattle.cbi_base.specs.Store.{Held};
+ghost use Rattle.cbi_base.specs.Words.{Rose, Held};
 ghost use Rattle.cbi_base.specs.declared.refusal.Refusal.{Refusal};
 ghost use Rattle.command_base.specs.Faults.{Caused, OfRead, Passed};
 ghost use Rattle.command_base.specs.Names.{IsOneOf, IsFirstMissing, AreHeld};

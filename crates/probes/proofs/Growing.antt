@@ -5,6 +5,7 @@ use Rattle.std.proofs.lemmas.List.{length-set, append-nil, take_all, take-append
 use Rattle.std.proofs.Math.Seq.{take-append-add}
 use Rattle.std.proofs.lemmas.Option.{slice_get_within, slice_get-get_or}
 use Rattle.std.proofs.lemmas.Bool.{cases_lt}
+use Rattle.base_lists.proofs.Lists.{set_here}
 use Rattle.cbi_base.specs.declared.observation.Observation.{Observation}
 use Rattle.probes.specs.Told.{AllGrew, AllGrewByPrefix}
 
@@ -16,16 +17,9 @@ pub record GrewBelow {B : Type 0} (seen : B → List Observation) (more : List O
 
 -- a write at a place changes what is there alone
 pub slice_get-set_other : {B : Type 0} (bs : List B) (i k : ℕ) (c : B) → k ≢ i → slice_get (slice_set bs i c) k ≡ slice_get bs k
-slice_get-set_other [] i k c apart = refl
 slice_get-set_other (b ∷ bs) zero zero c apart = absurd (apart refl)
-slice_get-set_other (b ∷ bs) zero (suc k) c apart = refl
-slice_get-set_other (b ∷ bs) (suc i) zero c apart = refl
 slice_get-set_other (b ∷ bs) (suc i) (suc k) c apart = slice_get-set_other bs i k c (λ e. apart (ap suc e))
-
-pub slice_get-set_same : {B : Type 0} (bs : List B) (i : ℕ) (c : B) → i < length bs → slice_get (slice_set bs i c) i ≡ Some c
-slice_get-set_same [] i c less = absurd (omega arith)
-slice_get-set_same (b ∷ bs) zero c less = refl
-slice_get-set_same (b ∷ bs) (suc i) c less = slice_get-set_same bs i c (omega arith)
+slice_get-set_other bs i k c apart = refl
 
 -- one more watcher was told
 pub GrewBelow-more : {B : Type 0} (seen : B → List Observation) (more : List Observation) (place : ℕ) (old now : List B) (b c : B)
@@ -39,7 +33,7 @@ GrewBelow-more {B} seen more place old now b c inside is grew below = record {
             let here : k ≡ place = omega arith in
             let old_is : slice_get old place ≡ Some before = subst (λ i. slice_get old i ≡ Some before) here was in
             let same : Some b ≡ Some before = sym is ∙ below.others place (omega arith) ∙ old_is in
-            let new_is : Some c ≡ Some after = sym (slice_get-set_same now place c inside) ∙ subst (λ i. slice_get (slice_set now place c) i ≡ Some after) here stands in
+            let new_is : Some c ≡ Some after = sym (set_here now place c inside) ∙ subst (λ i. slice_get (slice_set now place c) i ≡ Some after) here stands in
             let b_is : b ≡ before = cc in
             let c_is : c ≡ after = cc in
             sym (ap seen c_is) ∙ grew ∙ ap (λ x. seen x ++ more) b_is
@@ -81,7 +75,7 @@ AllGrewByPrefix-stop {B} seen more place old now b c inside is same below = reco
               let here : k ≡ place = omega arith in
               let old_is : slice_get old place ≡ Some before = subst (λ i. slice_get old i ≡ Some before) here was in
               let same_before : Some b ≡ Some before = sym is ∙ below.others place (omega arith) ∙ old_is in
-              let new_is : Some c ≡ Some after = sym (slice_get-set_same now place c inside) ∙ subst (λ i. slice_get (slice_set now place c) i ≡ Some after) here stands in
+              let new_is : Some c ≡ Some after = sym (set_here now place c inside) ∙ subst (λ i. slice_get (slice_set now place c) i ≡ Some after) here stands in
               let b_is : b ≡ before = cc in
               let c_is : c ≡ after = cc in
               sym (ap seen c_is) ∙ same ∙ ap seen b_is ∙ sym (append-nil (seen before))

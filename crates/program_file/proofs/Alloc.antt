@@ -20,11 +20,8 @@ chosen-moved x false d e = refl
 
 comes-moved : (x : Heap) (next : Due) (d : Draft) (line : List ℕ) (after : Draft) → ProgramLineComes next d line after → ProgramLineComes next (moved x d) line (moved x after)
 comes-moved x due.Title d line after f = (f.0, ap (moved x) f.1)
-comes-moved x due.Texts d line after f = (f.0, f.1, ap (moved x) f.2)
 comes-moved x due.Text d line after f = (f.0, record { reads = f.1.reads; room = f.1.room; are_bytes = f.1.are_bytes; total = f.1.total }, ap (moved x) f.2)
-comes-moved x due.Globals d line after f = (f.0, f.1, ap (moved x) f.2)
 comes-moved x due.Global d line after f = (f.0, record { reads = f.1.reads; room = f.1.room; total = f.1.total; fits = f.1.fits }, ap (moved x) f.2)
-comes-moved x due.Functions d line after f = (f.0, f.1, ap (moved x) f.2)
 comes-moved x due.Head d line after f = (f.0, record { reads = f.1.reads; room = f.1.room; is_head = f.1.is_head; fresh = f.1.fresh; locals = f.1.locals; nodes = f.1.nodes }, ap (moved x) f.2)
 comes-moved x due.Main d line after f = (f.0, record { reads = f.1.reads; head = f.1.head; stands = f.1.stands; result = f.1.result; params = f.1.params }, ap (moved x) f.2)
 comes-moved x due.Sites d line after f =
@@ -36,6 +33,7 @@ comes-moved x due.Node d line after f =
     (f.0, record { is_due = f.1.is_due; reads = f.1.reads; room = f.1.room; fits = f.1.fits }, ap (moved x) f.2 ∙ chosen-moved x (length (d.nodes ++ f.0.1 ∷ []) == f.0.0.nodes) _ _)
 comes-moved x due.End d line after f = (f.0, ap (moved x) f.1)
 comes-moved x due.Nothing d line after f = absurd f
+comes-moved x next d line after f = (f.0, f.1, ap (moved x) f.2)
 
 leads-moved : (x : Heap) (from to : Draft) (lines : List (List ℕ)) → LeadsTo ProgramLineFollows from lines to → LeadsTo ProgramLineFollows (moved x from) lines (moved x to)
 leads-moved x from to [] h = ap (moved x) h

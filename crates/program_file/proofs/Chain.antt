@@ -8,10 +8,10 @@ use Rattle.std.proofs.lemmas.List.{append-nil, map-append}
 use Rattle.std.proofs.lemmas.List.Elements.{All-from_recursion, recursion_from_All}
 use Rattle.std.proofs.lemmas.List.Sums.{sum_by-append}
 use Rattle.std.proofs.lemmas.Option.{slice_get_within}
+use Rattle.base_lists.proofs.Numbers.{less_apart}
+use Rattle.base_lists.proofs.Lists.{get_left}
 use Rattle.hex.specs.Hex.{IsBytes}
-use Rattle.cbi_base.specs.Text.{IsField, fields_of, spaced, AreLines}
-use Rattle.cbi_base.specs.Lines.{LeadsTo}
-use Rattle.cbi_base.specs.Numbers.{greatest_u32}
+use Rattle.cbi_base.specs.Words.{IsField, fields_of, spaced, AreLines, LeadsTo, greatest_u32}
 use Rattle.cbi_base.specs.declared.scalar.Kind.TheVariants.{Char, Int, Unsigned}
 use Rattle.cbi_base.proofs.FieldLemmas.{fields_of-spaced, spaced-lacks-newline}
 use Rattle.flow.specs.declared.node.Node.{Node}
@@ -29,11 +29,9 @@ use Rattle.flow.specs.declared.site.SiteKind.{SiteKind}
 use Rattle.flow.specs.declared.site.SiteKind.TheVariants as kind
 use Rattle.flow.specs.declared.scope.Names.{Names}
 use Rattle.flow.specs.declared.scope.Bounds.{Bounds}
-use Rattle.flow.specs.Limits.{text_limit, byte_limit, static_limit, local_limit, node_limit}
-use Rattle.flow.specs.Nodes.{node_fits, NodesFit}
-use Rattle.flow.specs.Program.{AreTexts, AreGlobals, GlobalFits, AreSites, IsFunction, bounds_of, cell_fits}
-use Rattle.flow.specs.Sites.{IsSite, KindFits, PartnerFits, slot_fits, is_constant}
-use Rattle.flow.specs.Spelling.{Head, head_of, head_fields, text_fields, global_fields, site_fields, node_fields, locals_fields, body_rows}
+use Rattle.flow.specs.Words.{text_limit, byte_limit, static_limit, local_limit, node_limit, node_fits, NodesFit, AreTexts, AreGlobals, GlobalFits, AreSites}
+use Rattle.flow.specs.Words.{IsFunction, bounds_of, cell_fits, IsSite, KindFits, PartnerFits, slot_fits, is_constant, Head, head_of, head_fields, text_fields}
+use Rattle.flow.specs.Words.{global_fields, site_fields, node_fields, locals_fields, body_rows}
 use Rattle.program_lines.specs.Rows.{text_of_row, head_of_row, locals_of_row}
 use Rattle.program_lines.specs.CellRuns.{global_of_row}
 use Rattle.program_lines.specs.SiteLines.{site_of_row}
@@ -92,14 +90,10 @@ rows-lead fields state ok step items h =
     subst (λ ls. LeadsTo ProgramLineFollows (state []) ls (state items)) (single-lines fields items)
     (list-leads (λ x. spaced (fields x) ∷ []) state ok (λ xs x is. leads-one (state xs) (state (xs ++ x ∷ [])) (spaced (fields x)) (step xs x is)) [] items h)
 
--- a state in which an item is due
-pub not-full : (n count : ℕ) → n < count → (n == count) ≡ false
-not-full n count h = grind (arith, nat_tests)
-
 -- an item more, whatever is due then
 comes-item : (state made next : Draft) (item past item_due : Due) (n count : ℕ) (line : List ℕ) → state.due ≡ cond (n == count) past item → n < count → made ≡ next → ProgramLineComes item state line made → ProgramLineFollows state line next
 comes-item state made next item past item_due n count line is_due room same f =
-    subst (λ e. ProgramLineFollows state line e) same (subst (λ u. ProgramLineComes u state line made) (sym (is_due ∙ ap (λ b. cond b past item) (not-full n count room))) f)
+    subst (λ e. ProgramLineFollows state line e) same (subst (λ u. ProgramLineComes u state line made) (sym (is_due ∙ ap (λ b. cond b past item) (less_apart n count room))) f)
 
 -- the bytes of texts
 are-bytes : (bytes : List ℕ) → AllByRecursion (λ b. b < 256) bytes → IsBytes bytes
@@ -221,11 +215,6 @@ pub record ProgramHeads (count : ℕ) (heads : List Head) : Type 0 where
   pub nodes : nodes_in heads ≤ node_limit
   pub distinct : (i j : ℕ) (g h : Head) → slice_get heads i ≡ Some g → slice_get heads j ≡ Some h → g.name ≡ h.name → i ≡ j
 
-pub slice_get-left : {A : Type 0} (xs ys : List A) (i : ℕ) (x : A) → slice_get xs i ≡ Some x → slice_get (xs ++ ys) i ≡ Some x
-slice_get-left [] ys i x h = absurd (omega (arith, slice_get_within [] i x h))
-slice_get-left (z ∷ zs) ys zero x h = h
-slice_get-left (z ∷ zs) ys (suc i) x h = slice_get-left zs ys i x h
-
 pub slice_get-seam : {A : Type 0} (xs ys : List A) (y : A) → slice_get (xs ++ y ∷ ys) (length xs) ≡ Some y
 slice_get-seam [] ys y = refl
 slice_get-seam (x ∷ xs) ys y = slice_get-seam xs ys y
@@ -237,7 +226,7 @@ each-index P (x ∷ xs) h = (h 0 x refl, each-index P xs (λ i y is. h (suc i) y
 heads-fresh : (xs zs : List Head) (z : Head) → ((i j : ℕ) (g h : Head) → slice_get (xs ++ z ∷ zs) i ≡ Some g → slice_get (xs ++ z ∷ zs) j ≡ Some h → g.name ≡ h.name → i ≡ j) → All (λ g. g.name ≢ z.name) xs
 heads-fresh xs zs z distinct =
     All-from_recursion (λ (g : Head). g.name ≢ z.name) xs (each-index (λ (g : Head). g.name ≢ z.name) xs (λ i x is same.
-    let e = distinct i (length xs) x z (slice_get-left xs (z ∷ zs) i x is) (slice_get-seam xs zs z) same in
+    let e = distinct i (length xs) x z (get_left xs (z ∷ zs) i x is) (slice_get-seam xs zs z) same in
     omega (arith, slice_get_within xs i x is, e)))
 
 head-one : (count : ℕ) (xs zs : List Head) (z : Head) → ProgramHeads count (xs ++ z ∷ zs) → HeadComes count xs z
@@ -268,7 +257,7 @@ site-step d count sites s h =
     let reads = ap (λ fs. site_of_row fs) (row-fields (site_fields s) (λ e. cc) (are_fields-site s h.small)) ∙ site_of_row-fields s h.small in
     let here : Draft = record d { due = due.Site; count = count; sites = sites } in
     let f : ProgramLineFollows here (spaced (site_fields s)) (with_sites (record d { count = count }) (sites ++ s ∷ [])) = (s, record { reads = reads; room = h.room; fits = h.fits }, refl) in
-    let state : with_sites (record d { count = count }) sites ≡ here = ap (λ b. cond b (record d { due = due.Locals; count = count; sites = sites; names = names_in d sites; functions = [] }) here) (not-full (length sites) count h.room) in
+    let state : with_sites (record d { count = count }) sites ≡ here = ap (λ b. cond b (record d { due = due.Locals; count = count; sites = sites; names = names_in d sites; functions = [] }) here) (less_apart (length sites) count h.room) in
     subst (λ e. ProgramLineFollows e (spaced (site_fields s)) (with_sites (record d { count = count }) (sites ++ s ∷ []))) (sym state) f
 
 -- the numbers of a site are small
@@ -332,7 +321,7 @@ node-step d h is_due nodes n is =
     let reads = ap (λ fs. node_of fs) (row-fields (node_fields n) (node-some n) (are_fields-node n is.small)) ∙ node_of-fields n is.small in
     let here : Draft = record d { due = due.Node; nodes = nodes } in
     let f : ProgramLineFollows here (spaced (node_fields n)) (with_nodes d h (nodes ++ n ∷ [])) = ((h, n), record { is_due = is_due; reads = reads; room = is.room; fits = is.fits }, refl) in
-    let state : with_nodes d h nodes ≡ here = ap (λ b. cond b (with_function d (function_with h d.locals nodes)) here) (not-full (length nodes) h.nodes is.room) in
+    let state : with_nodes d h nodes ≡ here = ap (λ b. cond b (with_function d (function_with h d.locals nodes)) here) (less_apart (length nodes) h.nodes is.room) in
     subst (λ e. ProgramLineFollows e (spaced (node_fields n)) (with_nodes d h (nodes ++ n ∷ []))) (sym state) f
 
 node-one : (d : Draft) (h : Head) → AreSmallNames d.names (bounds_in d h) → (xs zs : List Node) (z : Node) → (NodesFit d.names (bounds_in d h) (xs ++ z ∷ zs) × (length (xs ++ z ∷ zs) ≡ h.nodes)) → NodeComes d h xs z
@@ -365,8 +354,8 @@ function-step d functions f h =
     let room : length functions < length d.heads = slice_get_within d.heads (length functions) (head_of f) h.is_due in
     let reads = ap (λ fs. locals_of_row (length f.locals) fs) (row-fields (locals_fields f.locals) (λ e. cc) (refl, are_fields-sizes f.locals h.sizes)) ∙ sizes_of-fields f.locals h.sizes in
     let first : ProgramLineFollows start (spaced (locals_fields f.locals)) inside = (f.locals, record { head = head_of f; is_due = h.is_due; reads = reads; fits = h.is.locals }, refl) in
-    let at : function-state d functions ≡ start = ap (λ b. record d { due = cond b due.End due.Locals; functions = functions; locals = []; nodes = [] }) (not-full (length functions) (length d.heads) room) in
-    let none : with_nodes inside (head_of f) [] ≡ inside = ap (λ b. cond b (with_function inside (function_with (head_of f) f.locals [])) inside) (not-full 0 (length f.nodes) h.is.entry) in
+    let at : function-state d functions ≡ start = ap (λ b. record d { due = cond b due.End due.Locals; functions = functions; locals = []; nodes = [] }) (less_apart (length functions) (length d.heads) room) in
+    let none : with_nodes inside (head_of f) [] ≡ inside = ap (λ b. cond b (with_function inside (function_with (head_of f) f.locals [])) inside) (less_apart 0 (length f.nodes) h.is.entry) in
     let all : with_nodes inside (head_of f) f.nodes ≡ with_function inside f = ap (λ b. cond b (with_function inside f) (record inside { nodes = f.nodes })) (eq-eqb (length f.nodes) (length f.nodes) refl) in
     let end : with_function inside f ≡ function-state d (functions ++ f ∷ []) = ap (λ n. record d { due = due_after n (length d.heads) due.Locals due.End; functions = functions ++ f ∷ []; locals = []; nodes = [] }) (sym (length-append functions (f ∷ []))) in
     let nodes = nodes-lead inside (head_of f) f.nodes h.is_due h.small h.is.nodes refl in

@@ -4,8 +4,7 @@ use Rattle.std.specs.List.{flat_map}
 use Rattle.std.proofs.lemmas.Bool.{eqb-true}
 use Rattle.std.proofs.lemmas.List.{append-nil, map-append}
 use Rattle.std.proofs.lemmas.List.Splits.{join_with_byte-slice_split}
-use Rattle.cbi_base.specs.Text.{fields_of, spaced}
-use Rattle.cbi_base.specs.Lines.{LeadsTo}
+use Rattle.cbi_base.specs.Words.{fields_of, spaced, LeadsTo}
 use Rattle.flow.specs.declared.node.Node.{Node}
 use Rattle.flow.specs.declared.program.Function.{Function}
 use Rattle.flow.specs.Spelling.{Head, head_fields, text_fields, global_fields, site_fields, node_fields, locals_fields, body_rows, counted, list_rows, whole_list, end_row}

@@ -6,10 +6,10 @@ use Rattle.std.proofs.lemmas.List.{append-nil, map-append}
 use Rattle.std.proofs.lemmas.List.Elements.{All-append, All-from_recursion, recursion_from_All}
 use Rattle.std.proofs.lemmas.List.Sums.{sum_by-append}
 use Rattle.std.proofs.lemmas.Option.{slice_get_within}
-use Rattle.cbi_base.specs.Format.{conversions_of}
-use Rattle.cbi_base.specs.Text.{fields_of}
-use Rattle.cbi_base.specs.Lines.{LeadsTo}
-use Rattle.cbi_base.proofs.NumberLemmas.{none-some, some-is}
+use Rattle.base_lists.proofs.Options.{none_some, some_is}
+use Rattle.base_lists.proofs.Lists.{get_map}
+use Rattle.base_lists.proofs.Every.{every_at}
+use Rattle.cbi_base.specs.Words.{conversions_of, fields_of, LeadsTo}
 use Rattle.flow.specs.declared.node.Node.{Node}
 use Rattle.flow.specs.declared.program.Text.{Text}
 use Rattle.flow.specs.declared.program.Global.{Global}
@@ -17,11 +17,9 @@ use Rattle.flow.specs.declared.program.Function.{Function}
 use Rattle.flow.specs.declared.site.Site.{Site}
 use Rattle.flow.specs.declared.scope.Names.{Names}
 use Rattle.flow.specs.declared.scope.Bounds.{Bounds}
-use Rattle.flow.specs.Limits.{text_limit, byte_limit, static_limit, global_limit, function_limit, local_limit, node_limit, site_limit}
-use Rattle.flow.specs.Nodes.{node_fits, NodesFit}
-use Rattle.flow.specs.Program.{AreTexts, AreGlobals, GlobalFits, AreLocals, AreSites, IsFunction, FunctionsFit, IsProgram, names_of, bounds_of}
-use Rattle.flow.specs.Sites.{IsSite}
-use Rattle.flow.specs.Spelling.{Head, head_of}
+use Rattle.flow.specs.Words.{text_limit, byte_limit, static_limit, global_limit, function_limit, local_limit, node_limit, site_limit, node_fits, NodesFit}
+use Rattle.flow.specs.Words.{AreTexts, AreGlobals, GlobalFits, AreLocals, AreSites, IsFunction, FunctionsFit, IsProgram, names_of, bounds_of, IsSite, Head}
+use Rattle.flow.specs.Words.{head_of}
 use Rattle.program_lines.specs.Sums.{bytes_in, cells_in, locals_in, nodes_in}
 use Rattle.program_file.specs.declared.draft.Due.{Due}
 use Rattle.program_file.specs.declared.draft.Due.TheVariants as due
@@ -124,31 +122,23 @@ pub data PlaceIn {A : Type 0} (xs : List A) (x : A) (i : ℕ) (y : A) : Type 0 w
   Last : i ≡ length xs → y ≡ x → PlaceIn xs x i y
 
 pub place-in : {A : Type 0} (xs : List A) (x : A) (i : ℕ) (y : A) → slice_get (xs ++ x ∷ []) i ≡ Some y → PlaceIn xs x i y
-place-in [] x zero y h = Last refl (some-is (sym h))
-place-in [] x (suc i) y h = absurd (none-some h)
+place-in [] x zero y h = Last refl (some_is (sym h))
+place-in [] x (suc i) y h = absurd (none_some h)
 place-in (z ∷ zs) x zero y h = Before h (omega arith)
 place-in (z ∷ zs) x (suc i) y h = elim (place-in zs x i y h) [
   | Before p l ↦ Before p (omega arith)
   | Last e f ↦ Last (ap suc e) f
 ]
 
-pub all-at : {A : Type 0} (P : A → Type 0) (xs : List A) → All P xs → (i : ℕ) (x : A) → slice_get xs i ≡ Some x → P x
-all-at {A = A} P xs all i x h = by xs (recursion_from_All P xs all) i h
-  where
-    by : (ys : List A) → AllByRecursion P ys → (i : ℕ) → slice_get ys i ≡ Some x → P x
-    by [] all i h = absurd (omega (arith, slice_get_within [] i x h))
-    by (y ∷ ys) all zero h = subst P (some-is h) all.0
-    by (y ∷ ys) all (suc i) h = by ys all.1 i h
-
 heads-distinct : (heads : List Head) (h : Head) → ((i j : ℕ) (f g : Head) → slice_get heads i ≡ Some f → slice_get heads j ≡ Some g → f.name ≡ g.name → i ≡ j) → All (λ g. g.name ≢ h.name) heads
     → (i j : ℕ) (f g : Head) → slice_get (heads ++ h ∷ []) i ≡ Some f → slice_get (heads ++ h ∷ []) j ≡ Some g → f.name ≡ g.name → i ≡ j
 heads-distinct heads h distinct fresh i j f g p q same = elim (place-in heads h i f p) [
   | Before p1 l1 ↦ elim (place-in heads h j g q) [
     | Before q1 l2 ↦ distinct i j f g p1 q1 same
-    | Last e2 f2 ↦ absurd (all-at (λ (x : Head). x.name ≢ h.name) heads fresh i f p1 (same ∙ ap (λ (x : Head). x.name) f2))
+    | Last e2 f2 ↦ absurd (every_at (λ (x : Head). x.name ≢ h.name) heads fresh i f p1 (same ∙ ap (λ (x : Head). x.name) f2))
   ]
   | Last e1 f1 ↦ elim (place-in heads h j g q) [
-    | Before q1 l2 ↦ absurd (all-at (λ (x : Head). x.name ≢ h.name) heads fresh j g q1 (sym same ∙ ap (λ (x : Head). x.name) f1))
+    | Before q1 l2 ↦ absurd (every_at (λ (x : Head). x.name ≢ h.name) heads fresh j g q1 (sym same ∙ ap (λ (x : Head). x.name) f1))
     | Last e2 f2 ↦ e1 ∙ sym e2
   ]
 ]
@@ -201,12 +191,12 @@ moved a b is h = subst (λ (e : Draft). Sound e.due e) (sym is) h
 -- the functions' own lines begin
 opened : (d : Draft) (sites : List Site) → Fronts d → IsMainHead d.heads d.main → AreSites (map (λ h. h.locals) d.heads) (length d.globals) sites
     → AreOpen (record d { due = due.Locals; sites = sites; names = names_in d sites; functions = [] })
-opened d sites fronts main are = (fronts, main, are, refl, record { waiting = d.heads; heads_are = refl; fit = record { each = λ number f h. absurd (none-some h) } })
+opened d sites fronts main are = (fronts, main, are, refl, record { waiting = d.heads; heads_are = refl; fit = record { each = λ number f h. absurd (none_some h) } })
 
 -- the next head stands in front of those that wait
 next-waits : (functions : List Function) (waiting : List Head) (h : Head) → slice_get (map head_of functions ++ waiting) (length functions) ≡ Some h → (rest : List Head) × (waiting ≡ h ∷ rest)
-next-waits [] [] h is = absurd (none-some is)
-next-waits [] (x ∷ xs) h is = (xs, ap (λ y. y ∷ xs) (some-is is))
+next-waits [] [] h is = absurd (none_some is)
+next-waits [] (x ∷ xs) h is = (xs, ap (λ y. y ∷ xs) (some_is is))
 next-waits (f ∷ fs) waiting h is = next-waits fs waiting h is
 
 head-is : (h : Head) (locals : List ℕ) (nodes : List Node) → length locals ≡ h.locals → length nodes ≡ h.nodes → head_of (function_with h locals nodes) ≡ h
@@ -218,7 +208,7 @@ closed d h nodes s is_due locals count full fit =
     let f = function_with h d.locals nodes in
     let bodies = s.4 in
     let wait = next-waits d.functions bodies.waiting h (subst (λ hs. slice_get hs (length d.functions) ≡ Some h) bodies.heads_are is_due) in
-    let is_head : IsHead h = all-at IsHead d.heads s.0.are_heads.each (length d.functions) h is_due in
+    let is_head : IsHead h = every_at IsHead d.heads s.0.are_heads.each (length d.functions) h is_due in
     let bounds : bounds_in d h ≡ bounds_of (length d.functions) f = ap (λ k. record { function = length d.functions; locals = k; nodes = h.nodes }) (sym count) ∙ ap (λ k. record { function = length d.functions; locals = length d.locals; nodes = k }) (sym full) in
     let is : IsFunction d.names (length d.functions) f = record {
       name = is_head.name;
@@ -266,12 +256,12 @@ comes-sound due.Site d line after f s =
 comes-sound due.Locals d line after f s =
     moved after _ f.2 (
       s,
-      record { head = f.1.head; is_due = f.1.is_due; locals = f.1.fits; count = (locals_of_row-spelled f.1.head.locals (fields_of line) f.0 f.1.reads).1; nodes = record { each = λ place n h. absurd (none-some h) } },
+      record { head = f.1.head; is_due = f.1.is_due; locals = f.1.fits; count = (locals_of_row-spelled f.1.head.locals (fields_of line) f.0 f.1.reads).1; nodes = record { each = λ place n h. absurd (none_some h) } },
     )
 comes-sound due.Node d line after f s =
     let h = f.0.0 in
     let n = f.0.1 in
-    let same : s.1.head ≡ h = some-is (sym s.1.is_due ∙ f.1.is_due) in
+    let same : s.1.head ≡ h = some_is (sym s.1.is_due ∙ f.1.is_due) in
     let locals = subst (λ (g : Head). AreLocals g.params d.locals) same s.1.locals in
     let count = s.1.count ∙ ap (λ (g : Head). g.locals) same in
     let fit = nodes-more d.names (bounds_in d h) d.nodes n (subst (λ g. NodesFit d.names (bounds_in d g) d.nodes) same s.1.nodes) f.1.fits in
@@ -299,14 +289,9 @@ heads-whole d s all =
     let none = none-waits d.functions s.4.waiting (all ∙ ap length s.4.heads_are) in
     s.4.heads_are ∙ ap (λ w. map head_of d.functions ++ w) none ∙ append-nil (map head_of d.functions)
 
-pub slice_get-map : {A B : Type 0} (f : A → B) (xs : List A) (i : ℕ) (x : A) → slice_get xs i ≡ Some x → slice_get (map f xs) i ≡ Some (f x)
-slice_get-map f [] i x h = absurd (omega (arith, slice_get_within [] i x h))
-slice_get-map f (y ∷ ys) zero x h = ap Some (ap f (some-is h))
-slice_get-map f (y ∷ ys) (suc i) x h = slice_get-map f ys i x h
-
 pub slice_get-mapped : {A B : Type 0} (f : A → B) (xs : List A) (i : ℕ) (y : B) → slice_get (map f xs) i ≡ Some y → (x : A) × (slice_get xs i ≡ Some x) × (f x ≡ y)
 slice_get-mapped f [] i y h = absurd (omega (arith, slice_get_within [] i y h))
-slice_get-mapped f (x ∷ xs) zero y h = (x, refl, some-is h)
+slice_get-mapped f (x ∷ xs) zero y h = (x, refl, some_is h)
 slice_get-mapped f (x ∷ xs) (suc i) y h = slice_get-mapped f xs i y h
 
 pub sum_by-first : {A : Type 0} (f : A → ℕ) (x : A) (xs : List A) → sum_by f (x ∷ xs) ≡ f x + sum_by f xs
@@ -344,6 +329,6 @@ whole-program d s all =
         main = (f.0, f.1, record { result = ap (λ (h : Head). h.value) f.2 ∙ main.result; params = ap (λ (h : Head). h.params) f.2 ∙ main.params });
         sites = subst (λ ls. AreSites ls (length d.globals) d.sites) (ap (map (λ (h : Head). h.locals)) heads ∙ map-map head_of (λ (h : Head). h.locals) d.functions) s.2;
       };
-      distinct = record { each = λ i j g h p q same. hs.distinct i j (head_of g) (head_of h) (slice_get-map head_of d.functions i g p) (slice_get-map head_of d.functions j h q) same };
+      distinct = record { each = λ i j g h p q same. hs.distinct i j (head_of g) (head_of h) (get_map head_of d.functions i g p) (get_map head_of d.functions j h q) same };
       functions = subst (λ n. FunctionsFit n d.functions) names s.4.fit;
     }

@@ -2,18 +2,16 @@
 use Rattle.std.proofs.Common.{◌≡◌, ◌<◌, ℕ, true, false, cond, List, [], ◌∷◌, ◌++◌, length, map, Some, Err, IsTrue, slice_get, ap, sym, subst, ◌∙◌, length-append, codes, arith}
 use Rattle.std.proofs.lemmas.Bool.{eq-eqb, false≢true}
 use Rattle.std.proofs.lemmas.Fmt.{decimal_digit}
-use Rattle.cbi_base.specs.Text.{fields_of, spaced}
-use Rattle.cbi_base.specs.LineFaults.{TakenWith}
+use Rattle.base_lists.proofs.Options.{some_is}
+use Rattle.base_lists.proofs.Lists.{get_map}
+use Rattle.cbi_base.specs.Words.{fields_of, spaced, TakenWith}
 use Rattle.cbi_base.specs.declared.lines.LineError.{LineError}
 use Rattle.cbi_base.specs.declared.lines.LineError.TheVariants.{Bad, Memory}
-use Rattle.cbi_base.proofs.NumberLemmas.{some-is}
 use Rattle.flow.specs.declared.node.Node.{Node}
 use Rattle.flow.specs.declared.program.Function.{Function}
 use Rattle.flow.specs.declared.site.Site.{Site}
 use Rattle.flow.specs.declared.scope.Bounds.{Bounds}
-use Rattle.flow.specs.Nodes.{node_fits}
-use Rattle.flow.specs.Sites.{SiteFits}
-use Rattle.flow.specs.Spelling.{Head, counted}
+use Rattle.flow.specs.Words.{node_fits, SiteFits, Head, counted}
 use Rattle.program_file.specs.declared.draft.Due.{Due}
 use Rattle.program_file.specs.declared.draft.Due.TheVariants as due
 use Rattle.program_file.specs.declared.draft.Draft.{Draft}
@@ -21,7 +19,6 @@ use Rattle.program_lines.specs.NodeLines.{node_of}
 use Rattle.program_lines.specs.SiteLines.{site_of_row}
 use Rattle.program_file.specs.Draft.{IsDue, IsNextNode, IsNextSite, bounds_in, due_after, function_with, with_function, with_nodes}
 use Rattle.program_file.specs.Errors.{TakenAs}
-use Rattle.program_file.proofs.Sound.{slice_get-map}
 
 -- an error of an item is one of its line
 pub err-taken : {A : Type 0} (e : LineError) (item : A) (P : Type 0) → TakenAs {A = A} (Err e) item → TakenWith {A = Unit {0}} (Err e) P
@@ -31,8 +28,8 @@ err-taken Memory item P h = tt
 -- the node that was read fits where one follows
 pub node-follows : (d : Draft) (line : List ℕ) (g h : Head) (m n : Node) → IsDue d g → Some m ≡ node_of (fields_of line) → IsNextNode d line h n → IsTrue (node_fits d.names (bounds_in d g) (length d.nodes) m)
 node-follows d line g h m n due_is reads f =
-    let heads : h ≡ g = some-is (sym f.is_due ∙ due_is) in
-    let nodes : n ≡ m = some-is (sym f.reads ∙ sym reads) in
+    let heads : h ≡ g = some_is (sym f.is_due ∙ due_is) in
+    let nodes : n ≡ m = some_is (sym f.reads ∙ sym reads) in
     subst (λ k. IsTrue (node_fits d.names (bounds_in d k) (length d.nodes) m)) heads (subst (λ k. IsTrue (node_fits d.names (bounds_in d h) (length d.nodes) k)) nodes f.fits)
 
 pub node-refused : (d : Draft) (line : List ℕ) (g h : Head) (m n : Node) (number place locals nodes : ℕ) → number ≡ length d.functions → place ≡ length d.nodes → locals ≡ g.locals → nodes ≡ g.nodes → slice_get d.heads number ≡ Some g → Some m ≡ node_of (fields_of line)
@@ -56,8 +53,8 @@ node-taken d line g m number place locals nodes is_number is_place is_locals is_
 -- the site that was read fits where one follows
 pub site-follows : (d : Draft) (line : List ℕ) (g : Head) (r s : Site) → slice_get d.heads r.function ≡ Some g → site_of_row (fields_of line) ≡ Some r → IsNextSite d line s → SiteFits g.locals (length d.globals) r
 site-follows d line g r s stands reads f =
-    let sites : s ≡ r = some-is (sym f.reads ∙ reads) in
-    let own : f.fits.own ≡ g.locals = some-is (sym f.fits.owner ∙ ap (λ (x : Site). slice_get (map (λ h. h.locals) d.heads) x.function) sites ∙ slice_get-map (λ (h : Head). h.locals) d.heads r.function g stands) in
+    let sites : s ≡ r = some_is (sym f.reads ∙ reads) in
+    let own : f.fits.own ≡ g.locals = some_is (sym f.fits.owner ∙ ap (λ (x : Site). slice_get (map (λ h. h.locals) d.heads) x.function) sites ∙ get_map (λ (h : Head). h.locals) d.heads r.function g stands) in
     subst (λ n. SiteFits n (length d.globals) r) own (subst (λ x. SiteFits f.fits.own (length d.globals) x) sites f.fits.fits)
 
 -- a function that is whole

@@ -2,25 +2,25 @@
 use Rattle.std.proofs.Common.{◌≡◌, ◌≤◌, ◌<◌, ◌+◌, ℕ, zero, suc, cond, List, [], ◌∷◌, ◌++◌, length, map, Option, None, Some, IsTrue, nat_le, codes, slice_get, ap, sym, subst, ◌∙◌, refl, arith}
 use Rattle.std.specs.List.{AllByRecursion, sum_by, flat_map}
 use Rattle.std.specs.declared.alloc.Global.{Global as Heap}
-use Rattle.std.proofs.lemmas.Bool.{eq-eqb, leb-true}
+use Rattle.std.proofs.lemmas.Bool.{eq-eqb, leb-true, and_parts}
 use Rattle.std.proofs.lemmas.List.{map-append}
 use Rattle.std.proofs.lemmas.List.Elements.{All-from_recursion, recursion_from_All}
 use Rattle.std.proofs.lemmas.Option.{slice_get_within}
 use Rattle.std.specs.Option.{option_map}
-use Rattle.cbi_base.specs.Format.{conversions_of, is_percent, is_conversion}
-use Rattle.cbi_base.specs.Text.{IsField, fields_of, spaced, text_of, AreLines, is_newline, Lacks}
-use Rattle.cbi_base.specs.Lines.{LeadsTo, ReadsLines}
-use Rattle.cbi_base.specs.Numbers.{greatest_u32}
+use Rattle.base_lists.proofs.Tests.{some_choice}
+use Rattle.base_lists.proofs.Options.{some_is}
+use Rattle.base_lists.proofs.Numbers.{less_apart}
+use Rattle.base_lists.proofs.Lists.{get_map}
+use Rattle.cbi_base.specs.Words.{conversions_of, is_percent, is_conversion, IsField, fields_of, spaced, text_of, AreLines, is_newline, Lacks, LeadsTo}
+use Rattle.cbi_base.specs.Words.{ReadsLines, greatest_u32}
 use Rattle.cbi_base.proofs.FieldLemmas.{spaced-lacks-newline}
-use Rattle.cbi_base.proofs.NumberLemmas.{some-is, both, chosen}
 use Rattle.cbi_base.proofs.LineLemmas.{reads-once}
 use Rattle.flow.specs.declared.program.Text.{Text}
 use Rattle.flow.specs.declared.program.Function.{Function}
 use Rattle.flow.specs.declared.program.ProgramParts.{ProgramParts}
 use Rattle.flow.specs.declared.site.Site.{Site}
-use Rattle.flow.specs.Limits.{function_limit}
-use Rattle.flow.specs.Program.{AreSites, IsFunction, IsProgram, names_of, bounds_of, is_size}
-use Rattle.flow.specs.Spelling.{Head, head_of, head_fields, text_fields, global_fields, site_fields, body_rows, counted, whole_list, end_row, program_rows, SpellsProgram}
+use Rattle.flow.specs.Words.{function_limit, AreSites, IsFunction, IsProgram, names_of, bounds_of, is_size, Head, head_of, head_fields, text_fields}
+use Rattle.flow.specs.Words.{global_fields, site_fields, body_rows, counted, whole_list, end_row, program_rows, SpellsProgram}
 use Rattle.program_lines.specs.Rows.{count_of}
 use Rattle.program_file.specs.declared.draft.Due.{Due}
 use Rattle.program_file.specs.declared.draft.Due.TheVariants as due
@@ -29,8 +29,8 @@ use Rattle.program_file.specs.Draft.{ProgramLineFollows, IsWhole, IsHead, due_af
 use Rattle.program_lines.proofs.RowReads.{count_of-fields, are_fields-count}
 use Rattle.program_file.proofs.Grammar.{follows-once}
 use Rattle.program_file.proofs.RowsSoFar.{leads-rows, rows_so_far}
-use Rattle.program_file.proofs.Sound.{Sound, slice_get-mapped, leads-sound, heads-whole, whole-program, slice_get-map, sum_by-map, length-map, map-map, sum_by-first}
-use Rattle.program_file.proofs.Chain.{row-fields, leads-append, leads-one, text-state, texts-lead, global-state, globals-lead, head-state, ProgramHeads, heads-lead, site-state, sites-lead, SmallLocals, function-state, FunctionComes, function-step, list-leads, each-of, slice_get-seam, not-full, each-index, texts-lines, globals-lines, heads-lines, sites-lines, body-lines, rows-append}
+use Rattle.program_file.proofs.Sound.{Sound, slice_get-mapped, leads-sound, heads-whole, whole-program, sum_by-map, length-map, map-map, sum_by-first}
+use Rattle.program_file.proofs.Chain.{row-fields, leads-append, leads-one, text-state, texts-lead, global-state, globals-lead, head-state, ProgramHeads, heads-lead, site-state, sites-lead, SmallLocals, function-state, FunctionComes, function-step, list-leads, each-of, slice_get-seam, each-index, texts-lines, globals-lines, heads-lines, sites-lines, body-lines, rows-append}
 use Rattle.program_lines.proofs.SmallNodes.{AreSmallNames}
 
 -- what is read whole is spelled so
@@ -69,21 +69,21 @@ heads-of p is = record {
 -- an item is no greater than the sum
 in-sum : {A : Type 0} (f : A → ℕ) (xs : List A) (i : ℕ) (x : A) → slice_get xs i ≡ Some x → f x ≤ sum_by f xs
 in-sum f [] i x h = absurd (omega (arith, slice_get_within [] i x h))
-in-sum f (y ∷ ys) zero x h = omega (arith, ap f (some-is h), sum_by-first f y ys)
+in-sum f (y ∷ ys) zero x h = omega (arith, ap f (some_is h), sum_by-first f y ys)
 in-sum f (y ∷ ys) (suc i) x h = omega (arith, in-sum f ys i x h, sum_by-first f y ys)
 
 -- a text has no more conversions than bytes
 more-few : (o : Option ℕ) (c most : ℕ) → option_map (λ n. n + 1) o ≡ Some c → ((k : ℕ) → o ≡ Some k → k ≤ most) → c ≤ suc most
 more-few None c most h few = absurd cc
-more-few (Some k) c most h few = omega (arith, few k refl, some-is h)
+more-few (Some k) c most h few = omega (arith, few k refl, some_is h)
 
 conversions-few : (bytes : List ℕ) (c : ℕ) → conversions_of bytes ≡ Some c → c ≤ length bytes
-conversions-few [] c h = omega (arith, some-is h)
-conversions-few (b ∷ []) c h = chosen (is_percent b) _ _ c h (λ _ none. absurd cc) (λ _ is. omega (arith, some-is is))
+conversions-few [] c h = omega (arith, some_is h)
+conversions-few (b ∷ []) c h = some_choice (is_percent b) _ _ c h (λ _ none. absurd cc) (λ _ is. omega (arith, some_is is))
 conversions-few (b ∷ d ∷ rest) c h =
-    chosen (is_percent b) _ _ c h (λ _ h.
-    chosen (is_conversion d) _ _ c h (λ _ is. omega (arith, more-few (conversions_of rest) c (length rest) is (λ k e. conversions-few rest k e))) (λ _ h.
-    chosen (is_percent d) _ _ c h (λ _ is. omega (arith, conversions-few rest c is)) (λ _ none. absurd cc)))
+    some_choice (is_percent b) _ _ c h (λ _ h.
+    some_choice (is_conversion d) _ _ c h (λ _ is. omega (arith, more-few (conversions_of rest) c (length rest) is (λ k e. conversions-few rest k e))) (λ _ h.
+    some_choice (is_percent d) _ _ c h (λ _ is. omega (arith, conversions-few rest c is)) (λ _ none. absurd cc)))
     (λ _ is. omega (arith, conversions-few (d ∷ rest) c is))
 
 map-flat_map : {A B C : Type 0} (g : B → C) (f : A → List B) (xs : List A) → map g (flat_map f xs) ≡ flat_map (λ x. map g (f x)) xs
@@ -102,7 +102,7 @@ part from first last to word fields n f leads same = (first, f, subst (λ e. Lea
 
 sizes-small : (sizes : List ℕ) → AllByRecursion (λ size. IsTrue (is_size size)) sizes → AllByRecursion (λ size. size ≤ greatest_u32) sizes
 sizes-small [] h = tt
-sizes-small (s ∷ ss) h = (omega (arith, leb-true s 1048576 (both (nat_le 1 s) (nat_le s 1048576) h.0).1), sizes-small ss h.1)
+sizes-small (s ∷ ss) h = (omega (arith, leb-true s 1048576 (and_parts (nat_le 1 s) (nat_le s 1048576) h.0).1), sizes-small ss h.1)
 
 abbrev pub heads : ProgramParts → List Head
 heads p = map head_of p.functions
@@ -156,7 +156,7 @@ module _ (alloc : Heap) (p : ProgramParts) (is : IsProgram p) where
   heads-some = omega (arith, is.parts.few.some, length-map head_of p.functions)
 
   head-begins : head-state (globaled alloc p) (length (heads p)) [] ≡ record (globaled alloc p) { due = due.Head; count = length (heads p); heads = [] }
-  head-begins = ap (λ b. record (globaled alloc p) { due = cond b due.Main due.Head; count = length (heads p); heads = [] }) (not-full 0 (length (heads p)) heads-some)
+  head-begins = ap (λ b. record (globaled alloc p) { due = cond b due.Main due.Head; count = length (heads p); heads = [] }) (less_apart 0 (length (heads p)) heads-some)
 
   heads-part : LeadsTo ProgramLineFollows (globaled alloc p) (map spaced (whole_list (codes "functions") head_fields (heads p))) (headed alloc p)
   heads-part =
@@ -168,7 +168,7 @@ module _ (alloc : Heap) (p : ProgramParts) (is : IsProgram p) where
   main-part : LeadsTo ProgramLineFollows (headed alloc p) (map spaced (counted (codes "main") p.main ∷ [])) (mained alloc p)
   main-part =
       let m = is.parts.main in
-      let stands = slice_get-map head_of p.functions p.main m.0 m.1 in
+      let stands = get_map head_of p.functions p.main m.0 m.1 in
       let few : p.main ≤ greatest_u32 = omega (arith, slice_get_within p.functions p.main m.0 m.1, is.parts.few.few) in
       leads-one (headed alloc p) (mained alloc p) (spaced (counted (codes "main") p.main)) (p.main, record { reads = count-reads (codes "main") p.main refl few; head = head_of m.0; stands = stands; result = m.2.result; params = m.2.params }, refl)
 
@@ -210,7 +210,7 @@ module _ (alloc : Heap) (p : ProgramParts) (is : IsProgram p) where
   function-one xs zs z same =
       let at = subst (λ fs. slice_get fs (length xs) ≡ Some z) same (slice_get-seam xs zs z) in
       let fits = is.functions.each (length xs) z at in record {
-        is_due = slice_get-map head_of p.functions (length xs) z at;
+        is_due = get_map head_of p.functions (length xs) z at;
         small = subst (λ n. AreSmallNames n (bounds_of (length xs) z)) (sym names-same) (small-names (length xs) z at);
         sizes = sizes-small z.locals (recursion_from_All _ z.locals fits.locals.sizes);
         is = subst (λ n. IsFunction n (length xs) z) (sym names-same) fits;
@@ -218,7 +218,7 @@ module _ (alloc : Heap) (p : ProgramParts) (is : IsProgram p) where
 
   functions-part : LeadsTo ProgramLineFollows (opened alloc p) (map spaced (flat_map body_rows p.functions)) (closed alloc p)
   functions-part =
-      let begin : function-state (opened alloc p) [] ≡ (opened alloc p) = ap (λ b. record (opened alloc p) { due = cond b due.End due.Locals }) (not-full 0 (length (heads p)) heads-some) in
+      let begin : function-state (opened alloc p) [] ≡ (opened alloc p) = ap (λ b. record (opened alloc p) { due = cond b due.End due.Locals }) (less_apart 0 (length (heads p)) heads-some) in
       let end : function-state (opened alloc p) p.functions ≡ (closed alloc p) = ap (λ n. record (opened alloc p) { due = due_after n (length (heads p)) due.Locals due.End; functions = p.functions }) (sym (length-map head_of p.functions)) ∙ ap (λ u. record (opened alloc p) { due = u; functions = p.functions }) (full-due (length (heads p)) due.Locals due.End) in
       let leads = list-leads (λ f. map spaced (body_rows f)) (function-state (opened alloc p)) (FunctionComes (opened alloc p)) (function-step (opened alloc p)) [] p.functions (each-of (λ all. all ≡ p.functions) (FunctionComes (opened alloc p)) function-one [] p.functions refl) in
       subst (λ ls. LeadsTo ProgramLineFollows (opened alloc p) ls (closed alloc p)) (sym (map-flat_map spaced body_rows p.functions))

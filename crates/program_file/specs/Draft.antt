@@ -3,9 +3,7 @@
 use Rattle.std.specs.Prelude.{◌≡◌, ◌≢◌, ℕ, ◌+◌, ◌-◌, ◌≤◌, ◌<◌, ◌==◌, if◌then◌else◌, true, List, [], ◌∷◌, ◌++◌, length, map, Some, IsTrue, codes, slice_get}
 use Rattle.std.specs.declared.alloc.Global.{Global as Heap}
 use Rattle.std.specs.List.{All}
-use Rattle.cbi_base.specs.Name.{IsName}
-use Rattle.cbi_base.specs.Format.{conversions_of}
-use Rattle.cbi_base.specs.Text.{fields_of, spaced}
+use Rattle.cbi_base.specs.Words.{IsName, conversions_of, fields_of, spaced}
 use Rattle.flow.specs.declared.node.Node.{Node}
 use Rattle.flow.specs.declared.program.Text.{Text}
 use Rattle.flow.specs.declared.program.Global.{Global}
@@ -14,11 +12,8 @@ use Rattle.flow.specs.declared.program.ProgramParts.{ProgramParts}
 use Rattle.flow.specs.declared.site.Site.{Site}
 use Rattle.flow.specs.declared.scope.Names.{Names}
 use Rattle.flow.specs.declared.scope.Bounds.{Bounds}
-use Rattle.flow.specs.Limits.{text_limit, byte_limit, static_limit, global_limit, function_limit, local_limit, node_limit, site_limit}
-use Rattle.flow.specs.Nodes.{node_fits}
-use Rattle.flow.specs.Program.{AreLocals, GlobalFits}
-use Rattle.flow.specs.Sites.{IsSite}
-use Rattle.flow.specs.Spelling.{Head, counted, end_row}
+use Rattle.flow.specs.Words.{text_limit, byte_limit, static_limit, global_limit, function_limit, local_limit, node_limit, site_limit, node_fits, AreLocals}
+use Rattle.flow.specs.Words.{GlobalFits, IsSite, Head, counted, end_row}
 use Rattle.program_lines.specs.Sums.{bytes_in, cells_in, locals_in, nodes_in}
 use Rattle.program_lines.specs.Rows.{count_of, text_of_row, head_of_row, locals_of_row}
 use Rattle.program_lines.specs.CellRuns.{global_of_row}

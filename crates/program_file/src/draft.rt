@@ -1,7 +1,6 @@
 ghost use Rattle.std.specs.Prelude.{◌≡◌, codes, length, OnOk};
 ghost use Rattle.cbi_base.specs.LineFaults.{TakenWith};
-ghost use Rattle.flow.specs.Limits.{text_limit, global_limit, site_limit};
-ghost use Rattle.flow.specs.Spelling.{Head};
+ghost use Rattle.flow.specs.Words.{text_limit, global_limit, site_limit, Head};
 ghost use Rattle.program_file.specs.Draft.{TakesItem, IsCount, IsFunctionCount, IsNextText, IsNextGlobal, IsNextHead, IsNextMain, IsNextSite};
 ghost use Rattle.program_file.specs.Draft.{AreNextLocals, IsNextPlaced, IsDue, with_nodes, parts_in, empty, due_after, with_text_count, with_text};
 ghost use Rattle.program_file.specs.Draft.{with_global_count, with_global, with_function_count, with_head, with_main, with_site_count, with_sites};

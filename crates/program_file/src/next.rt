@@ -1,8 +1,6 @@
 ghost use Rattle.std.specs.Prelude.{◌≡◌, ◌≢◌, ◌<◌, ◌↔◌, codes, ℕ, List, IfOk, IsTrue};
 ghost use Rattle.std.specs.List.{All};
-ghost use Rattle.flow.specs.Program.{AreLocals, is_size, cell_fits};
-ghost use Rattle.flow.specs.Limits.{text_limit, global_limit, site_limit};
-ghost use Rattle.flow.specs.Spelling.{Head};
+ghost use Rattle.flow.specs.Words.{AreLocals, is_size, cell_fits, text_limit, global_limit, site_limit, Head};
 ghost use Rattle.flow.specs.declared.node.Node.{Node};
 ghost use Rattle.flow.specs.declared.program.Global.{Global};
 ghost use Rattle.flow.specs.declared.program.Text.{Text};

@@ -2,11 +2,9 @@
 -- a program's item in its turn. How a line is read need not be known for it.
 use Rattle.std.specs.Prelude.{◌≡◌, ℕ, List, map, codes}
 use Rattle.std.specs.declared.alloc.Global.{Global as Heap}
-use Rattle.cbi_base.specs.Lines.{LeadsTo}
-use Rattle.cbi_base.specs.Text.{spaced}
+use Rattle.cbi_base.specs.Words.{LeadsTo, spaced}
 use Rattle.flow.specs.declared.program.ProgramParts.{ProgramParts}
-use Rattle.flow.specs.Program.{IsProgram}
-use Rattle.flow.specs.Spelling.{counted, end_row, global_fields, head_fields, locals_fields, node_fields, program_rows, site_fields, text_fields}
+use Rattle.flow.specs.Words.{IsProgram, counted, end_row, global_fields, head_fields, locals_fields, node_fields, program_rows, site_fields, text_fields}
 use Rattle.program_file.specs.declared.draft.Due.{Due}
 use Rattle.program_file.specs.declared.draft.Due.TheVariants as due
 use Rattle.program_file.specs.declared.draft.Draft.{Draft}

@@ -1,8 +1,7 @@
 -- What the loops over runs and sizes keep.
 use Rattle.std.proofs.Common.{◌≡◌, ◌+◌, ◌-◌, ◌==◌, ℕ, suc, List, [], ◌∷◌, ◌++◌, Option, None, Some, ap, sym, ◌∙◌, refl, append_assoc}
 use Rattle.std.specs.Option.{option_map}
-use Rattle.cbi_base.specs.Text.{Lacks}
-use Rattle.cbi_base.specs.Numbers.{number_of, greatest_u32}
+use Rattle.cbi_base.specs.Words.{Lacks, number_of, greatest_u32}
 use Rattle.program_lines.specs.Rows.{sizes_of}
 use Rattle.program_lines.specs.CellRuns.{cut_at_colon}
 

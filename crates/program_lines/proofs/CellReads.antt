@@ -4,15 +4,17 @@ use Rattle.std.specs.Fmt.{signed_decimal}
 use Rattle.std.specs.Int.{w64}
 use Rattle.std.specs.Ordering.{int_eq}
 use Rattle.std.specs.List.{AllByRecursion, list_all}
-use Rattle.std.proofs.lemmas.Bool.{eqb-true, eq-eqb, leb-true, le-leb}
+use Rattle.std.proofs.lemmas.Bool.{eqb-true, eq-eqb, leb-true, le-leb, and_parts}
 use Rattle.std.proofs.lemmas.Bool.Decides.{nat_tests}
 use Rattle.std.proofs.lemmas.List.{length-replicate}
-use Rattle.cbi_base.specs.Numbers.{is_word, number_of, greatest_u32}
-use Rattle.cbi_base.specs.Text.{IsField, is_field_byte}
+use Rattle.std.proofs.lemmas.Option.{option_and_then_some}
+use Rattle.base_lists.proofs.Tests.{some_choice}
+use Rattle.base_lists.proofs.Options.{mapped, some_is}
+use Rattle.cbi_base.specs.Words.{is_word, number_of, greatest_u32, IsField, is_field_byte}
 use Rattle.cbi_base.specs.declared.scalar.Kind.{Kind}
 use Rattle.cbi_base.specs.declared.scalar.Kind.TheVariants.{Char, Int, Unsigned}
 use Rattle.cbi_base.proofs.FieldLemmas.{IsField-decimal, IsField-signed, decimal-all}
-use Rattle.cbi_base.proofs.NumberLemmas.{chosen, mapped, bound, both, some-is, same-word, number_of-spelled, signed_of-spelled, signed_of-signed, small-read}
+use Rattle.cbi_base.proofs.NumberLemmas.{same-word, number_of-spelled, signed_of-spelled, signed_of-signed, small-read}
 use Rattle.flow.specs.declared.program.Cell.{Cell}
 use Rattle.flow.specs.declared.program.Cell.TheVariants.{Number, Null, Text}
 use Rattle.flow.specs.Spelling.{Run, kind_word, cell_word, same_kind, same_cell, with_cell, cell_runs, run_word}
@@ -36,28 +38,18 @@ same_kind-is : (kind other : Kind) → same_kind kind other ≡ true → kind �
 same_kind-is Char Char h = refl
 same_kind-is Int Int h = refl
 same_kind-is Unsigned Unsigned h = refl
-same_kind-is Char Int h = cc
-same_kind-is Char Unsigned h = cc
-same_kind-is Int Char h = cc
-same_kind-is Int Unsigned h = cc
-same_kind-is Unsigned Char h = cc
-same_kind-is Unsigned Int h = cc
+same_kind-is kind other h = cc
 
 int_eq-is : (y z : ℤ) → int_eq y z ≡ true → y ≡ z
 int_eq-is y z h = search rules
 
 pub same_cell-is : (c d : Cell) → same_cell c d ≡ true → c ≡ d
 same_cell-is (Number kind value) (Number other number) h =
-    let parts = both (same_kind kind other) (int_eq value number) h in
+    let parts = and_parts (same_kind kind other) (int_eq value number) h in
     ap (λ k. Number k value) (same_kind-is kind other parts.0) ∙ ap (Number other) (int_eq-is value number parts.1)
-same_cell-is (Number kind value) Null h = cc
-same_cell-is (Number kind value) (Text index) h = cc
-same_cell-is Null (Number kind value) h = cc
 same_cell-is Null Null h = refl
-same_cell-is Null (Text index) h = cc
-same_cell-is (Text index) (Number kind value) h = cc
-same_cell-is (Text index) Null h = cc
 same_cell-is (Text index) (Text place) h = ap Text (eqb-true index place h)
+same_cell-is c d h = cc
 
 -- a decimal has no colon
 is_digit : ℕ → Bool
@@ -74,7 +66,7 @@ cut-after : (front rest : List ℕ) → list_all no-colon front ≡ true → cut
 unfolding no-colon
 cut-after [] rest h = refl
 cut-after (b ∷ bs) rest h =
-    let parts = both (not (is_colon b)) (list_all no-colon bs) h in
+    let parts = and_parts (not (is_colon b)) (list_all no-colon bs) h in
     let no : is_colon b ≡ false = opposite (is_colon b) parts.0 in
     rw (no, cut-after bs rest parts.1) refl
   where
@@ -85,9 +77,9 @@ cut-after (b ∷ bs) rest h =
 cut-is : (field : List ℕ) (parts : List ℕ × List ℕ) → cut_at_colon field ≡ Some parts → field ≡ parts.0 ++ codes ":" ++ parts.1
 cut-is [] parts h = absurd cc
 cut-is (b ∷ bs) parts h =
-    chosen (is_colon b) _ _ parts h (λ test is.
+    some_choice (is_colon b) _ _ parts h (λ test is.
     let colon : b ≡ 58 = eqb-true b 58 test in
-    ap (λ x. x ∷ bs) colon ∙ ap (λ (p : List ℕ × List ℕ). p.0 ++ codes ":" ++ p.1) (some-is is)) (λ _ h.
+    ap (λ x. x ∷ bs) colon ∙ ap (λ (p : List ℕ × List ℕ). p.0 ++ codes ":" ++ p.1) (some_is is)) (λ _ h.
     mapped _ (cut_at_colon bs) parts h (λ more is same.
     ap (λ t. b ∷ t) (cut-is bs more is) ∙ ap (λ (p : List ℕ × List ℕ). p.0 ++ codes ":" ++ p.1) same))
 
@@ -99,18 +91,18 @@ IsSmallCell (Text index) = index ≤ greatest_u32
 
 lettered-is : (letter : ℕ) (kind : Kind) → lettered letter ≡ Some kind → letter ∷ [] ≡ kind_word kind
 lettered-is letter kind h =
-    chosen (letter == 99) _ _ kind h (λ test is. ap (λ b. b ∷ []) (eqb-true letter 99 test) ∙ ap kind_word (some-is is)) (λ _ h.
-    chosen (letter == 105) _ _ kind h (λ test is. ap (λ b. b ∷ []) (eqb-true letter 105 test) ∙ ap kind_word (some-is is)) (λ _ h.
-    chosen (letter == 117) _ _ kind h (λ test is. ap (λ b. b ∷ []) (eqb-true letter 117 test) ∙ ap kind_word (some-is is)) (λ _ none. absurd cc)))
+    some_choice (letter == 99) _ _ kind h (λ test is. ap (λ b. b ∷ []) (eqb-true letter 99 test) ∙ ap kind_word (some_is is)) (λ _ h.
+    some_choice (letter == 105) _ _ kind h (λ test is. ap (λ b. b ∷ []) (eqb-true letter 105 test) ∙ ap kind_word (some_is is)) (λ _ h.
+    some_choice (letter == 117) _ _ kind h (λ test is. ap (λ b. b ∷ []) (eqb-true letter 117 test) ∙ ap kind_word (some_is is)) (λ _ none. absurd cc)))
 
 cell_of-spelled : (field : List ℕ) (c : Cell) → cell_of field ≡ Some c → field ≡ cell_word c
 unfolding cell_of
 cell_of-spelled [] c h = absurd cc
 cell_of-spelled (letter ∷ rest) c h =
-    chosen (letter == 115) _ _ c h (λ test h. mapped Text _ c h (λ index is same.
+    some_choice (letter == 115) _ _ c h (λ test h. mapped Text _ c h (λ index is same.
     ap (λ b. b ∷ rest) (eqb-true letter 115 test) ∙ ap (λ ds. 115 ∷ ds) (number_of-spelled greatest_u32 rest index is).0 ∙ ap cell_word same)) (λ _ h.
-    chosen (is_word (letter ∷ rest) (codes "p")) _ _ c h (λ test is. same-word (letter ∷ rest) _ test ∙ ap cell_word (some-is is)) (λ _ h.
-    bound _ (lettered letter) c h (λ kind is_kind h. mapped (Number kind) _ c h (λ value is same.
+    some_choice (is_word (letter ∷ rest) (codes "p")) _ _ c h (λ test is. same-word (letter ∷ rest) _ test ∙ ap cell_word (some_is is)) (λ _ h.
+    option_and_then_some _ (lettered letter) c h (λ kind is_kind h. mapped (Number kind) _ c h (λ value is same.
     ap (λ l. l ++ rest) (lettered-is letter kind is_kind) ∙ ap (λ ds. kind_word kind ++ ds) (signed_of-spelled rest value is).0 ∙ ap cell_word same))))
 
 cell_of-word : (c : Cell) → IsSmallCell c → cell_of (cell_word c) ≡ Some c
@@ -124,7 +116,7 @@ cell_of-word (Text index) h = rw (small-read index h) refl
 run_of-spelled : (field : List ℕ) (run : Run) → run_of field ≡ Some run → field ≡ run_word run
 unfolding run_of
 run_of-spelled field run h =
-    bound _ (cut_at_colon field) run h (λ parts is_parts h. bound _ (number_of greatest_u32 parts.0) run h (λ count is_count h. mapped _ (cell_of parts.1) run h (λ c is_c same.
+    option_and_then_some _ (cut_at_colon field) run h (λ parts is_parts h. option_and_then_some _ (number_of greatest_u32 parts.0) run h (λ count is_count h. mapped _ (cell_of parts.1) run h (λ c is_c same.
     cut-is field parts is_parts ∙ ap (λ t. t ++ codes ":" ++ parts.1) (number_of-spelled greatest_u32 parts.0 count is_count).0
     ∙ ap (λ t. decimal count ++ codes ":" ++ t) (cell_of-spelled parts.1 c is_c) ∙ ap run_word same)))
 
@@ -162,13 +154,13 @@ pub cells_of-spelled : (room : ℕ) (last : Option Cell) (fields : List (List �
     → (fields ≡ map run_word (cell_runs cells)) × (first-differs last (cell_runs cells) ≡ true) × (length cells ≤ room)
 unfolding first-differs
 cells_of-spelled room last [] cells h =
-    subst (λ cs. ([] ≡ map run_word (cell_runs cs)) × (first-differs last (cell_runs cs) ≡ true) × (length cs ≤ room)) (some-is h) (refl, refl, omega arith)
+    subst (λ cs. ([] ≡ map run_word (cell_runs cs)) × (first-differs last (cell_runs cs) ≡ true) × (length cs ≤ room)) (some_is h) (refl, refl, omega arith)
 cells_of-spelled room last (field ∷ fields) cells h =
-    bound _ (run_of field) cells h (λ run is_run h.
-    chosen (may_come room last run) _ _ cells h (λ test h.
+    option_and_then_some _ (run_of field) cells h (λ run is_run h.
+    some_choice (may_come room last run) _ _ cells h (λ test h.
     mapped _ (cells_of (room - run.count) (Some run.cell) fields) cells h (λ rest is_rest same.
-    let parts = both (nat_le 1 run.count && nat_le run.count room) (differs last run.cell) test in
-    let counts = both (nat_le 1 run.count) (nat_le run.count room) parts.0 in
+    let parts = and_parts (nat_le 1 run.count && nat_le run.count room) (differs last run.cell) test in
+    let counts = and_parts (nat_le 1 run.count) (nat_le run.count room) parts.0 in
     let more = cells_of-spelled (room - run.count) (Some run.cell) fields rest is_rest in
     let runs = whole run.count run.cell rest (leb-true 1 run.count counts.0) more.1 in
     subst (λ cs. (field ∷ fields ≡ map run_word (cell_runs cs)) × (first-differs last (cell_runs cs) ≡ true) × (length cs ≤ room)) same (
@@ -184,7 +176,7 @@ cells_of-spelled room last (field ∷ fields) cells h =
 pub global_of_row-spelled : (room : ℕ) (fields : List (List ℕ)) (cells : List Cell) → global_of_row room fields ≡ Some cells → (fields ≡ codes "global" ∷ map run_word (cell_runs cells)) × (length cells ≤ room)
 global_of_row-spelled room [] cells h = absurd cc
 global_of_row-spelled room (word ∷ fields) cells h =
-    chosen (is_word word (codes "global")) _ _ cells h (λ test is.
+    some_choice (is_word word (codes "global")) _ _ cells h (λ test is.
     let more = cells_of-spelled room None fields cells is in
     (ap (λ w. w ∷ fields) (same-word word _ test) ∙ ap (λ fs. codes "global" ∷ fs) more.0, more.2)) (λ _ none. absurd cc)
 
@@ -221,8 +213,8 @@ more-room : (room more : ℕ) (last : Option Cell) (runs : List Run) → room �
 unfolding AreRuns
 more-room room more last [] h are = tt
 more-room room more last (run ∷ runs) h are =
-    let parts = both (nat_le 1 run.count && nat_le run.count room) (differs last run.cell) are.0 in
-    let counts = both (nat_le 1 run.count) (nat_le run.count room) parts.0 in
+    let parts = and_parts (nat_le 1 run.count && nat_le run.count room) (differs last run.cell) are.0 in
+    let counts = and_parts (nat_le 1 run.count) (nat_le run.count room) parts.0 in
     let fits : nat_le run.count more ≡ true = le-leb run.count more (omega (arith, leb-true run.count room counts.1)) in
     (rw (counts.0, fits, parts.1) refl, are.1, more-room (room - run.count) (more - run.count) (Some run.cell) runs (omega arith) are.2)
 
@@ -230,7 +222,7 @@ any-last : (room : ℕ) (last : Option Cell) (runs : List Run) → first-differs
 unfolding AreRuns first-differs
 any-last room last [] h are = tt
 any-last room last (run ∷ runs) h are =
-    let parts = both (nat_le 1 run.count && nat_le run.count room) true are.0 in
+    let parts = and_parts (nat_le 1 run.count && nat_le run.count room) true are.0 in
     (rw (parts.0, h) refl, are.1, are.2)
 
 with-are : (c : Cell) (room : ℕ) (runs : List Run) → IsSmallCell c → suc room ≤ greatest_u32 → AreRuns room None runs → AreRuns (suc room) None (with_cell c runs)
@@ -240,8 +232,8 @@ with-are c room (run ∷ runs) small few are = by (same_cell c run.cell) refl
   where
     by : (b : Bool) → same_cell c run.cell ≡ b → AreRuns (suc room) None (cond b (record run { count = run.count + 1 } ∷ runs) (record { count = 1; cell = c } ∷ run ∷ runs))
     by true h =
-        let parts = both (nat_le 1 run.count && nat_le run.count room) true are.0 in
-        let counts = both (nat_le 1 run.count) (nat_le run.count room) parts.0 in
+        let parts = and_parts (nat_le 1 run.count && nat_le run.count room) true are.0 in
+        let counts = and_parts (nat_le 1 run.count) (nat_le run.count room) parts.0 in
         let low : nat_le 1 (run.count + 1) ≡ true = le-leb 1 (run.count + 1) (omega arith) in
         let high : nat_le (run.count + 1) (suc room) ≡ true = le-leb (run.count + 1) (suc room) (omega (arith, leb-true run.count room counts.1)) in
         (rw (low, high) refl, (are.1.0, omega (arith, leb-true run.count room counts.1)), subst (λ r. AreRuns r (Some run.cell) runs) (omega arith) are.2)
@@ -263,7 +255,7 @@ global_of_row-fields room cells all fits few =
 is_field-append : (a b : List ℕ) → IsField a → IsField b → IsField (a ++ b)
 is_field-append [] b ha hb = hb
 is_field-append (x ∷ xs) b ha hb =
-    let parts = both (is_field_byte x) (list_all is_field_byte xs) ha in
+    let parts = and_parts (is_field_byte x) (list_all is_field_byte xs) ha in
     let rest : list_all is_field_byte (xs ++ b) ≡ true = is_field-append xs b parts.1 hb in
     rw (parts.0, rest) refl
 

@@ -14,6 +14,7 @@ use Rattle.std.proofs.lemmas.List.{map-append}
 use Rattle.std.proofs.lemmas.List.Elements.{All-from_recursion, recursion_from_All}
 use Rattle.std.proofs.lemmas.Map.Lookups.{exact_bytes}
 use Rattle.std.proofs.lemmas.Slice.Eq.{bytes_eq-Decides}
+use Rattle.base_lists.proofs.Tests.{not_itself}
 use Rattle.flow.specs.Spelling.{Head}
 use Rattle.program_lines.specs.Known.{AreNamesOf, Knows}
 
@@ -114,16 +115,12 @@ all-unknown : (name : List ℕ) (heads : List Head) → AllByRecursion (Differs 
 all-unknown name [] all k = k
 all-unknown name (g ∷ more) all k = ⊎_elim (λ (same : g.name ≡ name). all.0 same) (λ (behind : Knows (map name_of more) name). all-unknown name more all.1 behind) k
 
-not-true : (b : Bool) → not b ≡ true → b ≡ true → ⊥
-not-true true h e = false≢true h
-not-true false h e = false≢true e
-
 is-false : (b : Bool) → (b ≡ true → ⊥) → not b ≡ true
 is-false true fails = absurd (fails refl)
 is-false false fails = refl
 
 pub fresh-is : (b : Bool) (heads seen : List Head) (names : List (List ℕ)) (name : List ℕ) → heads ≡ seen → (b ≡ true) ↔ Knows names name → AreNamesOf heads names → (not b ≡ true) ↔ All (Differs name) seen
 fresh-is b heads seen names name is has are = (
-  λ h. subst (All (Differs name)) is (All-from_recursion (Differs name) heads (unknown-all name heads (λ k. not-true b h (has.1 ((are name).1 k))))),
+  λ h. subst (All (Differs name)) is (All-from_recursion (Differs name) heads (unknown-all name heads (λ k. not_itself b h (has.1 ((are name).1 k))))),
   λ all. is-false b (λ e. all-unknown name heads (recursion_from_All (Differs name) heads (subst (All (Differs name)) (sym is) all)) ((are name).0 (has.0 e))),
 )

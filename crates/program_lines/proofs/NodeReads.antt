@@ -3,11 +3,12 @@ use Rattle.std.proofs.Common.{◌≡◌, ◌≢◌, ◌≤◌, ℕ, ℤ, true, L
 use Rattle.std.specs.Fmt.{signed_decimal}
 use Rattle.std.specs.Int.{w64}
 use Rattle.std.specs.List.{AllByRecursion}
+use Rattle.std.proofs.lemmas.Option.{option_and_then_some}
+use Rattle.base_lists.proofs.Tests.{some_choice}
+use Rattle.base_lists.proofs.Options.{mapped, some_is}
 use Rattle.cbi_base.proofs.FieldLemmas.{IsField-decimal, IsField-signed}
-use Rattle.cbi_base.proofs.NumberLemmas.{chosen, mapped, bound, some-is, same-word, number_of-spelled, signed_of-signed, signed_of-spelled, one_number-spelled, two_numbers-spelled, small-read}
-use Rattle.cbi_base.specs.Kind.{lies_in}
-use Rattle.cbi_base.specs.Text.{IsField}
-use Rattle.cbi_base.specs.Numbers.{is_word, number_of, signed_of, one_number, two_numbers, greatest_u32}
+use Rattle.cbi_base.proofs.NumberLemmas.{same-word, number_of-spelled, signed_of-signed, signed_of-spelled, one_number-spelled, two_numbers-spelled, small-read}
+use Rattle.cbi_base.specs.Words.{lies_in, IsField, is_word, number_of, signed_of, one_number, two_numbers, greatest_u32}
 use Rattle.cbi_base.specs.declared.scalar.Kind.TheVariants.{Int}
 use Rattle.flow.specs.declared.node.Node.{Node}
 use Rattle.flow.specs.declared.node.Node.TheVariants.{Push, Null, Local, Global, Text, Load, Store, Move, Member, Span, Math, Order, Sole, Convert, Dup, Drop, Swap, Over, Pass, Fork, Again, Call, Return, Leave, Get, Put, Puts, Format, Alloc, Free, Exit, Abort, Check, Clear, Zero, Spell, Mark, Skip, Test, Choose, Import, Export}
@@ -72,8 +73,8 @@ int-read value h = rw (signed_of-signed value (int-fits value h), h) refl
 
 int-spelled : (field : List ℕ) (value : ℤ) → int_of field ≡ Some value → field ≡ signed_decimal value
 int-spelled field value h =
-    bound _ (signed_of field) value h (λ read is h.
-    chosen (lies_in Int read) _ _ value h (λ test same. (signed_of-spelled field read is).0 ∙ ap signed_decimal (some-is same)) (λ test none. absurd cc))
+    option_and_then_some _ (signed_of field) value h (λ read is h.
+    some_choice (lies_in Int read) _ _ value h (λ test same. (signed_of-spelled field read is).0 ∙ ap signed_decimal (some_is same)) (λ test none. absurd cc))
 
 -- the fields of a node's line have neither space nor newline
 pub are_fields-node : (n : Node) → IsSmall n → AllByRecursion IsField (node_fields n)
@@ -107,10 +108,6 @@ are_fields-node (Test site next) h = (refl, (small-field site h.0, (small-field 
 are_fields-node (Format text count next) h = (refl, (small-field text h.0, (small-field count h.1, (small-field next h.2, tt))))
 are_fields-node (Spell index text next) h = (refl, (small-field index h.0, (small-field text h.1, (small-field next h.2, tt))))
 are_fields-node (Choose weight fast slow) h = (refl, (small-field weight h.0, (small-field fast h.1, (small-field slow h.2, tt))))
-are_fields-node Return h = (refl, tt)
-are_fields-node Leave h = (refl, tt)
-are_fields-node Exit h = (refl, tt)
-are_fields-node Abort h = (refl, tt)
 are_fields-node (Load want next) h = (refl, (is_field-want want, (small-field next h, tt)))
 are_fields-node (Math op next) h = (refl, (is_field-binary op, (small-field next h, tt)))
 are_fields-node (Order op next) h = (refl, (is_field-order op, (small-field next h, tt)))
@@ -119,6 +116,7 @@ are_fields-node (Convert kind next) h = (refl, (is_field-kind kind, (small-field
 are_fields-node (Push kind value next) h = (refl, (is_field-kind kind, (IsField-signed value h.0, (small-field next h.1, tt))))
 are_fields-node (Move size next) h = (refl, (IsField-signed size (int-fits size h.0), (small-field next h.1, tt)))
 are_fields-node (Zero index want next) h = (refl, (small-field index h.0, (is_field-want want, (small-field next h.1, tt))))
+are_fields-node n h = (refl, tt)
 
 -- a node is read from the fields of its line
 pub node_of-fields : (n : Node) → IsSmall n → node_of (node_fields n) ≡ Some n
@@ -153,10 +151,6 @@ node_of-fields (Test site next) h = rw (small-read site h.0, small-read next h.1
 node_of-fields (Format text count next) h = rw (small-read text h.0, small-read count h.1, small-read next h.2) refl
 node_of-fields (Spell index text next) h = rw (small-read index h.0, small-read text h.1, small-read next h.2) refl
 node_of-fields (Choose weight fast slow) h = rw (small-read weight h.0, small-read fast h.1, small-read slow h.2) refl
-node_of-fields Return h = refl
-node_of-fields Leave h = refl
-node_of-fields Exit h = refl
-node_of-fields Abort h = refl
 node_of-fields (Load want next) h = rw (want_of-word want, small-read next h) refl
 node_of-fields (Math op next) h = rw (binary_of-word op, small-read next h) refl
 node_of-fields (Order op next) h = rw (order_of-word op, small-read next h) refl
@@ -165,6 +159,7 @@ node_of-fields (Convert kind next) h = rw (kind_of-word kind, small-read next h)
 node_of-fields (Push kind value next) h = rw (kind_of-word kind, signed_of-signed value h.0, small-read next h.1) refl
 node_of-fields (Move size next) h = rw (int-read size h.0, small-read next h.1) refl
 node_of-fields (Zero index want next) h = rw (small-read index h.0, want_of-word want, small-read next h.1) refl
+node_of-fields n h = refl
 
 pub node-some : (n : Node) → node_fields n ≢ []
 node-some (Null next) = λ e. cc
@@ -212,7 +207,7 @@ node-some (Zero index want next) = λ e. cc
 
 -- A line of each kind is spelled so.
 bare-spelled : (word : List ℕ) (made : Node) (fields : List (List ℕ)) (n : Node) → node_fields made ≡ word ∷ [] → bare made fields ≡ Some n → word ∷ fields ≡ node_fields n
-bare-spelled word made [] n spelled h = sym spelled ∙ ap node_fields (some-is h)
+bare-spelled word made [] n spelled h = sym spelled ∙ ap node_fields (some_is h)
 bare-spelled word made (field ∷ more) n spelled h = absurd cc
 
 plain-spelled : (word : List ℕ) (make : ℕ → Node) (fields : List (List ℕ)) (n : Node) → ((k : ℕ) → node_fields (make k) ≡ word ∷ decimal k ∷ []) → plain make fields ≡ Some n → word ∷ fields ≡ node_fields n
@@ -227,7 +222,7 @@ pair-spelled word make fields n spelled h =
 threefold-spelled : (word : List ℕ) (make : ℕ → ℕ → ℕ → Node) (fields : List (List ℕ)) (n : Node) → ((i j k : ℕ) → node_fields (make i j k) ≡ word ∷ decimal i ∷ decimal j ∷ decimal k ∷ []) → threefold make fields ≡ Some n → word ∷ fields ≡ node_fields n
 threefold-spelled word make [] n spelled h = absurd cc
 threefold-spelled word make (field ∷ rest) n spelled h =
-    bound _ (number_of greatest_u32 field) n h (λ first is_first h.
+    option_and_then_some _ (number_of greatest_u32 field) n h (λ first is_first h.
     mapped (λ (pair : ℕ × ℕ). make first pair.0 pair.1) (two_numbers rest) n h (λ pair is same.
     ap (λ f. word ∷ f ∷ rest) (number_of-spelled greatest_u32 field first is_first).0 ∙ ap (λ fs. word ∷ decimal first ∷ fs) (two_numbers-spelled rest pair is)
     ∙ sym (spelled first pair.0 pair.1) ∙ ap node_fields same))
@@ -235,7 +230,7 @@ threefold-spelled word make (field ∷ rest) n spelled h =
 word-spelled : {A : Type 0} (word : List ℕ) (read : List ℕ → Option A) (word_of : A → List ℕ) (make : A → ℕ → Node) (fields : List (List ℕ)) (n : Node) → ((field : List ℕ) (a : A) → read field ≡ Some a → field ≡ word_of a) → ((a : A) (k : ℕ) → node_fields (make a k) ≡ word ∷ word_of a ∷ decimal k ∷ []) → worded read make fields ≡ Some n → word ∷ fields ≡ node_fields n
 word-spelled word read word_of make [] n reads spelled h = absurd cc
 word-spelled word read word_of make (field ∷ rest) n reads spelled h =
-    bound _ (read field) n h (λ a is_a h.
+    option_and_then_some _ (read field) n h (λ a is_a h.
     mapped (make a) (one_number rest) n h (λ next is_next same.
     ap (λ f. word ∷ f ∷ rest) (reads field a is_a) ∙ ap (λ fs. word ∷ word_of a ∷ fs) (one_number-spelled rest next is_next)
     ∙ sym (spelled a next) ∙ ap node_fields same))
@@ -244,8 +239,8 @@ push-spelled : (fields : List (List ℕ)) (n : Node) → push_of fields ≡ Some
 push-spelled [] n h = absurd cc
 push-spelled (kind ∷ []) n h = absurd cc
 push-spelled (kind ∷ value ∷ rest) n h =
-    bound _ (kind_of kind) n h (λ k is_kind h.
-    bound _ (signed_of value) n h (λ v is_value h.
+    option_and_then_some _ (kind_of kind) n h (λ k is_kind h.
+    option_and_then_some _ (signed_of value) n h (λ v is_value h.
     mapped (Push k v) (one_number rest) n h (λ next is_next same.
     ap (λ f. codes "push" ∷ f ∷ value ∷ rest) (kind_of-spelled kind k is_kind)
     ∙ ap (λ f. codes "push" ∷ kind_word k ∷ f ∷ rest) (signed_of-spelled value v is_value).0
@@ -256,8 +251,8 @@ zero-spelled : (fields : List (List ℕ)) (n : Node) → zero_of fields ≡ Some
 zero-spelled [] n h = absurd cc
 zero-spelled (index ∷ []) n h = absurd cc
 zero-spelled (index ∷ want ∷ rest) n h =
-    bound _ (number_of greatest_u32 index) n h (λ i is_index h.
-    bound _ (want_of want) n h (λ w is_want h.
+    option_and_then_some _ (number_of greatest_u32 index) n h (λ i is_index h.
+    option_and_then_some _ (want_of want) n h (λ w is_want h.
     mapped (Zero i w) (one_number rest) n h (λ next is_next same.
     ap (λ f. codes "zero" ∷ f ∷ want ∷ rest) (number_of-spelled greatest_u32 index i is_index).0
     ∙ ap (λ f. codes "zero" ∷ decimal i ∷ f ∷ rest) (want_of-spelled want w is_want)
@@ -270,69 +265,69 @@ with-word word known fields n test h = ap (λ w. w ∷ fields) (same-word word k
 
 outer_node-spelled : (word : List ℕ) (fields : List (List ℕ)) (n : Node) → outer_node word fields ≡ Some n → word ∷ fields ≡ node_fields n
 outer_node-spelled word fields n h =
-    chosen (is_word word (codes "get")) _ _ n h (λ test is. with-word word _ fields n test (plain-spelled (codes "get") Get fields n (λ _. refl) is)) (λ _ h.
-    chosen (is_word word (codes "put")) _ _ n h (λ test is. with-word word _ fields n test (plain-spelled (codes "put") Put fields n (λ _. refl) is)) (λ _ h.
-    chosen (is_word word (codes "puts")) _ _ n h (λ test is. with-word word _ fields n test (plain-spelled (codes "puts") Puts fields n (λ _. refl) is)) (λ _ h.
-    chosen (is_word word (codes "alloc")) _ _ n h (λ test is. with-word word _ fields n test (plain-spelled (codes "alloc") Alloc fields n (λ _. refl) is)) (λ _ h.
-    chosen (is_word word (codes "free")) _ _ n h (λ test is. with-word word _ fields n test (plain-spelled (codes "free") Free fields n (λ _. refl) is)) (λ _ h.
-    chosen (is_word word (codes "check")) _ _ n h (λ test is. with-word word _ fields n test (plain-spelled (codes "check") Check fields n (λ _. refl) is)) (λ _ h.
-    chosen (is_word word (codes "import")) _ _ n h (λ test is. with-word word _ fields n test (plain-spelled (codes "import") Import fields n (λ _. refl) is)) (λ _ h.
-    chosen (is_word word (codes "export")) _ _ n h (λ test is. with-word word _ fields n test (plain-spelled (codes "export") Export fields n (λ _. refl) is)) (λ _ h. absurd cc))))))))
+    some_choice (is_word word (codes "get")) _ _ n h (λ test is. with-word word _ fields n test (plain-spelled (codes "get") Get fields n (λ _. refl) is)) (λ _ h.
+    some_choice (is_word word (codes "put")) _ _ n h (λ test is. with-word word _ fields n test (plain-spelled (codes "put") Put fields n (λ _. refl) is)) (λ _ h.
+    some_choice (is_word word (codes "puts")) _ _ n h (λ test is. with-word word _ fields n test (plain-spelled (codes "puts") Puts fields n (λ _. refl) is)) (λ _ h.
+    some_choice (is_word word (codes "alloc")) _ _ n h (λ test is. with-word word _ fields n test (plain-spelled (codes "alloc") Alloc fields n (λ _. refl) is)) (λ _ h.
+    some_choice (is_word word (codes "free")) _ _ n h (λ test is. with-word word _ fields n test (plain-spelled (codes "free") Free fields n (λ _. refl) is)) (λ _ h.
+    some_choice (is_word word (codes "check")) _ _ n h (λ test is. with-word word _ fields n test (plain-spelled (codes "check") Check fields n (λ _. refl) is)) (λ _ h.
+    some_choice (is_word word (codes "import")) _ _ n h (λ test is. with-word word _ fields n test (plain-spelled (codes "import") Import fields n (λ _. refl) is)) (λ _ h.
+    some_choice (is_word word (codes "export")) _ _ n h (λ test is. with-word word _ fields n test (plain-spelled (codes "export") Export fields n (λ _. refl) is)) (λ _ h. absurd cc))))))))
 
 control_node-spelled : (word : List ℕ) (fields : List (List ℕ)) (n : Node) → control_node word fields ≡ Some n → word ∷ fields ≡ node_fields n
 control_node-spelled word fields n h =
-    chosen (is_word word (codes "call")) _ _ n h (λ test is. with-word word _ fields n test (pair-spelled (codes "call") Call fields n (λ _ _. refl) is)) (λ _ h.
-    chosen (is_word word (codes "clear")) _ _ n h (λ test is. with-word word _ fields n test (pair-spelled (codes "clear") Clear fields n (λ _ _. refl) is)) (λ _ h.
-    chosen (is_word word (codes "mark")) _ _ n h (λ test is. with-word word _ fields n test (pair-spelled (codes "mark") Mark fields n (λ _ _. refl) is)) (λ _ h.
-    chosen (is_word word (codes "skip")) _ _ n h (λ test is. with-word word _ fields n test (pair-spelled (codes "skip") Skip fields n (λ _ _. refl) is)) (λ _ h.
-    chosen (is_word word (codes "test")) _ _ n h (λ test is. with-word word _ fields n test (pair-spelled (codes "test") Test fields n (λ _ _. refl) is)) (λ _ h. outer_node-spelled word fields n h)))))
+    some_choice (is_word word (codes "call")) _ _ n h (λ test is. with-word word _ fields n test (pair-spelled (codes "call") Call fields n (λ _ _. refl) is)) (λ _ h.
+    some_choice (is_word word (codes "clear")) _ _ n h (λ test is. with-word word _ fields n test (pair-spelled (codes "clear") Clear fields n (λ _ _. refl) is)) (λ _ h.
+    some_choice (is_word word (codes "mark")) _ _ n h (λ test is. with-word word _ fields n test (pair-spelled (codes "mark") Mark fields n (λ _ _. refl) is)) (λ _ h.
+    some_choice (is_word word (codes "skip")) _ _ n h (λ test is. with-word word _ fields n test (pair-spelled (codes "skip") Skip fields n (λ _ _. refl) is)) (λ _ h.
+    some_choice (is_word word (codes "test")) _ _ n h (λ test is. with-word word _ fields n test (pair-spelled (codes "test") Test fields n (λ _ _. refl) is)) (λ _ h. outer_node-spelled word fields n h)))))
 
 threefold_node-spelled : (word : List ℕ) (fields : List (List ℕ)) (n : Node) → threefold_node word fields ≡ Some n → word ∷ fields ≡ node_fields n
 threefold_node-spelled word fields n h =
-    chosen (is_word word (codes "format")) _ _ n h (λ test is. with-word word _ fields n test (threefold-spelled (codes "format") Format fields n (λ _ _ _. refl) is)) (λ _ h.
-    chosen (is_word word (codes "spell")) _ _ n h (λ test is. with-word word _ fields n test (threefold-spelled (codes "spell") Spell fields n (λ _ _ _. refl) is)) (λ _ h.
-    chosen (is_word word (codes "choose")) _ _ n h (λ test is. with-word word _ fields n test (threefold-spelled (codes "choose") Choose fields n (λ _ _ _. refl) is)) (λ _ h. control_node-spelled word fields n h)))
+    some_choice (is_word word (codes "format")) _ _ n h (λ test is. with-word word _ fields n test (threefold-spelled (codes "format") Format fields n (λ _ _ _. refl) is)) (λ _ h.
+    some_choice (is_word word (codes "spell")) _ _ n h (λ test is. with-word word _ fields n test (threefold-spelled (codes "spell") Spell fields n (λ _ _ _. refl) is)) (λ _ h.
+    some_choice (is_word word (codes "choose")) _ _ n h (λ test is. with-word word _ fields n test (threefold-spelled (codes "choose") Choose fields n (λ _ _ _. refl) is)) (λ _ h. control_node-spelled word fields n h)))
 
 bare_node-spelled : (word : List ℕ) (fields : List (List ℕ)) (n : Node) → bare_node word fields ≡ Some n → word ∷ fields ≡ node_fields n
 bare_node-spelled word fields n h =
-    chosen (is_word word (codes "return")) _ _ n h (λ test is. with-word word _ fields n test (bare-spelled (codes "return") Return fields n refl is)) (λ _ h.
-    chosen (is_word word (codes "leave")) _ _ n h (λ test is. with-word word _ fields n test (bare-spelled (codes "leave") Leave fields n refl is)) (λ _ h.
-    chosen (is_word word (codes "exit")) _ _ n h (λ test is. with-word word _ fields n test (bare-spelled (codes "exit") Exit fields n refl is)) (λ _ h.
-    chosen (is_word word (codes "abort")) _ _ n h (λ test is. with-word word _ fields n test (bare-spelled (codes "abort") Abort fields n refl is)) (λ _ h. threefold_node-spelled word fields n h))))
+    some_choice (is_word word (codes "return")) _ _ n h (λ test is. with-word word _ fields n test (bare-spelled (codes "return") Return fields n refl is)) (λ _ h.
+    some_choice (is_word word (codes "leave")) _ _ n h (λ test is. with-word word _ fields n test (bare-spelled (codes "leave") Leave fields n refl is)) (λ _ h.
+    some_choice (is_word word (codes "exit")) _ _ n h (λ test is. with-word word _ fields n test (bare-spelled (codes "exit") Exit fields n refl is)) (λ _ h.
+    some_choice (is_word word (codes "abort")) _ _ n h (λ test is. with-word word _ fields n test (bare-spelled (codes "abort") Abort fields n refl is)) (λ _ h. threefold_node-spelled word fields n h))))
 
 plain_node-spelled : (word : List ℕ) (fields : List (List ℕ)) (n : Node) → plain_node word fields ≡ Some n → word ∷ fields ≡ node_fields n
 plain_node-spelled word fields n h =
-    chosen (is_word word (codes "null")) _ _ n h (λ test is. with-word word _ fields n test (plain-spelled (codes "null") Null fields n (λ _. refl) is)) (λ _ h.
-    chosen (is_word word (codes "store")) _ _ n h (λ test is. with-word word _ fields n test (plain-spelled (codes "store") Store fields n (λ _. refl) is)) (λ _ h.
-    chosen (is_word word (codes "dup")) _ _ n h (λ test is. with-word word _ fields n test (plain-spelled (codes "dup") Dup fields n (λ _. refl) is)) (λ _ h.
-    chosen (is_word word (codes "drop")) _ _ n h (λ test is. with-word word _ fields n test (plain-spelled (codes "drop") Drop fields n (λ _. refl) is)) (λ _ h.
-    chosen (is_word word (codes "swap")) _ _ n h (λ test is. with-word word _ fields n test (plain-spelled (codes "swap") Swap fields n (λ _. refl) is)) (λ _ h.
-    chosen (is_word word (codes "over")) _ _ n h (λ test is. with-word word _ fields n test (plain-spelled (codes "over") Over fields n (λ _. refl) is)) (λ _ h.
-    chosen (is_word word (codes "pass")) _ _ n h (λ test is. with-word word _ fields n test (plain-spelled (codes "pass") Pass fields n (λ _. refl) is)) (λ _ h.
-    chosen (is_word word (codes "again")) _ _ n h (λ test is. with-word word _ fields n test (plain-spelled (codes "again") Again fields n (λ _. refl) is)) (λ _ h. bare_node-spelled word fields n h))))))))
+    some_choice (is_word word (codes "null")) _ _ n h (λ test is. with-word word _ fields n test (plain-spelled (codes "null") Null fields n (λ _. refl) is)) (λ _ h.
+    some_choice (is_word word (codes "store")) _ _ n h (λ test is. with-word word _ fields n test (plain-spelled (codes "store") Store fields n (λ _. refl) is)) (λ _ h.
+    some_choice (is_word word (codes "dup")) _ _ n h (λ test is. with-word word _ fields n test (plain-spelled (codes "dup") Dup fields n (λ _. refl) is)) (λ _ h.
+    some_choice (is_word word (codes "drop")) _ _ n h (λ test is. with-word word _ fields n test (plain-spelled (codes "drop") Drop fields n (λ _. refl) is)) (λ _ h.
+    some_choice (is_word word (codes "swap")) _ _ n h (λ test is. with-word word _ fields n test (plain-spelled (codes "swap") Swap fields n (λ _. refl) is)) (λ _ h.
+    some_choice (is_word word (codes "over")) _ _ n h (λ test is. with-word word _ fields n test (plain-spelled (codes "over") Over fields n (λ _. refl) is)) (λ _ h.
+    some_choice (is_word word (codes "pass")) _ _ n h (λ test is. with-word word _ fields n test (plain-spelled (codes "pass") Pass fields n (λ _. refl) is)) (λ _ h.
+    some_choice (is_word word (codes "again")) _ _ n h (λ test is. with-word word _ fields n test (plain-spelled (codes "again") Again fields n (λ _. refl) is)) (λ _ h. bare_node-spelled word fields n h))))))))
 
 worded_node-spelled : (word : List ℕ) (fields : List (List ℕ)) (n : Node) → worded_node word fields ≡ Some n → word ∷ fields ≡ node_fields n
 worded_node-spelled word fields n h =
-    chosen (is_word word (codes "load")) _ _ n h (λ test is. with-word word _ fields n test (word-spelled (codes "load") want_of want_word Load fields n want_of-spelled (λ _ _. refl) is)) (λ _ h.
-    chosen (is_word word (codes "math")) _ _ n h (λ test is. with-word word _ fields n test (word-spelled (codes "math") binary_of binary_word Math fields n binary_of-spelled (λ _ _. refl) is)) (λ _ h.
-    chosen (is_word word (codes "order")) _ _ n h (λ test is. with-word word _ fields n test (word-spelled (codes "order") order_of order_word Order fields n order_of-spelled (λ _ _. refl) is)) (λ _ h.
-    chosen (is_word word (codes "sole")) _ _ n h (λ test is. with-word word _ fields n test (word-spelled (codes "sole") unary_of unary_word Sole fields n unary_of-spelled (λ _ _. refl) is)) (λ _ h.
-    chosen (is_word word (codes "convert")) _ _ n h (λ test is. with-word word _ fields n test (word-spelled (codes "convert") kind_of kind_word Convert fields n kind_of-spelled (λ _ _. refl) is)) (λ _ h. plain_node-spelled word fields n h)))))
+    some_choice (is_word word (codes "load")) _ _ n h (λ test is. with-word word _ fields n test (word-spelled (codes "load") want_of want_word Load fields n want_of-spelled (λ _ _. refl) is)) (λ _ h.
+    some_choice (is_word word (codes "math")) _ _ n h (λ test is. with-word word _ fields n test (word-spelled (codes "math") binary_of binary_word Math fields n binary_of-spelled (λ _ _. refl) is)) (λ _ h.
+    some_choice (is_word word (codes "order")) _ _ n h (λ test is. with-word word _ fields n test (word-spelled (codes "order") order_of order_word Order fields n order_of-spelled (λ _ _. refl) is)) (λ _ h.
+    some_choice (is_word word (codes "sole")) _ _ n h (λ test is. with-word word _ fields n test (word-spelled (codes "sole") unary_of unary_word Sole fields n unary_of-spelled (λ _ _. refl) is)) (λ _ h.
+    some_choice (is_word word (codes "convert")) _ _ n h (λ test is. with-word word _ fields n test (word-spelled (codes "convert") kind_of kind_word Convert fields n kind_of-spelled (λ _ _. refl) is)) (λ _ h. plain_node-spelled word fields n h)))))
 
 paired_node-spelled : (word : List ℕ) (fields : List (List ℕ)) (n : Node) → paired_node word fields ≡ Some n → word ∷ fields ≡ node_fields n
 paired_node-spelled word fields n h =
-    chosen (is_word word (codes "local")) _ _ n h (λ test is. with-word word _ fields n test (pair-spelled (codes "local") Local fields n (λ _ _. refl) is)) (λ _ h.
-    chosen (is_word word (codes "global")) _ _ n h (λ test is. with-word word _ fields n test (pair-spelled (codes "global") Global fields n (λ _ _. refl) is)) (λ _ h.
-    chosen (is_word word (codes "text")) _ _ n h (λ test is. with-word word _ fields n test (pair-spelled (codes "text") Text fields n (λ _ _. refl) is)) (λ _ h.
-    chosen (is_word word (codes "member")) _ _ n h (λ test is. with-word word _ fields n test (pair-spelled (codes "member") Member fields n (λ _ _. refl) is)) (λ _ h.
-    chosen (is_word word (codes "span")) _ _ n h (λ test is. with-word word _ fields n test (pair-spelled (codes "span") Span fields n (λ _ _. refl) is)) (λ _ h.
-    chosen (is_word word (codes "fork")) _ _ n h (λ test is. with-word word _ fields n test (pair-spelled (codes "fork") Fork fields n (λ _ _. refl) is)) (λ _ h. worded_node-spelled word fields n h))))))
+    some_choice (is_word word (codes "local")) _ _ n h (λ test is. with-word word _ fields n test (pair-spelled (codes "local") Local fields n (λ _ _. refl) is)) (λ _ h.
+    some_choice (is_word word (codes "global")) _ _ n h (λ test is. with-word word _ fields n test (pair-spelled (codes "global") Global fields n (λ _ _. refl) is)) (λ _ h.
+    some_choice (is_word word (codes "text")) _ _ n h (λ test is. with-word word _ fields n test (pair-spelled (codes "text") Text fields n (λ _ _. refl) is)) (λ _ h.
+    some_choice (is_word word (codes "member")) _ _ n h (λ test is. with-word word _ fields n test (pair-spelled (codes "member") Member fields n (λ _ _. refl) is)) (λ _ h.
+    some_choice (is_word word (codes "span")) _ _ n h (λ test is. with-word word _ fields n test (pair-spelled (codes "span") Span fields n (λ _ _. refl) is)) (λ _ h.
+    some_choice (is_word word (codes "fork")) _ _ n h (λ test is. with-word word _ fields n test (pair-spelled (codes "fork") Fork fields n (λ _ _. refl) is)) (λ _ h. worded_node-spelled word fields n h))))))
 
 valued_node-spelled : (word : List ℕ) (fields : List (List ℕ)) (n : Node) → valued_node word fields ≡ Some n → word ∷ fields ≡ node_fields n
 valued_node-spelled word fields n h =
-    chosen (is_word word (codes "push")) _ _ n h (λ test is. with-word word _ fields n test (push-spelled fields n is)) (λ _ h.
-    chosen (is_word word (codes "move")) _ _ n h (λ test is. with-word word _ fields n test (word-spelled (codes "move") int_of signed_decimal Move fields n int-spelled (λ _ _. refl) is)) (λ _ h.
-    chosen (is_word word (codes "zero")) _ _ n h (λ test is. with-word word _ fields n test (zero-spelled fields n is)) (λ _ h. paired_node-spelled word fields n h)))
+    some_choice (is_word word (codes "push")) _ _ n h (λ test is. with-word word _ fields n test (push-spelled fields n is)) (λ _ h.
+    some_choice (is_word word (codes "move")) _ _ n h (λ test is. with-word word _ fields n test (word-spelled (codes "move") int_of signed_decimal Move fields n int-spelled (λ _ _. refl) is)) (λ _ h.
+    some_choice (is_word word (codes "zero")) _ _ n h (λ test is. with-word word _ fields n test (zero-spelled fields n is)) (λ _ h. paired_node-spelled word fields n h)))
 
 pub node_of-spelled : (fields : List (List ℕ)) (n : Node) → node_of fields ≡ Some n → fields ≡ node_fields n
 unfolding node_of

@@ -3,11 +3,12 @@ use Rattle.std.proofs.Common.{◌≡◌, ◌≤◌, ◌==◌, ℕ, true, List, [
 use Rattle.std.specs.Int.{w64}
 use Rattle.std.specs.List.{AllByRecursion}
 use Rattle.std.proofs.lemmas.Bool.{eqb-true}
-use Rattle.cbi_base.specs.Name.{IsName}
-use Rattle.cbi_base.specs.Numbers.{is_word, number_of, greatest_u32}
-use Rattle.cbi_base.specs.Text.{IsField}
+use Rattle.std.proofs.lemmas.Option.{option_and_then_some}
+use Rattle.base_lists.proofs.Tests.{some_choice}
+use Rattle.base_lists.proofs.Options.{mapped, some_is}
+use Rattle.cbi_base.specs.Words.{IsName, is_word, number_of, greatest_u32, IsField}
 use Rattle.cbi_base.proofs.FieldLemmas.{IsField-decimal, IsField-signed, IsField-name}
-use Rattle.cbi_base.proofs.NumberLemmas.{chosen, mapped, bound, some-is, same-word, number_of-spelled, signed_of-spelled, signed_of-signed, small-read}
+use Rattle.cbi_base.proofs.NumberLemmas.{same-word, number_of-spelled, signed_of-spelled, signed_of-signed, small-read}
 use Rattle.flow.specs.declared.site.Slot.{Slot}
 use Rattle.flow.specs.declared.site.Slot.TheVariants.{Local, Global}
 use Rattle.flow.specs.declared.site.Partner.{Partner}
@@ -23,18 +24,18 @@ use Rattle.program_lines.specs.SiteLines.{branch_of, slot_of, partner_of, branch
 use Rattle.program_lines.proofs.RowReads.{name_of-spelled, name_of-name, other-word, other-first}
 
 word-chosen : (field : List ℕ) (a b : BranchWord) → is_word field (branch_word a) ≡ true → Some a ≡ Some b → field ≡ branch_word b
-word-chosen field a b test is = same-word field (branch_word a) test ∙ ap branch_word (some-is is)
+word-chosen field a b test is = same-word field (branch_word a) test ∙ ap branch_word (some_is is)
 
 branch_of-spelled : (field : List ℕ) (word : BranchWord) → branch_of field ≡ Some word → field ≡ branch_word word
 unfolding branch_of
 branch_of-spelled field word h =
-    chosen (is_word field (codes "if")) _ _ word h (word-chosen field If word) (λ _ h.
-    chosen (is_word field (codes "while")) _ _ word h (word-chosen field While word) (λ _ h.
-    chosen (is_word field (codes "do")) _ _ word h (word-chosen field Do word) (λ _ h.
-    chosen (is_word field (codes "for")) _ _ word h (word-chosen field For word) (λ _ h.
-    chosen (is_word field (codes "?:")) _ _ word h (word-chosen field Question word) (λ _ h.
-    chosen (is_word field (codes "&&")) _ _ word h (word-chosen field AndAnd word) (λ _ h.
-    chosen (is_word field (codes "||")) _ _ word h (word-chosen field OrOr word) (λ _ h. absurd cc)))))))
+    some_choice (is_word field (codes "if")) _ _ word h (word-chosen field If word) (λ _ h.
+    some_choice (is_word field (codes "while")) _ _ word h (word-chosen field While word) (λ _ h.
+    some_choice (is_word field (codes "do")) _ _ word h (word-chosen field Do word) (λ _ h.
+    some_choice (is_word field (codes "for")) _ _ word h (word-chosen field For word) (λ _ h.
+    some_choice (is_word field (codes "?:")) _ _ word h (word-chosen field Question word) (λ _ h.
+    some_choice (is_word field (codes "&&")) _ _ word h (word-chosen field AndAnd word) (λ _ h.
+    some_choice (is_word field (codes "||")) _ _ word h (word-chosen field OrOr word) (λ _ h. absurd cc)))))))
 
 branch_of-word : (word : BranchWord) → branch_of (branch_word word) ≡ Some word
 unfolding branch_of
@@ -59,9 +60,9 @@ slot_of-spelled : (field : List ℕ) (slot : Slot) → slot_of field ≡ Some sl
 unfolding slot_of
 slot_of-spelled [] slot h = absurd cc
 slot_of-spelled (letter ∷ digits) slot h =
-    chosen (letter == 108) _ _ slot h (λ test h. mapped Local _ slot h (λ index is same.
+    some_choice (letter == 108) _ _ slot h (λ test h. mapped Local _ slot h (λ index is same.
     ap (λ b. b ∷ digits) (eqb-true letter 108 test) ∙ ap (λ ds. 108 ∷ ds) (number_of-spelled greatest_u32 digits index is).0 ∙ ap slot_word same)) (λ _ h.
-    chosen (letter == 103) _ _ slot h (λ test h. mapped Global _ slot h (λ index is same.
+    some_choice (letter == 103) _ _ slot h (λ test h. mapped Global _ slot h (λ index is same.
     ap (λ b. b ∷ digits) (eqb-true letter 103 test) ∙ ap (λ ds. 103 ∷ ds) (number_of-spelled greatest_u32 digits index is).0 ∙ ap slot_word same)) (λ _ none. absurd cc))
 
 -- the number of a variable has 32 bits
@@ -80,14 +81,12 @@ is_field-slot (Local index) h = IsField-decimal index (omega (arith, h))
 is_field-slot (Global index) h = IsField-decimal index (omega (arith, h))
 
 partner_of-spelled : (fields : List (List ℕ)) (p : Partner) → partner_of fields ≡ Some p → fields ≡ partner_fields p
-partner_of-spelled [] p h = absurd cc
-partner_of-spelled (first ∷ []) p h = absurd cc
 partner_of-spelled (first ∷ second ∷ []) p h =
-    chosen (is_word second (codes "k")) _ _ p h (λ test h. mapped Constant _ p h (λ value is same.
+    some_choice (is_word second (codes "k")) _ _ p h (λ test h. mapped Constant _ p h (λ value is same.
     ap (λ s. first ∷ s ∷ []) (same-word second _ test) ∙ ap (λ f. f ∷ codes "k" ∷ []) (signed_of-spelled first value is).0 ∙ ap partner_fields same)) (λ _ h.
-    bound _ (name_of first) p h (λ name is_name h. mapped (Variable name) _ p h (λ slot is_slot same.
+    option_and_then_some _ (name_of first) p h (λ name is_name h. mapped (Variable name) _ p h (λ slot is_slot same.
     ap (λ f. f ∷ second ∷ []) (name_of-spelled first name is_name).0 ∙ ap (λ s. name ∷ s ∷ []) (slot_of-spelled second slot is_slot) ∙ ap partner_fields same)))
-partner_of-spelled (first ∷ second ∷ next ∷ more) p h = absurd cc
+partner_of-spelled fields p h = absurd cc
 
 unfoldable pub IsSmallPartner : Partner → Type 0
 IsSmallPartner (Variable name slot) = IsName name × IsSmallSlot slot
@@ -110,9 +109,9 @@ are_fields-partner (Constant value) h = (IsField-signed value h, (refl, tt))
 
 kind-spelled : (word : List ℕ) (fields : List (List ℕ)) (k : SiteKind) → site_kind_of word fields ≡ Some k → word ∷ fields ≡ kind_name k ∷ kind_fields k
 kind-spelled word fields k h =
-    chosen (is_word word (codes "branch")) _ _ k h (λ test h. ap (λ w. w ∷ fields) (same-word word _ test) ∙ branches fields h) (λ _ h.
-    chosen (is_word word (codes "return")) _ _ k h (λ test h. ap (λ w. w ∷ fields) (same-word word _ test) ∙ returns fields h) (λ _ h.
-    chosen (is_word word (codes "pair")) _ _ k h (λ test h. ap (λ w. w ∷ fields) (same-word word _ test) ∙ pairs fields h) (λ _ none. absurd cc)))
+    some_choice (is_word word (codes "branch")) _ _ k h (λ test h. ap (λ w. w ∷ fields) (same-word word _ test) ∙ branches fields h) (λ _ h.
+    some_choice (is_word word (codes "return")) _ _ k h (λ test h. ap (λ w. w ∷ fields) (same-word word _ test) ∙ returns fields h) (λ _ h.
+    some_choice (is_word word (codes "pair")) _ _ k h (λ test h. ap (λ w. w ∷ fields) (same-word word _ test) ∙ pairs fields h) (λ _ none. absurd cc)))
   where
     branches : (fields : List (List ℕ)) → branch_fields fields ≡ Some k → codes "branch" ∷ fields ≡ kind_name k ∷ kind_fields k
     branches [] h = absurd cc
@@ -128,7 +127,7 @@ kind-spelled word fields k h =
     pairs [] h = absurd cc
     pairs (target ∷ []) h = absurd cc
     pairs (target ∷ place ∷ rest) h =
-        bound _ (name_of target) k h (λ n is_n h. bound _ (slot_of place) k h (λ s is_s h. mapped (Pair n s) (partner_of rest) k h (λ p is_p same.
+        option_and_then_some _ (name_of target) k h (λ n is_n h. option_and_then_some _ (slot_of place) k h (λ s is_s h. mapped (Pair n s) (partner_of rest) k h (λ p is_p same.
         ap (λ f. codes "pair" ∷ f ∷ place ∷ rest) (name_of-spelled target n is_n).0 ∙ ap (λ f. codes "pair" ∷ n ∷ f ∷ rest) (slot_of-spelled place s is_s)
         ∙ ap (λ fs. codes "pair" ∷ n ∷ slot_word s ∷ fs) (partner_of-spelled rest p is_p) ∙ ap (λ l. kind_name l ∷ kind_fields l) same)))
 
@@ -169,8 +168,8 @@ site-from (a ∷ b ∷ []) parts h = absurd cc
 site-from (a ∷ b ∷ c ∷ []) parts h = absurd cc
 site-from (a ∷ b ∷ c ∷ d ∷ []) parts h = absurd cc
 site-from (word ∷ kind ∷ function ∷ line ∷ token ∷ rest) parts h =
-    chosen (is_word word (codes "site")) _ _ parts h (λ test h.
-    bound _ (number_of greatest_u32 function) parts h (λ f is_f h. bound _ (number_of greatest_u32 line) parts h (λ l is_l h. mapped _ (number_of greatest_u32 token) parts h (λ t is_t same.
+    some_choice (is_word word (codes "site")) _ _ parts h (λ test h.
+    option_and_then_some _ (number_of greatest_u32 function) parts h (λ f is_f h. option_and_then_some _ (number_of greatest_u32 line) parts h (λ l is_l h. mapped _ (number_of greatest_u32 token) parts h (λ t is_t same.
     ap (λ w. w ∷ kind ∷ function ∷ line ∷ token ∷ rest) (same-word word _ test)
     ∙ ap (λ x. codes "site" ∷ kind ∷ x ∷ line ∷ token ∷ rest) (number_of-spelled greatest_u32 function f is_f).0
     ∙ ap (λ x. codes "site" ∷ kind ∷ decimal f ∷ x ∷ token ∷ rest) (number_of-spelled greatest_u32 line l is_l).0
@@ -183,7 +182,7 @@ cons-parts x y xs ys e = (cc, cc)
 pub site_of_row-spelled : (fields : List (List ℕ)) (s : Site) → site_of_row fields ≡ Some s → fields ≡ site_fields s
 unfolding site_of_row
 site_of_row-spelled fields s h =
-    bound _ (site_parts fields) s h (λ parts is_parts h. mapped _ (site_kind_of parts.0.0 parts.1) s h (λ k is_k same.
+    option_and_then_some _ (site_parts fields) s h (λ parts is_parts h. mapped _ (site_kind_of parts.0.0 parts.1) s h (λ k is_k same.
     let e = cons-parts _ _ _ _ (kind-spelled parts.0.0 parts.1 k is_k) in
     site-from fields parts is_parts
     ∙ ap (λ w. codes "site" ∷ w ∷ decimal parts.0.1.0 ∷ decimal parts.0.1.1.0 ∷ decimal parts.0.1.1.1 ∷ parts.1) e.0

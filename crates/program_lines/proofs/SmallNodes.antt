@@ -1,19 +1,16 @@
 -- The numbers of a node that fits have the sizes that its fields have.
 use Rattle.std.proofs.Common.{◌≡◌, ◌≤◌, ℕ, ℤ, Bool, true, ◌&&◌, List, Option, None, Some, FitsSigned, IsTrue, nat_le, nat_lt, length, slice_get, refl, arith, rules}
 use Rattle.std.specs.Int.{w64}
-use Rattle.std.proofs.lemmas.Bool.{leb-true, ltb-true, eqb-true}
+use Rattle.std.proofs.lemmas.Bool.{leb-true, ltb-true, eqb-true, and_parts}
 use Rattle.std.proofs.lemmas.Option.{slice_get_within}
-use Rattle.cbi_base.specs.Kind.{lies_in}
-use Rattle.cbi_base.specs.Numbers.{greatest_u32}
-use Rattle.cbi_base.proofs.NumberLemmas.{both}
+use Rattle.cbi_base.specs.Words.{lies_in, greatest_u32}
 use Rattle.cbi_base.specs.declared.scalar.Kind.{Kind}
 use Rattle.cbi_base.specs.declared.scalar.Kind.TheVariants.{Char, Int, Unsigned}
 use Rattle.flow.specs.declared.node.Node.{Node}
 use Rattle.flow.specs.declared.node.Node.TheVariants.{Push, Null, Local, Global, Text, Load, Store, Move, Member, Span, Math, Order, Sole, Convert, Dup, Drop, Swap, Over, Pass, Fork, Again, Call, Return, Leave, Get, Put, Puts, Format, Alloc, Free, Exit, Abort, Check, Clear, Zero, Spell, Mark, Skip, Test, Choose, Import, Export}
 use Rattle.flow.specs.declared.scope.Names.{Names}
 use Rattle.flow.specs.declared.scope.Bounds.{Bounds}
-use Rattle.flow.specs.View.{view}
-use Rattle.flow.specs.Nodes.{node_fits, names_fit, leads_rightly, is_node_step, is_format, is_own, has_text, is_local}
+use Rattle.flow.specs.Words.{view, node_fits, names_fit, leads_rightly, is_node_step, is_format, is_own, has_text, is_local}
 use Rattle.program_lines.proofs.NodeReads.{IsSmall}
 
 -- the names that a node may use are few
@@ -26,20 +23,20 @@ pub record AreSmallNames (names : Names) (bounds : Bounds) : Type 0 where
   pub locals : bounds.locals ≤ greatest_u32
   pub nodes : bounds.nodes ≤ greatest_u32
 
--- both parts of the conditions on a node
+-- and_parts parts of the conditions on a node
 fit-parts : (names : Names) (bounds : Bounds) (place : ℕ) (n : Node) → IsTrue (node_fits names bounds place n) → (names_fit names bounds n ≡ true) × (leads_rightly bounds place (view n) ≡ true)
 unfolding node_fits
-fit-parts names bounds place n h = both (names_fit names bounds n) (leads_rightly bounds place (view n)) h
+fit-parts names bounds place n h = and_parts (names_fit names bounds n) (leads_rightly bounds place (view n)) h
 
 below : (next most : ℕ) (rest : Bool) → most ≤ greatest_u32 → (nat_lt next most && rest) ≡ true → next ≤ greatest_u32
-below next most rest few h = omega (arith, ltb-true next most (both (nat_lt next most) rest h).0, few)
+below next most rest few h = omega (arith, ltb-true next most (and_parts (nat_lt next most) rest h).0, few)
 
 one-next : (next most : ℕ) (how : Bool) → most ≤ greatest_u32 → ((nat_lt next most && how) && true) ≡ true → next ≤ greatest_u32
-one-next next most how few h = below next most how few (both (nat_lt next most && how) true h).0
+one-next next most how few h = below next most how few (and_parts (nat_lt next most && how) true h).0
 
 two-next : (first second most : ℕ) (how other : Bool) → most ≤ greatest_u32 → ((nat_lt first most && how) && ((nat_lt second most && other) && true)) ≡ true → (first ≤ greatest_u32) × (second ≤ greatest_u32)
 two-next first second most how other few h =
-    let parts = both (nat_lt first most && how) ((nat_lt second most && other) && true) h in (below first most how few parts.0, one-next second most other few parts.1)
+    let parts = and_parts (nat_lt first most && how) ((nat_lt second most && other) && true) h in (below first most how few parts.0, one-next second most other few parts.1)
 
 less : (index most : ℕ) → most ≤ greatest_u32 → nat_lt index most ≡ true → index ≤ greatest_u32
 less index most few h = omega (arith, ltb-true index most h)
@@ -53,7 +50,7 @@ step-int : (value : ℤ) → is_node_step value ≡ true → IsTrue (lies_in Int
 step-int value h = search rules
 
 within-limit : (n least most : ℕ) → most ≤ greatest_u32 → (nat_le least n && nat_le n most) ≡ true → n ≤ greatest_u32
-within-limit n least most few h = omega (arith, leb-true n most (both (nat_le least n) (nat_le n most) h).1)
+within-limit n least most few h = omega (arith, leb-true n most (and_parts (nat_le least n) (nat_le n most) h).1)
 
 of-some : {A : Type 0} (xs : List A) (i : ℕ) (o : Option A) → slice_get xs i ≡ o → length xs ≤ greatest_u32 → (o ≡ None → ⊥) → i ≤ greatest_u32
 of-some xs i None is few some = absurd (some cc)
@@ -99,12 +96,8 @@ small-fits names bounds place (Mark site next) s h = let p = fit-parts names bou
 small-fits names bounds place (Test site next) s h = let p = fit-parts names bounds place (Test site next) h in (of-some names.owners site (slice_get names.owners site) refl s.sites (own-is bounds (slice_get names.owners site) p.0), one-next next bounds.nodes _ s.nodes p.1)
 small-fits names bounds place (Skip by next) s h = let p = fit-parts names bounds place (Skip by next) h in (within-limit by 1 16000000 (omega arith) p.0, one-next next bounds.nodes _ s.nodes p.1)
 small-fits names bounds place (Format text count next) s h = let p = fit-parts names bounds place (Format text count next) h in let q = format-count names text count (slice_get names.conversions text) refl s.texts s.counts p.0 in (q.0, q.1, one-next next bounds.nodes _ s.nodes p.1)
-small-fits names bounds place (Spell index text next) s h = let p = fit-parts names bounds place (Spell index text next) h in let q = both (is_local bounds index) (has_text names text) p.0 in (less index bounds.locals s.locals q.0, less text (length names.conversions) s.texts q.1, one-next next bounds.nodes _ s.nodes p.1)
+small-fits names bounds place (Spell index text next) s h = let p = fit-parts names bounds place (Spell index text next) h in let q = and_parts (is_local bounds index) (has_text names text) p.0 in (less index bounds.locals s.locals q.0, less text (length names.conversions) s.texts q.1, one-next next bounds.nodes _ s.nodes p.1)
 small-fits names bounds place (Choose weight fast slow) s h = let p = fit-parts names bounds place (Choose weight fast slow) h in let q = two-next fast slow bounds.nodes _ _ s.nodes p.1 in (omega (arith, leb-true weight 16000000 p.0), q.0, q.1)
-small-fits names bounds place Return s h = tt
-small-fits names bounds place Leave s h = tt
-small-fits names bounds place Exit s h = tt
-small-fits names bounds place Abort s h = tt
 small-fits names bounds place (Load want next) s h = let p = fit-parts names bounds place (Load want next) h in one-next next bounds.nodes _ s.nodes p.1
 small-fits names bounds place (Math op next) s h = let p = fit-parts names bounds place (Math op next) h in one-next next bounds.nodes _ s.nodes p.1
 small-fits names bounds place (Order op next) s h = let p = fit-parts names bounds place (Order op next) h in one-next next bounds.nodes _ s.nodes p.1
@@ -113,3 +106,4 @@ small-fits names bounds place (Convert kind next) s h = let p = fit-parts names 
 small-fits names bounds place (Push kind value next) s h = let p = fit-parts names bounds place (Push kind value next) h in (wide kind value p.0, one-next next bounds.nodes _ s.nodes p.1)
 small-fits names bounds place (Move size next) s h = let p = fit-parts names bounds place (Move size next) h in (step-int size p.0, one-next next bounds.nodes _ s.nodes p.1)
 small-fits names bounds place (Zero index want next) s h = let p = fit-parts names bounds place (Zero index want next) h in (less index bounds.locals s.locals p.0, one-next next bounds.nodes _ s.nodes p.1)
+small-fits names bounds place n s h = tt

@@ -1,8 +1,9 @@
 -- The words of a program file: reading undoes spelling, and what is read is spelled so.
 use Rattle.std.proofs.Common.{◌≡◌, ℕ, Bool, true, false, List, Some, codes, ap, ◌∙◌, refl}
-use Rattle.cbi_base.proofs.NumberLemmas.{chosen, mapped, some-is, same-word}
-use Rattle.cbi_base.specs.Numbers.{is_word}
-use Rattle.cbi_base.specs.Text.{IsField}
+use Rattle.base_lists.proofs.Tests.{some_choice}
+use Rattle.base_lists.proofs.Options.{mapped, some_is}
+use Rattle.cbi_base.proofs.NumberLemmas.{same-word}
+use Rattle.cbi_base.specs.Words.{is_word, IsField}
 use Rattle.cbi_base.specs.declared.scalar.Kind.{Kind}
 use Rattle.cbi_base.specs.declared.scalar.Kind.TheVariants.{Char, Int, Unsigned}
 use Rattle.cbi_base.specs.declared.scalar.Want.{Want}
@@ -25,9 +26,9 @@ kind_of-word Unsigned = refl
 pub kind_of-spelled : (field : List ℕ) (kind : Kind) → kind_of field ≡ Some kind → field ≡ kind_word kind
 unfolding kind_of
 kind_of-spelled field kind h =
-    chosen _ _ _ kind h (λ test is. let e : Char ≡ kind = cc in same-word _ _ test ∙ ap kind_word e) (λ _ h.
-    chosen _ _ _ kind h (λ test is. let e : Int ≡ kind = cc in same-word _ _ test ∙ ap kind_word e) (λ _ h.
-    chosen _ _ _ kind h (λ test is. let e : Unsigned ≡ kind = cc in same-word _ _ test ∙ ap kind_word e) (λ _ h. absurd cc)))
+    some_choice _ _ _ kind h (λ test is. let e : Char ≡ kind = cc in same-word _ _ test ∙ ap kind_word e) (λ _ h.
+    some_choice _ _ _ kind h (λ test is. let e : Int ≡ kind = cc in same-word _ _ test ∙ ap kind_word e) (λ _ h.
+    some_choice _ _ _ kind h (λ test is. let e : Unsigned ≡ kind = cc in same-word _ _ test ∙ ap kind_word e) (λ _ h. absurd cc)))
 
 pub is_field-kind : (kind : Kind) → IsField (kind_word kind)
 is_field-kind Char = refl
@@ -71,7 +72,7 @@ want_of-word Pointer = refl
 pub want_of-spelled : (field : List ℕ) (want : Want) → want_of field ≡ Some want → field ≡ want_word want
 unfolding want_of
 want_of-spelled field want h =
-    chosen (is_word field (codes "p")) _ _ want h (λ test is. same-word field _ test ∙ ap want_word (some-is is)) (λ _ h.
+    some_choice (is_word field (codes "p")) _ _ want h (λ test is. same-word field _ test ∙ ap want_word (some_is is)) (λ _ h.
     mapped Number (kind_of field) want h (λ kind is same. kind_of-spelled field kind is ∙ ap want_word same))
 
 pub binary_of-word : (op : Binary) → binary_of (binary_word op) ≡ Some op
@@ -93,35 +94,35 @@ binary_of-word Ge = refl
 binary_of-word Eq = refl
 binary_of-word Ne = refl
 
--- a word that was chosen is the field
+-- a word that was some_choice is the field
 word-chosen : {A : Type 0} (word_of : A → List ℕ) (field : List ℕ) (a b : A) → is_word field (word_of a) ≡ true → Some a ≡ Some b → field ≡ word_of b
-word-chosen word_of field a b test is = same-word field (word_of a) test ∙ ap word_of (some-is is)
+word-chosen word_of field a b test is = same-word field (word_of a) test ∙ ap word_of (some_is is)
 
 comparison_of-spelled : (field : List ℕ) (op : Binary) → comparison_of field ≡ Some op → field ≡ binary_word op
 comparison_of-spelled field op h =
-    chosen (is_word field (codes "lt")) _ _ op h (word-chosen binary_word field Lt op) (λ _ h.
-    chosen (is_word field (codes "le")) _ _ op h (word-chosen binary_word field Le op) (λ _ h.
-    chosen (is_word field (codes "gt")) _ _ op h (word-chosen binary_word field Gt op) (λ _ h.
-    chosen (is_word field (codes "ge")) _ _ op h (word-chosen binary_word field Ge op) (λ _ h.
-    chosen (is_word field (codes "eq")) _ _ op h (word-chosen binary_word field Eq op) (λ _ h.
-    chosen (is_word field (codes "ne")) _ _ op h (word-chosen binary_word field Ne op) (λ _ h. absurd cc))))))
+    some_choice (is_word field (codes "lt")) _ _ op h (word-chosen binary_word field Lt op) (λ _ h.
+    some_choice (is_word field (codes "le")) _ _ op h (word-chosen binary_word field Le op) (λ _ h.
+    some_choice (is_word field (codes "gt")) _ _ op h (word-chosen binary_word field Gt op) (λ _ h.
+    some_choice (is_word field (codes "ge")) _ _ op h (word-chosen binary_word field Ge op) (λ _ h.
+    some_choice (is_word field (codes "eq")) _ _ op h (word-chosen binary_word field Eq op) (λ _ h.
+    some_choice (is_word field (codes "ne")) _ _ op h (word-chosen binary_word field Ne op) (λ _ h. absurd cc))))))
 
 bitwise_of-spelled : (field : List ℕ) (op : Binary) → bitwise_of field ≡ Some op → field ≡ binary_word op
 bitwise_of-spelled field op h =
-    chosen (is_word field (codes "shl")) _ _ op h (word-chosen binary_word field Shl op) (λ _ h.
-    chosen (is_word field (codes "shr")) _ _ op h (word-chosen binary_word field Shr op) (λ _ h.
-    chosen (is_word field (codes "and")) _ _ op h (word-chosen binary_word field And op) (λ _ h.
-    chosen (is_word field (codes "or")) _ _ op h (word-chosen binary_word field Or op) (λ _ h.
-    chosen (is_word field (codes "xor")) _ _ op h (word-chosen binary_word field Xor op) (λ _ h. comparison_of-spelled field op h)))))
+    some_choice (is_word field (codes "shl")) _ _ op h (word-chosen binary_word field Shl op) (λ _ h.
+    some_choice (is_word field (codes "shr")) _ _ op h (word-chosen binary_word field Shr op) (λ _ h.
+    some_choice (is_word field (codes "and")) _ _ op h (word-chosen binary_word field And op) (λ _ h.
+    some_choice (is_word field (codes "or")) _ _ op h (word-chosen binary_word field Or op) (λ _ h.
+    some_choice (is_word field (codes "xor")) _ _ op h (word-chosen binary_word field Xor op) (λ _ h. comparison_of-spelled field op h)))))
 
 pub binary_of-spelled : (field : List ℕ) (op : Binary) → binary_of field ≡ Some op → field ≡ binary_word op
 unfolding binary_of
 binary_of-spelled field op h =
-    chosen (is_word field (codes "add")) _ _ op h (word-chosen binary_word field Add op) (λ _ h.
-    chosen (is_word field (codes "sub")) _ _ op h (word-chosen binary_word field Sub op) (λ _ h.
-    chosen (is_word field (codes "mul")) _ _ op h (word-chosen binary_word field Mul op) (λ _ h.
-    chosen (is_word field (codes "div")) _ _ op h (word-chosen binary_word field Div op) (λ _ h.
-    chosen (is_word field (codes "rem")) _ _ op h (word-chosen binary_word field Rem op) (λ _ h. bitwise_of-spelled field op h)))))
+    some_choice (is_word field (codes "add")) _ _ op h (word-chosen binary_word field Add op) (λ _ h.
+    some_choice (is_word field (codes "sub")) _ _ op h (word-chosen binary_word field Sub op) (λ _ h.
+    some_choice (is_word field (codes "mul")) _ _ op h (word-chosen binary_word field Mul op) (λ _ h.
+    some_choice (is_word field (codes "div")) _ _ op h (word-chosen binary_word field Div op) (λ _ h.
+    some_choice (is_word field (codes "rem")) _ _ op h (word-chosen binary_word field Rem op) (λ _ h. bitwise_of-spelled field op h)))))
 
 pub unary_of-word : (op : Unary) → unary_of (unary_word op) ≡ Some op
 unfolding unary_of
@@ -132,9 +133,9 @@ unary_of-word Not = refl
 pub unary_of-spelled : (field : List ℕ) (op : Unary) → unary_of field ≡ Some op → field ≡ unary_word op
 unfolding unary_of
 unary_of-spelled field op h =
-    chosen (is_word field (codes "neg")) _ _ op h (word-chosen unary_word field Neg op) (λ _ h.
-    chosen (is_word field (codes "com")) _ _ op h (word-chosen unary_word field Com op) (λ _ h.
-    chosen (is_word field (codes "not")) _ _ op h (word-chosen unary_word field Not op) (λ _ h. absurd cc)))
+    some_choice (is_word field (codes "neg")) _ _ op h (word-chosen unary_word field Neg op) (λ _ h.
+    some_choice (is_word field (codes "com")) _ _ op h (word-chosen unary_word field Com op) (λ _ h.
+    some_choice (is_word field (codes "not")) _ _ op h (word-chosen unary_word field Not op) (λ _ h. absurd cc)))
 
 pub is_field-order : (op : Order) → IsField (order_word op)
 is_field-order order.Lt = refl
@@ -156,12 +157,12 @@ order_of-word order.Ne = refl
 pub order_of-spelled : (field : List ℕ) (op : Order) → order_of field ≡ Some op → field ≡ order_word op
 unfolding order_of
 order_of-spelled field op h =
-    chosen (is_word field (codes "lt")) _ _ op h (word-chosen order_word field order.Lt op) (λ _ h.
-    chosen (is_word field (codes "le")) _ _ op h (word-chosen order_word field order.Le op) (λ _ h.
-    chosen (is_word field (codes "gt")) _ _ op h (word-chosen order_word field order.Gt op) (λ _ h.
-    chosen (is_word field (codes "ge")) _ _ op h (word-chosen order_word field order.Ge op) (λ _ h.
-    chosen (is_word field (codes "eq")) _ _ op h (word-chosen order_word field order.Eq op) (λ _ h.
-    chosen (is_word field (codes "ne")) _ _ op h (word-chosen order_word field order.Ne op) (λ _ h. absurd cc))))))
+    some_choice (is_word field (codes "lt")) _ _ op h (word-chosen order_word field order.Lt op) (λ _ h.
+    some_choice (is_word field (codes "le")) _ _ op h (word-chosen order_word field order.Le op) (λ _ h.
+    some_choice (is_word field (codes "gt")) _ _ op h (word-chosen order_word field order.Gt op) (λ _ h.
+    some_choice (is_word field (codes "ge")) _ _ op h (word-chosen order_word field order.Ge op) (λ _ h.
+    some_choice (is_word field (codes "eq")) _ _ op h (word-chosen order_word field order.Eq op) (λ _ h.
+    some_choice (is_word field (codes "ne")) _ _ op h (word-chosen order_word field order.Ne op) (λ _ h. absurd cc))))))
 
 pub is_field-result : (value : Bool) → IsField (result_word value)
 is_field-result true = refl
@@ -175,5 +176,5 @@ result_of-word false = refl
 pub result_of-spelled : (field : List ℕ) (value : Bool) → result_of field ≡ Some value → field ≡ result_word value
 unfolding result_of
 result_of-spelled field value h =
-    chosen (is_word field (codes "value")) _ _ value h (word-chosen result_word field true value) (λ _ h.
-    chosen (is_word field (codes "void")) _ _ value h (word-chosen result_word field false value) (λ _ h. absurd cc))
+    some_choice (is_word field (codes "value")) _ _ value h (word-chosen result_word field true value) (λ _ h.
+    some_choice (is_word field (codes "void")) _ _ value h (word-chosen result_word field false value) (λ _ h. absurd cc))

@@ -1,8 +1,8 @@
 -- What the fields of a node's line are read as, by a plain body. A field that is a number has 32 bits.
 use Rattle.std.specs.Prelude.{ℕ, if◌then◌else◌, ℤ, List, [], ◌∷◌, Option, None, Some, codes}
 use Rattle.std.specs.Option.{option_map}
-use Rattle.cbi_base.specs.Numbers.{is_word, ◌>>=◌, number_of, signed_of, one_number, two_numbers, greatest_u32}
-use Rattle.cbi_base.specs.Kind.{lies_in}
+use Rattle.cbi_base.specs.Words.{is_word, number_of, signed_of, one_number, two_numbers, greatest_u32, lies_in}
+use Rattle.cbi_base.specs.Numbers.{◌>>=◌}
 use Rattle.cbi_base.specs.declared.scalar.Kind.TheVariants.{Int}
 use Rattle.flow.specs.declared.node.Node.{Node}
 use Rattle.flow.specs.declared.node.Node.TheVariants.{Push, Null, Local, Global, Text, Load, Store, Move, Member, Span, Math, Order, Sole, Convert, Dup}

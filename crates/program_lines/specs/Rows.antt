@@ -4,9 +4,8 @@ use Rattle.std.specs.Option.{option_map}
 use Rattle.std.specs.List.{list_all}
 use Rattle.hex.specs.Hex.{decode_of}
 use Rattle.hex.specs.declared.error.FromHexError.{FromHexError}
-use Rattle.cbi_base.specs.Numbers.{is_word, ◌>>=◌, number_of, one_number, two_numbers, greatest_u32}
-use Rattle.cbi_base.specs.Name.{begins_name, is_name_byte}
-use Rattle.cbi_base.specs.ProgramId.{is_lower_digit}
+use Rattle.cbi_base.specs.Words.{is_word, number_of, one_number, two_numbers, greatest_u32, begins_name, is_name_byte, is_lower_digit}
+use Rattle.cbi_base.specs.Numbers.{◌>>=◌}
 use Rattle.flow.specs.Spelling.{Head}
 use Rattle.program_lines.specs.Words.{result_of}
 

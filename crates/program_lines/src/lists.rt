@@ -162,8 +162,7 @@ pub struct Heads {
 
 impl Model for Heads {
     ghost use Rattle.std.specs.Prelude.{◌≡◌, ◌≤◌, List, length};
-    ghost use Rattle.flow.specs.Spelling.{Head};
-    ghost use Rattle.flow.specs.Limits.{local_limit, node_limit};
+    ghost use Rattle.flow.specs.Words.{Head, local_limit, node_limit};
     ghost use Rattle.program_lines.specs.Known.{AreNamesOf};
     ghost use Rattle.program_lines.specs.Sums.{AreNumbered, locals_in, nodes_in};
 

@@ -1,7 +1,6 @@
 ghost use Rattle.std.specs.Prelude.{◌≡◌, ◌++◌, ◌∷◌, codes, length, map, IfOk, OnOk};
 ghost use Rattle.cbi_base.specs.Text.{ended, spaced};
-ghost use Rattle.flow.specs.Program.{IsProgram};
-ghost use Rattle.flow.specs.Spelling.{SpellsProgram, bytes_word, program_text, text_fields, whole_list};
+ghost use Rattle.flow.specs.Words.{IsProgram, SpellsProgram, bytes_word, program_text, text_fields, whole_list};
 ghost use Rattle.flow.specs.declared.program.ProgramParts.{ProgramParts};
 ghost use Rattle.program_writer.specs.Written.{back_rows, front_rows, rows_text};
 

@@ -11,8 +11,7 @@ use Rattle.std.proofs.lemmas.List.Folds.{list_all-append}
 use Rattle.std.proofs.lemmas.Option.{same_Some}
 use Rattle.csv.specs.Quoting.{needs_byte}
 use Rattle.csv.specs.Writing.{default_writer, field_text, fields_text, is_blank, needs_quotes, quoted, row_text}
-use Rattle.cbi_base.specs.Name.{IsName, is_name_byte}
-use Rattle.cbi_base.specs.Text.{ended, spaced}
+use Rattle.cbi_base.specs.Words.{IsName, is_name_byte, ended, spaced}
 use Rattle.cbi_base.proofs.FieldLemmas.{decimal-all}
 use Rattle.flow.specs.declared.site.Site.{Site}
 use Rattle.flow.specs.declared.site.SiteKind.{SiteKind}
@@ -78,10 +77,10 @@ are-plain-append (x ∷ xs) ys a b = (a.0, are-plain-append xs ys a.1 b)
 -- such fields stand in a line as they are
 byte-free-by : (x y z w : Bool) → (not x && not y && not z && not w) ≡ true → (x || y || (z || w) || false || false) ≡ false
 byte-free-by false false false false h = refl
+byte-free-by false false false true h = absurd (false≢true h)
 byte-free-by true y z w h = absurd (false≢true h)
 byte-free-by false true z w h = absurd (false≢true h)
 byte-free-by false false true w h = absurd (false≢true h)
-byte-free-by false false false true h = absurd (false≢true h)
 
 byte-free : (b : ℕ) → is_plain b ≡ true → needs_byte default_writer b ≡ false
 byte-free b h = byte-free-by (b == 44) (b == 34) (b == 13) (b == 10) h

@@ -3,6 +3,7 @@ use Rattle.std.proofs.Common.{◌≡◌, ℕ, ◌*◌, ◌⊎◌, inl, inr, not,
 use Rattle.std.specs.Prelude.{All, MatchOption, count_by}
 use Rattle.std.proofs.lemmas.Bool.{cases_lt}
 use Rattle.std.proofs.lemmas.List.Elements.{All-append, All-cons, All-head, All-nil, All-tail, All-weaker}
+use Rattle.base_lists.proofs.Every.{at_split}
 use Rattle.fractions.specs.declared.fraction.Fraction.{Fraction}
 use Rattle.fractions.specs.declared.tally.Tally.{Tally}
 use Rattle.fractions.specs.Fraction.{IsAtMost}
@@ -18,7 +19,6 @@ use Rattle.compound.specs.Bound.{IsLess}
 use Rattle.compound.specs.Found.{ArePairsScanned, IsChosen, IsFoundBy}
 use Rattle.compound.specs.Pairs.{pairs_of}
 use Rattle.compound.proofs.OrderLemmas.{at-most-trans, importance-positive, less-at-most, not-both}
-use Rattle.compound.proofs.PairLists.{at-split}
 use Rattle.ranking_laws.specs.Laws.{RunsHaveOneFound, ThereIsOne}
 use Rattle.ranking_laws.proofs.CandidateLists.{one-candidate-list}
 use Rattle.ranking_laws.proofs.Skips.{one-skip-list}
@@ -91,7 +91,7 @@ head-is e = cc
 -- of two leaders the one that stands first isn't less important, and is less important
 not-later : (pair : ℕ → ℕ → Tally) (failing : ℕ) (a b : ℕ × ℕ) (after more rest : List (ℕ × ℕ)) → PairPasses pair a → PairPasses pair b → All (AtMost pair failing a) after → after ≡ more ++ b ∷ rest → Below pair failing b a → ⊥
 not-later pair failing a b after more rest pass_a pass_b later stands below =
-    not-both (value pair failing a) (value pair failing b) (below pass_a) (at-split (AtMost pair failing a) after more rest b stands later pass_b)
+    not-both (value pair failing a) (value pair failing b) (below pass_a) (at_split (AtMost pair failing a) after more rest b stands later pass_b)
 
 same-leader : (pair : ℕ → ℕ → Tally) (failing : ℕ) (a b : ℕ × ℕ) (xs ys after rest : List (ℕ × ℕ)) → xs ++ a ∷ after ≡ ys ++ b ∷ rest → PairPasses pair a → PairPasses pair b → All (Below pair failing a) xs → All (Below pair failing b) ys
     → All (AtMost pair failing a) after → All (AtMost pair failing b) rest → a ≡ b
@@ -122,7 +122,7 @@ IsBestOf pair failing pairs best = MatchOption best (NoPairPasses pair pairs) (I
 
 not-none : (pair : ℕ → ℕ → Tally) (failing : ℕ) (pairs : List (ℕ × ℕ)) (c : Chosen) → NoPairPasses pair pairs → IsChosen pair failing pairs c → ⊥
 not-none pair failing pairs c none is =
-    at-split (λ (p : ℕ × ℕ). PairPasses pair p → ⊥) pairs is.leads.before is.leads.after (c.left, c.right) is.leads.stands none is.leads.passes
+    at_split (λ (p : ℕ × ℕ). PairPasses pair p → ⊥) pairs is.leads.before is.leads.after (c.left, c.right) is.leads.stands none is.leads.passes
 
 same-best : (pair : ℕ → ℕ → Tally) (failing : ℕ) (pairs : List (ℕ × ℕ)) (a b : Option Chosen) → IsBestOf pair failing pairs a → IsBestOf pair failing pairs b → a ≡ b
 same-best pair failing pairs None None x y = refl

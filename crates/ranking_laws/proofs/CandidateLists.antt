@@ -3,6 +3,7 @@ use Rattle.std.proofs.Common.{◌≡◌, ℕ, zero, suc, ◌*◌, ◌<◌, ◌�
 use Rattle.std.specs.Prelude.{All, Contains}
 use Rattle.std.proofs.lemmas.Bool.{cases_lt, cases_order}
 use Rattle.std.proofs.lemmas.List.Elements.{All-cons, All-nil, All-weaker}
+use Rattle.compound.proofs.ListingLemmas.{ranks-trans}
 use Rattle.fractions.specs.declared.tally.Tally.{Tally}
 use Rattle.fractions.specs.Tally.{Passes, importance_of}
 use Rattle.affinity.proofs.FallLemmas.{passes-or}
@@ -53,20 +54,12 @@ told numbers failing p q =
       | inr (inr more) ↦ elim (lower-first numbers failing q p more (ranks-or numbers failing q p)) [ inl behind ↦ inr (inr behind) | inr before ↦ inl before ]
     ]
 
-ranks-on : (numbers : ℕ → Tally) (failing p q r : ℕ) → RanksAtLeast numbers failing p q → RanksAtLeast numbers failing q r → RanksAtLeast numbers failing p r
-ranks-on numbers failing p q r one other = record {
-  passes = λ h. one.passes (other.passes h);
-  importance = λ h. at-most-trans (importance_of (numbers r) failing) (importance_of (numbers q) failing) (importance_of (numbers p) failing)
-      (importance-positive (numbers q) failing (other.passes h)) (other.importance h) (one.importance (other.passes h));
-  failing_runs = λ none. omega (arith, one.failing_runs none, other.failing_runs (λ h. none (one.passes h)));
-}
-
 candidate-order : (numbers : ℕ → Tally) (failing : ℕ) → IsOrder (ComesBefore numbers failing)
 candidate-order numbers failing = record {
   told = told numbers failing;
   trans = λ p q r one other. record {
-    ranks = ranks-on numbers failing p q r one.ranks other.ranks;
-    first = λ back. omega (arith, one.first (ranks-on numbers failing q r p other.ranks back), other.first (ranks-on numbers failing r p q back one.ranks));
+    ranks = ranks-trans numbers failing p q r one.ranks other.ranks;
+    first = λ back. omega (arith, one.first (ranks-trans numbers failing q r p other.ranks back), other.first (ranks-trans numbers failing r p q back one.ranks));
   };
   apart = λ p q one other. omega (arith, one.first other.ranks, other.first one.ranks);
 }

@@ -4,7 +4,7 @@ use Rattle.std.specs.Prelude.{All, AllPairs, Contains}
 use Rattle.std.proofs.lemmas.List.{length-take, take-append-drop}
 use Rattle.std.proofs.lemmas.List.Elements.{All-cons, All-contains, All-head, All-nil, All-tail, All-take, All-weaker, Contains-get_or}
 use Rattle.std.proofs.lemmas.List.Kept.{AllPairs-cons}
-use Rattle.compound.proofs.PairLists.{pairs-head, pairs-left, pairs-tail}
+use Rattle.base_lists.proofs.Every.{pairs_head, pairs_left, pairs_none, pairs_tail}
 
 -- ---- members
 
@@ -43,13 +43,10 @@ record Put {X : Type 0} (R : X → X → Type 0) (x : X) (rows : List X) : Type 
   kept : (z : X) → Contains rows z → Contains new z
   only : (z : X) → Contains new z → (x ≡ z) ⊎ Contains rows z
 
-none-in-pairs : {X : Type 0} (R : X → X → Type 0) → AllPairs {X = X} R []
-none-in-pairs R = λ i j d less inside. absurd (omega (arith, inside))
-
 put : {X : Type 0} (R : X → X → Type 0) → IsOrder R → (x : X) (rows : List X) → AllPairs R rows → Put R x rows
 put R is x [] order = record {
   new = x ∷ [];
-  order = AllPairs-cons R x [] (All-nil (R x)) (none-in-pairs R);
+  order = AllPairs-cons R x [] (All-nil (R x)) (pairs_none R);
   own = first-member x [];
   kept = λ z has. absurd (no-member z has);
   only = λ z has. member-cases x [] z has;
@@ -58,7 +55,7 @@ put R is x (y ∷ ys) order =
     elim (is.told x y) [
       | inl before ↦ record {
         new = x ∷ y ∷ ys;
-        order = AllPairs-cons R x (y ∷ ys) (All-cons (R x) y ys before (All-weaker (R y) (R x) (λ z h. is.trans x y z before h) ys (pairs-head R y ys order))) order;
+        order = AllPairs-cons R x (y ∷ ys) (All-cons (R x) y ys before (All-weaker (R y) (R x) (λ z h. is.trans x y z before h) ys (pairs_head R y ys order))) order;
         own = first-member x (y ∷ ys);
         kept = λ z has. later-member x (y ∷ ys) z has;
         only = λ z has. member-cases x (y ∷ ys) z has;
@@ -71,10 +68,10 @@ put R is x (y ∷ ys) order =
         only = λ z has. inr has;
       }
       | inr (inr behind) ↦
-          let rest = put R is x ys (pairs-tail R y ys order) in record {
+          let rest = put R is x ys (pairs_tail R y ys order) in record {
             new = y ∷ rest.new;
             order = AllPairs-cons R y rest.new
-                (all-members (R y) rest.new (λ z has. elim (rest.only z has) [ inl same ↦ subst (R y) same behind | inr old ↦ All-contains (R y) ys z (pairs-head R y ys order) old ])) rest.order;
+                (all-members (R y) rest.new (λ z has. elim (rest.only z has) [ inl same ↦ subst (R y) same behind | inr old ↦ All-contains (R y) ys z (pairs_head R y ys order) old ])) rest.order;
             own = later-member y rest.new x rest.own;
             kept = λ z has. elim (member-cases y ys z has) [ inl same ↦ subst (Contains (y ∷ rest.new)) same (first-member y rest.new) | inr old ↦ later-member y rest.new z (rest.kept z old) ];
             only = λ z has. elim (member-cases y rest.new z has) [
@@ -92,7 +89,7 @@ record Sorting {X : Type 0} (R : X → X → Type 0) (xs : List X) : Type 0 wher
   only : (z : X) → Contains rows z → Contains xs z
 
 sorting : {X : Type 0} (R : X → X → Type 0) → IsOrder R → (xs : List X) → Sorting R xs
-sorting R is [] = record { rows = []; order = none-in-pairs R; all = λ z has. has; only = λ z has. has }
+sorting R is [] = record { rows = []; order = pairs_none R; all = λ z has. has; only = λ z has. has }
 sorting R is (x ∷ more) =
     let rest = sorting R is more in
     let new = put R is x rest.rows rest.order in record {
@@ -119,9 +116,9 @@ cut R (suc k) [] m order has = absurd (no-member m has)
 cut R (suc k) (x ∷ more) m order has =
     elim (member-cases x more m has) [
       | inl same ↦ inl (subst (Contains (x ∷ take k more)) same (first-member x (take k more)))
-      | inr rest ↦ elim (cut R k more m (pairs-tail R x more order) rest) [
+      | inr rest ↦ elim (cut R k more m (pairs_tail R x more order) rest) [
         | inl there ↦ inl (later-member x (take k more) m there)
-        | inr full ↦ inr (ap suc full.0, All-cons (λ y. R y m) x (take k more) (All-contains (R x) more m (pairs-head R x more order) rest) full.1)
+        | inr full ↦ inr (ap suc full.0, All-cons (λ y. R y m) x (take k more) (All-contains (R x) more m (pairs_head R x more order) rest) full.1)
       ]
     ]
 
@@ -132,7 +129,7 @@ firsts {X} most R IsOfKind is xs each all =
       rows,
       record {
         each = All-take IsOfKind most sorted.rows (all-members IsOfKind sorted.rows (λ x has. All-contains IsOfKind xs x each (sorted.only x has)));
-        ordered = pairs-left R rows (drop most sorted.rows) (subst (AllPairs R) (sym (take-append-drop most sorted.rows)) sorted.order);
+        ordered = pairs_left R rows (drop most sorted.rows) (subst (AllPairs R) (sym (take-append-drop most sorted.rows)) sorted.order);
         few = omega (arith, length-take most sorted.rows);
         complete = λ x kind. cut R most sorted.rows x sorted.order (sorted.all x (all x kind));
       },
@@ -147,7 +144,7 @@ module _ {X : Type 0} (R : X → X → Type 0) (is : IsOrder R) where
   heads : (k : ℕ) (S : X → Type 0) (x y : X) (xs ys : List X) → AreFirstOf k R S (x ∷ xs) → AreFirstOf k R S (y ∷ ys) → (x ≡ y) ⊎ R x y
   heads k S x y xs ys a b =
       elim (a.complete y (All-head S y ys b.each)) [
-        | inl has ↦ elim (member-cases x xs y has) [ inl same ↦ inl same | inr rest ↦ inr (All-contains (R x) xs y (pairs-head R x xs a.ordered) rest) ]
+        | inl has ↦ elim (member-cases x xs y has) [ inl same ↦ inl same | inr rest ↦ inr (All-contains (R x) xs y (pairs_head R x xs a.ordered) rest) ]
         | inr full ↦ inr (All-head (λ m. R m y) x xs full.1)
       ]
 
@@ -167,8 +164,8 @@ module _ {X : Type 0} (R : X → X → Type 0) (is : IsOrder R) where
 
   rest-first : (k : ℕ) (S : X → Type 0) (y : X) (ys : List X) → AreFirstOf (suc k) R S (y ∷ ys) → AreFirstOf k R (Behind S y) ys
   rest-first k S y ys a = record {
-    each = λ i d inside. (All-tail S y ys a.each i d inside, pairs-head R y ys a.ordered i d inside);
-    ordered = pairs-tail R y ys a.ordered;
+    each = λ i d inside. (All-tail S y ys a.each i d inside, pairs_head R y ys a.ordered i d inside);
+    ordered = pairs_tail R y ys a.ordered;
     few = omega (arith, a.few);
     complete = λ m kind. elim (a.complete m kind.0) [
       | inl has ↦ elim (member-cases y ys m has) [ inl same ↦ absurd (not-itself y (subst (R y) (sym same) kind.1)) | inr rest ↦ inl rest ]

@@ -3,6 +3,7 @@ use Rattle.std.proofs.Common.{◌≡◌, ◌⊎◌, inl, inr, ℕ, zero, suc, �
 use Rattle.std.specs.List.{Contains}
 use Rattle.std.proofs.lemmas.Bool.{cases_eq, cases_lt}
 use Rattle.std.proofs.lemmas.List.{length-replicate}
+use Rattle.base_lists.proofs.Every.{first_in, none_in, only_in, second_in, two_in}
 use Rattle.flow.specs.declared.node.View.{View}
 use Rattle.flow.specs.declared.node.View.TheVariants.{Row, Halts, Forks, Turns, Calls, Gives, Quits, Marks, Skips, Tests, Picks, Imports, Exports, Nowhere}
 use Rattle.flow.specs.Nodes.{led_to}
@@ -140,37 +141,16 @@ Before at count place next = (place < count) × NodeLeadsTo at place next
 -- a node leads nowhere, to one node, or to two where it ends its block
 pub shape : (v : View) → (led_to v ≡ []) ⊎ (((a : ℕ) × (led_to v ≡ a ∷ [])) ⊎ ((a b : ℕ) × (led_to v ≡ a ∷ b ∷ []) × (ends_block v ≡ true)))
 shape (Row op next) = inr (inl (next, refl))
-shape (Halts op) = inl refl
 shape (Forks when_true when_false) = inr (inr (when_true, when_false, refl, refl))
 shape (Turns next) = inr (inl (next, refl))
 shape (Calls function next) = inr (inl (next, refl))
-shape Gives = inl refl
-shape Quits = inl refl
 shape (Marks site next) = inr (inl (next, refl))
 shape (Skips by next) = inr (inl (next, refl))
 shape (Tests site next) = inr (inl (next, refl))
 shape (Picks weight fast slow) = inr (inr (fast, slow, refl, refl))
 shape (Imports next) = inr (inl (next, refl))
 shape (Exports next) = inr (inl (next, refl))
-shape Nowhere = inl refl
-
-pub one_of : (a x : ℕ) → Contains (a ∷ []) x → x ≡ a
-one_of a x (zero, l, e) = sym e
-one_of a x (suc k, l, e) = absurd (omega arith)
-
-two_of : (a b x : ℕ) → Contains (a ∷ b ∷ []) x → (x ≡ a) ⊎ (x ≡ b)
-two_of a b x (zero, l, e) = inl (sym e)
-two_of a b x (suc zero, l, e) = inr (sym e)
-two_of a b x (suc (suc k), l, e) = absurd (omega arith)
-
-none_of : (x : ℕ) → Contains [] x → ⊥
-none_of x c = omega (arith, c.1)
-
-first_in : (a : ℕ) (xs : List ℕ) → Contains (a ∷ xs) a
-first_in a xs = (0, omega arith, refl)
-
-second_in : (a b : ℕ) (xs : List ℕ) → Contains (a ∷ b ∷ xs) b
-second_in a b xs = (1, omega arith, refl)
+shape v = inl refl
 
 -- one node more
 pub known_node : (at : ℕ → View) (i n : ℕ) (s : Sets) → Known at (Before at i) s → Sized n s → ((next : ℕ) → NodeLeadsTo at i next → next < n) →
@@ -193,7 +173,7 @@ known_node at i n s k sized within =
       | inl e ↦
           let steps : (place next : ℕ) → Before at (i + 1) place next → Before at i place next = λ place next b. elim (split place next b) [
             | inl x ↦ x
-            | inr x ↦ absurd (none_of next (subst (λ (xs : List ℕ). Contains xs next) e x.1))
+            | inr x ↦ absurd (none_in next (subst (λ (xs : List ℕ). Contains xs next) e x.1))
           ]
           in
           rw e (known_same at (Before at i) (Before at (i + 1)) s k steps is_old, sized)
@@ -202,7 +182,7 @@ known_node at i n s k sized within =
           let one = known_more at (Before at i) i a n s k sized earlier lead (within a lead) in
           let to : (place next : ℕ) → Before at (i + 1) place next → OneMore (Before at i) i a place next = λ place next b. elim (split place next b) [
             | inl x ↦ inl x
-            | inr x ↦ inr (x.0, one_of a next (subst (λ (xs : List ℕ). Contains xs next) e x.1))
+            | inr x ↦ inr (x.0, only_in a next (subst (λ (xs : List ℕ). Contains xs next) e x.1))
           ]
           in
           let from : (place next : ℕ) → OneMore (Before at i) i a place next → Before at (i + 1) place next = λ place next b. elim b [
@@ -225,7 +205,7 @@ known_node at i n s k sized within =
           let two = known_more at (OneMore (Before at i) i a) i b n (noted (ends_block (at i)) a s) one sized' earlier' lead' (within b lead') in
           let to : (place next : ℕ) → Before at (i + 1) place next → OneMore (OneMore (Before at i) i a) i b place next = λ place next o. elim (split place next o) [
             | inl x ↦ inl (inl x)
-            | inr x ↦ elim (two_of a b next (subst (λ (xs : List ℕ). Contains xs next) e x.1)) [ inl y ↦ inl (inr (x.0, y)) | inr y ↦ inr (x.0, y) ]
+            | inr x ↦ elim (two_in a b next (subst (λ (xs : List ℕ). Contains xs next) e x.1)) [ inl y ↦ inl (inr (x.0, y)) | inr y ↦ inr (x.0, y) ]
           ]
           in
           let from : (place next : ℕ) → OneMore (OneMore (Before at i) i a) i b place next → Before at (i + 1) place next = λ place next o. elim o [

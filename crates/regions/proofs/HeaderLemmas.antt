@@ -7,8 +7,7 @@ use Rattle.std.proofs.lemmas.Option.{slice_get_within}
 use Rattle.flow.specs.declared.node.Node.{Node}
 use Rattle.flow.specs.declared.node.View.{View}
 use Rattle.flow.specs.declared.node.View.TheVariants.{Row, Halts, Forks, Turns, Calls, Gives, Quits, Marks, Skips, Tests, Picks, Imports, Exports, Nowhere}
-use Rattle.flow.specs.Code.{view_at}
-use Rattle.flow.specs.Nodes.{led_to}
+use Rattle.flow.specs.Words.{view_at, led_to}
 use Rattle.regions.specs.Flags.{AreFlags, is_in}
 use Rattle.regions.specs.Headers.{IsHeader, Entry, After, begun_after}
 use Rattle.regions.specs.Weighty.{views_of}
@@ -92,19 +91,4 @@ call_leads false next x e = cc
 pub begun_leads : (weighty : ℕ → Bool) (v : View) (x : ℕ) → begun_after weighty v ≡ Some x → Contains (led_to v) x
 begun_leads weighty (Turns next) x e = (0, omega arith, cc)
 begun_leads weighty (Calls function next) x e = (0, omega arith, sym (call_leads (weighty function) next x e))
-begun_leads weighty (Row op next) x e = cc
-begun_leads weighty (Halts op) x e = cc
-begun_leads weighty (Forks when_true when_false) x e = cc
-begun_leads weighty Gives x e = cc
-begun_leads weighty Quits x e = cc
-begun_leads weighty (Marks site next) x e = cc
-begun_leads weighty (Skips by next) x e = cc
-begun_leads weighty (Tests site next) x e = cc
-begun_leads weighty (Picks weight fast slow) x e = cc
-begun_leads weighty (Imports next) x e = cc
-begun_leads weighty (Exports next) x e = cc
-begun_leads weighty Nowhere x e = cc
-
-pub none_is : (o : Option ℕ) → ((x : ℕ) → o ≡ Some x → ⊥) → o ≡ None
-none_is None h = refl
-none_is (Some x) h = absurd (h x refl)
+begun_leads weighty v x e = cc

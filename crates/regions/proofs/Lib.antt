@@ -1,7 +1,7 @@
 pub mod Within
 pub mod FlagLemmas
 pub mod RowLemmas
-mod CallerLemmas
-mod ReachLemmas
+pub mod CallerLemmas
+pub mod ReachLemmas
 pub mod BlockLemmas
 pub mod HeaderLemmas

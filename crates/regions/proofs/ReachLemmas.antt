@@ -100,7 +100,7 @@ no_row n g =
     ]
 
 -- only a function of the program has a site
-site_within : (p : ProgramParts) (g : ℕ) → IsProgram p → HasSite p.sites g → g < length p.functions
+pub site_within : (p : ProgramParts) (g : ℕ) → IsProgram p → HasSite p.sites g → g < length p.functions
 site_within p g is h =
     let names : List (List ℕ) = map (λ (f : Function). f.name) p.functions in
     let owners = (owners_fit p names is refl).owners in

@@ -2,32 +2,19 @@
 use Rattle.std.proofs.Common.{◌≡◌, ◌⊎◌, inl, inr, ℕ, zero, suc, ◌+◌, List, [], ◌∷◌, ◌++◌, length, take, Some, slice_get, refl, sym, ap, ◌∙◌, subst, arith, add-one, length-append, take-suc}
 use Rattle.std.proofs.lemmas.List.{length-take-le}
 use Rattle.std.proofs.lemmas.Option.{slice_get_within, get_or_from_slice_get}
+use Rattle.base_lists.proofs.Lists.{get_either, take_more}
 use Rattle.regions.specs.Rows.{EachFits}
-
--- what stands in a list with one more element
-pub push_cases : {X : Type 0} (xs : List X) (x : X) (k : ℕ) (y : X) → slice_get (xs ++ x ∷ []) k ≡ Some y → (slice_get xs k ≡ Some y) ⊎ ((k ≡ length xs) × (x ≡ y))
-push_cases [] x zero y h = inr (refl, cc)
-push_cases [] x (suc k) y h = cc
-push_cases (z ∷ zs) x zero y h = inl h
-push_cases (z ∷ zs) x (suc k) y h = elim (push_cases zs x k y h) [ inl e ↦ inl e | inr e ↦ inr (ap suc e.0, e.1) ]
-
--- the first items with one more of them
-pub take_more : {X : Type 0} (xs : List X) (i : ℕ) (x : X) → slice_get xs i ≡ Some x → take (i + 1) xs ≡ take i xs ++ x ∷ []
-take_more xs i x e =
-    let l = slice_get_within xs i x e in
-    let same = get_or_from_slice_get xs i x x e in
-    rw add-one (take-suc xs i x l ∙ ap (λ y. take i xs ++ y ∷ []) same)
 
 rows_push : {A B : Type 0} (Fits : ℕ → A → B → Type 0) (items : List A) (rows : List B) (item : A) (row : B) → EachFits Fits items rows →
     Fits (length items) item row → EachFits Fits (items ++ item ∷ []) (rows ++ row ∷ [])
 rows_push Fits items rows item row fit new = record {
   few = omega (arith, fit.few, length-append items (item ∷ []), length-append rows (row ∷ []));
-  each = λ k x r e f. elim (push_cases items item k x e) [
-    | inl a ↦ elim (push_cases rows row k r f) [
+  each = λ k x r e f. elim (get_either items item k x e) [
+    | inl a ↦ elim (get_either rows row k r f) [
       | inl b ↦ fit.each k x r a b
       | inr b ↦ let l = slice_get_within items k x a in absurd (omega (arith, fit.few, l, b.0))
     ]
-    | inr a ↦ elim (push_cases rows row k r f) [
+    | inr a ↦ elim (get_either rows row k r f) [
       | inl b ↦ let l = slice_get_within rows k r b in absurd (omega (arith, fit.few, l, a.0))
       | inr b ↦ subst (λ n. Fits n x r) (sym a.0) (subst (λ z. Fits (length items) z r) a.1 (subst (λ z. Fits (length items) item z) b.1 new))
     ]

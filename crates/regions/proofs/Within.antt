@@ -4,6 +4,7 @@ use Rattle.std.specs.Prelude.{pos}
 use Rattle.std.specs.List.{list_all, Contains}
 use Rattle.std.proofs.lemmas.Bool.Decides.{nat_tests}
 use Rattle.std.proofs.lemmas.Option.{slice_get-get_or, slice_get_within}
+use Rattle.base_lists.proofs.Tests.{true_first, true_second}
 use Rattle.cbi_base.specs.declared.scalar.Kind.TheVariants.{Char}
 use Rattle.flow.specs.declared.node.Node.{Node}
 use Rattle.flow.specs.declared.node.Node.TheVariants.{Push}
@@ -12,24 +13,15 @@ use Rattle.flow.specs.declared.program.Function.{Function}
 use Rattle.flow.specs.declared.program.ProgramParts.{ProgramParts}
 use Rattle.flow.specs.declared.scope.Bounds.{Bounds}
 use Rattle.flow.specs.declared.scope.Names.{Names}
-use Rattle.flow.specs.Code.{view_at}
-use Rattle.flow.specs.Nodes.{led_to, leads_rightly, names_fit, node_fits, is_again}
-use Rattle.flow.specs.Program.{bounds_of, names_of, IsFunction, IsProgram}
-use Rattle.flow.specs.View.{view}
+use Rattle.flow.specs.Words.{view_at, led_to, leads_rightly, names_fit, node_fits, is_again, bounds_of, names_of, IsFunction, IsProgram, view}
 use Rattle.regions.specs.Blocks.{NodeLeadsTo}
 use Rattle.regions.specs.Weighty.{views_of}
-
-first_of : (a b : Bool) → IsTrue (a && b) → IsTrue a
-first_of a b h = grind arith
-
-second_of : (a b : Bool) → IsTrue (a && b) → IsTrue b
-second_of a b h = grind arith
 
 -- what a test says of each element, it says of one
 each_passes : (p : ℕ → Bool) (xs : List ℕ) (x k : ℕ) → IsTrue (list_all p xs) → k < length xs → slice_index_or xs k x ≡ x → IsTrue (p x)
 each_passes p [] x k all l e = absurd (omega arith)
-each_passes p (y ∷ ys) x zero all l e = subst (λ z. IsTrue (p z)) e (first_of (p y) (list_all p ys) all)
-each_passes p (y ∷ ys) x (suc k) all l e = each_passes p ys x k (second_of (p y) (list_all p ys) all) (omega arith) e
+each_passes p (y ∷ ys) x zero all l e = subst (λ z. IsTrue (p z)) e (true_first (p y) (list_all p ys) all)
+each_passes p (y ∷ ys) x (suc k) all l e = each_passes p ys x k (true_second (p y) (list_all p ys) all) (omega arith) e
 
 below : (next nodes : ℕ) (other : Bool) → IsTrue (nat_lt next nodes && other) → next < nodes
 below next nodes other h = grind (arith, nat_tests)
@@ -42,7 +34,7 @@ within_view bounds place next v h c =
 
 fits_leads : (names : Names) (bounds : Bounds) (place : ℕ) (n : Node) → IsTrue (node_fits names bounds place n) → IsTrue (leads_rightly bounds place (view n))
 unfolding node_fits
-fits_leads names bounds place n h = second_of (names_fit names bounds n) (leads_rightly bounds place (view n)) h
+fits_leads names bounds place n h = true_second (names_fit names bounds n) (leads_rightly bounds place (view n)) h
 
 at_place : (names : Names) (number place next : ℕ) (f : Function) (found : Option Node) → IsFunction names number f → slice_get f.nodes place ≡ found →
     Contains (led_to (view_at found)) next → next < length f.nodes

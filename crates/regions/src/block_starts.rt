@@ -1,6 +1,5 @@
 ghost use Rattle.std.specs.Prelude.{◌≡◌, ◌<◌, ℕ, IfOk, length, Contains};
-ghost use Rattle.flow.specs.View.{view};
-ghost use Rattle.flow.specs.Nodes.{led_to};
+ghost use Rattle.flow.specs.Words.{view, led_to};
 ghost use Rattle.regions.specs.Blocks.{BlocksFit, IsStart, NodeLeadsTo, ends_block};
 ghost use Rattle.regions.specs.Flags.{AreFlags};
 ghost use Rattle.regions.specs.Rows.{EachFits};

@@ -66,8 +66,8 @@ fn with_sites(alloc: Global, count: usize, sites: &[Site]) -> Result<Found, Memo
     Ok(found)
 }
 
-/// Which functions are weighty, each with its number: those from which some chain of calls leads to a site. The work grows linearly with the nodes: the callers of each function are listed once,
-/// and each function that is found, from those with a site on, leads to its callers once.
+/// Which functions are weighty, each with its number: those from which some chain of calls leads to a site. The work grows linearly with the
+/// nodes: the callers of each function are listed once, and each function that is found, from those with a site on, leads to its callers once.
 pub fn weighty(alloc: Global, program: &Program) -> Result<Vec<bool>, Memory>
     ensures { IfOk result (λ flags. AreFlags (length program.now.functions) (IsWeighty program.now) flags.items) }
 {

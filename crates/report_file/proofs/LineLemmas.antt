@@ -4,17 +4,19 @@ use Rattle.std.specs.List.{list_all, AllByRecursion}
 use Rattle.std.proofs.lemmas.Bool.Decides.{nat_tests}
 use Rattle.std.proofs.lemmas.List.{append-nil}
 use Rattle.std.proofs.lemmas.List.Splits.{join_with_byte-slice_split}
+use Rattle.std.proofs.lemmas.Bool.{and_parts}
+use Rattle.std.proofs.lemmas.Option.{option_and_then_some}
+use Rattle.base_lists.proofs.Tests.{some_choice}
+use Rattle.base_lists.proofs.Options.{none_some, some_is}
 use Rattle.cbi_base.specs.Numbers.{◌>>=◌}
-use Rattle.cbi_base.specs.ProgramId.{IsId, IsIdText, is_lower_digit, text_of_id}
-use Rattle.cbi_base.specs.Text.{IsField, is_field_byte, fields_of, spaced}
-use Rattle.cbi_base.specs.Trap.{trap_number}
+use Rattle.cbi_base.specs.Words.{IsId, IsIdText, is_lower_digit, text_of_id, IsField, is_field_byte, fields_of, spaced, trap_number}
 use Rattle.cbi_base.specs.declared.identity.ProgramId.{ProgramId}
 use Rattle.cbi_base.specs.declared.outcome.Outcome.{Outcome}
 use Rattle.cbi_base.specs.declared.outcome.Outcome.TheVariants.{Ended, Trapped, CutTurns, CutOutput}
 use Rattle.cbi_base.specs.declared.outcome.Work.{Work}
 use Rattle.cbi_base.proofs.FieldLemmas.{fields_of-spaced, IsField-decimal, IsField-signed}
 use Rattle.cbi_base.proofs.IdLemmas.{IsIdText-text_of_id, IsIdText-spells}
-use Rattle.cbi_base.proofs.NumberLemmas.{bound, chosen, both, none-some, some-is, same-word}
+use Rattle.cbi_base.proofs.NumberLemmas.{same-word}
 use Rattle.report_file.specs.declared.label.Label.{Label}
 use Rattle.report_file.specs.declared.label.Label.TheVariants.{Fail, Pass, Uncounted}
 use Rattle.report_file.specs.declared.report.Entry.{Entry}
@@ -48,7 +50,7 @@ line-reads spell Good read row undoes spells line (Some answer) is =
 -- what stands alone is spelled by the whole line
 whole-spelled : {A : Type 0} (spell : A → List (List ℕ)) (Good : A → Type 0) (at : List (List ℕ) → Option (A × List (List ℕ))) → ((fields rest : List (List ℕ)) (x : A) → at fields ≡ Some (x, rest) → Good x × (fields ≡ spell x ++ rest)) → (fields : List (List ℕ)) (x : A) → (at fields >>= alone) ≡ Some x → Good x × (fields ≡ spell x)
 whole-spelled {A} spell Good at spells fields x h =
-    bound alone (at fields) x h (λ p taken one.
+    option_and_then_some alone (at fields) x h (λ p taken one.
     let s = spells fields p.1 p.0 taken in
     let a = alone-is p x one in
     (subst Good a.0 s.0, s.1 ∙ ap (λ rest. spell p.0 ++ rest) a.1 ∙ append-nil (spell p.0) ∙ ap spell a.0))
@@ -67,11 +69,11 @@ row-outcome CutTurns is = (refl, (refl, (refl, tt)))
 row-outcome CutOutput is = (refl, (refl, (refl, tt)))
 
 outcome_in-spelled : (fields : List (List ℕ)) (outcome : Outcome) → outcome_in fields ≡ Some outcome → IsOutcome outcome × (fields ≡ outcome_line outcome)
-outcome_in-spelled [] outcome h = absurd (none-some h)
+outcome_in-spelled [] outcome h = absurd (none_some h)
 outcome_in-spelled (word ∷ rest) outcome h =
-    chosen _ _ _ outcome h (λ test is.
+    some_choice _ _ _ outcome h (λ test is.
     let s = whole-spelled outcome_fields IsOutcome outcome_at outcome-spelled rest outcome is in
-    (s.0, ap (λ w. w ∷ rest) (same-word word (codes "outcome") test) ∙ ap (λ fields. codes "outcome" ∷ fields) s.1)) (λ _ is. absurd (none-some is))
+    (s.0, ap (λ w. w ∷ rest) (same-word word (codes "outcome") test) ∙ ap (λ fields. codes "outcome" ∷ fields) s.1)) (λ _ is. absurd (none_some is))
 
 outcome_in-line : (outcome : Outcome) → IsOutcome outcome → outcome_in (outcome_line outcome) ≡ Some outcome
 outcome_in-line outcome is = ap (λ o. o >>= alone) (ap outcome_at (sym (append-nil (outcome_fields outcome))) ∙ outcome_of-fields outcome [] is)
@@ -110,7 +112,7 @@ digit-field b h = grind (arith, nat_tests)
 digits-field : (text : List ℕ) → list_all is_lower_digit text ≡ true → IsField text
 digits-field [] h = refl
 digits-field (b ∷ bs) h =
-    let parts = both (is_lower_digit b) (list_all is_lower_digit bs) h in
+    let parts = and_parts (is_lower_digit b) (list_all is_lower_digit bs) h in
     let rest : list_all is_field_byte bs ≡ true = digits-field bs parts.1 in
     rw (digit-field b parts.0, rest) refl
 
@@ -118,18 +120,16 @@ pub row-program : (id : ProgramId) → IsId id → IsRow (program_fields id)
 row-program id is = (refl, (digits-field (text_of_id id) (IsIdText-text_of_id id is).digits, tt))
 
 program_field-spelled : (fields : List (List ℕ)) (text : List ℕ) → program_field fields ≡ Some text → fields ≡ codes "program" ∷ text ∷ []
-program_field-spelled [] text h = absurd (none-some h)
-program_field-spelled (word ∷ []) text h = absurd (none-some h)
 program_field-spelled (word ∷ field ∷ []) text h =
-    chosen _ _ _ text h (λ test is. rw (same-word word (codes "program") test, some-is is) refl) (λ _ is. absurd (none-some is))
-program_field-spelled (word ∷ field ∷ next ∷ more) text h = absurd (none-some h)
+    some_choice _ _ _ text h (λ test is. rw (same-word word (codes "program") test, some_is is) refl) (λ _ is. absurd (none_some is))
+program_field-spelled fields text h = absurd (none_some h)
 
 -- the text of the identity that a line spells
 program-line : (line : List ℕ) (id : ProgramId) → IsId id → line ≡ spaced (program_fields id) → program_field (fields_of line) ≡ Some (text_of_id id)
 program-line line id is line_is = ap program_field (ap fields_of line_is ∙ row-fields (program_fields id) (row-program id is))
 
 pub program-none : (line : List ℕ) → None ≡ program_field (fields_of line) → Reads program_fields IsId line None
-program-none line none = record { found = tt; only = λ id is line_is. absurd (none-some (none ∙ program-line line id is line_is)) }
+program-none line none = record { found = tt; only = λ id is line_is. absurd (none_some (none ∙ program-line line id is line_is)) }
 
 -- what the reader of identities answers
 abbrev IdFound : List ℕ → Option ProgramId → Type 0
@@ -139,7 +139,7 @@ id-found : (text : List ℕ) (answer : Option ProgramId) → (IsSome answer → 
 id-found text None found only = tt
 id-found text (Some x) found only =
     let spelled = IsIdText-spells text (found refl) in
-    subst (λ id. IsId id × (text ≡ text_of_id id)) (sym (some-is (only spelled.id spelled.is spelled.text_is))) (spelled.is, spelled.text_is)
+    subst (λ id. IsId id × (text ≡ text_of_id id)) (sym (some_is (only spelled.id spelled.is spelled.text_is))) (spelled.is, spelled.text_is)
 
 id-line : (line text : List ℕ) (answer : Option ProgramId) → fields_of line ≡ codes "program" ∷ text ∷ [] → IdFound text answer → IfSome answer (λ id. IsId id × (line ≡ spaced (program_fields id)))
 id-line line text None is h = tt
@@ -148,5 +148,5 @@ id-line line text (Some id) is h = (h.0, sym (join_with_byte-slice_split 32 line
 pub program-some : (line text : List ℕ) (answer : Option ProgramId) → Some text ≡ program_field (fields_of line) → (IsSome answer → IsIdText text) → ((id : ProgramId) → IsId id → text ≡ text_of_id id → answer ≡ Some id) → Reads program_fields IsId line answer
 program-some line text answer some found only = record {
   found = id-line line text answer (program_field-spelled (fields_of line) text (sym some)) (id-found text answer found only);
-  only = λ id is line_is. only id is (some-is (some ∙ program-line line id is line_is));
+  only = λ id is line_is. only id is (some_is (some ∙ program-line line id is line_is));
 }

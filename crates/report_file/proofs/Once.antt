@@ -1,13 +1,11 @@
 -- A line is that of one value: so it leads to one state, and a text spells one report.
 use Rattle.std.proofs.Common.{◌≡◌, ◌+◌, ℕ, ⊎_elim, List, [], ◌∷◌, ◌++◌, Option, codes, get_or, ap, sym, ◌∙◌, refl, arith}
-use Rattle.cbi_base.specs.Lines.{LeadsOnce}
+use Rattle.base_lists.proofs.Options.{some_is}
+use Rattle.cbi_base.specs.Words.{LeadsOnce, IsId, text_of_id, fields_of, spaced}
 use Rattle.cbi_base.specs.Numbers.{◌>>=◌}
-use Rattle.cbi_base.specs.ProgramId.{IsId, text_of_id}
-use Rattle.cbi_base.specs.Text.{fields_of, spaced}
 use Rattle.cbi_base.specs.declared.identity.ProgramId.{ProgramId}
 use Rattle.cbi_base.proofs.IdLemmas.{text_of_id-once}
 use Rattle.cbi_base.proofs.LineLemmas.{reads-once}
-use Rattle.cbi_base.proofs.NumberLemmas.{some-is}
 use Rattle.report_file.specs.declared.draft.Version.{Version}
 use Rattle.report_file.specs.declared.draft.Version.TheVariants as version
 use Rattle.report_file.specs.declared.draft.Due.{Due}
@@ -25,13 +23,13 @@ use Rattle.report_file.proofs.Whole.{read_whole, spelled-reads}
 
 -- what is read of a line is the one value that it spells
 pub once : {A : Type 0} (spell : A → List (List ℕ)) (Good : A → Type 0) (line : List ℕ) (answer : Option A) → Reads spell Good line answer → (x y : A) → Good x → Good y → line ≡ spaced (spell x) → line ≡ spaced (spell y) → x ≡ y
-once spell Good line answer reads x y good_x good_y is_x is_y = some-is (sym (reads.only x good_x is_x) ∙ reads.only y good_y is_y)
+once spell Good line answer reads x y good_x good_y is_x is_y = some_is (sym (reads.only x good_x is_x) ∙ reads.only y good_y is_y)
 
 sets-once : {A : Type 0} (spell : A → List (List ℕ)) (Good : A → Type 0) (next : A → Draft) (line : List ℕ) (a b : Draft) → ((x y : A) → Good x → Good y → line ≡ spaced (spell x) → line ≡ spaced (spell y) → x ≡ y) → Sets spell Good next line a → Sets spell Good next line b → a ≡ b
 sets-once spell Good next line a b one s t =
     s.after_is ∙ ap next (one s.value t.value s.is_good t.is_good s.line_is t.line_is) ∙ sym t.after_is
 
-id-once : (line : List ℕ) (x y : ProgramId) → IsId x → IsId y → line ≡ spaced (program_fields x) → line ≡ spaced (program_fields y) → x ≡ y
+pub id-once : (line : List ℕ) (x y : ProgramId) → IsId x → IsId y → line ≡ spaced (program_fields x) → line ≡ spaced (program_fields y) → x ≡ y
 id-once line x y is_x is_y line_x line_y =
     let fields : program_fields x ≡ program_fields y = sym (row-fields (program_fields x) (row-program x is_x)) ∙ ap fields_of (sym line_x ∙ line_y) ∙ row-fields (program_fields y) (row-program y is_y) in
     let texts : text_of_id x ≡ text_of_id y = cc in

@@ -2,11 +2,11 @@
 use Rattle.std.proofs.Common.{◌≡◌, ℕ, true, List, [], ◌∷◌, ◌++◌, Option, Some, ap, sym, subst, ◌∙◌, refl, append_assoc}
 use Rattle.std.specs.List.{AllByRecursion}
 use Rattle.std.proofs.lemmas.List.{append-nil}
+use Rattle.std.proofs.lemmas.Option.{option_and_then_some}
 use Rattle.cbi_base.specs.Text.{IsField, ended, fields_of, spaced}
 use Rattle.cbi_base.specs.declared.outcome.Outcome.{Outcome}
 use Rattle.cbi_base.specs.declared.outcome.Outcome.TheVariants.{Ended, Trapped, CutTurns, CutOutput}
 use Rattle.cbi_base.specs.declared.outcome.Work.{Work}
-use Rattle.cbi_base.proofs.NumberLemmas.{bound}
 use Rattle.report_file.specs.declared.label.Label.{Label}
 use Rattle.report_file.specs.declared.draft.Version.{Version}
 use Rattle.report_file.specs.declared.draft.Version.TheVariants.{First, Second}
@@ -59,12 +59,12 @@ second-read x is =
     let work = work-taken x.work [] is.work in
     rw (run, outcome, label, work) refl
 
-second-not-first : Second ≡ First → ⊥
+pub second-not-first : Second ≡ First → ⊥
 second-not-first e = cc
 
 first-spelled : (fields : List (List ℕ)) (x : RunLine) → first_run_line fields ≡ Some x → IsRunLine First x × (fields ≡ run_line_fields First x)
 first-spelled fields x h =
-    bound _ (run_at fields) x h (λ (run : ℕ × List (List ℕ)) taken_run h. bound _ (outcome_at run.1) x h (λ (outcome : Outcome × List (List ℕ)) taken_outcome h. bound _ (work_at outcome.1) x h (λ (work : Work × List (List ℕ)) taken_work one.
+    option_and_then_some _ (run_at fields) x h (λ (run : ℕ × List (List ℕ)) taken_run h. option_and_then_some _ (outcome_at run.1) x h (λ (outcome : Outcome × List (List ℕ)) taken_outcome h. option_and_then_some _ (work_at outcome.1) x h (λ (work : Work × List (List ℕ)) taken_work one.
     let r = run-spelled fields run.1 run.0 taken_run in
     let o = outcome-spelled run.1 outcome.1 outcome.0 taken_outcome in
     let w = work-spelled outcome.1 work.1 work.0 taken_work in
@@ -76,7 +76,7 @@ first-spelled fields x h =
 
 second-spelled : (fields : List (List ℕ)) (x : RunLine) → second_of fields ≡ Some x → IsRunLine Second x × (fields ≡ run_line_fields Second x)
 second-spelled fields x h =
-    bound _ (run_at fields) x h (λ (run : ℕ × List (List ℕ)) taken_run h. bound _ (outcome_at run.1) x h (λ (outcome : Outcome × List (List ℕ)) taken_outcome h. bound _ (label_at outcome.1) x h (λ (label : Label × List (List ℕ)) taken_label h. bound _ (work_at label.1) x h (λ (work : Work × List (List ℕ)) taken_work one.
+    option_and_then_some _ (run_at fields) x h (λ (run : ℕ × List (List ℕ)) taken_run h. option_and_then_some _ (outcome_at run.1) x h (λ (outcome : Outcome × List (List ℕ)) taken_outcome h. option_and_then_some _ (label_at outcome.1) x h (λ (label : Label × List (List ℕ)) taken_label h. option_and_then_some _ (work_at label.1) x h (λ (work : Work × List (List ℕ)) taken_work one.
     let r = run-spelled fields run.1 run.0 taken_run in
     let o = outcome-spelled run.1 outcome.1 outcome.0 taken_outcome in
     let l = label-spelled outcome.1 label.1 label.0 taken_label in

@@ -3,9 +3,8 @@ use Rattle.std.proofs.Common.{◌≡◌, ◌+◌, ◌≤◌, ℕ, true, inl, inr
 use Rattle.std.specs.Prelude.{map}
 use Rattle.std.specs.List.{AllByRecursion}
 use Rattle.std.proofs.lemmas.List.{append-nil, map-append}
-use Rattle.cbi_base.specs.Lines.{LeadsTo, ReadsLines}
-use Rattle.cbi_base.specs.ProgramId.{IsId}
-use Rattle.cbi_base.specs.Text.{AreLines, Lacks, is_newline, spaced, text_of}
+use Rattle.report_file.proofs.RunLines.{second-not-first}
+use Rattle.cbi_base.specs.Words.{LeadsTo, ReadsLines, IsId, AreLines, Lacks, is_newline, spaced, text_of}
 use Rattle.cbi_base.specs.declared.outcome.Outcome.{Outcome}
 use Rattle.cbi_base.proofs.FieldLemmas.{spaced-lacks-newline}
 use Rattle.report_file.specs.declared.draft.Version.{Version}
@@ -93,9 +92,6 @@ outcome-step d lines line outcome version.Second is h good line_is = record {
   lines_are = row-more lines line (start_rows d []) (outcome_line outcome) h.lines_are line_is;
   so_far = (record { entries = h.so_far.0.entries; site = h.so_far.0.site }, h.so_far.1, h.so_far.2, good, is);
 }
-
-second-not-first : version.Second ≡ version.First → ⊥
-second-not-first e = cc
 
 -- a line of a site
 site-step : (d : Draft) (lines : List (List ℕ)) (line : List ℕ) (e : Entry) → Holds due.Sites d lines → IsNextEntry d.site e → line ≡ spaced (site_fields e) → Holds due.Sites (with_entry d e) (lines ++ line ∷ [])

@@ -2,8 +2,8 @@
 use Rattle.std.specs.Prelude.{ℕ, ◌==◌, if◌then◌else◌, nat_le, ℤ, List, [], ◌∷◌, Option, None, Some, codes}
 use Rattle.std.specs.Option.{option_map}
 use Rattle.std.specs.List.{find}
-use Rattle.cbi_base.specs.Kind.{lies_in}
-use Rattle.cbi_base.specs.Numbers.{is_word, number_of, signed_of, ◌>>=◌}
+use Rattle.cbi_base.specs.Words.{lies_in, is_word, number_of, signed_of}
+use Rattle.cbi_base.specs.Numbers.{◌>>=◌}
 use Rattle.cbi_base.specs.Trap as trap
 use Rattle.cbi_base.specs.declared.scalar.Kind.TheVariants.{Int}
 use Rattle.cbi_base.specs.declared.trap.Trap.{Trap}

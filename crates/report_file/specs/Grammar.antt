@@ -1,7 +1,6 @@
 -- The grammar of reports, line by line, both versions as one: which line may come next, and what is due after it.
 use Rattle.std.specs.Prelude.{◌≡◌, ◌⊎◌, ℕ, ◌+◌, ◌≤◌, true, List, [], ◌∷◌, ◌++◌, codes, replicate}
-use Rattle.cbi_base.specs.ProgramId.{IsId}
-use Rattle.cbi_base.specs.Text.{spaced}
+use Rattle.cbi_base.specs.Words.{IsId, spaced}
 use Rattle.cbi_base.specs.declared.identity.ProgramId.{ProgramId}
 use Rattle.cbi_base.specs.declared.outcome.Outcome.{Outcome}
 use Rattle.cbi_base.specs.declared.outcome.Outcome.TheVariants.{CutTurns}

@@ -1,8 +1,7 @@
 -- What a report may say, and the entries of a run.
 use Rattle.std.specs.Prelude.{◌≡◌, ◌⊎◌, ℕ, ◌+◌, ◌≤◌, Bool, ◌||◌, if◌then◌else◌, nat_lt, List, [], ◌∷◌, length, Option, None, Some, IsTrue}
 use Rattle.std.specs.List.{filter_map, enumerate_from}
-use Rattle.cbi_base.specs.Kind.{LiesIn}
-use Rattle.cbi_base.specs.ProgramId.{IsId}
+use Rattle.cbi_base.specs.Words.{LiesIn, IsId}
 use Rattle.cbi_base.specs.declared.scalar.Kind.TheVariants.{Int}
 use Rattle.cbi_base.specs.declared.outcome.Outcome.{Outcome}
 use Rattle.cbi_base.specs.declared.outcome.Outcome.TheVariants.{Ended, Trapped, CutTurns, CutOutput}

@@ -1,9 +1,7 @@
 -- The text of a report, and the lines that it shares with a collection.
 use Rattle.std.specs.Prelude.{◌≡◌, ℕ, true, List, [], ◌∷◌, ◌++◌, map, codes, decimal}
 use Rattle.std.specs.Fmt.{signed_decimal}
-use Rattle.cbi_base.specs.ProgramId.{text_of_id}
-use Rattle.cbi_base.specs.Text.{spaced, text_of}
-use Rattle.cbi_base.specs.Trap.{trap_number}
+use Rattle.cbi_base.specs.Words.{text_of_id, spaced, text_of, trap_number}
 use Rattle.cbi_base.specs.declared.identity.ProgramId.{ProgramId}
 use Rattle.cbi_base.specs.declared.outcome.Outcome.{Outcome}
 use Rattle.cbi_base.specs.declared.outcome.Outcome.TheVariants.{Ended, Trapped, CutTurns, CutOutput}

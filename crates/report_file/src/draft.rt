@@ -1,6 +1,5 @@
 ghost use Rattle.std.specs.Prelude.{◌≡◌, ◌⊎◌, List, ℕ, OnOk};
-ghost use Rattle.cbi_base.specs.LineFaults.{TakenWith};
-ghost use Rattle.cbi_base.specs.ProgramId.{IsId};
+ghost use Rattle.cbi_base.specs.Words.{TakenWith, IsId};
 ghost use Rattle.report_file.specs.Grammar.{Sets, SiteFollows, ReportEndFollows, report_start, with_version, with_program, with_run, with_outcome};
 ghost use Rattle.report_file.specs.Grammar.{with_label, with_work, after_outcome};
 ghost use Rattle.report_file.specs.Report.{IsOutcome, IsRun, IsWork};

@@ -1,12 +1,10 @@
 ghost use Rattle.std.specs.Prelude.{◌≡◌, ◌≤◌, ℤ, IfSome, option_map};
-ghost use Rattle.cbi_base.specs.Numbers.{number_of};
-ghost use Rattle.cbi_base.specs.Text.{fields_of};
+ghost use Rattle.cbi_base.specs.Words.{number_of, fields_of, IsId};
 ghost use Rattle.report_file.specs.Fields.{alone, counts_at, cut_of, entry_of_fields, label_at, label_in, outcome_at, outcome_in, outcome_of};
 ghost use Rattle.report_file.specs.Fields.{program_field, run_at, status_of, trap_numbered, trap_of, work_at};
 ghost use Rattle.report_file.specs.Reading.{Reads};
 ghost use Rattle.report_file.specs.Report.{IsEntry, IsOutcome, IsRun, IsWork, greatest_count, greatest_run, is_positive};
 ghost use Rattle.report_file.specs.Spelling.{label_fields, outcome_line, program_fields, run_fields, site_fields, title_fields, work_fields};
-ghost use Rattle.cbi_base.specs.ProgramId.{IsId};
 
 use crate::draft::Version;
 use crate::label::Label;

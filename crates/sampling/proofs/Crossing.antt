@@ -2,6 +2,7 @@
 use Rattle.std.proofs.Common.{◌≡◌, ◌⊎◌, inl, inr, ℕ, zero, suc, ◌+◌, Bool, true, false, ◌||◌, List, [], ◌∷◌, Some, refl, ap, subst, arith}
 use Rattle.std.specs.Bool.{MatchBool}
 use Rattle.std.specs.List.{Contains}
+use Rattle.std.proofs.lemmas.Bool.{false_from_ne_true}
 use Rattle.flow.specs.declared.node.View.{View}
 use Rattle.flow.specs.declared.node.View.TheVariants.{Row, Halts, Forks, Turns, Calls, Gives, Quits, Marks, Skips, Tests, Picks, Imports, Exports, Nowhere}
 use Rattle.flow.specs.Nodes.{led_to}
@@ -39,21 +40,7 @@ outlet_last : (weighty starts : ℕ → Bool) (v : View) → is_outlet weighty v
 outlet_last weighty starts Gives o h = refl
 outlet_last weighty starts Quits o h = refl
 outlet_last weighty starts (Calls function next) o h = h refl
-outlet_last weighty starts (Row op next) o h = cc
-outlet_last weighty starts (Halts op) o h = cc
-outlet_last weighty starts (Forks a b) o h = cc
-outlet_last weighty starts (Turns next) o h = cc
-outlet_last weighty starts (Marks site next) o h = cc
-outlet_last weighty starts (Skips by next) o h = cc
-outlet_last weighty starts (Tests site next) o h = cc
-outlet_last weighty starts (Picks weight fast slow) o h = cc
-outlet_last weighty starts (Imports next) o h = cc
-outlet_last weighty starts (Exports next) o h = cc
-outlet_last weighty starts Nowhere o h = cc
-
-pub not_true : (b : Bool) → (b ≡ true → ⊥) → b ≡ false
-not_true true never = absurd (never refl)
-not_true false never = refl
+outlet_last weighty starts v o h = cc
 
 pub both_ways : (b : Bool) → b ≡ true → b ≡ false → ⊥
 both_ways b e f = cc
@@ -63,44 +50,20 @@ pub remains : (t : Cloning) (side : Side) (node owed : ℕ) (v q : View) → (en
     is_last t.starts (led_to v) ≡ false → IsSame t side owed v q → Passing t side node owed v q
 remains t side node owed v q ends last same =
     Remains
-    (not_true (is_outlet t.weighty v) (λ o. both_ways (is_last t.starts (led_to v)) (outlet_last t.weighty t.starts v o ends) last))
+    (false_from_ne_true (is_outlet t.weighty v) (λ o. both_ways (is_last t.starts (led_to v)) (outlet_last t.weighty t.starts v o ends) last))
     (λ e. absurd (both_ways (is_last t.starts (led_to v)) (ends e) last))
     same
 
 pub in_owing : (t : Cloning) (side : Side) (node owed : ℕ) (v q : View) → mark_count v ≡ 0 → IsIn t side node owed v q → IsOwing t side node owed v q
 in_owing t side node owed (Marks site next) q m h = absurd (omega arith)
-in_owing t side node owed (Row op next) q m h = h
-in_owing t side node owed (Halts op) q m h = h
-in_owing t side node owed (Forks a b) q m h = h
-in_owing t side node owed (Turns next) q m h = h
-in_owing t side node owed (Calls function next) q m h = h
-in_owing t side node owed Gives q m h = h
-in_owing t side node owed Quits q m h = h
-in_owing t side node owed (Skips by next) q m h = h
-in_owing t side node owed (Tests site next) q m h = h
-in_owing t side node owed (Picks weight fast slow) q m h = h
-in_owing t side node owed (Imports next) q m h = h
-in_owing t side node owed (Exports next) q m h = h
-in_owing t side node owed Nowhere q m h = h
+in_owing t side node owed v q m h = h
 
 abbrev pub VisitCases : View → Type 0
 VisitCases v = (mark_count v ≡ 0) ⊎ ((site next : ℕ) × (v ≡ Marks site next))
 
 pub visit_cases : (v : View) → VisitCases v
 visit_cases (Marks site next) = inr (site, next, refl)
-visit_cases (Row op next) = inl refl
-visit_cases (Halts op) = inl refl
-visit_cases (Forks a b) = inl refl
-visit_cases (Turns next) = inl refl
-visit_cases (Calls function next) = inl refl
-visit_cases Gives = inl refl
-visit_cases Quits = inl refl
-visit_cases (Skips by next) = inl refl
-visit_cases (Tests site next) = inl refl
-visit_cases (Picks weight fast slow) = inl refl
-visit_cases (Imports next) = inl refl
-visit_cases (Exports next) = inl refl
-visit_cases Nowhere = inl refl
+visit_cases v = inl refl
 
 -- a node of a copy passes the node that it stands for, pays what is owed, or tests a visit
 pub data Inner (t : Cloning) (side : Side) (node : ℕ) (v q : View) : Type 0 where

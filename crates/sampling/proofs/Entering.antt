@@ -8,11 +8,7 @@ use Rattle.cbi_base.specs.declared.trap.Trap.TheVariants.{Internal}
 use Rattle.cbi_base.specs.declared.trap.Trap.TheVariants as fault
 use Rattle.flow.specs.declared.node.View.{View}
 use Rattle.flow.specs.declared.node.View.TheVariants.{Picks, Imports}
-use Rattle.flow.specs.Calls.{give, give_to, quit, resumed}
-use Rattle.flow.specs.Countdown.{pick}
-use Rattle.flow.specs.Machine.{next_of}
-use Rattle.flow.specs.Now.{Now, Lacks, Taken, Takes}
-use Rattle.flow.specs.State.{Frame, Next, On, State, Watch, over}
+use Rattle.flow.specs.Words.{give, give_to, quit, resumed, pick, next_of, Now, Lacks, Taken, Takes, Frame, Next, On, State, Watch, over}
 use Rattle.weights.specs.Weight.{IsWeight}
 use Rattle.clone_paths.specs.declared.label.CopyLabel.TheVariants.{Back, Enter, Gate}
 use Rattle.clone_paths.specs.declared.label.Side.TheVariants.{Fast, Slow}

@@ -1,9 +1,10 @@
 -- A program in its cloned form beside the program that it was made from.
 use Rattle.std.proofs.Common.{◌≡◌, ℕ, zero, suc, ◌<◌, Bool, true, false, ◌&&◌, List, [], ◌∷◌, length, Option, None, Some, IsTrue, slice_get, refl, ap, ◌∙◌, subst, arith}
 use Rattle.std.specs.List.{Contains}
-use Rattle.std.proofs.lemmas.Bool.{eqb-true}
+use Rattle.std.proofs.lemmas.Bool.{eqb-true, false_from_ne_true}
 use Rattle.std.proofs.lemmas.List.Elements.{All-get_or}
 use Rattle.std.proofs.lemmas.Option.{get_or_from_slice_get, slice_get_within}
+use Rattle.base_lists.proofs.Tests.{true_first}
 use Rattle.flow.specs.declared.node.Node.{Node}
 use Rattle.flow.specs.declared.node.Node.TheVariants.{Mark}
 use Rattle.flow.specs.declared.node.View.{View}
@@ -12,10 +13,8 @@ use Rattle.flow.specs.declared.program.Function.{Function}
 use Rattle.flow.specs.declared.program.ProgramParts.{ProgramParts}
 use Rattle.flow.specs.declared.scope.Bounds.{Bounds}
 use Rattle.flow.specs.declared.scope.Names.{Names}
-use Rattle.flow.specs.Code.{Callee, callee_of, code_of, view_at, view_in}
-use Rattle.flow.specs.Nodes.{is_own, led_to, names_fit, node_fits, leads_rightly}
-use Rattle.flow.specs.Program.{IsFunction, IsProgram, bounds_of, names_of}
-use Rattle.flow.specs.View.{view}
+use Rattle.flow.specs.Words.{Callee, callee_of, code_of, view_at, view_in, is_own, led_to, names_fit, node_fits, leads_rightly, IsFunction, IsProgram}
+use Rattle.flow.specs.Words.{bounds_of, names_of, view, ArePlain, IsPlain, IsReady}
 use Rattle.regions.specs.Blocks.{After, ends_block}
 use Rattle.regions.specs.Flags.{AreFlags, is_in}
 use Rattle.regions.specs.Weighty.{HasSite, IsWeighty, Own, Through}
@@ -24,9 +23,7 @@ use Rattle.clone_paths.specs.declared.label.CopyLabel.{CopyLabel}
 use Rattle.clone_paths.specs.declared.label.CopyLabel.TheVariants.{Enter}
 use Rattle.clone_paths.specs.Cloned.{FunctionCloned, MayClone}
 use Rattle.clone_paths.specs.Form.{IsRight}
-use Rattle.sampling.proofs.Crossing.{not_true}
 use Rattle.sampling.specs.Copies.{AreCopies, Copies}
-use Rattle.flow.specs.Ready.{ArePlain, IsPlain, IsReady}
 
 -- where the blocks of a function begin, and what its copies' nodes are labelled
 pub record Sheet : Type 0 where
@@ -108,12 +105,9 @@ mark_named names bounds (Mark named after) site next h e =
     let same : named ≡ site = cc in subst (λ (k : ℕ). IsTrue (is_own bounds (slice_get names.owners k))) same h
 mark_named names bounds other site next h e = cc
 
-both : (a b : Bool) → IsTrue (a && b) → IsTrue a
-both a b h = grind arith
-
 named_by : (names : Names) (bounds : Bounds) (place : ℕ) (n : Node) → IsTrue (node_fits names bounds place n) → IsTrue (names_fit names bounds n)
 unfolding node_fits
-named_by names bounds place n h = both (names_fit names bounds n) (leads_rightly bounds place (view n)) h
+named_by names bounds place n h = true_first (names_fit names bounds n) (leads_rightly bounds place (view n)) h
 
 mark_at : (p : ProgramParts) (function place site next : ℕ) (f : Function) (found : Option Node) → IsFunction (names_of p) function f →
     slice_get f.nodes place ≡ found → view_at found ≡ Marks site next → HasSite p.sites function
@@ -180,7 +174,7 @@ are_copies p gs bank c is may branches = record {
   same = λ function place light. same_nodes p gs c function place (slice_get p.functions function) (slice_get gs function) refl refl light;
   unmarked = λ function place site next light m.
       let heavy = (c.are_weighty.each function).1 (Own (mark_in p function place site next (slice_get p.functions function) is refl m)) in cc;
-  calls = λ function place callee next light e. not_true (is_in c.weighty callee) (λ h.
+  calls = λ function place callee next light e. false_from_ne_true (is_in c.weighty callee) (λ h.
       let heavy = (c.are_weighty.each function).1 (Through (record { place = place; next = next; is = e }) ((c.are_weighty.each callee).0 h)) in cc);
   ends = λ function place next heavy ends leads. (sheet_is p gs c function heavy).ends place next ends leads;
   entry = λ function heavy. (sheet_is p gs c function heavy).entry;

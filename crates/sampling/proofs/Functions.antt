@@ -2,11 +2,11 @@
 use Rattle.std.proofs.Common.{◌≡◌, ℕ, Bool, true, false, if◌then◌else◌, List, [], ◌∷◌, Option, None, Some, slice_get, refl, sym, ap, ◌∙◌, subst, arith}
 use Rattle.std.specs.List.{Contains}
 use Rattle.std.proofs.lemmas.Option.{slice_get_within}
+use Rattle.base_lists.proofs.Every.{none_in}
 use Rattle.flow.specs.declared.node.Node.{Node}
 use Rattle.flow.specs.declared.node.View.{View}
 use Rattle.flow.specs.declared.node.View.TheVariants.{Row, Halts, Forks, Turns, Calls, Gives, Quits, Marks, Skips, Tests, Picks, Imports, Exports, Nowhere}
-use Rattle.flow.specs.Code.{view_at}
-use Rattle.flow.specs.Nodes.{led_to}
+use Rattle.flow.specs.Words.{view_at, led_to}
 use Rattle.regions.specs.Blocks.{After}
 use Rattle.regions.specs.Weighty.{views_of}
 use Rattle.clone_paths.specs.declared.label.CopyLabel.{CopyLabel}
@@ -19,7 +19,7 @@ use Rattle.sampling.specs.Choices.{ChoosesRarely, calls_weighty, is_choice, is_i
 use Rattle.sampling.specs.FastCopies.{FastLooksAtNothing, FastWaysLookAtNothing, First, IsOnPath, Later, side_of}
 use Rattle.sampling.proofs.Crossing.{all_last}
 use Rattle.sampling.proofs.Forms.{none_there}
-use Rattle.sampling.proofs.Labels.{Ends, Leads, Shows, in_label, is_back, is_gate, leads, none_in, shows}
+use Rattle.sampling.proofs.Labels.{Ends, Leads, Shows, in_label, is_back, is_gate, leads, shows}
 
 abbrev pub cloning_by : (weighty : ℕ → Bool) (nodes cloned : List Node) → NodesCloned weighty nodes cloned → Cloning
 cloning_by weighty nodes cloned c = cloning_of weighty nodes c.starts c.labels
@@ -79,20 +79,10 @@ light_next weighty function to next true e c = absurd (none_in next c)
 light_next weighty function to next false e c = record { leads = c; opens = refl; light = e }
 
 goes_on : (weighty : ℕ → Bool) (q : View) (next : ℕ) → is_import q ≡ false → Contains (next_nodes weighty q) next → GoesOn weighty q next
-goes_on weighty (Row op to) next i c = record { leads = c; opens = refl; light = refl }
-goes_on weighty (Halts op) next i c = record { leads = c; opens = refl; light = refl }
-goes_on weighty (Forks a b) next i c = record { leads = c; opens = refl; light = refl }
 goes_on weighty (Turns to) next i c = absurd (none_in next c)
 goes_on weighty (Calls function to) next i c = light_next weighty function to next (weighty function) refl c
-goes_on weighty Gives next i c = record { leads = c; opens = refl; light = refl }
-goes_on weighty Quits next i c = record { leads = c; opens = refl; light = refl }
-goes_on weighty (Marks site to) next i c = record { leads = c; opens = refl; light = refl }
-goes_on weighty (Skips by to) next i c = record { leads = c; opens = refl; light = refl }
-goes_on weighty (Tests site to) next i c = record { leads = c; opens = refl; light = refl }
-goes_on weighty (Picks weight fast slow) next i c = record { leads = c; opens = refl; light = refl }
 goes_on weighty (Imports to) next i c = cc
-goes_on weighty (Exports to) next i c = record { leads = c; opens = refl; light = refl }
-goes_on weighty Nowhere next i c = record { leads = c; opens = refl; light = refl }
+goes_on weighty q next i c = record { leads = c; opens = refl; light = refl }
 
 -- the node stands in the fast copy
 abbrev pub IsFast : (ℕ → Option CopyLabel) → ℕ → Type 0
@@ -101,9 +91,7 @@ IsFast label place = (l : CopyLabel) × (label place ≡ Some l) × (side_of l �
 in_copy : (l : CopyLabel) → side_of l ≡ Some Fast → (is_gate l ≡ false) × (is_back l ≡ false)
 in_copy (In side node owed) e = (refl, refl)
 in_copy (Out side node) e = (refl, refl)
-in_copy Enter e = cc
-in_copy (Gate node) e = cc
-in_copy (Back node) e = cc
+in_copy l e = cc
 
 chosen_by : (weighty : ℕ → Bool) (nodes cloned : List Node) (c : NodesCloned weighty nodes cloned) (place weight fast slow : ℕ) (l : CopyLabel) →
     slice_get c.labels place ≡ Some l → is_gate l ≡ true → views_of cloned place ≡ Picks weight fast slow → IsFast (slice_get c.labels) fast
@@ -112,10 +100,7 @@ chosen_by weighty nodes cloned c place weight fast slow (Gate node) e g p =
     let same : r.1 ≡ fast = let both : Picks r.0 r.1 r.2 ≡ Picks weight fast slow = sym r.3 ∙ p in cc in
     let k = in_label (cloning_by weighty nodes cloned c) Fast r.1 node 0 r.5 in
     subst (λ (m : ℕ). IsFast (slice_get c.labels) m) same (In Fast k.0 k.1, k.2, refl)
-chosen_by weighty nodes cloned c place weight fast slow Enter e g p = cc
-chosen_by weighty nodes cloned c place weight fast slow (Back node) e g p = cc
-chosen_by weighty nodes cloned c place weight fast slow (In side node owed) e g p = cc
-chosen_by weighty nodes cloned c place weight fast slow (Out side node) e g p = cc
+chosen_by weighty nodes cloned c place weight fast slow l e g p = cc
 
 chosen : (weighty : ℕ → Bool) (nodes cloned : List Node) (c : NodesCloned weighty nodes cloned) (place weight fast slow : ℕ) →
     views_of cloned place ≡ Picks weight fast slow → IsFast (slice_get c.labels) fast

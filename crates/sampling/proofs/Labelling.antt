@@ -3,6 +3,8 @@ use Rattle.std.proofs.Common.{◌≡◌, inl, inr, ℕ, zero, suc, Bool, true, f
 use Rattle.std.proofs.Math.Path.{fun_ext}
 use Rattle.std.specs.Bool.{MatchBool}
 use Rattle.std.specs.List.{Contains}
+use Rattle.base_lists.proofs.Tests.{same_tests}
+use Rattle.base_lists.proofs.Every.{only_in, two_in}
 use Rattle.flow.specs.declared.node.Node.{Node}
 use Rattle.flow.specs.declared.node.View.{View}
 use Rattle.flow.specs.declared.node.View.TheVariants.{Row, Halts, Forks, Turns, Calls, Gives, Quits, Marks, Skips, Tests, Picks, Imports, Exports, Nowhere}
@@ -18,7 +20,7 @@ use Rattle.clone_paths.specs.Form.{Cloning, Here, IsIn, IsOut, IsOwing, IsRight,
 use Rattle.sampling.specs.Labelling.{Entry, Later, OneLabelling}
 use Rattle.sampling.proofs.Crossing.{both_ways, in_owing, visit_cases}
 use Rattle.sampling.proofs.Functions.{cloning_by, labelled}
-use Rattle.sampling.proofs.Labels.{either_in, only_in, to_none}
+use Rattle.sampling.proofs.Labels.{to_none}
 
 -- each node is what its label says
 abbrev pub EachRight : Cloning → (ℕ → View) → Type 0
@@ -81,7 +83,7 @@ two_inner : (t : Cloning) (label : ℕ → Option CopyLabel) (at : ℕ → View)
     Contains (led_to q) x → t.label x ≡ label x
 two_inner t label at side also q m n k j x first second owed w e f a b c =
     let lists : m ∷ n ∷ [] ≡ k ∷ j ∷ [] = sym e ∙ f in
-    elim (either_in m n x (subst (λ (xs : List ℕ). Contains xs x) e c)) as (λ _. t.label x ≡ label x) [
+    elim (two_in m n x (subst (λ (xs : List ℕ). Contains xs x) e c)) as (λ _. t.label x ≡ label x) [
       | inl h ↦ let same : m ≡ k = cc in stands_at t label at side m k x first owed w h (h ∙ same) a.first b.first
       | inr h ↦ let same : n ≡ j = cc in stands_at t label at also n j x second owed w h (h ∙ same) a.second b.second
     ]
@@ -96,15 +98,7 @@ same_agrees t label at side owed (Forks a b) q x w h k c =
 same_agrees t label at side owed (Turns next) q x w h k c = one_label t label q (Gate next) h.0 k.0 x (ap led_to h.1) (ap led_to k.1) h.2 k.2 c
 same_agrees t label at side owed (Calls function next) q x w h k c =
     one_inner t label at side q h.0 k.0 x next owed w (ap led_to h.1) (ap led_to k.1) h.2 k.2 c
-same_agrees t label at side owed Gives q x w h k c = absurd h
-same_agrees t label at side owed Quits q x w h k c = absurd h
-same_agrees t label at side owed (Marks site next) q x w h k c = absurd h
-same_agrees t label at side owed (Skips by next) q x w h k c = absurd h
-same_agrees t label at side owed (Tests site next) q x w h k c = absurd h
-same_agrees t label at side owed (Picks weight fast slow) q x w h k c = absurd h
-same_agrees t label at side owed (Imports next) q x w h k c = absurd h
-same_agrees t label at side owed (Exports next) q x w h k c = absurd h
-same_agrees t label at side owed Nowhere q x w h k c = absurd h
+same_agrees t label at side owed v q x w h k c = absurd h
 
 abbrev pub Freed : Cloning → Side → ℕ → View → View → Bool → Type 0
 Freed t side node v q b = MatchBool b ((m : ℕ) × (q ≡ Exports m) × (t.label m ≡ Some (Out side node))) (IsSame t side 0 v q)
@@ -148,17 +142,7 @@ out_agrees : (t : Cloning) (label : ℕ → Option CopyLabel) (v q : View) (x : 
 out_agrees t label Gives q x o h k c = to_none q x (ap led_to h) c
 out_agrees t label Quits q x o h k c = to_none q x (ap led_to h) c
 out_agrees t label (Calls function next) q x o h k c = one_label t label q (Back next) h.0 k.0 x (ap led_to h.1) (ap led_to k.1) h.2 k.2 c
-out_agrees t label (Row op next) q x o h k c = cc
-out_agrees t label (Halts op) q x o h k c = cc
-out_agrees t label (Forks a b) q x o h k c = cc
-out_agrees t label (Turns next) q x o h k c = cc
-out_agrees t label (Marks site next) q x o h k c = cc
-out_agrees t label (Skips by next) q x o h k c = cc
-out_agrees t label (Tests site next) q x o h k c = cc
-out_agrees t label (Picks weight fast slow) q x o h k c = cc
-out_agrees t label (Imports next) q x o h k c = cc
-out_agrees t label (Exports next) q x o h k c = cc
-out_agrees t label Nowhere q x o h k c = cc
+out_agrees t label v q x o h k c = cc
 
 -- nodes of one label lead to nodes of one label
 agrees : (t : Cloning) (label : ℕ → Option CopyLabel) (at : ℕ → View) (l : CopyLabel) (q : View) (x : ℕ) → BothFit t label at → IsRight t l q →
@@ -171,15 +155,10 @@ agrees t label at (Gate node) q x w h k c =
 agrees t label at (In side node owed) q x w h k c = in_agrees t label at side node owed (t.at node) q x w h.1 k.1 c
 agrees t label at (Out side node) q x w h k c = out_agrees t label (t.at node) q x h.0 h.1 k.1 c
 
-bools_same : (a b : Bool) → (a ≡ true → b ≡ true) → (b ≡ true → a ≡ true) → a ≡ b
-bools_same true b f g = sym (f refl)
-bools_same false true f g = g refl
-bools_same false false f g = refl
-
 -- one function has its blocks in one way
 same_starts : (weighty : ℕ → Bool) (nodes cloned : List Node) (one other : NodesCloned weighty nodes cloned) → is_in other.starts ≡ is_in one.starts
 same_starts weighty nodes cloned one other =
-    fun_ext (λ (k : ℕ). bools_same (is_in other.starts k) (is_in one.starts k) (λ h. (one.are_starts.each k).1 ((other.are_starts.each k).0 h))
+    fun_ext (λ (k : ℕ). same_tests (is_in other.starts k) (is_in one.starts k) (λ h. (one.are_starts.each k).1 ((other.are_starts.each k).0 h))
     (λ h. (other.are_starts.each k).1 ((one.are_starts.each k).0 h)))
 
 both_fit : (weighty : ℕ → Bool) (nodes cloned : List Node) (one other : NodesCloned weighty nodes cloned) →

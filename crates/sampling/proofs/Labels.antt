@@ -1,6 +1,7 @@
 -- What the label of a node says of the node, and of the labels of the nodes to which it leads.
 use Rattle.std.proofs.Common.{◌≡◌, ◌⊎◌, inl, inr, ℕ, zero, suc, Bool, true, false, List, [], ◌∷◌, None, Some, refl, sym, ap, ◌∙◌, subst, arith}
 use Rattle.std.specs.List.{Contains}
+use Rattle.base_lists.proofs.Every.{none_in, only_in, two_in}
 use Rattle.flow.specs.declared.node.View.{View}
 use Rattle.flow.specs.declared.node.View.TheVariants.{Row, Halts, Forks, Turns, Calls, Gives, Quits, Marks, Skips, Tests, Picks, Imports, Exports, Nowhere}
 use Rattle.flow.specs.Nodes.{led_to}
@@ -52,15 +53,7 @@ same_common t side owed (Halts op) q h = common side (Halts op) q h refl refl tt
 same_common t side owed (Forks a b) q h = common side (Forks h.0 h.1) q h.2 refl refl tt
 same_common t side owed (Turns next) q h = common side (Turns h.0) q h.1 refl refl tt
 same_common t side owed (Calls function next) q h = common side (Calls function h.0) q h.1 refl refl tt
-same_common t side owed Gives q h = absurd h
-same_common t side owed Quits q h = absurd h
-same_common t side owed (Marks site next) q h = absurd h
-same_common t side owed (Skips by next) q h = absurd h
-same_common t side owed (Tests site next) q h = absurd h
-same_common t side owed (Picks weight fast slow) q h = absurd h
-same_common t side owed (Imports next) q h = absurd h
-same_common t side owed (Exports next) q h = absurd h
-same_common t side owed Nowhere q h = absurd h
+same_common t side owed v q h = absurd h
 
 passing_common : (t : Cloning) (side : Side) (node owed : ℕ) (v q : View) → Passing t side node owed v q → IsCommon side q
 passing_common t side node owed v q (Leaves place z o e l) = common side (Exports place) q e refl refl tt
@@ -80,17 +73,7 @@ out_common : (t : Cloning) (side : Side) (v q : View) → is_outlet t.weighty v 
 out_common t side Gives q o h = common side Gives q h refl refl tt
 out_common t side Quits q o h = common side Quits q h refl refl tt
 out_common t side (Calls function next) q o h = common side (Calls function h.0) q h.1 refl refl tt
-out_common t side (Row op next) q o h = cc
-out_common t side (Halts op) q o h = cc
-out_common t side (Forks a b) q o h = cc
-out_common t side (Turns next) q o h = cc
-out_common t side (Marks site next) q o h = cc
-out_common t side (Skips by next) q o h = cc
-out_common t side (Tests site next) q o h = cc
-out_common t side (Picks weight fast slow) q o h = cc
-out_common t side (Imports next) q o h = cc
-out_common t side (Exports next) q o h = cc
-out_common t side Nowhere q o h = cc
+out_common t side v q o h = cc
 
 -- what a node shows of its label
 pub record Shows (l : CopyLabel) (q : View) : Type 0 where
@@ -129,17 +112,6 @@ pub record Leads (t : Cloning) (l : CopyLabel) (q : View) (next : ℕ) : Type 0 
   pub back : is_back label ≡ calls_weighty t.weighty q
   pub side : opens_region q ≡ false → calls_weighty t.weighty q ≡ false → is_gate l ≡ false → side_of label ≡ side_of l
 
-pub none_in : (x : ℕ) → Contains [] x → ⊥
-none_in x c = omega (arith, c.1)
-
-pub only_in : (a x : ℕ) → Contains (a ∷ []) x → x ≡ a
-only_in a x (zero, l, e) = sym e
-only_in a x (suc k, l, e) = absurd (omega arith)
-
-pub either_in : (a b x : ℕ) → Contains (a ∷ b ∷ []) x → (x ≡ a) ⊎ (x ≡ b)
-either_in a b x (zero, l, e) = inl (sym e)
-either_in a b x (suc k, l, e) = inr (only_in b x (k, omega arith, e))
-
 pub to_none : {A : Type 0} (q : View) (x : ℕ) → led_to q ≡ [] → Contains (led_to q) x → A
 to_none q x e c = absurd (none_in x (subst (λ (xs : List ℕ). Contains xs x) e c))
 
@@ -148,7 +120,7 @@ to_one t l q m x e h c = subst (λ (y : ℕ). Leads t l q y) (sym (only_in m x (
 
 to_two : (t : Cloning) (l : CopyLabel) (q : View) (m n x : ℕ) → led_to q ≡ m ∷ n ∷ [] → Leads t l q m → Leads t l q n → Contains (led_to q) x → Leads t l q x
 to_two t l q m n x e h k c =
-    elim (either_in m n x (subst (λ (xs : List ℕ). Contains xs x) e c)) as (λ _. Leads t l q x) [
+    elim (two_in m n x (subst (λ (xs : List ℕ). Contains xs x) e c)) as (λ _. Leads t l q x) [
       | inl first ↦ subst (λ (y : ℕ). Leads t l q y) (sym first) h
       | inr second ↦ subst (λ (y : ℕ). Leads t l q y) (sym second) k
     ]
@@ -181,15 +153,7 @@ same_leads t side owed l (Turns next) q x s o h c =
     }) c
 same_leads t side owed l (Calls function next) q x s o h c =
     to_one t l q h.0 x (ap led_to h.1) (to_inner t side l q h.0 next owed s (ap opens_region h.1) (ap (calls_weighty t.weighty) h.1 ∙ o) h.2) c
-same_leads t side owed l Gives q x s o h c = absurd h
-same_leads t side owed l Quits q x s o h c = absurd h
-same_leads t side owed l (Marks site next) q x s o h c = absurd h
-same_leads t side owed l (Skips by next) q x s o h c = absurd h
-same_leads t side owed l (Tests site next) q x s o h c = absurd h
-same_leads t side owed l (Picks weight fast slow) q x s o h c = absurd h
-same_leads t side owed l (Imports next) q x s o h c = absurd h
-same_leads t side owed l (Exports next) q x s o h c = absurd h
-same_leads t side owed l Nowhere q x s o h c = absurd h
+same_leads t side owed l v q x s o h c = absurd h
 
 inner_leads : (t : Cloning) (side : Side) (node : ℕ) (l : CopyLabel) (v q : View) (x : ℕ) → side_of l ≡ Some side → Inner t side node v q → Contains (led_to q) x →
     Leads t l q x
@@ -221,17 +185,7 @@ out_leads t l (Calls function next) q x o h c =
       back = sym (ap (calls_weighty t.weighty) h.1 ∙ o);
       side = λ a b k. called q (calls_weighty t.weighty q) (ap (calls_weighty t.weighty) h.1 ∙ o) b;
     }) c
-out_leads t l (Row op next) q x o h c = cc
-out_leads t l (Halts op) q x o h c = cc
-out_leads t l (Forks a b) q x o h c = cc
-out_leads t l (Turns next) q x o h c = cc
-out_leads t l (Marks site next) q x o h c = cc
-out_leads t l (Skips by next) q x o h c = cc
-out_leads t l (Tests site next) q x o h c = cc
-out_leads t l (Picks weight fast slow) q x o h c = cc
-out_leads t l (Imports next) q x o h c = cc
-out_leads t l (Exports next) q x o h c = cc
-out_leads t l Nowhere q x o h c = cc
+out_leads t l v q x o h c = cc
 
 import_leads : (t : Cloning) (l : CopyLabel) (q : View) (m node x : ℕ) → q ≡ Imports m → t.label m ≡ Some (Gate node) → Contains (led_to q) x → Leads t l q x
 import_leads t l q m node x e label c =

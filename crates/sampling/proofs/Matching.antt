@@ -1,5 +1,6 @@
 -- What it is for the sampled program to match the full one in what comes next, and that it does where both do the same.
 use Rattle.std.proofs.Common.{◌≡◌, ℕ, zero, suc, ◌+◌, Bool, true, false, if◌then◌else◌, nat_lt, List, [], ◌∷◌, length, Option, None, Some, Ok, Err, Result, refl, ap, ◌∙◌}
+use Rattle.cbi_base.specs.Words.{active_limit, Objects, truth_of}
 use Rattle.cbi_base.specs.declared.outcome.Outcome.{Outcome}
 use Rattle.cbi_base.specs.declared.outcome.Outcome.TheVariants.{Trapped, Ended, CutTurns}
 use Rattle.cbi_base.specs.declared.scalar.Kind.TheVariants as kind
@@ -7,14 +8,8 @@ use Rattle.cbi_base.specs.declared.scalar.Scalar.{Scalar}
 use Rattle.cbi_base.specs.declared.scalar.Scalar.TheVariants.{Number, Place, Null, Undefined}
 use Rattle.cbi_base.specs.declared.trap.Trap.{Trap}
 use Rattle.cbi_base.specs.declared.trap.Trap.TheVariants.{Internal, StackOverflow}
-use Rattle.cbi_base.specs.Objects.{Objects}
-use Rattle.cbi_base.specs.Scalars.{truth_of}
-use Rattle.flow.specs.Calls.{call_with, enter, entered, ended_with, locals_made, waiting}
-use Rattle.flow.specs.Code.{Callee, Code}
-use Rattle.flow.specs.Limits.{active_limit}
-use Rattle.flow.specs.Machine.{EndsFrom, Ends, branch, fork, go_on, halt, spend_turn, step}
-use Rattle.flow.specs.Now.{Effect, Goes, Lacks, Now, Stops, Taken, Takes}
-use Rattle.flow.specs.State.{Ending, Next, On, Over, State, over}
+use Rattle.flow.specs.Words.{call_with, enter, entered, ended_with, locals_made, waiting, Callee, Code, EndsFrom, Ends, branch, fork, go_on, halt, spend_turn}
+use Rattle.flow.specs.Words.{step, Effect, Goes, Lacks, Now, Stops, Taken, Takes, Ending, Next, On, Over, State, over}
 use Rattle.flow.proofs.Endings.{ends_over, leads_one}
 use Rattle.sampling.specs.Copies.{Copies, sampled}
 use Rattle.sampling.specs.Follows.{Follows, Own, beside}
@@ -150,8 +145,4 @@ call_by t s own countdown function next place callee (Lacks trap) tally h = over
 pub ended_by : (t : Copies) (s : State) (own : Own) (countdown : ℕ) (value : Scalar) → Tally t.full.bank s.watch.seen own.watch.seen countdown own.watch.drawn →
     Matches t (ended_with value s) (ended_with value (beside s own))
 ended_by t s own countdown (Number kind.Int status) tally = over_both t s own countdown (Ended status) tally
-ended_by t s own countdown (Number kind.Char status) tally = internal t s (over (Trapped Internal) (beside s own))
-ended_by t s own countdown (Number kind.Unsigned status) tally = internal t s (over (Trapped Internal) (beside s own))
-ended_by t s own countdown (Place object offset) tally = internal t s (over (Trapped Internal) (beside s own))
-ended_by t s own countdown Null tally = internal t s (over (Trapped Internal) (beside s own))
-ended_by t s own countdown Undefined tally = internal t s (over (Trapped Internal) (beside s own))
+ended_by t s own countdown value tally = internal t s (over (Trapped Internal) (beside s own))

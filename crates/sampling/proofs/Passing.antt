@@ -1,14 +1,10 @@
 -- Control passes a node of a copy: it stays in the copy, or it leaves it by an outlet.
 use Rattle.std.proofs.Common.{◌≡◌, ℕ, ◌+◌, Bool, true, false, if◌then◌else◌, List, [], ◌∷◌, None, Some, refl, sym, ap, subst, arith}
 use Rattle.std.specs.List.{Contains}
+use Rattle.base_lists.proofs.Every.{first_in, second_in}
 use Rattle.flow.specs.declared.node.View.{View}
 use Rattle.flow.specs.declared.node.View.TheVariants.{Row, Halts, Forks, Turns, Calls, Gives, Quits, Marks, Skips, Tests, Picks, Imports, Exports, Nowhere}
-use Rattle.flow.specs.Calls.{call, has_result, params_of, waiting}
-use Rattle.flow.specs.Countdown.{at_node}
-use Rattle.flow.specs.Machine.{next_of}
-use Rattle.flow.specs.Now.{Now, any, several}
-use Rattle.flow.specs.Rows.{act}
-use Rattle.flow.specs.State.{Frame, On, State}
+use Rattle.flow.specs.Words.{call, has_result, params_of, waiting, at_node, next_of, Now, any, several, act, Frame, On, State}
 use Rattle.regions.specs.Blocks.{ends_block}
 use Rattle.weights.specs.Paths.{mark_count, next_nodes}
 use Rattle.clone_paths.specs.declared.label.CopyLabel.TheVariants.{Back, Out}
@@ -37,12 +33,6 @@ pub run_next : (t : Copies) (side : Side) (function node next countdown left : �
     Contains (next_nodes t.weighty v) next → countdown ≡ mark_count v + left → MayRun side t countdown function node → MayRun side t left function next
 run_next t Fast function node next countdown left v e c is above = above_next t function node next countdown left v e c is above
 run_next t Slow function node next countdown left v e c is above = tt
-
-first_in : (a : ℕ) (xs : List ℕ) → Contains (a ∷ xs) a
-first_in a xs = (0, omega arith, refl)
-
-second_in : (a b : ℕ) (xs : List ℕ) → Contains (a ∷ b ∷ xs) b
-second_in a b xs = (1, omega arith, refl)
 
 -- what is known of a function that runs within a copy, at this node
 pub record Within (t : Copies) (s : State) (own : Own) (side : Side) (countdown owed : ℕ) (v : View) : Type 0 where
@@ -120,15 +110,7 @@ remain_by t s own side countdown owed place (Calls function next) w o ends h =
     (several (params_of (t.full.callee function)) s.now) w.tally
     (λ d. at_entry t (waiting next d (record s { turns = left })) (put_off h.0 (with_copy own place c)) countdown function w.are w.tally
     (wait_light t s own side countdown owed next h.0 function place d w o h.2))))
-remain_by t s own side countdown owed place Gives w o ends h = absurd h
-remain_by t s own side countdown owed place Quits w o ends h = absurd h
-remain_by t s own side countdown owed place (Marks site next) w o ends h = absurd h
-remain_by t s own side countdown owed place (Skips by next) w o ends h = absurd h
-remain_by t s own side countdown owed place (Tests site next) w o ends h = absurd h
-remain_by t s own side countdown owed place (Picks weight fast slow) w o ends h = absurd h
-remain_by t s own side countdown owed place (Imports next) w o ends h = absurd h
-remain_by t s own side countdown owed place (Exports next) w o ends h = absurd h
-remain_by t s own side countdown owed place Nowhere w o ends h = absurd h
+remain_by t s own side countdown owed place v w o ends h = absurd h
 
 -- the copy of the countdown was given back
 abbrev pub given_back : Own → ℕ → ℕ → Own
@@ -163,17 +145,7 @@ out_by t s own count place (Calls function next) are tally heavy returns o h =
     (several (params_of (t.full.callee function)) s.now) tally
     (λ d. at_entry t (waiting next d (record s { turns = left })) (put_off h.0 (given_back own place count)) count function are tally
     (wait_heavy t s own count next h.0 function d heavy returns o h.2))))
-out_by t s own count place (Row op next) are tally heavy returns o h = cc
-out_by t s own count place (Halts op) are tally heavy returns o h = cc
-out_by t s own count place (Forks a b) are tally heavy returns o h = cc
-out_by t s own count place (Turns next) are tally heavy returns o h = cc
-out_by t s own count place (Marks site next) are tally heavy returns o h = cc
-out_by t s own count place (Skips by next) are tally heavy returns o h = cc
-out_by t s own count place (Tests site next) are tally heavy returns o h = cc
-out_by t s own count place (Picks weight fast slow) are tally heavy returns o h = cc
-out_by t s own count place (Imports next) are tally heavy returns o h = cc
-out_by t s own count place (Exports next) are tally heavy returns o h = cc
-out_by t s own count place Nowhere are tally heavy returns o h = cc
+out_by t s own count place v are tally heavy returns o h = cc
 
 pub pass_by : (t : Copies) (s : State) (own : Own) (side : Side) (countdown owed place : ℕ) (v : View) → Within t s own side countdown owed v →
     Passing (cloning t s.function) side s.node owed v (t.at s.function place) →

@@ -3,14 +3,12 @@ use Rattle.std.proofs.Common.{◌≡◌, ℕ, zero, suc, ◌+◌, ◌-◌, ◌<�
 use Rattle.std.specs.Bool.{MatchBool}
 use Rattle.std.specs.List.{Contains}
 use Rattle.std.proofs.lemmas.Bool.Decides.{nat_tests}
+use Rattle.clone_paths.proofs.ChunkLemmas.{may_owe_none}
 use Rattle.cbi_base.specs.declared.outcome.Outcome.TheVariants.{Trapped}
 use Rattle.cbi_base.specs.declared.trap.Trap.TheVariants.{Internal}
 use Rattle.flow.specs.declared.node.View.{View}
 use Rattle.flow.specs.declared.node.View.TheVariants.{Skips}
-use Rattle.flow.specs.Countdown.{skip}
-use Rattle.flow.specs.Machine.{next_of}
-use Rattle.flow.specs.Nodes.{led_to}
-use Rattle.flow.specs.State.{Next, On, State, over}
+use Rattle.flow.specs.Words.{skip, next_of, led_to, Next, On, State, over}
 use Rattle.regions.specs.Blocks.{ends_block}
 use Rattle.weights.specs.Paths.{mark_count}
 use Rattle.clone_paths.specs.declared.label.CopyLabel.TheVariants.{In}
@@ -66,10 +64,6 @@ abbrev pub Onward : Copies → Next → State → Own → Side → ℕ → View 
 Onward t a s own side countdown v =
     (place owed : ℕ) → MayOwe side owed → Passing (cloning t s.function) side s.node owed v (t.at s.function place) → Matches t a (On (beside s (with_copy own place (countdown + owed))))
 
-none_owed : (side : Side) → MayOwe side 0
-none_owed Fast = tt
-none_owed Slow = refl
-
 settle_by : (t : Copies) (a : Next) (s : State) (own : Own) (side : Side) (countdown owed : ℕ) (v : View) (b : Bool) → AreCopies t → 0 < countdown →
     t.weighty s.function ≡ true → t.full.at s.function s.node ≡ v → mark_count v ≡ 0 → MayOwe side (suc owed) →
     is_last (t.starts s.function) (led_to v) ≡ b →
@@ -79,7 +73,7 @@ settle_by : (t : Copies) (a : Next) (s : State) (own : Own) (side : Side) (count
 settle_by t a s own side countdown owed v true are some heavy e m may last h go =
     let owing = owing_of t s.function side h.0 s.node 0 v are heavy e m h.2 in
     skip_by t a s own (countdown + suc owed) (suc owed) (countdown + 0) h.0 (omega arith) (omega arith) h.1
-    (go h.0 0 (none_owed side) (free_passes (cloning t s.function) side s.node v (t.at s.function h.0) owing))
+    (go h.0 0 (may_owe_none side) (free_passes (cloning t s.function) side s.node v (t.at s.function h.0) owing))
 settle_by t a s own side countdown owed v false are some heavy e m may last h go =
     go own.node (suc owed) may
     (remains (cloning t s.function) side s.node (suc owed) v (t.at s.function own.node) (ends_last t s.function s.node v are heavy e) last h)

@@ -2,14 +2,7 @@
 use Rattle.std.proofs.Common.{◌≡◌, inl, inr, ℕ, ◌+◌, Bool, false, ◌∷◌, Option, None, Some, refl, sym, ap, ◌∙◌, subst}
 use Rattle.flow.specs.declared.node.View.{View}
 use Rattle.flow.specs.declared.node.View.TheVariants.{Row, Halts, Forks, Turns, Calls, Gives, Quits, Marks, Skips, Tests, Picks, Imports, Exports, Nowhere}
-use Rattle.flow.specs.Calls.{call, has_result, params_of, waiting}
-use Rattle.flow.specs.Countdown.{at_node}
-use Rattle.flow.specs.Machine.{next_of, step}
-use Rattle.flow.specs.Now.{Now, any, several}
-use Rattle.flow.specs.Rows.{act}
-use Rattle.flow.specs.Sampling.{IsPositive}
-use Rattle.flow.specs.State.{Frame, On, State}
-use Rattle.flow.specs.Ready.{IsPlain}
+use Rattle.flow.specs.Words.{call, has_result, params_of, waiting, at_node, next_of, step, Now, any, several, act, IsPositive, Frame, On, State, IsPlain}
 use Rattle.clone_paths.specs.declared.label.CopyLabel.TheVariants.{In}
 use Rattle.clone_paths.specs.declared.label.Side.{Side}
 use Rattle.clone_paths.specs.Form.{Here, IsIn, IsVisit, Labelled, Owed}
@@ -113,12 +106,8 @@ light_by t s own countdown Quits w =
     views t (next_of t.full Quits s) s own Quits w.also
     (quit_by t s own countdown (has_result (t.full.callee s.function)) s.below own.spots false w.are w.tally w.waits)
 light_by t s own countdown (Marks site next) w = absurd (w.are.unmarked s.function s.node site next w.light w.at)
-light_by t s own countdown (Skips by next) w = absurd (subst IsPlain w.at (w.are.plain s.function s.node))
-light_by t s own countdown (Tests site next) w = absurd (subst IsPlain w.at (w.are.plain s.function s.node))
-light_by t s own countdown (Picks weight fast slow) w = absurd (subst IsPlain w.at (w.are.plain s.function s.node))
-light_by t s own countdown (Imports next) w = absurd (subst IsPlain w.at (w.are.plain s.function s.node))
-light_by t s own countdown (Exports next) w = absurd (subst IsPlain w.at (w.are.plain s.function s.node))
 light_by t s own countdown Nowhere w = internal t s (On (beside s own))
+light_by t s own countdown v w = absurd (subst IsPlain w.at (w.are.plain s.function s.node))
 
 -- each step of the full program is followed
 stands_by : (t : Copies) (s : State) (own : Own) (countdown : ℕ) → AreCopies t → IsPositive t.full.bank →

@@ -1,6 +1,6 @@
 -- The countdown after one more visit.
 use Rattle.std.proofs.Common.{◌≡◌, inl, inr, ℕ, zero, suc, ◌+◌, ◌<◌, ◌≤◌, Bool, true, false, cond, List, [], ◌∷◌, ◌++◌, length, length-append, refl, sym, ap, ◌∙◌, arith}
-use Rattle.std.proofs.lemmas.Bool.{cases_lt}
+use Rattle.std.proofs.lemmas.Bool.{cases_lt, false_from_ne_true}
 use Rattle.std.proofs.lemmas.List.{append-nil}
 use Rattle.cbi_base.specs.declared.observation.Observation.{Observation}
 use Rattle.flow.specs.Sampling.{total_of, IsPositive, is_sampled, samples}
@@ -33,10 +33,6 @@ tally_hit bank visits observed visit drawn positive t =
       same = ap (λ (l : List Observation). l ++ visit ∷ []) t.same ∙ sym (more ∙ ap (λ (b : Bool). samples bank visits ++ cond b (visit ∷ []) []) is);
     }
 
-not_true : (b : Bool) → (b ≡ true → ⊥) → b ≡ false
-not_true true never = absurd (never refl)
-not_true false never = refl
-
 -- no sum of numbers lies between the last two
 none_between : (bank : ℕ → ℕ) (drawn draws low number : ℕ) → IsPositive bank → ((k : ℕ) → suc k ≡ drawn → total_of bank k ≤ low) → low < number → number < total_of bank drawn →
     total_of bank draws ≡ number → ⊥
@@ -61,7 +57,7 @@ pub tally_miss : (bank : ℕ → ℕ) (visits observed : List Observation) (visi
 tally_miss bank visits observed visit count drawn positive t =
     let longer : length (visits ++ visit ∷ []) ≡ length visits + 1 = length-append visits (visit ∷ []) in
     let due : total_of bank drawn ≡ length visits + suc (suc count) = t.due in
-    let is : is_sampled bank (length visits + 1) ≡ false = not_true (is_sampled bank (length visits + 1)) (λ h.
+    let is : is_sampled bank (length visits + 1) ≡ false = false_from_ne_true (is_sampled bank (length visits + 1)) (λ h.
     let s = sampled-found bank (length visits + 1) h in
     none_between bank drawn s.draws (length visits) (length visits + 1) positive t.last (omega arith) (omega (arith, due)) s.is)
     in

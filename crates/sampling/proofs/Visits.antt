@@ -4,11 +4,7 @@ use Rattle.cbi_base.specs.declared.observation.Seen.{Seen}
 use Rattle.cbi_base.specs.declared.outcome.Outcome.TheVariants.{Trapped}
 use Rattle.cbi_base.specs.declared.trap.Trap.{Trap}
 use Rattle.flow.specs.declared.node.View.TheVariants.{Forks, Marks, Skips, Tests}
-use Rattle.flow.specs.Countdown.{at_node, lowered, observed, redrawn, with_seen, with_test}
-use Rattle.flow.specs.Machine.{next_of}
-use Rattle.flow.specs.Sampling.{IsPositive}
-use Rattle.flow.specs.State.{Next, On, State, over}
-use Rattle.flow.specs.Truths.{looked}
+use Rattle.flow.specs.Words.{at_node, lowered, observed, redrawn, with_seen, with_test, next_of, IsPositive, Next, On, State, over, sees_now}
 use Rattle.weights.specs.Paths.{mark_count}
 use Rattle.clone_paths.specs.declared.label.Side.{Side}
 use Rattle.clone_paths.specs.declared.label.Side.TheVariants.{Fast, Slow}
@@ -48,7 +44,7 @@ pub record After (t : Copies) (s : State) (own : Own) (side : Side) (count owed 
   pub label : Labelled (cloning t s.function) side own.node next owed
 
 unseen_by : (t : Copies) (s : State) (own : Own) (side : Side) (countdown count owed site next : ℕ) (trap : Trap) → After t s own side count owed site next →
-    Tally t.full.bank s.watch.seen own.watch.seen countdown own.watch.drawn → looked (t.full.site site) s.now ≡ Err trap →
+    Tally t.full.bank s.watch.seen own.watch.seen countdown own.watch.drawn → sees_now (t.full.site site) s.now ≡ Err trap →
     Matches t (over (Trapped trap) s) (On (beside s (with_copy own own.node (suc count + owed))))
 unseen_by t s own side countdown count owed site next trap a tally e =
     elim (unseen (t.full.site site) s.now trap e) as (λ _. Matches t (over (Trapped trap) s) (On (beside s (with_copy own own.node (suc count + owed))))) [
@@ -62,7 +58,7 @@ unseen_by t s own side countdown count owed site next trap a tally e =
 
 -- a visit that is not sampled
 pub missed : (t : Copies) (s : State) (own : Own) (side : Side) (count owed site next : ℕ) (r : Result Seen Trap) → After t s own side count owed site next →
-    Tally t.full.bank s.watch.seen own.watch.seen (suc (suc count)) own.watch.drawn → looked (t.full.site site) s.now ≡ r →
+    Tally t.full.bank s.watch.seen own.watch.seen (suc (suc count)) own.watch.drawn → sees_now (t.full.site site) s.now ≡ r →
     Matches t (observed r site s (λ u. On (at_node next u))) (On (beside s (with_copy own own.node (suc count + owed))))
 missed t s own side count owed site next (Ok seen) a tally e =
     stays t (at_node next (with_seen site seen s)) (with_copy own own.node (suc count + owed)) (record {
@@ -97,7 +93,7 @@ no_debt count = let e : count ≡ count + 0 = omega arith in ap (λ (k : ℕ). S
 
 hit : (t : Copies) (s : State) (own : Own) (place site next : ℕ) (r : Result Seen Trap) → AreCopies t → IsPositive t.full.bank →
     Tally t.full.bank s.watch.seen own.watch.seen 1 own.watch.drawn → t.weighty s.function ≡ true → Returns t s.below own.spots →
-    Labelled (cloning t s.function) Slow place next 0 → looked (t.full.site site) s.now ≡ r →
+    Labelled (cloning t s.function) Slow place next 0 → sees_now (t.full.site site) s.now ≡ r →
     Matches t (observed r site s (λ u. On (at_node next u))) (lowered zero (sampled t) site place (with_test (beside s (record own { copy = Some 1 }))))
 hit t s own place site next (Ok seen) are positive tally heavy returns label e =
     let stays_on : Matches t (On (at_node next (with_seen site seen s))) (On (beside (at_node next (with_seen site seen s)) (drew t own place site seen))) =
@@ -118,13 +114,13 @@ hit t s own place site next (Err trap) are positive tally heavy returns label e 
 slow_visit : (t : Copies) (s : State) (own : Own) (count place site next : ℕ) → AreCopies t → IsPositive t.full.bank →
     Tally t.full.bank s.watch.seen own.watch.seen (suc count) own.watch.drawn → t.weighty s.function ≡ true → t.full.at s.function s.node ≡ Marks site next →
     Returns t s.below own.spots → Labelled (cloning t s.function) Slow place next 0 →
-    Matches t (observed (looked (t.full.site site) s.now) site s (λ u. On (at_node next u)))
+    Matches t (observed (sees_now (t.full.site site) s.now) site s (λ u. On (at_node next u)))
     (lowered count (sampled t) site place (with_test (beside s (record own { copy = Some (suc count) }))))
 slow_visit t s own zero place site next are positive tally heavy at returns label =
-    hit t s own place site next (looked (t.full.site site) s.now) are positive tally heavy returns label refl
+    hit t s own place site next (sees_now (t.full.site site) s.now) are positive tally heavy returns label refl
 slow_visit t s own (suc count) place site next are positive tally heavy at returns label =
-    recount t (observed (looked (t.full.site site) s.now) site s (λ u. On (at_node next u))) s (tested own) place (suc count + 0) (suc count) (omega arith)
-    (missed t s (record (tested own) { node = place }) Slow count 0 site next (looked (t.full.site site) s.now)
+    recount t (observed (sees_now (t.full.site site) s.now) site s (λ u. On (at_node next u))) s (tested own) place (suc count + 0) (suc count) (omega arith)
+    (missed t s (record (tested own) { node = place }) Slow count 0 site next (sees_now (t.full.site site) s.now)
     (record { are = are; positive = positive; heavy = heavy; at = at; may = refl; run = tt; returns = returns; label = label }) tally refl)
 
 -- the countdown is one above another number
@@ -161,7 +157,7 @@ after_fast t s own side countdown count owed left site next w positive e may lab
 }
 
 abbrev pub seen_next : Copies → State → ℕ → ℕ → Next
-seen_next t s site next = observed (looked (t.full.site site) s.now) site s (λ u. On (at_node next u))
+seen_next t s site next = observed (sees_now (t.full.site site) s.now) site s (λ u. On (at_node next u))
 
 fast_count : (t : Copies) (s : State) (own : Own) (side : Side) (countdown owed site next : ℕ) → Within t s own side countdown owed (Marks site next) → side ≡ Fast →
     (k : ℕ) × (countdown ≡ suc (suc k))
@@ -178,7 +174,7 @@ owed_visit t s own side countdown owed site next w positive fast label =
     let may : MayOwe side (suc owed) = subst (λ (x : Side). MayOwe x (suc owed)) (sym fast) tt in
     let more : suc k.0 + suc owed ≡ countdown + owed = omega (arith, k.1) in
     recount t (seen_next t s site next) s own own.node (suc k.0 + suc owed) (countdown + owed) more
-    (missed t s own side k.0 (suc owed) site next (looked (t.full.site site) s.now)
+    (missed t s own side k.0 (suc owed) site next (sees_now (t.full.site site) s.now)
     (after_fast t s own side countdown k.0 owed (suc owed) site next w positive k.1 may label)
     (tally_to t s own countdown (suc (suc k.0)) k.1 w.tally) refl)
 
@@ -190,7 +186,7 @@ last_visit t s own countdown owed place site next w positive e label =
     let k = fast_count t s own Fast countdown owed site next w refl in
     let is : countdown + owed ≡ (suc k.0 + 0) + (owed + 1) = omega (arith, k.1) in
     skip_by t (seen_next t s site next) s own (countdown + owed) (owed + 1) (suc k.0 + 0) place (omega arith) is e
-    (missed t s (record own { node = place }) Fast k.0 0 site next (looked (t.full.site site) s.now)
+    (missed t s (record own { node = place }) Fast k.0 0 site next (sees_now (t.full.site site) s.now)
     (after_fast t s (record own { node = place }) Fast countdown k.0 owed 0 site next
     (record { are = w.are; tally = w.tally; heavy = w.heavy; at = w.at; may = w.may; run = w.run; returns = w.returns }) positive k.1 tt label)
     (tally_to t s own countdown (suc (suc k.0)) k.1 w.tally) refl)

@@ -1,22 +1,17 @@
 -- Whole runs.
 use Rattle.std.proofs.Common.{◌≡◌, ℕ, zero, suc, Bool, true, false, List, [], Option, None, Some, slice_get, refl, sym, ap, ◌∙◌, subst, arith}
 use Rattle.std.proofs.Math.Path.{fun_ext}
+use Rattle.cbi_base.specs.Words.{each_made, Objects, no_objects}
 use Rattle.cbi_base.specs.declared.observation.Observation.{Observation}
 use Rattle.cbi_base.specs.declared.outcome.Outcome.TheVariants.{Trapped}
 use Rattle.cbi_base.specs.declared.trap.Trap.TheVariants.{Internal, StackOverflow}
-use Rattle.cbi_base.specs.Objects.{Objects, no_objects}
 use Rattle.flow.specs.declared.program.Function.{Function}
 use Rattle.flow.specs.declared.program.Global.{Global}
 use Rattle.flow.specs.declared.program.ProgramParts.{ProgramParts}
 use Rattle.flow.specs.declared.program.Text.{Text}
 use Rattle.flow.specs.declared.site.Site.{Site}
-use Rattle.flow.specs.Code.{Callee, Code, callee_of, code_of}
-use Rattle.flow.specs.Counting.{counts_of}
-use Rattle.flow.specs.Machine.{EndsFrom, MachineEnds, at_start, begin_with, each_made, no_work, program_objects, run, step}
-use Rattle.flow.specs.Program.{IsProgram, parts_of}
-use Rattle.flow.specs.Sampling.{IsPositive, total_of}
-use Rattle.flow.specs.State.{Ending, Next, On, Over, State}
-use Rattle.flow.specs.Ready.{IsReady}
+use Rattle.flow.specs.Words.{Callee, Code, callee_of, code_of, counts_of, EndsFrom, MachineEnds, at_start, begin_with, no_work, run, step, program_objects}
+use Rattle.flow.specs.Words.{IsProgram, parts_of, IsPositive, total_of, Ending, Next, On, Over, State, IsReady}
 use Rattle.flow.proofs.Endings.{goes}
 use Rattle.clone_paths.specs.Cloned.{Cloned, MayClone}
 use Rattle.sampling.specs.Copies.{AreCopies, Copies, sampled}

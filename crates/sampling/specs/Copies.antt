@@ -5,9 +5,7 @@ use Rattle.flow.specs.declared.node.View.TheVariants.{Forks, Calls, Marks}
 use Rattle.flow.specs.declared.site.Site.{Site}
 use Rattle.flow.specs.declared.site.SiteKind.{SiteKind}
 use Rattle.flow.specs.declared.site.SiteKind.TheVariants.{Branch}
-use Rattle.flow.specs.Code.{Code}
-use Rattle.flow.specs.Nodes.{led_to}
-use Rattle.flow.specs.Ready.{BranchesFork, IsPlain}
+use Rattle.flow.specs.Words.{Code, led_to, BranchesFork, IsPlain}
 use Rattle.regions.specs.Blocks.{ends_block}
 use Rattle.clone_paths.specs.declared.label.CopyLabel.{CopyLabel}
 use Rattle.clone_paths.specs.declared.label.CopyLabel.TheVariants.{Enter}

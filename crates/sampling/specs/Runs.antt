@@ -3,13 +3,7 @@ use Rattle.std.specs.Prelude.{◌≡◌, ℕ, List, slice_get}
 use Rattle.cbi_base.specs.declared.outcome.Outcome.TheVariants.{Trapped}
 use Rattle.cbi_base.specs.declared.trap.Trap.TheVariants.{Internal}
 use Rattle.flow.specs.declared.program.ProgramParts.{ProgramParts}
-use Rattle.flow.specs.Code.{view_in}
-use Rattle.flow.specs.Counting.{counts_of, run_result}
-use Rattle.flow.specs.Machine.{MachineEnds}
-use Rattle.flow.specs.Program.{IsProgram}
-use Rattle.flow.specs.Sampling.{IsPositive, samples}
-use Rattle.flow.specs.State.{Ending}
-use Rattle.flow.specs.Ready.{IsReady}
+use Rattle.flow.specs.Words.{view_in, counts_of, run_result, MachineEnds, IsProgram, IsPositive, samples, Ending, IsReady}
 use Rattle.clone_paths.specs.Cloned.{Cloned, MayClone}
 
 -- how a sampled run ends, beside how the full one does: the same outcome and output, and the samples of what the full one observed

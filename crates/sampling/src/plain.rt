@@ -1,7 +1,6 @@
 ghost use Rattle.std.specs.Prelude.{◌≡◌, ◌↔◌, ◌<◌, ◌^◌, length, IsTrue};
 ghost use Rattle.std.specs.List.{All, sum_by};
-ghost use Rattle.flow.specs.View.{view};
-ghost use Rattle.flow.specs.Ready.{ArePlain, IsPlain};
+ghost use Rattle.flow.specs.Words.{view, ArePlain, IsPlain};
 ghost use Rattle.clone_paths.specs.Cloned.{MayClone};
 
 use flow::{Function, Node, Program, View, view_of};

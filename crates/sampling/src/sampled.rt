@@ -12,11 +12,11 @@ use std::alloc::Global;
 /// This asks that each visit of a condition's site stands before the fork on the condition. A run that meets a fault of the program itself
 /// (a row without its operands) is not spoken of: there the sampled program may go on past a site that it doesn't look at. The program has no sampling
 /// nodes and at most 2,000,000 nodes, and the bank of a run has numbers of at least 1.
-pub fn sample(alloc: Global, program: &Program) -> Result<Program, Memory>
-    requires { MayClone program.now }
-    ensures cloned { IfOk result (λ q. Cloned program.now q) }
-    ensures small { IfOk result (λ q. IsSmall program.now q) }
-    ensures samples { IfOk result (λ q. IsReady program.now → Samples program.now q) }
+pub fn sample(alloc: Global, program: Program) -> Result<Program, Memory>
+    requires { MayClone program }
+    ensures cloned { IfOk result (λ q. Cloned program q) }
+    ensures small { IfOk result (λ q. IsSmall program q) }
+    ensures samples { IfOk result (λ q. IsReady program → Samples program q) }
 {
     // Its clause says that the parts are a program's.
     let _main = program.main();

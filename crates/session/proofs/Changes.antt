@@ -14,7 +14,7 @@ use Rattle.elimination_tallies.specs.Recount.{failing_runs, fails, labelled, run
 use Rattle.elimination_tallies.specs.Runs.{AreEntriesOf, AreRunsOf}
 use Rattle.elimination_tallies.specs.Tallies.{AllowsEntries, AreRecounts, ChangedByAll, Tallies, counted_as, one_if}
 use Rattle.elimination_tallies.proofs.RunChanges.{fails-middle, put-in-allowed, put-in-recounts, take-out-allowed, take-out-recounts}
-use Rattle.elimination_tallies.proofs.RunLemmas.{are-entries}
+use Rattle.elimination_tallies.proofs.RunLemmas.{are-entries, collection-well}
 use Rattle.elimination_tallies.specs.declared.listed.Listed.{Listed}
 use Rattle.elimination_tallies.specs.Leading.{IsLeader, Leads, NonePass, NonePasses}
 use Rattle.elimination_tallies.specs.Predicates.{predicates_in}
@@ -23,14 +23,6 @@ use Rattle.elimination_tallies.proofs.RecountLemmas.{fails-most, recounts-leader
 use Rattle.session.specs.Session.{AreKept}
 use Rattle.session.specs.declared.kept.Kept.{Kept}
 use Rattle.session.proofs.Runs.{split}
-
-well-runs : (c : Held) (reports : List Report) → AreReports reports → ((r : Report) → IsOneOfReports r reports → IsOurs c r) → AreRunsOf c.branches (runs_of reports)
-well-runs c [] are ours = All-nil (λ (x : LabelledRun). AreEntriesOf c.branches x.entries)
-well-runs c (r ∷ more) are ours =
-    All-cons (λ (x : LabelledRun). AreEntriesOf c.branches x.entries) (labelled r) (runs_of more) (are-entries c r are.0 (ours r (inl refl))) (well-runs c more are.1 (λ x is. ours x (inr is)))
-
-pub well : (c : Held) → IsCollection c → AreRunsOf c.branches (runs_of c.reports)
-well c is = well-runs c c.reports is.reports is.ours
 
 -- the runs before and behind that of a report
 pub record AreAround (c : Held) (run : ℕ) (r : Report) : Type 0 where
@@ -49,7 +41,7 @@ around c run r is found =
       behind = runs_of s.behind;
       all = all;
       rest = ap runs_of s.rest ∙ map-append labelled s.before s.behind;
-      well_runs = subst (AreRunsOf c.branches) all (well c is);
+      well_runs = subst (AreRunsOf c.branches) all (collection-well c is);
       few = subst (λ (rs : List LabelledRun). length rs ≤ 100000) all (omega (arith, is.few, length-map c.reports labelled));
     }
 

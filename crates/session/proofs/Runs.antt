@@ -2,7 +2,8 @@
 use Rattle.std.proofs.Common.{◌≡◌, ◌≢◌, ◌+◌, ℕ, Bool, true, false, cond, ◌==◌, ⊎_elim, List, [], ◌∷◌, ◌++◌, None, Some, ap, sym, subst, ◌∙◌, refl, arith}
 use Rattle.std.specs.Prelude.{nat_lt}
 use Rattle.std.proofs.lemmas.Bool.Decides.{nat_tests}
-use Rattle.cbi_base.proofs.NumberLemmas.{answers-none, none-some, some-is}
+use Rattle.base_lists.proofs.Options.{answers_none, none_some, some_is}
+use Rattle.base_lists.proofs.Numbers.{number_itself, other_number}
 use Rattle.report_file.specs.declared.label.Label.{Label}
 use Rattle.report_file.specs.declared.report.Report.{Report}
 use Rattle.report_file.specs.Report.{IsReport}
@@ -15,20 +16,14 @@ use Rattle.collector.proofs.Maps.{labelled as with_label, next-least, next-no}
 use Rattle.collector.proofs.Ordering.{AreRising, above-member, from-rising, with_by}
 use Rattle.collector.proofs.Taking.{found-member, found-run}
 
-other-number : (m n : ℕ) → m ≢ n → (m == n) ≡ false
-other-number m n h = grind (arith, nat_tests)
-
-same-number : (n : ℕ) → (n == n) ≡ true
-same-number n = grind (arith, nat_tests)
-
 -- who is one of the reports is that of its run
 member-at : (reports : List Report) (r : Report) → AreRising reports → IsOneOfReports r reports → report_at r.run reports ≡ Some r
 member-at [] r rising is = absurd is
 member-at (x ∷ more) r rising is =
-    ⊎_elim (λ (same : r ≡ x). let here : (r.run == x.run) ≡ true = ap (λ (y : Report). r.run == y.run) (sym same) ∙ same-number r.run in ap (λ b. cond b (Some x) (report_at r.run more)) here ∙ ap Some (sym same))
+    ⊎_elim (λ (same : r ≡ x). let here : (r.run == x.run) ≡ true = ap (λ (y : Report). r.run == y.run) (sym same) ∙ number_itself r.run in ap (λ b. cond b (Some x) (report_at r.run more)) here ∙ ap Some (sym same))
     (λ (behind : IsOneOfReports r more).
     let less = above-member x.run more r rising.0 behind in
-    let other : (r.run == x.run) ≡ false = other-number r.run x.run (λ e. omega arith) in
+    let other : (r.run == x.run) ≡ false = other_number r.run x.run (λ e. omega arith) in
     ap (λ b. cond b (Some x) (report_at r.run more)) other ∙ member-at more r rising.1 behind) is
 
 report-of : (reports : List Report) (r : Report) → AreReports reports → IsOneOfReports r reports → IsReport r
@@ -38,7 +33,7 @@ report-of (x ∷ more) r are is = ⊎_elim (λ (same : r ≡ x). subst IsReport 
 -- no run has number 0
 pub none-at-zero : (c : Held) (run : ℕ) → IsCollection c → run ≡ 0 → None ≡ report_at run c.reports
 none-at-zero c run is zero =
-    answers-none (report_at run c.reports) (λ r found.
+    answers_none (report_at run c.reports) (λ r found.
     let fits = report-of c.reports r is.reports (found-member run c.reports r found) in
     let least = fits.run.least in
     let same = found-run run c.reports r found in omega arith)
@@ -52,7 +47,7 @@ at-next c before run next is one found same =
 pub not-next : (c : Held) (before run : ℕ) (next : Report) → IsCollection c → before + 1 ≡ run → next_after before c.reports ≡ Some next → next.run ≢ run → None ≡ report_at run c.reports
 not-next c before run next is one found other =
     let least = next-least before c.reports next (from-rising 0 c.reports is.rising) found in
-    answers-none (report_at run c.reports) (λ r held.
+    answers_none (report_at run c.reports) (λ r held.
     let same = found-run run c.reports r held in
     let up = least.2 r (found-member run c.reports r held) (omega arith) in
     let low = least.1 in
@@ -60,7 +55,7 @@ not-next c before run next is one found other =
 
 pub no-next : (c : Held) (before run : ℕ) → before + 1 ≡ run → next_after before c.reports ≡ None → None ≡ report_at run c.reports
 no-next c before run one none =
-    answers-none (report_at run c.reports) (λ r held.
+    answers_none (report_at run c.reports) (λ r held.
     let same = found-run run c.reports r held in
     let most = next-no before c.reports r none (found-member run c.reports r held) in omega arith)
 
@@ -75,7 +70,7 @@ split-by : (b : Bool) (run : ℕ) (x r : Report) (more : List Report) → (run =
 split-by true run x r more test found on = record {
   before = [];
   behind = more;
-  all = ap (λ y. y ∷ more) (some-is found);
+  all = ap (λ y. y ∷ more) (some_is found);
   rest = ap (λ b. cond b more (x ∷ without_report run more)) test;
 }
 split-by false run x r more test found on =
@@ -87,17 +82,17 @@ split-by false run x r more test found on =
     }
 
 pub split : (run : ℕ) (reports : List Report) (r : Report) → report_at run reports ≡ Some r → IsSplit run reports r
-split run [] r found = absurd (none-some found)
+split run [] r found = absurd (none_some found)
 split run (x ∷ more) r found = split-by (run == x.run) run x r more refl found (split run more r)
 
 -- the others stay when a report is put in, or gets another label
 without-with-by : (p q : Bool) (r x : Report) (more : List Report) → (r.run == x.run) ≡ q → cond q (Some x) (report_at r.run more) ≡ None → (report_at r.run more ≡ None → without_report r.run (with_report r more) ≡ more) → without_report r.run (with_by p q r x more (with_report r more)) ≡ x ∷ more
-without-with-by true q r x more test absent on = ap (λ b. cond b (x ∷ more) (r ∷ without_report r.run (x ∷ more))) (same-number r.run)
-without-with-by false true r x more test absent on = absurd (none-some (sym absent))
+without-with-by true q r x more test absent on = ap (λ b. cond b (x ∷ more) (r ∷ without_report r.run (x ∷ more))) (number_itself r.run)
+without-with-by false true r x more test absent on = absurd (none_some (sym absent))
 without-with-by false false r x more test absent on = ap (λ b. cond b (with_report r more) (x ∷ without_report r.run (with_report r more))) test ∙ ap (λ ys. x ∷ ys) (on absent)
 
 pub without-with : (r : Report) (reports : List Report) → report_at r.run reports ≡ None → without_report r.run (with_report r reports) ≡ reports
-without-with r [] absent = ap (λ b. cond b [] (r ∷ [])) (same-number r.run)
+without-with r [] absent = ap (λ b. cond b [] (r ∷ [])) (number_itself r.run)
 without-with r (x ∷ more) absent = without-with-by (nat_lt r.run x.run) (r.run == x.run) r x more refl absent (without-with r more)
 
 without-relabelled-by : (b : Bool) (run : ℕ) (label : Label) (x : Report) (more : List Report) → (run == x.run) ≡ b → without_report run (relabelled run label more) ≡ without_report run more → without_report run (cond b (with_label label x ∷ more) (x ∷ relabelled run label more)) ≡ cond b more (x ∷ without_report run more)
@@ -111,7 +106,7 @@ without-relabelled run label (x ∷ more) = without-relabelled-by (run == x.run)
 
 -- where the run isn't held, nothing is left out
 without-absent-by : (b : Bool) (run : ℕ) (x : Report) (more : List Report) → cond b (Some x) (report_at run more) ≡ None → (report_at run more ≡ None → without_report run more ≡ more) → cond b more (x ∷ without_report run more) ≡ x ∷ more
-without-absent-by true run x more absent on = absurd (none-some (sym absent))
+without-absent-by true run x more absent on = absurd (none_some (sym absent))
 without-absent-by false run x more absent on = ap (λ ys. x ∷ ys) (on absent)
 
 pub without-absent : (run : ℕ) (reports : List Report) → report_at run reports ≡ None → without_report run reports ≡ reports

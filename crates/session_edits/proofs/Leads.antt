@@ -4,8 +4,7 @@ use Rattle.std.specs.Prelude.{map}
 use Rattle.std.specs.List.{AllByRecursion, flat_map}
 use Rattle.std.proofs.lemmas.List.{append-nil, map-append}
 use Rattle.std.specs.Global.{Global}
-use Rattle.cbi_base.specs.Lines.{LeadsTo, ReadsLines}
-use Rattle.cbi_base.specs.Text.{spaced}
+use Rattle.cbi_base.specs.Words.{LeadsTo, ReadsLines, spaced}
 use Rattle.cbi_base.specs.declared.identity.ProgramId.{ProgramId}
 use Rattle.cbi_base.proofs.FieldLemmas.{IsField-decimal}
 use Rattle.report_file.specs.declared.draft.Version.TheVariants.{First, Second}
@@ -15,7 +14,7 @@ use Rattle.report_file.specs.Report.{AreEntries, IsReport, RiseFrom}
 use Rattle.report_file.specs.RunLine.{IsRunLine, line_of, run_line_fields}
 use Rattle.report_file.specs.Spelling.{site_fields}
 use Rattle.report_file.proofs.LineLemmas.{IsRow, row-label, row-site}
-use Rattle.report_file.proofs.RunLines.{run-row}
+use Rattle.report_file.proofs.RunLines.{run-row, second-not-first}
 use Rattle.report_file.proofs.Whole.{end_of, rows-lines}
 use Rattle.session_edits.specs.declared.draft.Draft.{Draft}
 use Rattle.session_edits.specs.declared.draft.Due.TheVariants as due
@@ -53,9 +52,6 @@ record Arrives (alloc : Global) (program : ProgramId) (from : Draft) (lines : Li
   site : ℕ
   leads : LeadsTo Goes from lines (at alloc program edits current site ranks)
   whole_is : edits ++ added current ≡ all
-
-second-not-first : Second ≡ First → ⊥
-second-not-first e = cc
 
 is-run-line : (r : Report) → IsReport r → IsRunLine Second (line_of r)
 is-run-line r is = record { run = is.run; outcome = is.outcome; work = is.work; label = λ e. absurd (second-not-first e) }

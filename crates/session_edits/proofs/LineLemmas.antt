@@ -2,10 +2,12 @@
 use Rattle.std.proofs.Common.{◌≡◌, ◌≢◌, ℕ, List, [], ◌∷◌, ◌++◌, Option, None, Some, IfSome, codes, decimal, ap, sym, subst, ◌∙◌, refl, arith}
 use Rattle.std.specs.Option.{option_map}
 use Rattle.std.proofs.lemmas.Bool.{leb-true, le-leb}
-use Rattle.cbi_base.specs.Numbers.{greatest_u32}
-use Rattle.cbi_base.specs.Text.{fields_of, spaced}
+use Rattle.std.proofs.lemmas.Option.{option_and_then_some}
+use Rattle.base_lists.proofs.Tests.{some_choice}
+use Rattle.base_lists.proofs.Options.{mapped, none_some, some_is}
+use Rattle.cbi_base.specs.Words.{greatest_u32, fields_of, spaced}
 use Rattle.cbi_base.proofs.FieldLemmas.{IsField-decimal}
-use Rattle.cbi_base.proofs.NumberLemmas.{bound, chosen, mapped, none-some, some-is, same-word, number_of-decimal, number_of-spelled}
+use Rattle.cbi_base.proofs.NumberLemmas.{same-word, number_of-decimal, number_of-spelled}
 use Rattle.report_file.specs.declared.label.Label.{Label}
 use Rattle.report_file.specs.declared.draft.Version.TheVariants.{Second}
 use Rattle.report_file.specs.declared.run_line.RunLine.{RunLine}
@@ -14,7 +16,7 @@ use Rattle.report_file.specs.Reading.{Reads}
 use Rattle.report_file.specs.Report.{IsRun}
 use Rattle.report_file.specs.RunLine.{IsRunLine, run_line_fields}
 use Rattle.report_file.specs.Spelling.{label_word}
-use Rattle.report_file.proofs.FieldLemmas.{alone-is, label-spelled, label-taken}
+use Rattle.report_file.proofs.FieldLemmas.{alone-is, label-spelled, label-taken, label_in-spelled, label_in-word}
 use Rattle.report_file.proofs.LineLemmas.{IsRow, line-reads, row-label}
 use Rattle.session_edits.specs.declared.edit.Edit.{Edit}
 use Rattle.session_edits.specs.declared.edit.Edit.TheVariants.{Add, Remove, Relabel, Rank}
@@ -44,18 +46,10 @@ run-read run is = rw (number_of-decimal greatest_u32 run is.most (omega arith), 
 run-is : (field : List ℕ) (run : ℕ) → run_in field ≡ Some run → IsRun run × (field ≡ decimal run)
 unfolding run_in
 run-is field run h =
-    bound _ _ run h (λ n read is. chosen _ _ _ run is (λ least same.
+    option_and_then_some _ _ run h (λ n read is. some_choice _ _ _ run is (λ least same.
     let spelled = number_of-spelled greatest_u32 field n read in
-    let e = some-is same in
-    (subst IsRun e (record { least = leb-true 1 n least; most = spelled.1 }), spelled.0 ∙ ap decimal e)) (λ _ is. absurd (none-some is)))
-
-label-read : (label : Label) → label_in (label_word label) ≡ Some label
-label-read label =
-    mapped (λ (l : Label). let pair : Label × List (List ℕ) = (l, []) in pair) (label_in (label_word label)) (label, []) (label-taken label []) (λ l read same. read ∙ ap Some (ap (λ (p : Label × List (List ℕ)). p.0) same))
-
-label-is : (field : List ℕ) (label : Label) → label_in field ≡ Some label → field ≡ label_word label
-label-is field label read =
-    let line = label-spelled (codes "label" ∷ field ∷ []) [] label (ap (λ o. option_map (λ (l : Label). let pair : Label × List (List ℕ) = (l, []) in pair) o) read) in cc
+    let e = some_is same in
+    (subst IsRun e (record { least = leb-true 1 n least; most = spelled.1 }), spelled.0 ∙ ap decimal e)) (λ _ is. absurd (none_some is)))
 
 row-change : (change : Edit) → IsChange change → IsRow (edit_fields change)
 row-change (Add report) is = absurd is
@@ -66,28 +60,28 @@ row-change Rank is = absurd is
 change-read : (change : Edit) → IsChange change → change_in (edit_fields change) ≡ Some change
 change-read (Add report) is = absurd is
 change-read (Remove run) is = rw (run-read run is) refl
-change-read (Relabel run label) is = rw (run-read run is, label-read label) refl
+change-read (Relabel run label) is = rw (run-read run is, label_in-word label) refl
 change-read Rank is = absurd is
 
 relabel-is : (run : ℕ) (rest : List (List ℕ)) (change : Edit) → IsRun run → relabel_in run rest ≡ Some change → IsChange change × (codes "relabel" ∷ decimal run ∷ rest ≡ edit_fields change)
-relabel-is run [] change is h = absurd (none-some h)
+relabel-is run [] change is h = absurd (none_some h)
 relabel-is run (field ∷ rest) change is h =
-    bound _ (label_in field) change h (λ label read one.
+    option_and_then_some _ (label_in field) change h (λ label read one.
     let a = alone-is (Relabel run label, rest) change one in
-    subst (λ e. IsChange e × (codes "relabel" ∷ decimal run ∷ field ∷ rest ≡ edit_fields e)) a.0 (is, ap (λ f. codes "relabel" ∷ decimal run ∷ f ∷ rest) (label-is field label read) ∙ ap (λ r. codes "relabel" ∷ decimal run ∷ label_word label ∷ r) a.1))
+    subst (λ e. IsChange e × (codes "relabel" ∷ decimal run ∷ field ∷ rest ≡ edit_fields e)) a.0 (is, ap (λ f. codes "relabel" ∷ decimal run ∷ f ∷ rest) (label_in-spelled field label read) ∙ ap (λ r. codes "relabel" ∷ decimal run ∷ label_word label ∷ r) a.1))
 
 change-is : (fields : List (List ℕ)) (change : Edit) → change_in fields ≡ Some change → IsChange change × (fields ≡ edit_fields change)
-change-is [] change h = absurd (none-some h)
-change-is (word ∷ []) change h = absurd (none-some h)
+change-is [] change h = absurd (none_some h)
+change-is (word ∷ []) change h = absurd (none_some h)
 change-is (word ∷ number ∷ rest) change h =
-    bound _ (run_in number) change h (λ run read h.
+    option_and_then_some _ (run_in number) change h (λ run read h.
     let is = run-is number run read in
-    chosen _ _ _ change h (λ test one.
+    some_choice _ _ _ change h (λ test one.
     let a = alone-is (Remove run, rest) change one in
     subst (λ e. IsChange e × (word ∷ number ∷ rest ≡ edit_fields e)) a.0 (is.0, ap (λ w. w ∷ number ∷ rest) (same-word word (codes "remove") test) ∙ ap (λ n. codes "remove" ∷ n ∷ rest) is.1 ∙ ap (λ r. codes "remove" ∷ decimal run ∷ r) a.1)) (λ _ h.
-    chosen _ _ _ change h (λ test is_relabel.
+    some_choice _ _ _ change h (λ test is_relabel.
     let s = relabel-is run rest change is.0 is_relabel in
-    (s.0, ap (λ w. w ∷ number ∷ rest) (same-word word (codes "relabel") test) ∙ ap (λ n. codes "relabel" ∷ n ∷ rest) is.1 ∙ s.1)) (λ _ none. absurd (none-some none))))
+    (s.0, ap (λ w. w ∷ number ∷ rest) (same-word word (codes "relabel") test) ∙ ap (λ n. codes "relabel" ∷ n ∷ rest) is.1 ∙ s.1)) (λ _ none. absurd (none_some none))))
 
 pub change-reads : (line : List ℕ) (answer : Option Edit) → answer ≡ change_in (fields_of line) → Reads edit_fields IsChange line answer
 change-reads line answer is = line-reads edit_fields IsChange change_in row-change change-read change-is line answer is

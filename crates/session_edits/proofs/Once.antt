@@ -1,11 +1,10 @@
 -- A line is that of one value: so it leads to one state, and a text spells one list of edits.
 use Rattle.std.proofs.Common.{◌≡◌, ◌+◌, ℕ, List, [], ◌∷◌, ◌++◌, Some, ap, sym, ◌∙◌, refl, arith}
 use Rattle.std.specs.Global.{Global}
-use Rattle.cbi_base.specs.Lines.{LeadsOnce}
-use Rattle.cbi_base.specs.Text.{fields_of, spaced}
+use Rattle.base_lists.proofs.Options.{some_is}
+use Rattle.cbi_base.specs.Words.{LeadsOnce, fields_of, spaced}
 use Rattle.cbi_base.specs.declared.identity.ProgramId.{ProgramId}
 use Rattle.cbi_base.proofs.LineLemmas.{reads-once}
-use Rattle.cbi_base.proofs.NumberLemmas.{some-is}
 use Rattle.report_file.specs.declared.draft.Version.TheVariants.{Second}
 use Rattle.report_file.specs.declared.report.Entry.{Entry}
 use Rattle.report_file.specs.declared.report.Report.{Report}
@@ -42,7 +41,7 @@ add-same d line a b s t =
 site-same : (d : Draft) (line : List ℕ) (a b : Draft) → AddedSiteFollows d line a → AddedSiteFollows d line b → a ≡ b
 site-same d line a b s t =
     let entry : s.value ≡ t.value = once site_fields IsEntry line (entry_of_fields (fields_of line)) (entry-reads line (entry_of_fields (fields_of line)) refl) s.value t.value s.is_next.is_entry t.is_next.is_entry s.line_is t.line_is in
-    let current : s.report ≡ t.report = some-is (sym s.is_current ∙ t.is_current) in
+    let current : s.report ≡ t.report = some_is (sym s.is_current ∙ t.is_current) in
     s.after_is
     ∙ ap (λ (e : Entry). record d { current = Some (record s.report { entries = s.report.entries ++ e ∷ [] }); site = e.site + 1 }) entry
     ∙ ap (λ (r : Report). record d { current = Some (record r { entries = r.entries ++ t.value ∷ [] }); site = t.value.site + 1 }) current

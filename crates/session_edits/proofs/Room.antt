@@ -1,7 +1,6 @@
 -- Lines lead on where they come one after another and there is room for all of them.
 use Rattle.std.proofs.Common.{◌≡◌, ◌+◌, ◌-◌, ◌≤◌, ℕ, List, [], ◌∷◌, length, ap, refl, length-append, arith}
-use Rattle.cbi_base.specs.Lines.{LeadsTo}
-use Rattle.cbi_base.specs.Text.{ended, text_of}
+use Rattle.cbi_base.specs.Words.{LeadsTo, ended, text_of}
 use Rattle.session_edits.specs.declared.draft.Draft.{Draft}
 use Rattle.session_edits.specs.declared.draft.Reading.{Reading}
 use Rattle.session_edits.specs.Grammar.{EditLineFollows, Goes}

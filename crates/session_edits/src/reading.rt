@@ -1,6 +1,5 @@
 ghost use Rattle.std.specs.Prelude.{◌≡◌, ℕ, List, IfOk, Err};
-ghost use Rattle.cbi_base.specs.Lines.{IsBadLine};
-ghost use Rattle.cbi_base.specs.ProgramId.{IsId};
+ghost use Rattle.cbi_base.specs.Words.{IsBadLine, IsId};
 ghost use Rattle.session_edits.specs.Answers.{EditsReadAs, EditsRefusedAt};
 ghost use Rattle.session_edits.specs.Grammar.{EditLineFollows, EditsEnd, edits_start};
 ghost use Rattle.session_edits.specs.Spelling.{SpellsEdits};

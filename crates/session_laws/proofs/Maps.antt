@@ -3,6 +3,7 @@ use Rattle.std.proofs.Common.{◌≡◌, ◌≢◌, ◌⊎◌, ⊎_elim, ℕ, Bo
 use Rattle.std.specs.Option.{option_map}
 use Rattle.std.proofs.lemmas.Bool.Decides.{nat_tests}
 use Rattle.std.proofs.lemmas.List.{append-nil}
+use Rattle.base_lists.proofs.Numbers.{number_itself, other_number}
 use Rattle.report_file.specs.declared.label.Label.{Label}
 use Rattle.report_file.specs.declared.report.Report.{Report}
 use Rattle.collector.specs.Collected.{Adds, relabelled, report_at, with_report, without_report}
@@ -16,7 +17,7 @@ use Rattle.collector.proofs.Taking.{found-member}
 use Rattle.session_edits.specs.declared.edit.Edit.{Edit}
 use Rattle.session_edits.specs.declared.edit.Edit.TheVariants.{Add, Remove, Relabel, Rank}
 use Rattle.session_laws.specs.Accepted.{Accepts, AreHeldOf, TakesEdit}
-use Rattle.session_laws.proofs.Steps.{held-step, is-of, other-run, step, step-other, with_label}
+use Rattle.session_laws.proofs.Steps.{held-step, is-of, step, step-other, with_label}
 
 -- the runs rise on
 above-without-by : (b : Bool) (low : ℕ) (x : Report) (more rest : List Report) → AreAbove low (x ∷ more) → AreAbove low rest → AreAbove low (cond b more (x ∷ rest))
@@ -127,17 +128,14 @@ held-none = record { rising = tt; each = λ run. refl }
 pub accepted-hold : (c after : Held) (edits : List Edit) → c.reports ≡ [] → Accepts c edits after → AreHeldOf edits after.reports
 accepted-hold c after edits none accepts = held-all edits [] c after (subst (AreHeldOf []) (sym none) held-none) accepts
 
-same-number : (n : ℕ) → (n == n) ≡ true
-same-number n = grind (arith, nat_tests)
-
 -- who is one of the reports is that of its run
 member-at : (reports : List Report) (r : Report) → AreRising reports → IsOneOfReports r reports → report_at r.run reports ≡ Some r
 member-at [] r rising is = absurd is
 member-at (x ∷ more) r rising is =
-    ⊎_elim (λ (same : r ≡ x). let here : (r.run == x.run) ≡ true = ap (λ (y : Report). r.run == y.run) (sym same) ∙ same-number r.run in ap (λ b. cond b (Some x) (report_at r.run more)) here ∙ ap Some (sym same))
+    ⊎_elim (λ (same : r ≡ x). let here : (r.run == x.run) ≡ true = ap (λ (y : Report). r.run == y.run) (sym same) ∙ number_itself r.run in ap (λ b. cond b (Some x) (report_at r.run more)) here ∙ ap Some (sym same))
     (λ (behind : IsOneOfReports r more).
     let less = above-member x.run more r rising.0 behind in
-    let other : (r.run == x.run) ≡ false = other-run r.run x.run (λ e. omega arith) in
+    let other : (r.run == x.run) ≡ false = other_number r.run x.run (λ e. omega arith) in
     ap (λ b. cond b (Some x) (report_at r.run more)) other ∙ member-at more r rising.1 behind) is
 
 -- two lists that hold the same are one

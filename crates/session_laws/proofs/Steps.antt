@@ -6,6 +6,7 @@ use Rattle.std.proofs.lemmas.Bool.{eqb-true}
 use Rattle.std.proofs.lemmas.Bool.Decides.{nat_tests}
 use Rattle.std.proofs.lemmas.List.{append-nil, reverse-append}
 use Rattle.std.proofs.lemmas.List.Sums.{take_while-cons}
+use Rattle.base_lists.proofs.Numbers.{other_number}
 use Rattle.report_file.specs.declared.label.Label.{Label}
 use Rattle.report_file.specs.declared.report.Report.{Report}
 use Rattle.session_edits.specs.Held.{behind_removal, first_added, last_label, removes, report_held}
@@ -99,15 +100,11 @@ held-steps : (run : ℕ) (ys xs : List Edit) → report_held run (xs ++ ys) ≡ 
 held-steps run [] xs = ap (report_held run) (append-nil xs)
 held-steps run (e ∷ ys) xs = ap (report_held run) (sym (append_assoc xs (e ∷ []) ys)) ∙ held-steps run ys (xs ++ e ∷ []) ∙ ap (steps run ys) (held-step run xs e)
 
--- an edit of another run
-pub other-run : (m n : ℕ) → m ≢ n → (m == n) ≡ false
-other-run m n h = grind (arith, nat_tests)
-
 pub step-other : (run : ℕ) (e : Edit) (o : Option Report) → (IsOf run e → ⊥) → step run e o ≡ o
-step-other run (Add r) None other = ap (λ b. cond b (Some r) None) (other-run run r.run other)
+step-other run (Add r) None other = ap (λ b. cond b (Some r) None) (other_number run r.run other)
 step-other run (Add r) (Some x) other = refl
-step-other run (Remove gone) o other = ap (λ b. cond b None o) (other-run run gone other)
-step-other run (Relabel gone label) o other = ap (λ b. cond b (option_map (with_label label) o) o) (other-run run gone other)
+step-other run (Remove gone) o other = ap (λ b. cond b None o) (other_number run gone other)
+step-other run (Relabel gone label) o other = ap (λ b. cond b (option_map (with_label label) o) o) (other_number run gone other)
 step-other run Rank o other = refl
 
 -- whether an edit is of a run

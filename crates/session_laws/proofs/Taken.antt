@@ -1,7 +1,7 @@
 -- Accepted edits leave one collection, and additions alone are those of a collection.
 use Rattle.std.proofs.Common.{◌≡◌, ◌≢◌, ◌+◌, ℕ, List, [], ◌∷◌, ◌++◌, Option, None, Some, IsSome, Result, Ok, Err, ap, sym, subst, ◌∙◌, refl, arith}
 use Rattle.std.specs.Prelude.{map}
-use Rattle.cbi_base.proofs.NumberLemmas.{none-some, some-is}
+use Rattle.base_lists.proofs.Options.{none_some, some_is}
 use Rattle.report_file.specs.declared.report.Report.{Report}
 use Rattle.collector.specs.Collected.{Adds, IsOurs, report_at}
 use Rattle.collector.specs.Sites.{first_bad}
@@ -18,8 +18,8 @@ use Rattle.session_laws.specs.Accepted.{Accepts, IsFaulty, TakesEdit}
 
 adds-once : (c a b : Held) (r : Report) (one other : Added) → Adds c r (Ok one) a → Adds c r (Ok other) b → a ≡ b
 adds-once c a b r New New s t = s.4 ∙ sym t.4
-adds-once c a b r New Repeated s t = absurd (none-some (sym s.1 ∙ t.1))
-adds-once c a b r Repeated New s t = absurd (none-some (sym t.1 ∙ s.1))
+adds-once c a b r New Repeated s t = absurd (none_some (sym s.1 ∙ t.1))
+adds-once c a b r Repeated New s t = absurd (none_some (sym t.1 ∙ s.1))
 adds-once c a b r Repeated Repeated s t = s.2 ∙ sym t.2
 
 takes-once : (c a b : Held) (e : Edit) → TakesEdit c e a → TakesEdit c e b → a ≡ b
@@ -35,12 +35,12 @@ accepts-once (e ∷ more) c a b s t =
 
 -- a report that is refused isn't added
 both-ours : (c : Held) (r : Report) (site : ℕ) → first_bad c.branches r.entries ≡ Some site → IsOurs c r → ⊥
-both-ours c r site bad ours = none-some (sym ours.sites ∙ bad)
+both-ours c r site bad ours = none_some (sym ours.sites ∙ bad)
 
 refused-new : (c next : Held) (r : Report) (fault : AddFault) → fault ≢ Memory → Adds c r (Err fault) c → Adds c r (Ok New) next → ⊥
 refused-new c next r (Foreign ours theirs) not_memory s t = s.2 (s.0 ∙ sym t.0.program ∙ sym s.1)
 refused-new c next r (NoSite run site) not_memory s t = both-ours c r site s.2 t.0
-refused-new c next r (Conflict run) not_memory s t = none-some (sym t.1 ∙ sym (ap (λ n. report_at n c.reports) s.1) ∙ s.2.1)
+refused-new c next r (Conflict run) not_memory s t = none_some (sym t.1 ∙ sym (ap (λ n. report_at n c.reports) s.1) ∙ s.2.1)
 refused-new c next r (TooManyReports run) not_memory s t = omega (arith, s.3, t.2)
 refused-new c next r (TooManyMarks run) not_memory s t = omega (arith, s.4, t.3)
 refused-new c next r Memory not_memory s t = not_memory refl
@@ -48,9 +48,9 @@ refused-new c next r Memory not_memory s t = not_memory refl
 refused-repeated : (c next : Held) (r : Report) (fault : AddFault) → fault ≢ Memory → Adds c r (Err fault) c → Adds c r (Ok Repeated) next → ⊥
 refused-repeated c next r (Foreign ours theirs) not_memory s t = s.2 (s.0 ∙ sym t.0.program ∙ sym s.1)
 refused-repeated c next r (NoSite run site) not_memory s t = both-ours c r site s.2 t.0
-refused-repeated c next r (Conflict run) not_memory s t = s.2.2 (some-is (sym s.2.1 ∙ ap (λ n. report_at n c.reports) s.1 ∙ t.1))
-refused-repeated c next r (TooManyReports run) not_memory s t = none-some (sym s.2 ∙ ap (λ n. report_at n c.reports) s.1 ∙ t.1)
-refused-repeated c next r (TooManyMarks run) not_memory s t = none-some (sym s.2 ∙ ap (λ n. report_at n c.reports) s.1 ∙ t.1)
+refused-repeated c next r (Conflict run) not_memory s t = s.2.2 (some_is (sym s.2.1 ∙ ap (λ n. report_at n c.reports) s.1 ∙ t.1))
+refused-repeated c next r (TooManyReports run) not_memory s t = none_some (sym s.2 ∙ ap (λ n. report_at n c.reports) s.1 ∙ t.1)
+refused-repeated c next r (TooManyMarks run) not_memory s t = none_some (sym s.2 ∙ ap (λ n. report_at n c.reports) s.1 ∙ t.1)
 refused-repeated c next r Memory not_memory s t = not_memory refl
 
 refused-added : (c next : Held) (r : Report) (fault : AddFault) (what : Added) → fault ≢ Memory → Adds c r (Err fault) c → Adds c r (Ok what) next → ⊥
@@ -59,7 +59,7 @@ refused-added c next r fault Repeated not_memory s t = refused-repeated c next r
 
 is-not-none : (o : Option Report) → o ≡ None → IsSome o → ⊥
 is-not-none None h is = cc
-is-not-none (Some r) h is = none-some (sym h)
+is-not-none (Some r) h is = none_some (sym h)
 
 faulty-taken : (c next : Held) (e : Edit) → IsFaulty c e → TakesEdit c e next → ⊥
 faulty-taken c next (Add r) f t = refused-added c next r f.0 t.0 f.1.not_memory f.1.adds t.1

@@ -3,6 +3,7 @@ use Rattle.std.proofs.Common.{◌≡◌, ℕ, List, [], ◌∷◌, ◌++◌, Ok,
 use Rattle.std.specs.Prelude.{map}
 use Rattle.std.proofs.lemmas.Bool.Decides.{nat_tests}
 use Rattle.std.proofs.lemmas.List.{append-nil}
+use Rattle.base_lists.proofs.Numbers.{other_number}
 use Rattle.cbi_base.specs.declared.identity.ProgramId.{ProgramId}
 use Rattle.cbi_base.specs.declared.policy.Policy.{Policy}
 use Rattle.collector.specs.Collected.{report_at}
@@ -23,7 +24,7 @@ use Rattle.session_edits.specs.declared.edit.Edit.{Edit}
 use Rattle.session_edits.specs.declared.edit.Edit.TheVariants.{Add, Remove, Relabel, Rank}
 use Rattle.session_laws.specs.Accepted.{AreHeldOf}
 use Rattle.session_laws.proofs.Maps.{accepted-hold, held-once}
-use Rattle.session_laws.proofs.Steps.{held-step, is-of, other-run, step}
+use Rattle.session_laws.proofs.Steps.{held-step, is-of, step}
 use Rattle.session_laws.proofs.Taken.{additions-only}
 use Rattle.session_replay.specs.Replay.{AreRankings, IsRankingAfter, no_runs}
 use Rattle.elimination_tallies.specs.declared.labelled.LabelledRun.{LabelledRun}
@@ -100,7 +101,7 @@ at-map-step run r more rest which =
     let test : (run == r.run) ≡ true = grind (arith, nat_tests) in
     ap (λ n. report_at n (map_of (r ∷ more))) same ∙ at-with r (map_of more) ∙ sym (ap (λ b. cond b (Some r) (report_at run more)) test))
     (λ (other : run ≢ r.run).
-    let test : (run == r.run) ≡ false = other-run run r.run other in
+    let test : (run == r.run) ≡ false = other_number run r.run other in
     at-with-other run r (map_of more) other ∙ rest ∙ sym (ap (λ b. cond b (Some r) (report_at run more)) test)) which
 
 pub at-map : (run : ℕ) (reports : List Report) → report_at run (map_of reports) ≡ report_at run reports

@@ -54,9 +54,6 @@ pub record Replaying (start : SessionState) (table : TableParts) (all : List Edi
 
 -- what one edit more writes comes first of what is left
 written-more : (start now : SessionState) (table : TableParts) (before : List Edit) (e : Edit) (rest : List Edit) (text new later : List ℕ) → start.held.reports ≡ [] → Accepts start.held before now.held → now.policy ≡ start.policy → Writes table now e text new → AreRankings table start.policy (before ++ e ∷ []) rest later → (P : List ℕ → Type 0) → ((more : List ℕ) → AreRankings table start.policy before (e ∷ rest) more → P (text ++ more)) → P (new ++ later)
-written-more start now table before (Add r) rest text new later none accepts policy writes h P on = subst (λ t. P (t ++ later)) (sym writes) (on later h)
-written-more start now table before (Remove run) rest text new later none accepts policy writes h P on = subst (λ t. P (t ++ later)) (sym writes) (on later h)
-written-more start now table before (Relabel run label) rest text new later none accepts policy writes h P on = subst (λ t. P (t ++ later)) (sym writes) (on later h)
 written-more start now table before Rank rest text new later none accepts policy writes h P on =
     let piece = writes.piece in
     let after : IsRankingAfter table start.policy before piece = record {
@@ -66,6 +63,7 @@ written-more start now table before Rank rest text new later none accepts policy
     } in
     let begins : BeginsWith (IsRankingAfter table start.policy before) (AreRankings table start.policy (before ++ Rank ∷ []) rest) (piece ++ later) = record { piece = piece; rest = later; text_is = refl; is_piece = after; is_rest = h } in
     subst P (sym (ap (λ t. t ++ later) writes.new_is ∙ append_assoc text piece later)) (on (piece ++ later) begins)
+written-more start now table before e rest text new later none accepts policy writes h P on = subst (λ t. P (t ++ later)) (sym writes) (on later h)
 
 pub replay-more : (start now next : SessionState) (table : TableParts) (all : List Edit) (e : Edit) (rest : List Edit) (text new : List ℕ) → start.held.reports ≡ [] → Replaying start table all now (e ∷ rest) text → TakesEdit now.held e next.held → next.policy ≡ now.policy → Writes table now e text new → Replaying start table all next rest new
 replay-more start now next table all e rest text new none r takes policy writes =

@@ -4,23 +4,21 @@ use Rattle.std.specs.List.{count_by}
 use Rattle.std.specs.Option.{option_map}
 use Rattle.std.proofs.lemmas.Bool.{eq-eqb, eqb-true}
 use Rattle.std.proofs.lemmas.List.Sums.{sum_by-cons}
+use Rattle.flow.specs.Words.{PartFits, code_of, counts_at, counts_from, counts_of, is_first, is_second, is_third, begin, Ending}
 use Rattle.cbi_base.specs.declared.observation.Observation.{Observation}
 use Rattle.cbi_base.specs.declared.observation.Seen.{Seen}
 use Rattle.cbi_base.specs.declared.outcome.Counts.{Counts}
 use Rattle.flow.specs.declared.site.Site.{Site}
-use Rattle.flow.specs.Code.{code_of}
-use Rattle.flow.specs.Counting.{counts_at, counts_from, counts_of, is_first, is_second, is_third}
-use Rattle.flow.specs.Machine.{begin}
-use Rattle.flow.specs.State.{Ending}
 use Rattle.flow.proofs.CountLaws.{each_counted}
 use Rattle.flow.proofs.Endings.{one_end_from}
 use Rattle.report_file.specs.declared.report.Entry.{Entry}
 use Rattle.report_file.specs.Report.{Among, entries_of}
 use Rattle.report_file.proofs.Entries.{among-all, among-counts}
 use Rattle.std.proofs.lemmas.Option.{slice_get_within}
-use Rattle.site_parts.specs.declared.part.Part.{Part}
+use Rattle.base_lists.proofs.Tests.{same_tests}
+use Rattle.flow.specs.declared.choice.Part.{Part}
 use Rattle.site_parts.specs.Laws.{AreSideBySide, CountsOfParts, EntriesOfParts, FarmsCountTheWhole, part_at}
-use Rattle.site_parts.specs.Part.{PartFits, has, number_in, part_of, part_visits, whole_number}
+use Rattle.site_parts.specs.Part.{has, number_in, part_of, part_visits, whole_number}
 use Rattle.site_parts.specs.Program.{part_program}
 use Rattle.site_parts.specs.Runs.{part_ending}
 use Rattle.site_parts.specs.Widened.{widened, widened_entry}
@@ -37,11 +35,6 @@ counted site such visits = count_by (λ o. o.site == site && such o.seen) visits
 counted_more : (site : ℕ) (such : Seen → Bool) (v : Observation) (more : List Observation) →
     counted site such (v ∷ more) ≡ cond (v.site == site && such v.seen) 1 0 + counted site such more
 counted_more site such v more = sum_by-cons (λ (o : Observation). cond (o.site == site && such o.seen) 1 0) v more
-
-same_tests : (a b : Bool) → (a ≡ true → b ≡ true) → (b ≡ true → a ≡ true) → a ≡ b
-same_tests true b h k = sym (h refl)
-same_tests false true h k = k refl
-same_tests false false h k = refl
 
 -- a kept visit is of the site exactly where it is of that site's number in the part
 same_number : (part : Part) (site number : ℕ) → PartFits part → has part site ≡ true → (number_in part site == number) ≡ (site == whole_number part number)

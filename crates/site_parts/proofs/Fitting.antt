@@ -4,14 +4,14 @@ use Rattle.std.specs.Option.{option_map}
 use Rattle.std.proofs.lemmas.List.{length-map}
 use Rattle.std.proofs.lemmas.List.Elements.{All-cons, All-nil}
 use Rattle.std.proofs.lemmas.Option.{slice_get-map, slice_get_within}
+use Rattle.flow.specs.Words.{PartFits, site_limit}
 use Rattle.flow.specs.declared.site.Site.{Site}
-use Rattle.flow.specs.Limits.{site_limit}
 use Rattle.report_file.specs.declared.report.Entry.{Entry}
 use Rattle.report_file.specs.Report.{greatest_site}
 use Rattle.collector.specs.Sites.{branches_of, first_bad, has_site, is_branch, takes_third}
-use Rattle.site_parts.specs.declared.part.Part.{Part}
+use Rattle.flow.specs.declared.choice.Part.{Part}
 use Rattle.site_parts.specs.Laws.{FitsWhenWidened, MayWidenWhatFits}
-use Rattle.site_parts.specs.Part.{PartFits, part_of, whole_number}
+use Rattle.site_parts.specs.Part.{part_of, whole_number}
 use Rattle.site_parts.specs.Widened.{MayWiden, widened, widened_entry}
 use Rattle.site_parts.proofs.Lists.{item_at}
 

@@ -5,8 +5,9 @@ use Rattle.std.specs.List.{All, cons_option, enumerate_from}
 use Rattle.std.proofs.Math.Nat.{add-mul, suc-mul}
 use Rattle.std.proofs.lemmas.List.Elements.{All-cons, All-head, All-nil, All-tail}
 use Rattle.std.proofs.lemmas.Nat.{same_from_place}
-use Rattle.site_parts.specs.declared.part.Part.{Part}
-use Rattle.site_parts.specs.Part.{PartFits, has, item_in, number_in, part_of, whole_number}
+use Rattle.flow.specs.Sites.{PartFits}
+use Rattle.flow.specs.declared.choice.Part.{Part}
+use Rattle.site_parts.specs.Part.{has, item_in, number_in, part_of, whole_number}
 use Rattle.site_parts.proofs.Numbers.{has_whole, whole_back}
 
 -- those among the items that have the numbers from this one on

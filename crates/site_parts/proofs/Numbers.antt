@@ -3,8 +3,9 @@ use Rattle.std.proofs.Common.{◌≡◌, ℕ, ◌+◌, ◌*◌, ◌-◌, true, s
 use Rattle.std.specs.Prelude.{◌/◌, ◌%◌}
 use Rattle.std.proofs.lemmas.Bool.{eqb-true}
 use Rattle.std.proofs.lemmas.Nat.{div-add-mod', div-mul-add, mod-mul-add}
-use Rattle.site_parts.specs.declared.part.Part.{Part}
-use Rattle.site_parts.specs.Part.{PartFits, has, number_in, whole_number}
+use Rattle.flow.specs.Sites.{PartFits}
+use Rattle.flow.specs.declared.choice.Part.{Part}
+use Rattle.site_parts.specs.Part.{has, number_in, whole_number}
 
 -- a number that is a multiple and a rest has this rest
 pub has_whole : (part : Part) (number : ℕ) → PartFits part → has part (whole_number part number) ≡ true

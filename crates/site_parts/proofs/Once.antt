@@ -2,10 +2,11 @@
 use Rattle.std.proofs.Common.{◌≡◌, ℕ, ◌<◌, ◌≤◌, Bool, true, false, ◌∷◌, ◌++◌, ap, ◌∙◌, refl, subst, sym, arith}
 use Rattle.std.specs.Prelude.{◌/◌, ◌%◌}
 use Rattle.std.proofs.lemmas.Nat.{div-add-mod', mod_below, same_from_place}
+use Rattle.flow.specs.Sites.{PartFits, part_limit}
 use Rattle.cbi_base.specs.declared.observation.Observation.{Observation}
-use Rattle.site_parts.specs.declared.part.Part.{Part}
+use Rattle.flow.specs.declared.choice.Part.{Part}
 use Rattle.site_parts.specs.Laws.{EachSiteOnce, EachVisitOnce, part_at}
-use Rattle.site_parts.specs.Part.{PartFits, has, number_in, part_limit, part_visits, whole_number}
+use Rattle.site_parts.specs.Part.{has, number_in, part_visits, whole_number}
 use Rattle.site_parts.proofs.Numbers.{has_whole, number_back, whole_back}
 use Rattle.site_parts.proofs.Visits.{visit_kept, visit_left}
 

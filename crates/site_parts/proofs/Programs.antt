@@ -7,6 +7,7 @@ use Rattle.std.proofs.lemmas.List.{length-map}
 use Rattle.std.proofs.lemmas.List.Elements.{All-get_or, All-map, All-weaker}
 use Rattle.std.proofs.lemmas.List.Sums.{sum_by-cons}
 use Rattle.std.proofs.lemmas.Option.{get_or_from_slice_get, slice_get-map, slice_get_within}
+use Rattle.std.proofs.lemmas.Bool.{and_from, and_parts}
 use Rattle.flow.specs.declared.node.Node.{Node}
 use Rattle.flow.specs.declared.node.Node.TheVariants.{Mark, Pass, Test}
 use Rattle.flow.specs.declared.node.View.{View}
@@ -18,14 +19,10 @@ use Rattle.flow.specs.declared.program.Text.{Text}
 use Rattle.flow.specs.declared.scope.Bounds.{Bounds}
 use Rattle.flow.specs.declared.scope.Names.{Names}
 use Rattle.flow.specs.declared.site.Site.{Site}
-use Rattle.flow.specs.Code.{Callee, Code, callee_of, code_of, view_at, view_in}
-use Rattle.flow.specs.Nodes.{NodesFit, is_own, leads_rightly, names_fit, node_fits}
-use Rattle.flow.specs.Program.{AreSites, IsFunction, IsProgram, bounds_of, names_of, parts_of}
-use Rattle.flow.specs.Ready.{ArePlain, BranchesFork, IsBranch, IsPlain, IsReady}
-use Rattle.flow.specs.Sites.{IsSite}
-use Rattle.flow.specs.View.{view}
-use Rattle.site_parts.specs.declared.part.Part.{Part}
-use Rattle.site_parts.specs.Part.{PartFits, has, number_in, part_of, whole_number}
+use Rattle.flow.specs.Words.{Callee, Code, callee_of, code_of, view_at, view_in, NodesFit, is_own, leads_rightly, names_fit, node_fits, AreSites, IsFunction}
+use Rattle.flow.specs.Words.{IsProgram, bounds_of, names_of, parts_of, ArePlain, BranchesFork, IsBranch, IsPlain, IsReady, IsSite, PartFits, view}
+use Rattle.flow.specs.declared.choice.Part.{Part}
+use Rattle.site_parts.specs.Part.{has, number_in, part_of, whole_number}
 use Rattle.site_parts.specs.Program.{part_function, part_node, part_program}
 use Rattle.site_parts.proofs.Lists.{all_of, few_of, item_at}
 use Rattle.site_parts.proofs.Numbers.{whole_back}
@@ -168,23 +165,15 @@ leads_kept : (bounds : Bounds) (part : Part) (place : ℕ) (v : View) → leads_
 leads_kept bounds part place (Marks site next) = leads_by (has part site) bounds part place site next
 leads_kept bounds part place other = refl
 
-both : (a b : Bool) → (a && b) ≡ true → (a ≡ true) × (b ≡ true)
-both true true h = (refl, refl)
-both true false h = cc
-both false b h = cc
-
-join : (a b : Bool) → a ≡ true → b ≡ true → (a && b) ≡ true
-join a b g h = grind arith
-
 node_kept : (names : Names) (bounds : Bounds) (part : Part) (kept : List ℕ) (place : ℕ) (n : Node) → SameOwners part names.owners kept → IsPlain (view n) →
     IsTrue (node_fits names bounds place n) → IsTrue (node_fits (owned names kept) bounds place (part_node part n))
 unfolding node_fits
 node_kept names bounds part kept place n own plain fits =
-    let f = both (names_fit names bounds n) (leads_rightly bounds place (view n)) fits in
+    let f = and_parts (names_fit names bounds n) (leads_rightly bounds place (view n)) fits in
     let leads : leads_rightly bounds place (view (part_node part n)) ≡ true =
     ap (leads_rightly bounds place) (node_viewed part n) ∙ leads_kept bounds part place (view n) ∙ f.1
     in
-    join (names_fit (owned names kept) bounds (part_node part n)) (leads_rightly bounds place (view (part_node part n)))
+    and_from (names_fit (owned names kept) bounds (part_node part n)) (leads_rightly bounds place (view (part_node part n)))
     (names_kept names bounds part kept n own plain f.0) leads
 
 function_kept : (names : Names) (part : Part) (kept : List ℕ) (number : ℕ) (f : Function) → SameOwners part names.owners kept → ArePlain f.nodes →

@@ -1,13 +1,9 @@
 -- Whole runs.
 use Rattle.std.proofs.Common.{◌≡◌, ◌⊎◌, inl, inr, ℕ, zero, suc, List, [], Option, None, Some, refl, sym, ap, ◌∙◌, subst}
+use Rattle.flow.specs.Words.{PartFits, Code, EndsFrom, Ends, at_start, begin_with, run, step, BranchesFork, Ending, Next, On, Over, State}
 use Rattle.cbi_base.specs.Objects.{Objects}
-use Rattle.flow.specs.Code.{Code}
-use Rattle.flow.specs.Machine.{EndsFrom, Ends, at_start, begin_with, run, step}
-use Rattle.flow.specs.Ready.{BranchesFork}
-use Rattle.flow.specs.State.{Ending, Next, On, Over, State}
 use Rattle.flow.proofs.Endings.{ends_over, goes, leads_one, one_end_from}
-use Rattle.site_parts.specs.declared.part.Part.{Part}
-use Rattle.site_parts.specs.Part.{PartFits}
+use Rattle.flow.specs.declared.choice.Part.{Part}
 use Rattle.site_parts.specs.Runs.{IsFaulty, part_ending}
 use Rattle.site_parts.proofs.Steps.{Matches, PlainCode, enter_kept, kept, kept_next, matched, part_code}
 

@@ -1,5 +1,9 @@
 -- One step of the part's program beside one of the whole program: their states differ in what was seen alone.
 use Rattle.std.proofs.Common.{◌≡◌, ◌⊎◌, inl, inr, ℕ, zero, suc, Bool, true, false, if◌then◌else◌, nat_lt, List, [], ◌∷◌, Option, None, Some, Ok, Err, Result, refl, sym, ap, ◌∙◌, subst}
+use Rattle.flow.specs.Words.{PartFits, call, call_with, ended_with, enter, entered, give, give_to, has_result, locals_made, params_of, quit, waiting, Callee}
+use Rattle.flow.specs.Words.{Code, at_node, observed, sees_now, EndsFrom, Ends, branch, fork, go_on, halt, next_of, spend_turn, step, Effect, Goes, Lacks, Now}
+use Rattle.flow.specs.Words.{Stops, Taken, Takes, any, several, BranchesFork, IsPlain, act, Frame, Next, On, Over, State, over}
+use Rattle.cbi_base.specs.Words.{active_limit, Objects, truth_of}
 use Rattle.cbi_base.specs.declared.observation.Observation.{Observation}
 use Rattle.cbi_base.specs.declared.observation.Seen.{Seen}
 use Rattle.cbi_base.specs.declared.outcome.Outcome.TheVariants.{Trapped}
@@ -8,24 +12,12 @@ use Rattle.cbi_base.specs.declared.scalar.Scalar.{Scalar}
 use Rattle.cbi_base.specs.declared.scalar.Scalar.TheVariants.{Number, Undefined}
 use Rattle.cbi_base.specs.declared.trap.Trap.{Trap}
 use Rattle.cbi_base.specs.declared.trap.Trap.TheVariants.{StackOverflow}
-use Rattle.cbi_base.specs.Objects.{Objects}
-use Rattle.cbi_base.specs.Scalars.{truth_of}
 use Rattle.flow.specs.declared.node.Node.TheVariants.{Pass}
 use Rattle.flow.specs.declared.node.View.{View}
 use Rattle.flow.specs.declared.node.View.TheVariants.{Row, Halts, Forks, Turns, Calls, Gives, Quits, Marks, Nowhere, Skips, Tests, Picks, Imports, Exports}
-use Rattle.flow.specs.Calls.{call, call_with, ended_with, enter, entered, give, give_to, has_result, locals_made, params_of, quit, waiting}
-use Rattle.flow.specs.Code.{Callee, Code}
-use Rattle.flow.specs.Countdown.{at_node, observed}
-use Rattle.flow.specs.Limits.{active_limit}
-use Rattle.flow.specs.Machine.{EndsFrom, Ends, branch, fork, go_on, halt, next_of, spend_turn, step}
-use Rattle.flow.specs.Now.{Effect, Goes, Lacks, Now, Stops, Taken, Takes, any, several}
-use Rattle.flow.specs.Ready.{BranchesFork, IsPlain}
-use Rattle.flow.specs.Rows.{act}
-use Rattle.flow.specs.State.{Frame, Next, On, Over, State, over}
-use Rattle.flow.specs.Truths.{looked}
 use Rattle.flow.proofs.Endings.{ends_over}
-use Rattle.site_parts.specs.declared.part.Part.{Part}
-use Rattle.site_parts.specs.Part.{PartFits, has, number_in, part_visits, whole_number}
+use Rattle.flow.specs.declared.choice.Part.{Part}
+use Rattle.site_parts.specs.Part.{has, number_in, part_visits, whole_number}
 use Rattle.site_parts.specs.Runs.{IsFaulty, part_ending}
 use Rattle.site_parts.proofs.Faults.{Unlooked, unlooked}
 use Rattle.site_parts.proofs.Numbers.{whole_back}
@@ -138,10 +130,10 @@ mark_kept : (part : Part) (code : Code) (site next : ℕ) (s : State) → PartFi
     Matches part code (next_of code (Marks site next) s) (next_of (part_code part code) (Marks (number_in part site) next) (kept part s))
 unfolding next_of
 mark_kept part code site next s is h =
-    alike part code (observed (looked (code.site site) s.now) site s (go_to next))
-    (observed (looked (code.site (whole_number part (number_in part site))) s.now) (number_in part site) (kept part s) (go_to next))
-    (ap (λ (k : ℕ). observed (looked (code.site k) s.now) (number_in part site) (kept part s) (go_to next)) (whole_back part site is h)
-    ∙ seen_kept part site next s (looked (code.site site) s.now) h)
+    alike part code (observed (sees_now (code.site site) s.now) site s (go_to next))
+    (observed (sees_now (code.site (whole_number part (number_in part site))) s.now) (number_in part site) (kept part s) (go_to next))
+    (ap (λ (k : ℕ). observed (sees_now (code.site k) s.now) (number_in part site) (kept part s) (go_to next)) (whole_back part site is h)
+    ∙ seen_kept part site next s (sees_now (code.site site) s.now) h)
 
 -- the fork behind a visit that the part hasn't meets the trap that the visit met
 fork_traps : (part : Part) (code : Code) (s : State) (next a b : ℕ) (t : Trap) → code.at s.function next ≡ Forks a b →
@@ -160,7 +152,7 @@ trap_left part code site next s t ready e (inr (b, traps)) =
     inr (fork_traps part code s next f.0 f.1 t f.2 (traps f.0 f.1 (kept part (at_node next s))))
 
 seen_left : (part : Part) (code : Code) (site next : ℕ) (s : State) (r : Result Seen Trap) → BranchesFork code.at code.site → code.at s.function s.node ≡ Marks site next →
-    looked (code.site site) s.now ≡ r → has part site ≡ false →
+    sees_now (code.site site) s.now ≡ r → has part site ≡ false →
     Matches part code (observed r site s (go_to next)) (On (kept part (at_node next s)))
 seen_left part code site next s (Ok seen) ready e l h =
     let visit : Observation = record { site = site; seen = seen } in
@@ -171,7 +163,7 @@ seen_left part code site next s (Err t) ready e l h = trap_left part code site n
 mark_left : (part : Part) (code : Code) (site next : ℕ) (s : State) → BranchesFork code.at code.site → code.at s.function s.node ≡ Marks site next →
     has part site ≡ false → Matches part code (next_of code (Marks site next) s) (next_of (part_code part code) (Row (Pass 0) next) (kept part s))
 unfolding next_of act
-mark_left part code site next s ready e h = seen_left part code site next s (looked (code.site site) s.now) ready e refl h
+mark_left part code site next s ready e h = seen_left part code site next s (sees_now (code.site site) s.now) ready e refl h
 
 mark_matches : (part : Part) (code : Code) (site next : ℕ) (s : State) (b : Bool) → PartFits part → BranchesFork code.at code.site →
     code.at s.function s.node ≡ Marks site next → has part site ≡ b →
@@ -196,11 +188,7 @@ view_matches part code s Quits is ready plain e =
     alike part code (quit s.below (has_result (code.callee s.function)) s) _ (quit_kept part (has_result (code.callee s.function)) s s.below)
 view_matches part code s (Marks site next) is ready plain e = mark_matches part code site next s (has part site) is ready e refl
 view_matches part code s Nowhere is ready plain e = inl refl
-view_matches part code s (Skips by next) is ready plain e = absurd plain
-view_matches part code s (Tests site next) is ready plain e = absurd plain
-view_matches part code s (Picks weight fast slow) is ready plain e = absurd plain
-view_matches part code s (Imports next) is ready plain e = absurd plain
-view_matches part code s (Exports next) is ready plain e = absurd plain
+view_matches part code s v is ready plain e = absurd plain
 
 abbrev pub PlainCode : Code → Type 0
 PlainCode code = (function place : ℕ) → IsPlain (code.at function place)

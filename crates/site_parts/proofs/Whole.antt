@@ -1,14 +1,10 @@
 -- A program beside that of a part.
 use Rattle.std.proofs.Common.{◌≡◌, ℕ, List, sym, ap, ◌∙◌, subst}
 use Rattle.std.specs.List.{All}
-use Rattle.cbi_base.specs.Objects.{no_objects}
+use Rattle.flow.specs.Words.{PartFits, Code, code_of, EndsFrom, MachineEnds, begin, begin_with, program_objects, ArePlain, IsReady, Ending, Next}
+use Rattle.cbi_base.specs.Words.{each_made, no_objects}
 use Rattle.flow.specs.declared.program.ProgramParts.{ProgramParts}
-use Rattle.flow.specs.Code.{Code, code_of}
-use Rattle.flow.specs.Machine.{EndsFrom, MachineEnds, begin, begin_with, each_made, program_objects}
-use Rattle.flow.specs.Ready.{ArePlain, IsReady}
-use Rattle.flow.specs.State.{Ending, Next}
-use Rattle.site_parts.specs.declared.part.Part.{Part}
-use Rattle.site_parts.specs.Part.{PartFits}
+use Rattle.flow.specs.declared.choice.Part.{Part}
 use Rattle.site_parts.specs.Program.{part_program}
 use Rattle.site_parts.specs.Runs.{RunsInPart, part_ending}
 use Rattle.site_parts.proofs.Programs.{plain_code, same_code}

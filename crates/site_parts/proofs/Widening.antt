@@ -4,6 +4,7 @@ use Rattle.std.proofs.Math.Nat.{add-mul}
 use Rattle.std.proofs.lemmas.List.{length-map}
 use Rattle.std.proofs.lemmas.List.Elements.{All-head, All-tail}
 use Rattle.std.proofs.lemmas.Nat.{mul-le}
+use Rattle.flow.specs.Sites.{PartFits}
 use Rattle.cbi_base.specs.declared.identity.ProgramId.{ProgramId}
 use Rattle.cbi_base.specs.ProgramId.{IsId}
 use Rattle.report_file.specs.declared.report.Entry.{Entry}
@@ -13,8 +14,8 @@ use Rattle.collector.specs.declared.collection.Bundle.{Bundle}
 use Rattle.collector.specs.Collected.{marks_of}
 use Rattle.collector.specs.Merging.{AreOf, AreReports, IsBundle}
 use Rattle.collector.specs.Spelling.{IsText, RunsFrom}
-use Rattle.site_parts.specs.declared.part.Part.{Part}
-use Rattle.site_parts.specs.Part.{PartFits, whole_number}
+use Rattle.flow.specs.declared.choice.Part.{Part}
+use Rattle.site_parts.specs.Part.{whole_number}
 use Rattle.site_parts.specs.Widened.{MayWiden, MayWidenAll, widened, widened_bundle, widened_entry, widened_report}
 
 whole_rises : (part : Part) (low site : ℕ) → low ≤ site → whole_number part low ≤ whole_number part site

@@ -1,19 +1,15 @@
 -- What the parts of a table are to one another and to the whole, in the subject's own words.
 use Rattle.std.specs.Prelude.{◌≡◌, ◌≢◌, ℕ, ◌<◌, ◌≤◌, List, ◌∷◌, ◌++◌, length, None, slice_get}
 use Rattle.std.specs.List.{All}
+use Rattle.flow.specs.Words.{PartFits, part_limit, counts_of, site_limit, MachineEnds, ArePlain, IsReady, Ending}
 use Rattle.cbi_base.specs.declared.observation.Observation.{Observation}
 use Rattle.flow.specs.declared.program.ProgramParts.{ProgramParts}
 use Rattle.flow.specs.declared.site.Site.{Site}
-use Rattle.flow.specs.Counting.{counts_of}
-use Rattle.flow.specs.Limits.{site_limit}
-use Rattle.flow.specs.Machine.{MachineEnds}
-use Rattle.flow.specs.Ready.{ArePlain, IsReady}
-use Rattle.flow.specs.State.{Ending}
 use Rattle.report_file.specs.declared.report.Entry.{Entry}
 use Rattle.report_file.specs.Report.{Among, entries_of}
 use Rattle.collector.specs.Sites.{branches_of, first_bad}
-use Rattle.site_parts.specs.declared.part.Part.{Part}
-use Rattle.site_parts.specs.Part.{PartFits, part_limit, part_of, part_visits, whole_number}
+use Rattle.flow.specs.declared.choice.Part.{Part}
+use Rattle.site_parts.specs.Part.{part_of, part_visits, whole_number}
 use Rattle.site_parts.specs.Program.{part_program}
 use Rattle.site_parts.specs.Runs.{IsFaulty}
 use Rattle.site_parts.specs.Widened.{MayWiden, widened}

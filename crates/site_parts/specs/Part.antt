@@ -1,18 +1,8 @@
 -- A part of the sites of a program: those whose number modulo the count of the parts is the part's index, in order, numbered anew.
-use Rattle.std.specs.Prelude.{ℕ, ◌+◌, ◌-◌, ◌*◌, ◌/◌, ◌%◌, ◌==◌, ◌<◌, ◌≤◌, Bool, List, filter_map, Option, None, Some, if◌then◌else◌}
+use Rattle.std.specs.Prelude.{ℕ, ◌+◌, ◌-◌, ◌*◌, ◌/◌, ◌%◌, ◌==◌, Bool, List, filter_map, Option, None, Some, if◌then◌else◌}
 use Rattle.std.specs.List.{enumerate_from}
 use Rattle.cbi_base.specs.declared.observation.Observation.{Observation}
-use Rattle.site_parts.specs.declared.part.Part.{Part}
-
--- the most parts of a table
-abbrev pub part_limit : ℕ
-part_limit = 65536
-
--- the part is one of so many, and these are not too many
-pub record PartFits (part : Part) : Type 0 where
-  pub some : 1 ≤ part.count
-  pub few : part.count ≤ part_limit
-  pub index : part.index < part.count
+use Rattle.flow.specs.declared.choice.Part.{Part}
 
 -- whether the part has the site with this number
 abbrev pub has : Part → ℕ → Bool

@@ -5,7 +5,7 @@ use Rattle.flow.specs.declared.node.Node.TheVariants.{Mark, Pass}
 use Rattle.flow.specs.declared.program.Function.{Function}
 use Rattle.flow.specs.declared.program.ProgramParts.{ProgramParts}
 use Rattle.flow.specs.declared.site.TableParts.{TableParts}
-use Rattle.site_parts.specs.declared.part.Part.{Part}
+use Rattle.flow.specs.declared.choice.Part.{Part}
 use Rattle.site_parts.specs.Part.{has, number_in, part_of}
 
 -- the visit of a site that the part hasn't does nothing

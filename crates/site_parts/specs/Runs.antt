@@ -3,9 +3,8 @@ use Rattle.std.specs.Prelude.{◌≡◌, ◌⊎◌, ℕ, List}
 use Rattle.cbi_base.specs.declared.outcome.Outcome.TheVariants.{Trapped}
 use Rattle.cbi_base.specs.declared.trap.Trap.TheVariants.{Internal}
 use Rattle.flow.specs.declared.program.ProgramParts.{ProgramParts}
-use Rattle.flow.specs.Machine.{MachineEnds}
-use Rattle.flow.specs.State.{Ending}
-use Rattle.site_parts.specs.declared.part.Part.{Part}
+use Rattle.flow.specs.Words.{MachineEnds, Ending}
+use Rattle.flow.specs.declared.choice.Part.{Part}
 use Rattle.site_parts.specs.Part.{part_visits}
 
 -- the same outcome, output, work and draws, and the part's visits of what was observed

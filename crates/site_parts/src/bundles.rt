@@ -1,13 +1,14 @@
 ghost use Rattle.std.specs.Prelude.{◌≡◌, ◌≤◌, map};
+ghost use Rattle.flow.specs.Sites.{PartFits};
 ghost use Rattle.report_file.specs.Report.{greatest_site};
 ghost use Rattle.collector.specs.Merging.{IsBundle};
 ghost use Rattle.collector.specs.Spelling.{IsText};
-ghost use Rattle.site_parts.specs.Part.{PartFits, whole_number};
+ghost use Rattle.site_parts.specs.Part.{whole_number};
 ghost use Rattle.site_parts.specs.Widened.{MayWiden, MayWidenAll, widened, widened_bundle, widened_entry, widened_report};
 
-use crate::part::Part;
 use cbi_base::{ProgramId, Seq};
 use collector::Bundle;
+use flow::Part;
 use report_file::{Entry, Report};
 use std::alloc::Global;
 use std::mem;

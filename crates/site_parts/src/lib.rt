@@ -15,5 +15,4 @@ pub use laws::{
     counts_of_parts, each_site_once, each_visit_once, entries_of_parts, farms_count_the_whole,
     fitting_reports_may_widen, parts_have_their_sites, widened_reports_fit,
 };
-pub use part::Part;
 pub use table::is_part;

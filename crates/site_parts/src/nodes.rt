@@ -1,10 +1,10 @@
 ghost use Rattle.std.specs.Prelude.{◌≡◌, map, IfOk};
-ghost use Rattle.site_parts.specs.Part.{PartFits};
+ghost use Rattle.flow.specs.Sites.{PartFits};
 ghost use Rattle.site_parts.specs.Program.{part_function, part_node};
 
-use crate::part::{Part, has, number_in};
+use crate::part::{has, number_in};
 use cbi_base::{Memory, Seq};
-use flow::{Function, Node, copy_of};
+use flow::{Function, Node, Part, copy_of};
 use std::alloc::Global;
 
 /// A node as the part's program has it.

@@ -1,12 +1,8 @@
 ghost use Rattle.std.specs.Prelude.{◌≡◌, true};
-ghost use Rattle.site_parts.specs.Part.{PartFits, has, number_in};
+ghost use Rattle.flow.specs.Sites.{PartFits};
+ghost use Rattle.site_parts.specs.Part.{has, number_in};
 
-/// A part of the sites of a program: those whose number modulo the count is the index.
-#[derive(Clone, Copy, Debug, PartialEq, Eq)]
-pub struct Part {
-    pub index: u32,
-    pub count: u32,
-}
+use flow::Part;
 
 /// Whether the part has the site with this number.
 pub(crate) fn has(part: Part, site: u32) -> bool

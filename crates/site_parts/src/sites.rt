@@ -1,19 +1,19 @@
 ghost use Rattle.std.specs.Prelude.{◌≡◌, ◌≤◌, length, IfOk};
-ghost use Rattle.flow.specs.Limits.{site_limit};
-ghost use Rattle.site_parts.specs.Part.{PartFits, part_of};
+ghost use Rattle.flow.specs.Words.{PartFits, site_limit};
+ghost use Rattle.site_parts.specs.Part.{part_of};
 
-use crate::part::{Part, has};
+use crate::part::has;
 use cbi_base::{Memory, Seq};
-use flow::{Site, copy_sites};
+use flow::{Part, Site};
 use std::alloc::Global;
 
 /// The sites of the part.
-pub(crate) fn part_sites(alloc: Global, sites: &[Site], part: Part) -> Result<Seq<Site>, Memory>
+pub(crate) fn part_sites(alloc: Global, sites: Seq<Site>, part: Part) -> Result<Seq<Site>, Memory>
     requires part { PartFits part }
-    requires few { length sites.now ≤ site_limit }
-    ensures { IfOk result (λ kept. kept ≡ part_of part sites.now) }
+    requires few { length sites ≤ site_limit }
+    ensures { IfOk result (λ kept. kept ≡ part_of part sites) }
 {
-    let mut rest = copy_sites(alloc, sites)?.into_vec();
+    let mut rest = sites.into_vec();
     rest.reverse();
     let mut kept = Seq::new(alloc);
     let mut number = 0u32;

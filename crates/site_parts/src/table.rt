@@ -1,11 +1,11 @@
 ghost use Rattle.std.specs.Prelude.{◌≡◌, ◌↔◌, ◌≤◌, length, IsTrue};
-ghost use Rattle.flow.specs.Limits.{site_limit};
-ghost use Rattle.site_parts.specs.Part.{PartFits, part_of};
+ghost use Rattle.flow.specs.Words.{PartFits, site_limit};
+ghost use Rattle.site_parts.specs.Part.{part_of};
 ghost use Rattle.site_parts.specs.Program.{part_table};
 
-use crate::part::{Part, has};
+use crate::part::has;
 use cbi_base::Name;
-use flow::{BranchWord, Partner, Site, SiteKind, SiteTable, Slot};
+use flow::{BranchWord, Part, Partner, Site, SiteKind, SiteTable, Slot};
 
 fn same_slot(left: Slot, right: Slot) -> bool
     ensures { IsTrue result ↔ (left ≡ right) }

@@ -6,17 +6,12 @@ use Rattle.std.specs.Global.{Global}
 use Rattle.std.specs.HashMap.{HashMap, UpdatesBy}
 use Rattle.std.specs.Str.{bytes_eq}
 use Rattle.std.specs.Map.{lookup, IsKeyTest, AreApart, KeepsOthers}
+use Rattle.c_types_expressions.proofs.Stacks.{at_name}
+use Rattle.base_lists.proofs.Maps.{other_entries}
+use Rattle.base_lists.proofs.Lists.{bytes_apart}
 use Rattle.c_types_expressions.specs.Indexed.{is_key}
 use Rattle.sites.specs.Noted.{IsNoted, first_in}
 use Rattle.sites.specs.Visible.{least}
-
-other_entries : {K X : Type 0} (eq : K → K → Bool) (test : K → Bool) (old new : List (K × X)) → KeepsOthers eq test old new →
-    (other : K → Bool) → IsKeyTest eq other → AreApart test other → lookup other new ≡ lookup other old
-unfolding KeepsOthers
-other_entries eq test old new h = h
-
-apart : (name other key : List ℕ) → bytes_eq name other ≡ false → bytes_eq name key ≡ true → bytes_eq other key ≡ false
-apart name other key n y = nat_list_eq_equiv.symm other key ∙ sym (nat_list_eq_equiv.congr name key other y) ∙ n
 
 module _ {S : Type 0} (name : List ℕ) (m n : HashMap (Vec ℕ Global) ℕ S) (x : ℕ) where
   written : UpdatesBy (λ a b. bytes_eq a.items b.items) (is_key name) m n (Some x) →
@@ -24,17 +19,9 @@ module _ {S : Type 0} (name : List ℕ) (m n : HashMap (Vec ℕ Global) ℕ S) (
   written h other =
       ⊎_elim
       (λ t. subst (λ o. first_in n.entries o ≡ Some x) ((bytes_decides name other).0 t) h.1 ∙ sym (cond-true (bytes_eq name other) (Some x) (first_in m.entries other) t))
-      (λ f. other_entries _ _ _ _ h.3 (is_key other) (λ a b. nat_list_eq_equiv.congr other a.items b.items) (λ k. apart name other k.items f)
+      (λ f. other_entries _ _ _ _ h.3 (is_key other) (λ a b. nat_list_eq_equiv.congr other a.items b.items) (λ k. bytes_apart name other k.items f)
       ∙ sym (cond-false (bytes_eq name other) (Some x) (first_in m.entries other) f))
       (cases_Bool (bytes_eq name other))
-
--- at the name itself a value may be written by that name or by its equal
-at_name : {A : Type 0} (name other : List ℕ) (f : List ℕ → A) (x y : A) → x ≡ f name → (if bytes_eq name other then x else y) ≡ (if bytes_eq name other then f other else y)
-at_name name other f x y is =
-    ⊎_elim
-    (λ t. cond-true (bytes_eq name other) x y t ∙ is ∙ ap f ((bytes_decides name other).0 t) ∙ sym (cond-true (bytes_eq name other) (f other) y t))
-    (λ n. cond-false (bytes_eq name other) x y n ∙ sym (cond-false (bytes_eq name other) (f other) y n))
-    (cases_Bool (bytes_eq name other))
 
 -- the token is kept by a key of its own
 pub kept : {S : Type 0} (key : Vec ℕ Global) (name : List ℕ) (m n : HashMap (Vec ℕ Global) ℕ S) (from x : ℕ) → key.items ≡ name →

@@ -2,8 +2,7 @@
 use Rattle.std.proofs.Common.{◌≡◌, ℕ, ◌+◌, Bool, true, false, cond, if◌then◌else◌, List, [], ◌∷◌, ◌++◌, length, map, Option, Some, None, refl, sym, ap, ◌∙◌}
 use Rattle.std.specs.Prelude.{slice_get, ◌&&◌, option_map, filter}
 use Rattle.std.proofs.lemmas.List.Elements.{filter-append}
-use Rattle.c_types_rules.specs.TypeTree.{TypeTree}
-use Rattle.c_types_rules.specs.Conversions.{is_arithmetic}
+use Rattle.c_types_rules.specs.Words.{TypeTree, is_arithmetic}
 use Rattle.c_types_expressions.specs.declared.walk.VariableEntry.{VariableEntry}
 use Rattle.c_types_expressions.specs.declared.walk.Walk.{Walk}
 use Rattle.c_types.specs.Answers.{declared_at, place_at}
@@ -12,7 +11,7 @@ use Rattle.c_syntax.specs.ItemTree.{ItemTree, SourceTree}
 use Rattle.flow.specs.declared.site.Site.{Site}
 use Rattle.flow.specs.declared.site.SiteKind.{SiteKind}
 use Rattle.flow.specs.declared.site.SiteKind.TheVariants as kind
-use Rattle.sites.specs.declared.schemes.Schemes.{Schemes}
+use Rattle.flow.specs.declared.choice.Schemes.{Schemes}
 use Rattle.sites.specs.declared.ground.Stand.{Stand}
 use Rattle.sites.specs.declared.spots.Spot.{Spot}
 use Rattle.sites.specs.declared.spots.Spot.TheVariants as spot
@@ -61,10 +60,10 @@ kept-numbers b s place t false o = nothing b.schemes.pairs
 
 kept-pairs_on : (b : Body) (s : Stand) (place : Option ℕ) (t : Option TypeTree) →
     (if b.schemes.pairs then pairs_on b s place t else []) ≡ wanted b.schemes (pairs_on (widened b) s place t)
+kept-pairs_on b s (Some place) (Some t) = kept-numbers b s place t (is_arithmetic t) (slice_get b.known.variables place)
 kept-pairs_on b s None None = nothing b.schemes.pairs
 kept-pairs_on b s None (Some t) = nothing b.schemes.pairs
 kept-pairs_on b s (Some place) None = nothing b.schemes.pairs
-kept-pairs_on b s (Some place) (Some t) = kept-numbers b s place t (is_arithmetic t) (slice_get b.known.variables place)
 
 kept-return : (schemes : Schemes) (observed : Bool) (y : Site) → is_site_wanted schemes y.kind ≡ schemes.returns →
     (if schemes.returns && observed then y ∷ [] else []) ≡ wanted schemes (if observed then y ∷ [] else [])
@@ -103,11 +102,9 @@ kept-in b (x ∷ xs) =
 
 kept-item : (w : Walk) (lines : List ℕ) (schemes : Schemes) (number : ℕ) (x : ItemTree) → item_sites w lines schemes number x ≡
     wanted schemes (item_sites w lines all_schemes number x)
-kept-item w lines schemes number (i.Struct token tag members) = refl
-kept-item w lines schemes number (i.Declaration d) = refl
-kept-item w lines schemes number (i.Function token b stars name ps None) = refl
 kept-item w lines schemes number (i.Function token b stars name ps (Some body)) = kept-in (body_with w lines schemes number (entries_spots body))
     (entries_spots body)
+kept-item w lines schemes number x = refl
 
 kept-items : (w : Walk) (lines : List ℕ) (schemes : Schemes) (number : ℕ) (xs : List ItemTree) → items_sites w lines schemes number xs ≡
     wanted schemes (items_sites w lines all_schemes number xs)

@@ -6,11 +6,11 @@ use Rattle.std.specs.Str.{bytes_eq}
 use Rattle.std.proofs.lemmas.Bool.{cond-false, false≢true}
 use Rattle.std.proofs.lemmas.Bool.Decides.{nat_tests}
 use Rattle.std.proofs.lemmas.List.Elements.{filter-append}
+use Rattle.std.proofs.lemmas.Option.{same_Some}
 use Rattle.c_types_rules.specs.TypeTree.{TypeTree}
 use Rattle.c_types_expressions.specs.declared.walk.VariableEntry.{VariableEntry}
 use Rattle.c_types_expressions.specs.declared.walk.Walk.{Walk}
 use Rattle.c_types.specs.Answers.{declared_at, scope_holds, span_holds}
-use Rattle.c_types.proofs.Options.{some_is}
 use Rattle.flow.specs.declared.site.Partner.TheVariants as partner
 use Rattle.sites.specs.Near.{AreEnough, TellEach, all_firsts, begins_from, clear_by, first_from, hidden_among, is_variable_named, lasting, lasts, partner_at, partners_among}
 use Rattle.sites.specs.Visible.{all_again, declared_again, is_clear, is_hidden, is_partner, is_type, slot_of, variable_partners}
@@ -259,8 +259,8 @@ again_at : (xs : List VariableEntry) (n : ℕ) (v : VariableEntry) (found : Opti
 again_at [] zero v found is h = absurd (cc)
 again_at [] (suc n) v found is h = absurd (cc)
 again_at (x ∷ xs) zero v found is h =
-    let same : x ≡ v = some_is x v is in
-    sym (some_is (declared_again x.name xs) found h) ∙ ap (λ (y : VariableEntry). declared_again y.name xs) same
+    let same : x ≡ v = same_Some x v is in
+    sym (same_Some (declared_again x.name xs) found h) ∙ ap (λ (y : VariableEntry). declared_again y.name xs) same
 again_at (x ∷ xs) (suc n) v found is h = again_at xs n v found is h
 
 clear_found : (w : Walk) (token place : ℕ) (v : VariableEntry) (o : Option (Option ℕ)) → slice_get w.variables place ≡ Some v →
@@ -275,7 +275,7 @@ pub clear_is : (w : Walk) (token place : ℕ) (v : VariableEntry) → slice_get 
 clear_is w token place v there clear = clear_found w token place v (slice_get (all_again w.variables) place) there refl clear
 
 pub firsts_at : (xs : List VariableEntry) (n : ℕ) → slice_get (all_firsts xs) n ≡ first_from (drop n xs)
+firsts_at (x ∷ xs) (suc n) = firsts_at xs n
 firsts_at [] zero = refl
 firsts_at [] (suc n) = refl
 firsts_at (x ∷ xs) zero = refl
-firsts_at (x ∷ xs) (suc n) = firsts_at xs n

@@ -4,8 +4,7 @@ use Rattle.std.proofs.Common.{[], ◌∷◌, ◌++◌, length, Option, Some, Non
 use Rattle.std.specs.Prelude.{slice_get, ◌&&◌, option_map}
 use Rattle.std.specs.List.{All}
 use Rattle.std.proofs.lemmas.List.Elements.{All-append, All-map, All-nil, All-cons, All-weaker}
-use Rattle.c_types_rules.specs.TypeTree.{TypeTree}
-use Rattle.c_types_rules.specs.Conversions.{is_arithmetic}
+use Rattle.c_types_rules.specs.Words.{TypeTree, is_arithmetic}
 use Rattle.c_types_expressions.specs.declared.walk.VariableEntry.{VariableEntry}
 use Rattle.c_types_expressions.specs.declared.walk.Walk.{Walk}
 use Rattle.c_types.specs.Answers.{declared_at, place_at}
@@ -14,7 +13,7 @@ use Rattle.c_syntax.specs.ItemTree.{ItemTree}
 use Rattle.flow.specs.declared.site.Site.{Site}
 use Rattle.flow.specs.declared.site.SiteKind.{SiteKind}
 use Rattle.flow.specs.declared.site.SiteKind.TheVariants as kind
-use Rattle.sites.specs.declared.schemes.Schemes.{Schemes}
+use Rattle.flow.specs.declared.choice.Schemes.{Schemes}
 use Rattle.sites.specs.declared.ground.Stand.{Stand}
 use Rattle.sites.specs.declared.spots.Spot.{Spot}
 use Rattle.sites.specs.declared.spots.Spot.TheVariants as spot
@@ -44,12 +43,12 @@ standing-pairs P b s holds place t (Some v) =
 
 standing-on : (P : Site → Type 0) (b : Body) (s : Stand) → ((k : SiteKind) → P (site_on s k)) → (place : Option ℕ) (t : Option TypeTree) →
     All P (pairs_on b s place t)
-standing-on P b s holds None None = All-nil P
-standing-on P b s holds None (Some t) = All-nil P
-standing-on P b s holds (Some place) None = All-nil P
 standing-on P b s holds (Some place) (Some t) =
     let o = slice_get b.known.variables place in
     either P (is_arithmetic t) (pairs_of b s place t o) (standing-pairs P b s holds place t o)
+standing-on P b s holds None None = All-nil P
+standing-on P b s holds None (Some t) = All-nil P
+standing-on P b s holds (Some place) None = All-nil P
 
 single : (P : Site → Type 0) (y : Site) → P y → All P (y ∷ [])
 single P y holds = All-cons P y [] holds (All-nil P)
@@ -68,15 +67,15 @@ standing P b s holds (spot.Constant value) = All-nil P
 abbrev pub BelongsTo : ℕ → Site → Type 0
 BelongsTo n s = s.function ≡ n
 
-on-line : (b : Body) (x : Spot) (token : ℕ) (o : Option ℕ) → All (BelongsTo b.function) (sites_standing b x (option_map (stand_on b.function token) o))
+pub on-line : (b : Body) (x : Spot) (token : ℕ) (o : Option ℕ) → All (BelongsTo b.function) (sites_standing b x (option_map (stand_on b.function token) o))
 on-line b x token None = All-nil (BelongsTo b.function)
 on-line b x token (Some line) = standing (BelongsTo b.function) b (stand_on b.function token line) (λ k. refl) x
 
-at-token : (b : Body) (x : Spot) (o : Option ℕ) → All (BelongsTo b.function) (sites_at_token b x o)
+pub at-token : (b : Body) (x : Spot) (o : Option ℕ) → All (BelongsTo b.function) (sites_at_token b x o)
 at-token b x None = All-nil (BelongsTo b.function)
 at-token b x (Some token) = on-line b x token (slice_get b.lines token)
 
-in-body : (b : Body) (xs : List Spot) → All (BelongsTo b.function) (sites_in b xs)
+pub in-body : (b : Body) (xs : List Spot) → All (BelongsTo b.function) (sites_in b xs)
 in-body b [] = All-nil (BelongsTo b.function)
 in-body b (x ∷ xs) = All-append (BelongsTo b.function) (sites_at b x) (sites_in b xs) (at-token b x (spot_token x)) (in-body b xs)
 
@@ -85,12 +84,10 @@ below n m less xs all = All-weaker (BelongsTo n) (λ s. s.function < m) (λ s is
 
 in-item : (w : Walk) (lines : List ℕ) (schemes : Schemes) (number m : ℕ) (x : ItemTree) → number + length (defined_by x) ≤ m →
     All (λ s. s.function < m) (item_sites w lines schemes number x)
-in-item w lines schemes number m (i.Struct token tag members) few = All-nil (λ s. s.function < m)
-in-item w lines schemes number m (i.Declaration d) few = All-nil (λ s. s.function < m)
-in-item w lines schemes number m (i.Function token b stars name ps None) few = All-nil (λ s. s.function < m)
 in-item w lines schemes number m (i.Function token b stars name ps (Some body)) few =
     let spots = entries_spots body in
     below number m (omega (arith, few)) (sites_in (body_with w lines schemes number spots) spots) (in-body (body_with w lines schemes number spots) spots)
+in-item w lines schemes number m x few = All-nil (λ s. s.function < m)
 
 pub owned : (w : Walk) (lines : List ℕ) (schemes : Schemes) (number m : ℕ) (xs : List ItemTree) → number + length (defined_in xs) ≤ m →
     All (λ s. s.function < m) (items_sites w lines schemes number xs)

@@ -10,8 +10,7 @@ use Rattle.c_syntax.specs.declared.statement.ForStart.{ForStart}
 use Rattle.c_syntax.specs.declared.statement.Start.{Start}
 use Rattle.c_syntax.specs.declared.statement.Statement.{Statement}
 use Rattle.c_syntax.specs.declared.statement.Statement.TheVariants as statement
-use Rattle.c_syntax.specs.StatementTree.{EntryList}
-use Rattle.c_syntax.specs.Plain.{plain_declaration, plain_entries, plain_entry, plain_expr, plain_for_start, plain_start, plain_statement}
+use Rattle.c_syntax.specs.Words.{EntryList, plain_declaration, plain_entries, plain_entry, plain_expr, plain_for_start, plain_start, plain_statement}
 use Rattle.c_syntax.proofs.PlainStatements.{plain_declared_before, plain_do, plain_for, plain_if, plain_if_else, plain_stated_before, plain_while}
 use Rattle.flow.specs.declared.site.BranchWord.TheVariants.{Do, If, While}
 use Rattle.sites.specs.declared.spots.Spot.{Spot}

@@ -2,11 +2,9 @@
 use Rattle.std.proofs.Common.{◌≡◌, ℕ, ◌+◌, ◌<◌, ◌≤◌, Bool, true, false, if◌then◌else◌, List, [], ◌∷◌, ◌++◌, length, Option, Some, None, arith, length-append}
 use Rattle.std.specs.Prelude.{IfSome}
 use Rattle.c_syntax.specs.ExprTree as e
-use Rattle.c_syntax.specs.ExprTree.{ExprTree, ExprList, LinkList, PostfixList}
+use Rattle.c_syntax.specs.Words.{ExprTree, ExprList, LinkList, PostfixList, Kinds, a_sign, a_name, parenthesized, prefix_kinds, type_kinds, expr_kinds}
+use Rattle.c_syntax.specs.Words.{exprs_kinds, more_exprs_kinds, link_kinds, postfix_kinds, optional, ExprAt, ExprsAt, LinksAt, PostfixAt}
 use Rattle.c_syntax.specs.declared.token.Sign.TheVariants as sign
-use Rattle.c_syntax.specs.Spelling.{Kinds, a_sign, a_name, parenthesized, prefix_kinds, type_kinds}
-use Rattle.c_syntax.specs.Spelling.{expr_kinds, exprs_kinds, more_exprs_kinds, link_kinds, postfix_kinds, optional}
-use Rattle.c_syntax.specs.Place.{ExprAt, ExprsAt, LinksAt, PostfixAt}
 use Rattle.flow.specs.declared.site.BranchWord.{BranchWord}
 use Rattle.flow.specs.declared.site.BranchWord.TheVariants.{Question}
 use Rattle.sites.specs.declared.spots.Spot.{Spot}
@@ -133,7 +131,6 @@ mutual
       (wider token (at + 1 + lo) at (at + 1 + lo) (stepped_spots operator token (named_token operand) ++ expr_spots operand) (omega (arith, p.0)) (omega arith)
       (join token (token + 1) (at + 1) (at + 1 + lo) (stepped_spots operator token (named_token operand)) (expr_spots operand) (omega (arith, p.0))
       (rises-stepped token (named_token operand) (is_step operator)) (rises-expr (at + 1) operand p.1))))
-  rises-expr at (e.SizeOfType token b stars) p = omega arith
   rises-expr at (e.Postfix primary operators) p =
       let lp = length (expr_kinds primary) in
       let lo = length (postfix_kinds operators) in
@@ -141,7 +138,6 @@ mutual
       wider at (at + lp + lo) at _ (expr_spots (e.Postfix primary operators)) (omega arith) (omega (arith, whole))
       (join at (at + lp) (at + lp) (at + lp + lo) (expr_spots primary) (postfix_spots (named_token primary) operators) (omega arith)
       (rises-expr at primary p.0) (rises-postfix (at + lp) (named_token primary) operators p.1))
-  rises-expr at (e.Name token name) p = omega arith
   rises-expr at (e.Call token name arguments) p =
       let la = length (exprs_kinds arguments) in
       let whole : length (expr_kinds (e.Call token name arguments)) ≡ length (a_name name) + length (parenthesized (exprs_kinds arguments)) =
@@ -154,13 +150,10 @@ mutual
       ))
       (join token (token + 1) (at + 2) (at + 2 + la) (spot.Call token name ∷ []) (exprs_spots arguments) (omega (arith, p.0))
       (rises-call token name) (rises-exprs (at + 2) arguments p.1))
-  rises-expr at (e.Constant token kind value) p = omega arith
-  rises-expr at (e.Strings token parts) p = omega arith
   rises-expr at (e.Paren token inner) p =
       let whole : length (expr_kinds (e.Paren token inner)) ≡ length (expr_kinds inner) + 2 = paren-length (expr_kinds inner) in
       wider (at + 1) (at + 1 + length (expr_kinds inner)) at _ (expr_spots inner) (omega arith) (omega (arith, whole)) (rises-expr (at + 1) inner p.1)
-  rises-expr at (e.Null token) p = omega arith
-  rises-expr at (e.EndOfFile token) p = omega arith
+  rises-expr at x p = omega arith
 
   pub rises-exprs : (at : ℕ) (xs : ExprList) → ExprsAt at xs → Rises at (at + length (exprs_kinds xs)) (exprs_spots xs)
   rises-exprs at e.no_exprs p = omega arith

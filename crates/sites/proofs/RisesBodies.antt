@@ -4,17 +4,15 @@ use Rattle.std.specs.Prelude.{IfSome}
 use Rattle.std.specs.List.{flat_map}
 use Rattle.std.proofs.lemmas.List.{length-replicate}
 use Rattle.std.proofs.lemmas.List.Concat.{flat_map-cons}
-use Rattle.c_syntax.specs.ExprTree.{ExprTree}
+use Rattle.c_syntax.specs.Words.{ExprTree, InitialTree, StartTree, DeclarationTree, ForStartTree, StatementTree, EntryList, Kinds, a_sign, a_word, a_name}
+use Rattle.c_syntax.specs.Words.{star_kinds, bound_kinds, declarator_kinds, base_kinds, parenthesized, braced, comma_kinds, optional, with_commas, after_commas}
+use Rattle.c_syntax.specs.Words.{expr_kinds, exprs_kinds, initial_kinds, start_kinds, declaration_kinds, for_start_kinds, statement_kinds, entry_kinds, EachAt}
+use Rattle.c_syntax.specs.Words.{InitialAt, StartAt, DeclarationAt, ForStartAt, StatementAt, EntriesAt}
 use Rattle.c_syntax.specs.StatementTree as s
-use Rattle.c_syntax.specs.StatementTree.{InitialTree, StartTree, DeclarationTree, ForStartTree, StatementTree, EntryList}
 use Rattle.c_syntax.specs.declared.parts.Declarator.{Declarator}
 use Rattle.c_syntax.specs.declared.token.Sign.TheVariants as sign
 use Rattle.c_syntax.specs.declared.token.Word.TheVariants as word
 use Rattle.c_syntax.specs.declared.token.TokenKind.TheVariants as kind
-use Rattle.c_syntax.specs.Spelling.{Kinds, a_sign, a_word, a_name, star_kinds, bound_kinds, declarator_kinds, base_kinds}
-use Rattle.c_syntax.specs.Spelling.{parenthesized, braced, comma_kinds, optional, with_commas, after_commas, expr_kinds, exprs_kinds}
-use Rattle.c_syntax.specs.Spelling.{initial_kinds, start_kinds, declaration_kinds, for_start_kinds, statement_kinds, entry_kinds}
-use Rattle.c_syntax.specs.Place.{EachAt, InitialAt, StartAt, DeclarationAt, ForStartAt, StatementAt, EntriesAt}
 use Rattle.flow.specs.declared.site.BranchWord.{BranchWord}
 use Rattle.flow.specs.declared.site.BranchWord.TheVariants.{If, While, Do, For}
 use Rattle.sites.specs.declared.spots.Spot.{Spot}
@@ -30,7 +28,7 @@ brace-length k = omega (arith, len3 (a_sign sign.LeftBrace) k (a_sign sign.Right
 led : (token a b : ℕ) (w : BranchWord) (xs : List Spot) → token + 1 ≤ a → Rises a b xs → Rises token b (spot.Branch token w ∷ xs)
 led token a b w xs m r = join token (token + 1) a b (spot.Branch token w ∷ []) xs m (rises-branch token w) r
 
-declarator-length : (d : Declarator) → d.stars + 1 ≤ length (declarator_kinds d)
+pub declarator-length : (d : Declarator) → d.stars + 1 ≤ length (declarator_kinds d)
 declarator-length d = omega (
   arith,
   len3 (star_kinds d.stars) (a_name d.name) (flat_map bound_kinds d.bounds),
@@ -92,7 +90,7 @@ rises-starts at (x ∷ xs) p =
     wider at (at + lx + lr) at _ (start_spots x ++ starts_spots xs) (omega arith) (omega (arith, whole))
     (join at (at + lx) (at + lx) (at + lx + lr) (start_spots x) (starts_spots xs) (omega arith) (rises-start at x p.0) (rises-more_starts (at + lx) xs p.1))
 
-rises-declaration : (at : ℕ) (d : DeclarationTree) → DeclarationAt at d → Rises at (at + length (declaration_kinds d)) (declaration_spots d)
+pub rises-declaration : (at : ℕ) (d : DeclarationTree) → DeclarationAt at d → Rises at (at + length (declaration_kinds d)) (declaration_spots d)
 rises-declaration at d p =
     let lb = length (base_kinds d.base) in
     let ls = length (with_commas start_kinds d.starts) in
@@ -100,7 +98,7 @@ rises-declaration at d p =
     (a_sign sign.Semicolon) in
     wider (at + lb) (at + lb + ls) at _ (declaration_spots d) (omega arith) (omega (arith, whole)) (rises-starts (at + lb) d.starts p.2)
 
-rises-for_start : (at : ℕ) (x : ForStartTree) → ForStartAt at x → Rises at (at + length (for_start_kinds x)) (for_start_spots x)
+pub rises-for_start : (at : ℕ) (x : ForStartTree) → ForStartAt at x → Rises at (at + length (for_start_kinds x)) (for_start_spots x)
 rises-for_start at (s.Declares d) p = rises-declaration at d p
 rises-for_start at (s.Computes x) p =
     let whole : length (for_start_kinds (s.Computes x)) ≡ length (optional expr_kinds x) + length (a_sign sign.Semicolon) =
@@ -119,7 +117,6 @@ mutual
         brace-length
             (entry_kinds entries),
       )) (rises-entries (at + 1) entries p.1)
-  rises-statement at (s.Empty token) p = omega arith
   rises-statement at (s.Expr token x) p =
       let whole : length (statement_kinds (s.Expr token x)) ≡ length (expr_kinds x) + length (a_sign sign.Semicolon) =
       length-append (expr_kinds x) (a_sign sign.Semicolon) in
@@ -205,8 +202,7 @@ mutual
       len3 (a_word word.Return) (optional expr_kinds value) (a_sign sign.Semicolon) in
       wider (at + 1) (at + 1 + length (optional expr_kinds value)) at _ (part_spots value) (omega arith) (omega (arith, whole)) (rises-part
       (at + 1) value p.1)
-  rises-statement at (s.Break token) p = omega arith
-  rises-statement at (s.Continue token) p = omega arith
+  rises-statement at x p = omega arith
 
   pub rises-entries : (at : ℕ) (xs : EntryList) → EntriesAt at xs → Rises at (at + length (entry_kinds xs)) (entries_spots xs)
   rises-entries at s.no_entries p = omega arith

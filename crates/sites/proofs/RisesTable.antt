@@ -5,13 +5,11 @@ use Rattle.std.specs.List.{All, flat_map}
 use Rattle.std.proofs.lemmas.List.Concat.{flat_map-cons}
 use Rattle.std.proofs.lemmas.List.Elements.{All-head, All-tail, All-nil}
 use Rattle.c_syntax.specs.ItemTree as i
-use Rattle.c_syntax.specs.ItemTree.{ItemTree, SourceTree}
-use Rattle.c_syntax.specs.Spelling.{a_name, braced, entry_kinds, item_kinds, params_kinds, parenthesized, tree_kinds, type_kinds}
-use Rattle.c_syntax.specs.Place.{EachAt, ItemAt}
-use Rattle.c_syntax.specs.WellFormed.{IsShaped}
+use Rattle.c_syntax.specs.Words.{ItemTree, SourceTree, a_name, braced, entry_kinds, item_kinds, params_kinds, parenthesized, tree_kinds, type_kinds, EachAt}
+use Rattle.c_syntax.specs.Words.{ItemAt, IsShaped}
 use Rattle.c_types_expressions.specs.declared.walk.Walk.{Walk}
 use Rattle.flow.specs.declared.site.Site.{Site}
-use Rattle.sites.specs.declared.schemes.Schemes.{Schemes}
+use Rattle.flow.specs.declared.choice.Schemes.{Schemes}
 use Rattle.sites.specs.declared.spots.Spot.{Spot}
 use Rattle.sites.specs.declared.spots.Spot.TheVariants as spot
 use Rattle.sites.specs.Bodies.{entries_spots}
@@ -70,9 +68,6 @@ rises-in b low high (spot.Constant value ∷ rest) r = rises-in b low high rest 
 
 -- what an item holds stands within it
 pub rises-held : (at : ℕ) (x : ItemTree) → ItemAt at x → Rises at (at + length (item_kinds x)) (item_spots x)
-rises-held at (i.Struct token tag members) p = omega arith
-rises-held at (i.Declaration d) p = omega arith
-rises-held at (i.Function token b stars name ps None) p = omega arith
 rises-held at (i.Function token b stars name ps (Some body)) p =
     let ts = type_kinds b stars in
     let from = at + length ts + 2 + length (params_kinds ps) + 2 in
@@ -82,16 +77,15 @@ rises-held at (i.Function token b stars name ps (Some body)) p =
     wider from (from + length (entry_kinds body)) at _ (entries_spots body) (omega arith)
     (omega (arith, whole, paren-length (params_kinds ps), brace-length (entry_kinds body)))
     (rises-entries from body p.3)
+rises-held at x p = omega arith
 
 -- and so do its sites
 pub rises-item : (w : Walk) (lines : List ℕ) (schemes : Schemes) (number at : ℕ) (x : ItemTree) → ItemAt at x →
     RisesWithin at (at + length (item_kinds x)) (item_sites w lines schemes number x)
-rises-item w lines schemes number at (i.Struct token tag members) p = omega arith
-rises-item w lines schemes number at (i.Declaration d) p = omega arith
-rises-item w lines schemes number at (i.Function token b stars name ps None) p = omega arith
 rises-item w lines schemes number at (i.Function token b stars name ps (Some body)) p =
     let x = i.Function token b stars name ps (Some body) in
     rises-in (body_with w lines schemes number (entries_spots body)) at (at + length (item_kinds x)) (entries_spots body) (rises-held at x p)
+rises-item w lines schemes number at x p = omega arith
 
 rises-items : (w : Walk) (lines : List ℕ) (schemes : Schemes) (number at : ℕ) (xs : List ItemTree) → EachAt ItemAt item_kinds 0 at xs →
     RisesWithin at (at + length (flat_map item_kinds xs)) (items_sites w lines schemes number xs)

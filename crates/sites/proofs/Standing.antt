@@ -5,13 +5,10 @@ use Rattle.std.specs.List.{flat_map}
 use Rattle.std.proofs.lemmas.List.{drop_more}
 use Rattle.std.proofs.lemmas.List.Concat.{flat_map-cons}
 use Rattle.c_syntax.specs.ItemTree as i
-use Rattle.c_syntax.specs.ItemTree.{ItemTree}
-use Rattle.c_syntax.specs.Limits.{most_tokens}
-use Rattle.c_syntax.specs.Place.{EachAt, ItemAt}
-use Rattle.c_syntax.specs.Spelling.{a_name, item_kinds, parenthesized, params_kinds, type_kinds, braced, entry_kinds}
+use Rattle.c_syntax.specs.Words.{ItemTree, most_tokens, EachAt, ItemAt, a_name, item_kinds, parenthesized, params_kinds, type_kinds, braced, entry_kinds}
 use Rattle.c_types_expressions.specs.declared.walk.Walk.{Walk}
 use Rattle.sites.specs.declared.noted.Noted.{Noted}
-use Rattle.sites.specs.declared.schemes.Schemes.{Schemes}
+use Rattle.flow.specs.declared.choice.Schemes.{Schemes}
 use Rattle.sites.specs.declared.spots.Spot.{Spot}
 use Rattle.sites.specs.declared.spots.Spot.TheVariants as spot
 use Rattle.sites.specs.Noted.{IsNotedFor, IsNotedTo}
@@ -65,13 +62,11 @@ up_to x o low high rest is h le all = (subst (λ p. IfSome p (IsUpTo high)) is (
 
 -- an item that defines a function has a token
 one-token : (x : ItemTree) → length (defined_by x) ≤ length (item_kinds x)
-one-token (i.Struct token tag members) = omega arith
-one-token (i.Declaration d) = omega arith
-one-token (i.Function token b stars name ps None) = omega arith
 one-token (i.Function token b stars name ps (Some body)) = omega (
   arith,
   len4 (type_kinds b stars) (a_name name) (parenthesized (params_kinds ps)) (braced (entry_kinds body)),
 )
+one-token x = omega arith
 
 -- an item begins where it stands
 begun : (at : ℕ) (x : ItemTree) → ItemAt at x → begins_at x ≡ at

@@ -6,7 +6,7 @@ use Rattle.std.specs.Str.{bytes_eq}
 use Rattle.c_types_expressions.specs.Indexed.{is_key}
 use Rattle.c_types_expressions.specs.declared.walk.Walk.{Walk}
 use Rattle.sites.specs.declared.noted.Noted.{Noted}
-use Rattle.sites.specs.declared.schemes.Schemes.{Schemes}
+use Rattle.flow.specs.declared.choice.Schemes.{Schemes}
 use Rattle.sites.specs.Near.{AreEnough, all_firsts, lasting}
 use Rattle.sites.specs.Visible.{all_again, least}
 

@@ -1,8 +1,7 @@
 -- Where the constructs of a body and of an item stand.
 use Rattle.std.specs.Prelude.{ℕ, ◌≤◌, ◌<◌, List, [], ◌∷◌, Some, IfSome}
 use Rattle.c_syntax.specs.ItemTree as i
-use Rattle.c_syntax.specs.ItemTree.{ItemTree}
-use Rattle.c_syntax.specs.Limits.{most_tokens}
+use Rattle.c_syntax.specs.Words.{ItemTree, most_tokens}
 use Rattle.sites.specs.declared.spots.Spot.{Spot}
 use Rattle.sites.specs.Bodies.{entries_spots}
 use Rattle.sites.specs.SitesAt.{spot_token}

@@ -3,7 +3,7 @@ use Rattle.std.specs.Prelude.{Bool, true, false, List, filter}
 use Rattle.flow.specs.declared.site.SiteKind.{SiteKind}
 use Rattle.flow.specs.declared.site.SiteKind.TheVariants.{Branch, Return, Pair}
 use Rattle.flow.specs.declared.site.Site.{Site}
-use Rattle.sites.specs.declared.schemes.Schemes.{Schemes}
+use Rattle.flow.specs.declared.choice.Schemes.{Schemes}
 
 abbrev pub all_schemes : Schemes
 all_schemes = record { branches = true; returns = true; pairs = true }

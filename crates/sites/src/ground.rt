@@ -5,10 +5,10 @@ ghost use Rattle.sites.specs.Ground.{body_of};
 ghost use Rattle.sites.specs.SitesAt.{site_on, stand_at};
 
 use crate::noted::Noted;
-use crate::schemes::{Schemes, SiteError};
+use crate::schemes::SiteError;
 use c_types::Checked;
 use cbi_base::Seq;
-use flow::{SITE_LIMIT, Site, SiteKind};
+use flow::{SITE_LIMIT, Schemes, Site, SiteKind};
 
 /// What the sites of a function's body are made from: the tree, the wanted schemes, the function's number, and the distinct
 /// constants of the body.

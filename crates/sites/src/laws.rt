@@ -1,12 +1,9 @@
 ghost use Rattle.std.specs.Prelude.{◌≡◌, ◌<◌, ◌+◌, ℕ, List, [], length};
 ghost use Rattle.std.specs.List.{All};
-ghost use Rattle.c_syntax.specs.ItemTree.{ItemTree, SourceTree};
-ghost use Rattle.c_syntax.specs.Place.{ItemAt};
-ghost use Rattle.c_syntax.specs.Spelling.{item_kinds, tree_kinds};
-ghost use Rattle.c_syntax.specs.WellFormed.{IsShaped};
+ghost use Rattle.c_syntax.specs.Words.{ItemTree, SourceTree, ItemAt, item_kinds, tree_kinds, IsShaped};
 ghost use Rattle.c_types_expressions.specs.declared.walk.Walk.{Walk};
 ghost use Rattle.flow.specs.declared.site.Site.{Site};
-ghost use Rattle.sites.specs.declared.schemes.Schemes.{Schemes};
+ghost use Rattle.flow.specs.declared.choice.Schemes.{Schemes};
 ghost use Rattle.sites.specs.Rising.{RisesWithin};
 ghost use Rattle.sites.specs.Table.{functions_of, item_sites, sites_of};
 ghost use Rattle.sites.specs.Wanted.{all_schemes, no_schemes, wanted};

@@ -12,5 +12,5 @@ mod statements;
 mod table;
 
 pub use laws::{schemes_choose_sites, sites_have_functions, sites_rise};
-pub use schemes::{Schemes, SiteError};
+pub use schemes::SiteError;
 pub use table::site_table;

@@ -5,11 +5,11 @@ ghost use Rattle.sites.specs.Noted.{IsEnoughFor, IsNoted, IsNotedFor, first_in};
 ghost use Rattle.sites.specs.Standing.{EachToken, IsUpTo, StandFrom};
 ghost use Rattle.sites.specs.Visible.{all_again, is_clear, least};
 
-use crate::schemes::Schemes;
 use crate::spots::{Spot, token_of};
 use c_types::Checked;
 use c_types_expressions::VariableEntry;
 use cbi_base::{Memory, Seq};
+use flow::Schemes;
 use std::alloc::Global;
 use std::collections::HashMap;
 

@@ -2,14 +2,6 @@ ghost use Rattle.std.specs.Prelude.{◌≡◌};
 
 use cbi_base::Memory;
 
-/// Which sites a table has: branches, returned values, and scalar pairs (PLDI 2005 section 2).
-#[derive(Clone, Copy, Debug, PartialEq, Eq)]
-pub struct Schemes {
-    pub branches: bool,
-    pub returns: bool,
-    pub pairs: bool,
-}
-
 /// Why a tree has no site table: it has more than 65,536 sites, or memory is wanting.
 #[derive(Clone, Copy, Debug, PartialEq, Eq)]
 pub enum SiteError {

@@ -1,6 +1,5 @@
 ghost use Rattle.std.specs.Prelude.{◌≡◌, ◌<◌, ◌≤◌, ◌++◌, length, IfOk, IfErr, IfSome, IsErr, OnOk};
-ghost use Rattle.c_syntax.specs.Limits.{most_tokens};
-ghost use Rattle.c_syntax.specs.Plain.{plain_item};
+ghost use Rattle.c_syntax.specs.Words.{most_tokens, plain_item};
 ghost use Rattle.c_types.specs.Answers.{known_of, tree_of, type_at};
 ghost use Rattle.flow.specs.Limits.{site_limit};
 ghost use Rattle.sites.specs.declared.schemes.SiteError.TheVariants as error;
@@ -15,14 +14,14 @@ use crate::constants::constants_of;
 use crate::ground::{Ground, Stand, add_site, stand_at};
 use crate::noted::{Noted, note_body, noted_for};
 use crate::partners::add_pairs;
-use crate::schemes::{Schemes, SiteError};
+use crate::schemes::SiteError;
 use crate::spots::{Spot, token_of};
 use crate::statements::push_entries;
 use c_syntax::Item;
 use c_types::Checked;
 use c_types_rules::is_scalar;
 use cbi_base::{Name, Seq};
-use flow::{BranchWord, Site, SiteKind, SiteTable, TableParts};
+use flow::{BranchWord, Schemes, Site, SiteKind, SiteTable, TableParts};
 use std::alloc::Global;
 
 /// Whether the expression at the token has a scalar type.

@@ -6,13 +6,10 @@ use Rattle.c_syntax.specs.declared.token.Sign.{Sign}
 use Rattle.c_syntax.specs.declared.token.Sign.TheVariants as sign
 use Rattle.c_syntax.specs.declared.expr.PrefixOperator.TheVariants as prefix
 use Rattle.c_syntax.specs.ExprTree as e
-use Rattle.c_syntax.specs.ExprTree.{ExprTree, ExprList, LinkList, PostfixList}
+use Rattle.c_syntax.specs.Words.{ExprTree, ExprList, LinkList, PostfixList, ItemTree, ItemAt, item_kinds, InitialTree, StartTree, ForStartTree, StatementTree}
+use Rattle.c_syntax.specs.Words.{EntryList}
 use Rattle.c_syntax.specs.ItemTree as i
-use Rattle.c_syntax.specs.ItemTree.{ItemTree}
-use Rattle.c_syntax.specs.Place.{ItemAt}
-use Rattle.c_syntax.specs.Spelling.{item_kinds}
 use Rattle.c_syntax.specs.StatementTree as s
-use Rattle.c_syntax.specs.StatementTree.{InitialTree, StartTree, ForStartTree, StatementTree, EntryList}
 use Rattle.flow.specs.declared.site.BranchWord.TheVariants as word
 use Rattle.sites.specs.declared.spots.Spot.{Spot}
 use Rattle.sites.specs.declared.spots.Spot.TheVariants as spot
@@ -359,10 +356,8 @@ module _ (p : Spot → Bool) where
     )
 
 pub item_made : (x : ItemTree) → AreMadeBy (item_constructs x) (item_spots x)
-item_made (i.Struct token tag members) = λ p. refl
-item_made (i.Function token b stars name ps None) = λ p. refl
 item_made (i.Function token b stars name ps (Some body)) = λ p. entries_made p body
-item_made (i.Declaration declaration) = λ p. refl
+item_made x = λ p. refl
 
 rise_so : (low high : ℕ) (spots : List Spot) → Rises low high spots → SpotsRise low high spots
 rise_so low high [] h = h

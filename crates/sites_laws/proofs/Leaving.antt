@@ -4,12 +4,10 @@ use Rattle.std.specs.Prelude.{cond, count_by}
 use Rattle.std.proofs.lemmas.List.Sums.{sum_by-append}
 use Rattle.c_syntax.specs.declared.expr.PrefixOperator.TheVariants as prefix
 use Rattle.c_syntax.specs.ExprTree as e
-use Rattle.c_syntax.specs.ExprTree.{ExprTree, ExprList, LinkList, PostfixList}
+use Rattle.c_syntax.specs.Words.{ExprTree, ExprList, LinkList, PostfixList, ItemTree, declarator_kinds, InitialTree, StartTree, ForStartTree, StatementTree}
+use Rattle.c_syntax.specs.Words.{EntryList}
 use Rattle.c_syntax.specs.ItemTree as i
-use Rattle.c_syntax.specs.ItemTree.{ItemTree}
-use Rattle.c_syntax.specs.Spelling.{declarator_kinds}
 use Rattle.c_syntax.specs.StatementTree as s
-use Rattle.c_syntax.specs.StatementTree.{InitialTree, StartTree, ForStartTree, StatementTree, EntryList}
 use Rattle.c_meaning.specs.Trees.{token_of}
 use Rattle.c_types_faults.specs.Events.{Calls, Other, Event, Value, Initialises, Variable, Opens, Closes, Struct, Names, Defines}
 use Rattle.c_types_faults.specs.Events.{declaration_events, entries_events, expr_events, exprs_events, for_start_events, initial_events, links_events}
@@ -273,7 +271,5 @@ module _ (p : ℕ → Bool) where
     )
 
 pub item_all : (x : ItemTree) → AreAll (item_constructs x) (body_events x)
-item_all (i.Struct token tag members) = λ p. refl
-item_all (i.Function token b stars name ps None) = λ p. refl
 item_all (i.Function token b stars name ps (Some body)) = λ p. entries_all p body
-item_all (i.Declaration declaration) = λ p. refl
+item_all x = λ p. refl

@@ -4,11 +4,9 @@ use Rattle.std.proofs.lemmas.List.{append-nil}
 use Rattle.c_syntax.specs.declared.token.Sign.{Sign}
 use Rattle.c_syntax.specs.declared.expr.PrefixOperator.TheVariants as prefix
 use Rattle.c_syntax.specs.ExprTree as e
-use Rattle.c_syntax.specs.ExprTree.{ExprTree, ExprList, LinkList, PostfixList}
+use Rattle.c_syntax.specs.Words.{ExprTree, ExprList, LinkList, PostfixList, ItemTree, InitialTree, StartTree, ForStartTree, StatementTree, EntryList}
 use Rattle.c_syntax.specs.ItemTree as i
-use Rattle.c_syntax.specs.ItemTree.{ItemTree}
 use Rattle.c_syntax.specs.StatementTree as s
-use Rattle.c_syntax.specs.StatementTree.{InitialTree, StartTree, ForStartTree, StatementTree, EntryList}
 use Rattle.flow.specs.declared.site.BranchWord.{BranchWord}
 use Rattle.flow.specs.declared.site.BranchWord.TheVariants as word
 use Rattle.sites.specs.declared.spots.Spot.{Spot}
@@ -97,24 +95,18 @@ mutual
   expr_ordered (e.Prefix token prefix.Decrement operand) =
       before (changed token (named_token operand)) (expr_spots operand) (numbers_in (expr_constructs operand)) (changed_none token (named_token operand))
       (expr_ordered operand)
-  expr_ordered (e.Prefix token prefix.SizeOf operand) = refl
   expr_ordered (e.Prefix token prefix.Address operand) = expr_ordered operand
   expr_ordered (e.Prefix token prefix.Indirection operand) = expr_ordered operand
   expr_ordered (e.Prefix token prefix.Plus operand) = expr_ordered operand
   expr_ordered (e.Prefix token prefix.Minus operand) = expr_ordered operand
   expr_ordered (e.Prefix token prefix.Complement operand) = expr_ordered operand
   expr_ordered (e.Prefix token prefix.Not operand) = expr_ordered operand
-  expr_ordered (e.SizeOfType token b stars) = refl
   expr_ordered (e.Postfix primary operators) =
       in_turn (expr_spots primary) (postfix_spots (named_token primary) operators) (expr_constructs primary) (postfix_constructs operators)
       (expr_ordered primary) (postfix_ordered operators (named_token primary))
-  expr_ordered (e.Name token name) = refl
   expr_ordered (e.Call token name arguments) = exprs_ordered arguments
-  expr_ordered (e.Constant token kind value) = refl
-  expr_ordered (e.Strings token parts) = refl
   expr_ordered (e.Paren token inner) = expr_ordered inner
-  expr_ordered (e.Null token) = refl
-  expr_ordered (e.EndOfFile token) = refl
+  expr_ordered x = refl
 
   exprs_ordered : (xs : ExprList) → values_in (exprs_spots xs) ≡ numbers_in (exprs_constructs xs)
   exprs_ordered e.no_exprs = refl
@@ -161,7 +153,6 @@ for_start_ordered (s.Computes x) = part_ordered x
 mutual
   statement_ordered : (x : StatementTree) → values_in (statement_spots x) ≡ numbers_in (statement_constructs x)
   statement_ordered (s.Block token entries) = entries_ordered entries
-  statement_ordered (s.Empty token) = refl
   statement_ordered (s.Expr token x) = expr_ordered x
   statement_ordered (s.If token condition first) =
       in_turn (spot.Branch token word.If ∷ expr_spots condition) (statement_spots first) (expr_constructs condition) (statement_constructs first)
@@ -193,8 +184,7 @@ mutual
       (statement_ordered body)
       ∙ ap numbers_in (append_assoc (a ++ b) c d ∙ append_assoc a b (c ++ d))
   statement_ordered (s.Return token value) = part_ordered value
-  statement_ordered (s.Break token) = refl
-  statement_ordered (s.Continue token) = refl
+  statement_ordered x = refl
 
   entries_ordered : (xs : EntryList) → values_in (entries_spots xs) ≡ numbers_in (entries_constructs xs)
   entries_ordered s.no_entries = refl
@@ -206,7 +196,5 @@ mutual
       (statement_ordered statement) (entries_ordered rest)
 
 pub item_ordered : (x : ItemTree) → values_in (item_spots x) ≡ numbers_in (item_constructs x)
-item_ordered (i.Struct token tag members) = refl
-item_ordered (i.Function token b stars name ps None) = refl
 item_ordered (i.Function token b stars name ps (Some body)) = entries_ordered body
-item_ordered (i.Declaration declaration) = refl
+item_ordered x = refl

@@ -2,17 +2,15 @@
 use Rattle.std.proofs.Common.{◌⊎◌, inl, inr, ◌≡◌, ℕ, ◌+◌, ◌==◌, ◌||◌, length, Bool, true, false, if◌then◌else◌, List, [], ◌∷◌, ◌++◌, Option, Some, None, refl, sym, ◌∙◌, subst}
 use Rattle.std.specs.List.{AllByRecursion, list_any}
 use Rattle.std.proofs.lemmas.List.Folds.{list_any-append}
-use Rattle.std.proofs.lemmas.Bool.{eq-eqb, false≢true}
+use Rattle.std.proofs.lemmas.Bool.{eq-eqb, false≢true, or_left, or_right}
+use Rattle.base_lists.proofs.Numbers.{same_number}
 use Rattle.c_syntax.specs.ExprTree as e
-use Rattle.c_syntax.specs.ExprTree.{ExprTree, ExprList, LinkList, PostfixList}
-use Rattle.c_syntax.specs.Spelling.{declarator_kinds}
+use Rattle.c_syntax.specs.Words.{ExprTree, ExprList, LinkList, PostfixList, declarator_kinds, InitialTree, StartTree, ForStartTree, StatementTree, EntryList}
 use Rattle.c_syntax.specs.StatementTree as s
-use Rattle.c_syntax.specs.StatementTree.{InitialTree, StartTree, ForStartTree, StatementTree, EntryList}
 use Rattle.c_meaning.specs.Trees.{token_of}
 use Rattle.c_types_faults.specs.Events.{Construct, Calls, Selects, Other, Event, Value, Initialises, Variable, Opens, Closes, Struct, Names, Defines, construct_at, is_point_at}
 use Rattle.c_types_faults.specs.Events.{declaration_events, entries_events, expr_events, exprs_events, for_start_events, initial_events, links_events}
 use Rattle.c_types_faults.specs.Events.{optional_events, postfix_events, scoped, start_events, starts_events, statement_events}
-use Rattle.c_types_faults.proofs.Noting.{same_token}
 use Rattle.c_types_faults.proofs.Points.{Among, Once}
 use Rattle.flow.specs.declared.site.BranchWord.{BranchWord}
 use Rattle.flow.specs.declared.site.BranchWord.TheVariants.{Question}
@@ -52,27 +50,11 @@ has_left token name (Defines ∷ es) ys h = has_left token name es ys h
 
 has_behind : (token : ℕ) (name : List ℕ) (event : Event) (ys : List Event) → HasCall token name ys → HasCall token name (event ∷ ys)
 has_behind token name (Value own (Calls other)) ys h = inr h
-has_behind token name (Value own (Selects operand behind other)) ys h = h
-has_behind token name (Value own Other) ys h = h
-has_behind token name (Initialises own) ys h = h
-has_behind token name (Variable own) ys h = h
-has_behind token name Opens ys h = h
-has_behind token name Closes ys h = h
-has_behind token name Struct ys h = h
-has_behind token name (Names other) ys h = h
-has_behind token name Defines ys h = h
+has_behind token name event ys h = h
 
 has_right : (token : ℕ) (name : List ℕ) (xs ys : List Event) → HasCall token name ys → HasCall token name (xs ++ ys)
 has_right token name [] ys h = h
 has_right token name (x ∷ xs) ys h = has_behind token name x (xs ++ ys) (has_right token name xs ys h)
-
-or_left : (a b : Bool) → a ≡ true → (a || b) ≡ true
-or_left true b h = refl
-or_left false b h = absurd (false≢true h)
-
-or_right : (a b : Bool) → b ≡ true → (a || b) ≡ true
-or_right true b h = refl
-or_right false b h = h
 
 any_left : (p : Event → Bool) (xs ys : List Event) → list_any p xs ≡ true → list_any p (xs ++ ys) ≡ true
 any_left p xs ys h = list_any-append p xs ys ∙ or_left (list_any p xs) (list_any p ys) h
@@ -246,7 +228,6 @@ scoped_stand es spots h = stand_right (Opens ∷ []) (es ++ Closes ∷ []) spots
 mutual
   statement_stands : (x : StatementTree) → Stand (statement_events x) (statement_spots x)
   statement_stands (s.Block token entries) = scoped_stand (entries_events entries) (entries_spots entries) (entries_stand entries)
-  statement_stands (s.Empty token) = tt
   statement_stands (s.Expr token x) = expr_stands x
   statement_stands (s.If token c x) =
       (tt, beside (expr_events c) (statement_events x) (expr_spots c) (statement_spots x) (expr_stands c) (statement_stands x))
@@ -280,8 +261,7 @@ mutual
       (stand_right (for_start_events b) one (statement_spots x)
       (stand_right (optional_events c) two (statement_spots x) (stand_right (optional_events d) (statement_events x) (statement_spots x) (statement_stands x)))))
   statement_stands (s.Return token value) = part_stands value
-  statement_stands (s.Break token) = tt
-  statement_stands (s.Continue token) = tt
+  statement_stands x = tt
 
   pub entries_stand : (xs : EntryList) → Stand (entries_events xs) (entries_spots xs)
   entries_stand s.no_entries = tt
@@ -309,7 +289,7 @@ has_among token name (Defines ∷ es) h = inr (has_among token name es h)
 -- where the token isn't the first one's, it is found behind
 found_behind : (token own : ℕ) (name : List ℕ) (c : Construct) (b : Bool) (es : List Event) → (own == token) ≡ b → (own ≡ token → ⊥)
     → construct_at token es ≡ Some (Calls name) → (if b then Some c else construct_at token es) ≡ Some (Calls name)
-found_behind token own name c true es e n h = absurd (n (same_token own token e))
+found_behind token own name c true es e n h = absurd (n (same_number own token e))
 found_behind token own name c false es e n h = h
 
 found_here : (token : ℕ) (name : List ℕ) (b : Bool) (es : List Event) → (token == token) ≡ b

@@ -4,10 +4,8 @@ use Rattle.std.specs.Prelude.{codes, slice_get}
 use Rattle.std.specs.List.{AllByRecursion}
 use Rattle.std.specs.Str.{bytes_eq}
 use Rattle.c_syntax.specs.ItemTree as i
-use Rattle.c_syntax.specs.ItemTree.{ItemTree, SourceTree}
-use Rattle.c_syntax.specs.WellFormed.{IsShaped}
-use Rattle.c_types_rules.specs.TypeTree.{TypeTree}
-use Rattle.c_types_rules.specs.Conversions.{is_arithmetic}
+use Rattle.c_syntax.specs.Words.{ItemTree, SourceTree, IsShaped}
+use Rattle.c_types_rules.specs.Words.{TypeTree, is_arithmetic}
 use Rattle.c_types.specs.Answers.{declared_at, place_at, type_at}
 use Rattle.c_types.specs.Fault.{walk_tree}
 use Rattle.c_types_expressions.specs.Walked.{Fine}
@@ -80,9 +78,6 @@ module _ (t : SourceTree) (z : Walk) (shaped : IsShaped t) (w : walk_tree t ≡ 
 
   -- the calls of a body are calls of the text
   item_told : (number : ℕ) (x : ItemTree) → ((xs : List Spot) → here.Stand (item_events x) xs → here.Stand (events_of t) xs) → ItemTold t z number x
-  item_told number (i.Struct token tag members) f = tt
-  item_told number (i.Function token b stars name ps None) f = tt
-  item_told number (i.Declaration d) f = tt
   item_told number (i.Function token b stars name ps (Some body)) f =
       let es : List Event = params_events (listed_params ps) ++ entries_events body in
       spots_told (body_with z t.lines all_schemes number (entries_spots body)) refl refl refl refl (entries_spots body)
@@ -91,6 +86,7 @@ module _ (t : SourceTree) (z : Walk) (shaped : IsShaped t) (w : walk_tree t ≡ 
       (stand_left (es ++ Closes ∷ []) (Defines ∷ []) (entries_spots body)
       (stand_left es (Closes ∷ []) (entries_spots body)
       (stand_right (params_events (listed_params ps)) (entries_events body) (entries_spots body) (entries_stand body))))))
+  item_told number x f = tt
 
   items_told : (number : ℕ) (xs : List ItemTree) → ((ys : List Spot) → here.Stand (items_events xs) ys → here.Stand (events_of t) ys)
       → AllByRecursion (ItemTold t z number) xs

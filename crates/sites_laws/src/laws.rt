@@ -1,9 +1,6 @@
 ghost use Rattle.std.specs.Prelude.{◌≡◌, ℕ, ℤ, ◌+◌, true, List, ◌++◌, length, map};
 ghost use Rattle.std.specs.List.{AllByRecursion};
-ghost use Rattle.c_syntax.specs.ItemTree.{ItemTree, SourceTree};
-ghost use Rattle.c_syntax.specs.Place.{ItemAt};
-ghost use Rattle.c_syntax.specs.Spelling.{item_kinds};
-ghost use Rattle.c_syntax.specs.WellFormed.{IsShaped};
+ghost use Rattle.c_syntax.specs.Words.{ItemTree, SourceTree, ItemAt, item_kinds, IsShaped};
 ghost use Rattle.c_types_rules.specs.TypeTree.{TypeTree};
 ghost use Rattle.c_types.specs.Fault.{walk_tree};
 ghost use Rattle.c_types_expressions.specs.Walked.{Fine};

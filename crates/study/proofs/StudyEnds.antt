@@ -13,9 +13,7 @@ use Rattle.elimination_tallies.specs.Recount.{runs_of}
 use Rattle.flow.specs.declared.program.ProgramParts.{ProgramParts}
 use Rattle.flow.specs.declared.site.Site.{Site}
 use Rattle.flow.specs.declared.site.TableParts.{TableParts}
-use Rattle.flow.specs.Laws.{OneEnding}
-use Rattle.flow.specs.Program.{table_of}
-use Rattle.flow.specs.State.{Ending}
+use Rattle.flow.specs.Words.{OneEnding, table_of, Ending}
 use Rattle.probes.specs.Told.{AllGrew, AllGrewByPrefix}
 use Rattle.probes.proofs.Growing.{AllGrewByPrefix-whole}
 use Rattle.ranking.specs.Ranked.{IsRankingOf}
@@ -125,7 +123,7 @@ module _ (one_ending : OneEnding) (text : List ℕ) (plan : StudyPlan) (p : Prog
         omega (arith, grows, crowds.many, marks_are h.endings, h.few)
 
 -- runs have one ranking
-ranking_once : OneElimination → (table : TableParts) (policy : Policy) (runs : List LabelledRun) (a b : List ℕ) → IsRankingOf table policy runs a → IsRankingOf table policy runs b → a ≡ b
+pub ranking_once : OneElimination → (table : TableParts) (policy : Policy) (runs : List LabelledRun) (a b : List ℕ) → IsRankingOf table policy runs a → IsRankingOf table policy runs b → a ≡ b
 ranking_once one table policy runs a b x y = x.text_is ∙ ap (ranking_text table) (one (branches_of table.sites) policy runs x.rows y.rows x.ranked y.ranked) ∙ sym y.text_is
 
 -- studies of one text with one plan have the same runs, the same table and the same ranking

@@ -9,11 +9,7 @@ use Rattle.elimination_tallies.specs.declared.labelled.LabelledRun.{LabelledRun}
 use Rattle.elimination_tallies.specs.Recount.{runs_of}
 use Rattle.flow.specs.declared.program.ProgramParts.{ProgramParts}
 use Rattle.flow.specs.declared.site.Site.{Site}
-use Rattle.flow.specs.Counting.{counts_of}
-use Rattle.flow.specs.Laws.{OneEnding}
-use Rattle.flow.specs.Machine.{MachineEnds}
-use Rattle.flow.specs.Sampling.{IsPositive, samples}
-use Rattle.flow.specs.State.{Ending}
+use Rattle.flow.specs.Words.{counts_of, OneEnding, MachineEnds, IsPositive, samples, Ending}
 use Rattle.study_runs.specs.MadeRun.{IsMadeRun}
 use Rattle.report_file.specs.Report.{entries_of}
 use Rattle.study_runs.specs.declared.plan.StudyPlan.{StudyPlan}

@@ -7,8 +7,7 @@ use Rattle.c_syntax.specs.ItemTree.{SourceTree}
 use Rattle.c_types_expressions.specs.declared.walk.Walk.{Walk}
 use Rattle.collector.specs.Collected.{mark_limit}
 use Rattle.flow.specs.declared.program.ProgramParts.{ProgramParts}
-use Rattle.flow.specs.Program.{table_of}
-use Rattle.flow.specs.State.{Ending}
+use Rattle.flow.specs.Words.{table_of, Ending}
 use Rattle.probes.specs.Told.{AllGrew, AllGrewByPrefix}
 use Rattle.ranking.specs.Ranked.{IsRankingOf}
 use Rattle.sites.specs.Wanted.{all_schemes}

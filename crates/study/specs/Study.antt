@@ -4,14 +4,12 @@ use Rattle.cbi_base.specs.declared.observation.Observation.{Observation}
 use Rattle.cbi_base.specs.declared.outcome.Outcome.{Outcome}
 use Rattle.c_syntax.specs.ItemTree.{SourceTree}
 use Rattle.c_types_expressions.specs.declared.walk.Walk.{Walk}
-use Rattle.c_meaning.specs.Runs.{Behaviour}
-use Rattle.c_meaning.specs.Texts.{text_meaning}
+use Rattle.c_meaning.specs.Words.{Behaviour, text_meaning}
 use Rattle.collector.specs.Collected.{mark_limit}
 use Rattle.countdown_bank.specs.Bank.{BankState, number_after}
 use Rattle.elimination_tallies.specs.declared.labelled.LabelledRun.{LabelledRun}
 use Rattle.flow.specs.declared.site.Site.{Site}
-use Rattle.flow.specs.Counting.{counts_of}
-use Rattle.flow.specs.Sampling.{samples}
+use Rattle.flow.specs.Words.{counts_of, samples}
 use Rattle.study_runs.specs.MadeRun.{IsMadeRun}
 use Rattle.report_file.specs.declared.report.Entry.{Entry}
 use Rattle.report_file.specs.Label.{label_of}

@@ -3,10 +3,9 @@ ghost use Rattle.study.specs.Studied.{IsRefusedStudy, IsStudied, LeftByStudy, Re
 
 use cbi_base::{Memory, Refusal};
 use compiler::{CompileError, Plan, compile, one_accepted_text};
-use flow::one_ending;
+use flow::{Schemes, one_ending};
 use probes::Probe;
 use ranking::ranking_of;
-use sites::Schemes;
 use std::alloc::Global;
 use study_runs::{RunsFault, StudyPlan, Sums, one_made_run, run_all};
 

@@ -116,10 +116,10 @@ module _ (p : ProgramParts) (plan : StudyPlan) where
 
     pub left : (e : Fault) (f : RunsFault) → IsSameFault e f → LeftByPlan p (made plan) 1 plan.runs plan.turns told before after nothing_read nothing_refused e
         → RunsLeftByFault p plan told before after f
-    left (fault.Read name) f same h = absurd same
-    left fault.Write f same h = absurd same
     left (fault.Refused refusal) (faults.TooManyMarks run) same (inl h) = absurd h.is.refused
     left (fault.Refused refusal) (faults.TooManyMarks run) same (inr h) = crowded refusal run same h
+    left fault.Memory faults.Memory same h = stopped h
+    left (fault.Read name) f same h = absurd same
+    left fault.Write f same h = absurd same
     left (fault.Refused refusal) faults.Memory same h = absurd same
     left fault.Memory (faults.TooManyMarks run) same h = absurd same
-    left fault.Memory faults.Memory same h = stopped h

@@ -2,9 +2,7 @@
 use Rattle.std.proofs.Common.{◌≡◌, ℕ, suc, List, [], ◌∷◌, length, ap₂, subst, refl, arith}
 use Rattle.countdown_bank.specs.Bank.{BankState, number_after}
 use Rattle.flow.specs.declared.program.ProgramParts.{ProgramParts}
-use Rattle.flow.specs.Laws.{OneEnding}
-use Rattle.flow.specs.Machine.{MachineEnds}
-use Rattle.flow.specs.State.{Ending}
+use Rattle.flow.specs.Words.{OneEnding, MachineEnds, Ending}
 use Rattle.study_runs.specs.MadeRun.{IsMadeRun}
 use Rattle.study_runs.specs.declared.plan.StudyPlan.{StudyPlan}
 use Rattle.study_runs.specs.Runs.{AreRunsFrom, IsRunOf}

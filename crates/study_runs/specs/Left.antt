@@ -5,8 +5,7 @@ use Rattle.collector.specs.Collected.{mark_limit}
 use Rattle.collector.specs.Sites.{branches_of}
 use Rattle.countdown_bank.specs.Bank.{BankState, number_after}
 use Rattle.flow.specs.declared.program.ProgramParts.{ProgramParts}
-use Rattle.flow.specs.Machine.{MachineEnds}
-use Rattle.flow.specs.State.{Ending}
+use Rattle.flow.specs.Words.{MachineEnds, Ending}
 use Rattle.study_runs.specs.MadeRun.{IsMadeRun}
 use Rattle.probes.specs.Told.{AllGrew, AllGrewByPrefix}
 use Rattle.study_runs.specs.declared.fault.RunsFault.{RunsFault}

@@ -3,8 +3,7 @@ use Rattle.std.specs.Prelude.{ℕ, suc, true, List, [], ◌∷◌, replicate}
 use Rattle.cbi_base.specs.declared.identity.ProgramId.{ProgramId}
 use Rattle.countdown_bank.specs.Bank.{BankState, number_after}
 use Rattle.flow.specs.declared.program.ProgramParts.{ProgramParts}
-use Rattle.flow.specs.Machine.{MachineEnds}
-use Rattle.flow.specs.State.{Ending}
+use Rattle.flow.specs.Words.{MachineEnds, Ending}
 use Rattle.study_runs.specs.MadeRun.{IsMadeRun}
 use Rattle.report_file.specs.declared.report.Report.{Report}
 use Rattle.planned_runs.specs.Runs.{planned_report}

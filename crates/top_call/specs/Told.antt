@@ -1,8 +1,6 @@
 -- What err is told: a line, taken whole, or a prefix of it where err's count of faults rose.
 use Rattle.std.specs.Prelude.{◌≡◌, ℕ, List, ◌++◌, Option, ◌⊎◌, codes}
-use Rattle.cbi_base.specs.Faults.{Rose}
-use Rattle.cbi_base.specs.Sink.{Takes, TakesPrefix}
-use Rattle.cbi_base.specs.Refusal.{refusal_line}
+use Rattle.cbi_base.specs.Words.{Rose, Takes, TakesPrefix, refusal_line}
 use Rattle.cbi_base.specs.declared.refusal.Refusal.{Refusal}
 use Rattle.cbi_usage.specs.UsageText.{IsUsageText}
 use Rattle.command_base.specs.declared.done.Done.{Done}

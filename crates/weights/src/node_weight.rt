@@ -1,7 +1,5 @@
 ghost use Rattle.std.specs.Prelude.{◌≡◌, ◌<◌, ◌≤◌, ℕ, length, slice_index, Contains};
-ghost use Rattle.flow.specs.Limits.{node_limit};
-ghost use Rattle.flow.specs.Nodes.{listed_ways};
-ghost use Rattle.flow.specs.View.{view};
+ghost use Rattle.flow.specs.Words.{node_limit, listed_ways, view};
 ghost use Rattle.regions.specs.Flags.{is_in};
 ghost use Rattle.weights.specs.Paths.{next_nodes};
 ghost use Rattle.weights.specs.Weight.{greatest, weight_from};

@@ -1,5 +1,4 @@
-use Rattle.c_meaning.specs.Conversions.{is_null_as}
-use Rattle.c_meaning.specs.Trees.{ends_as_place, is_null_beside, operand_type, token_of, type_of}
+use Rattle.c_meaning.specs.Words.{is_null_as, ends_as_place, is_null_beside, operand_type, token_of, type_of, listed}
 use Rattle.c_meaning.specs.Trees as tree
 use Rattle.c_syntax.proofs.PlainExprs.{plain_arrow_before, plain_assign, plain_call, plain_cast, plain_chain, plain_comma, plain_conditional, plain_constant, plain_decrement_before, plain_end_of_file, plain_increment_before, plain_index_before, plain_member_before, plain_name, plain_null, plain_paren, plain_prefix, plain_size_of_type, plain_strings, plain_with_postfix}
 use Rattle.c_syntax.specs.ExprTree as e
@@ -13,7 +12,6 @@ use Rattle.lower_nodes.proofs.Serving.{for_value, negated_truth, prefixed_made, 
 use Rattle.lower_relation.specs.Expressions.{emitted}
 use Rattle.lower_relation.specs.Room.{branches, exprs_room, links_room}
 use Rattle.lower_relation.specs.Values.{NullOr}
-use Rattle.c_meaning.specs.Visits.{listed}
 use Rattle.lower_expressions.proofs.Assigning.{assign_by, assign_plain, comma_step, last_made, lasts_whole, none_made, operand_weighs}
 use Rattle.lower_expressions.proofs.Chaining.{front_weighs, both_made, chain_made, computes_made, either_links, link_weighs, linked_by, links_none, links_step}
 use Rattle.lower_expressions.proofs.Choosing.{arm_null_made, arm_void, arm_dropped, arm_value_made, cast_effect, cast_nothing, cast_value, chosen_made, conditional_effect, conditional_taken}

@@ -1,7 +1,6 @@
 use Rattle.std.proofs.Common.{◌<◌, ◌+◌, ◌∷◌, [], arith, sum_by}
 use Rattle.c_syntax.specs.declared.token.Token.{Token}
-use Rattle.c_syntax.specs.Limits.{most_bytes}
-use Rattle.c_syntax.specs.Tokens.{text_len}
+use Rattle.c_syntax.specs.Words.{most_bytes, text_len}
 use Rattle.c_lexer.specs.State.{TokenFits}
 use Rattle.c_lexer.proofs.Room.{tokens-push}
 use Rattle.c_lexer.proofs.lexer.keep.Goals as goal

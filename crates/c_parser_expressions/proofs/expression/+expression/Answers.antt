@@ -1,4 +1,7 @@
 use Rattle.std.proofs.Common.{rules, ◌≡◌, ◌+◌, ◌-◌, true, map, Some, Ok, Err, sym, ◌∙◌, subst}
+use Rattle.c_parser_expressions.proofs.Postfix.{step-none as operator_none}
+use Rattle.c_parser_expressions.proofs.Commas.{step-none as comma_none}
+use Rattle.c_parser_expressions.proofs.Chains.{step-none as link_none}
 use Rattle.c_syntax.specs.declared.token.Sign.TheVariants as sign_is
 use Rattle.c_syntax.specs.Plain.{plain_expr, plain_link, plain_postfix}
 use Rattle.c_parser_expressions.specs.Reading.{Cursor, after}
@@ -8,8 +11,8 @@ use Rattle.c_parser_expressions.specs.ExpressionParser.{deeper_than, comma_step,
 use Rattle.c_parser_expressions.specs.ExpressionParser.{operator_by, postfix_step}
 use Rattle.c_parser_expressions.specs.Views.{plain_items, plain_link_list, plain_operator_list}
 use Rattle.c_parser_expressions.proofs.Many.{front_err, front_done, front_push}
-use Rattle.c_parser_expressions.proofs.Loops.{links_advance, items_advance, operators_advance, link_goes, link_stops, link_none, link_push, comma_goes, comma_stops}
-use Rattle.c_parser_expressions.proofs.Loops.{comma_none, comma_push, more_start, operator_goes, operator_none}
+use Rattle.c_parser_expressions.proofs.Loops.{links_advance, items_advance, operators_advance, link_goes, link_stops, link_push, comma_goes, comma_stops}
+use Rattle.c_parser_expressions.proofs.Loops.{comma_push, more_start, operator_goes}
 use Rattle.c_parser_expressions.proofs.expression.+expression.Goals as goal
 
 -- operators of a chain

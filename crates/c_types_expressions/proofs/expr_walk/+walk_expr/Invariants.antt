@@ -1,6 +1,5 @@
 use Rattle.std.proofs.Common.{◌≡◌, ◌+◌, ◌<◌, [], drop, length}
-use Rattle.c_syntax.specs.Limits.{most_bytes}
-use Rattle.c_syntax.specs.Plain.{plain_exprs, plain_links, plain_operators}
+use Rattle.c_syntax.specs.Words.{most_bytes, plain_exprs, plain_links, plain_operators}
 use Rattle.c_types_expressions.specs.ExprWalk.{walk_exprs, walk_links, walk_postfix}
 use Rattle.c_types_expressions.specs.Room.{exprs_text, items_in, links_text, postfix_text}
 use Rattle.c_types_expressions.proofs.expr_walk.+walk_expr.Given as goal

@@ -1,6 +1,5 @@
 use Rattle.std.proofs.Common.{◌≡◌, ◌<◌, map, drop}
-use Rattle.c_syntax.specs.Limits.{most_bytes}
-use Rattle.c_syntax.specs.Plain.{plain_item}
+use Rattle.c_syntax.specs.Words.{most_bytes, plain_item}
 use Rattle.c_types_expressions.specs.Room.{HasRoom}
 use Rattle.c_types_walk.specs.ItemWalk.{walk_items}
 use Rattle.c_types_walk.specs.Room.{items_need, items_text}

@@ -1,6 +1,5 @@
 use Rattle.std.proofs.Common.{◌≡◌, ◌<◌, drop}
-use Rattle.c_syntax.specs.Limits.{most_bytes}
-use Rattle.c_syntax.specs.Plain.{plain_entries}
+use Rattle.c_syntax.specs.Words.{most_bytes, plain_entries}
 use Rattle.c_types_expressions.specs.Room.{HasLeft}
 use Rattle.c_types_walk.specs.Room.{entries_need, entries_text}
 use Rattle.c_types_walk.specs.StatementWalk.{walk_entries}

@@ -1,6 +1,5 @@
 use Rattle.std.proofs.Common.{◌≡◌, ◌<◌, map, drop}
-use Rattle.c_syntax.specs.Limits.{most_bytes}
-use Rattle.c_syntax.specs.Plain.{plain_start}
+use Rattle.c_syntax.specs.Words.{most_bytes, plain_start}
 use Rattle.c_types_expressions.specs.Room.{HasLeft}
 use Rattle.c_types_walk.specs.Room.{starts_need, starts_text}
 use Rattle.c_types_walk.specs.StatementWalk.{walk_starts}

@@ -2,6 +2,7 @@ use Rattle.std.proofs.Common.{◌≡◌, ◌+◌, ◌*◌, ◌<◌, ◌≤◌, B
 use Rattle.std.specs.List.{sum_by}
 use Rattle.std.proofs.lemmas.List.Sums.{sum_by-append, sum_by-cons}
 use Rattle.std.proofs.lemmas.Option.{slice_get_read}
+use Rattle.base_lists.proofs.Lists.{take_more}
 use Rattle.flow.specs.declared.node.Node.{Node}
 use Rattle.flow.specs.declared.program.Function.{Function}
 use Rattle.regions.specs.Blocks.{IsStart}
@@ -9,7 +10,7 @@ use Rattle.regions.specs.Flags.{AreFlags, is_in}
 use Rattle.regions.specs.Headers.{IsHeader}
 use Rattle.regions.specs.Rows.{EachFits}
 use Rattle.regions.specs.Weighty.{views_of}
-use Rattle.regions.proofs.RowLemmas.{rows_more, take_more}
+use Rattle.regions.proofs.RowLemmas.{rows_more}
 use Rattle.regions.proofs.Within.{has_entry}
 use Rattle.weights.specs.Weight.{AreWeights}
 use Rattle.clone_paths.specs.Cloned.{FunctionCloned, StillFits, cloned_limit}

@@ -1,5 +1,6 @@
 use Rattle.std.proofs.Common.{◌≡◌, ◌+◌, ◌<◌, ℕ, length, set, get_or, refl, ap, sym, ◌∙◌, subst, arith, rules}
 use Rattle.std.proofs.lemmas.Option.{get_or_from_slice_get, slice_get_read}
+use Rattle.base_lists.proofs.Options.{none_is}
 use Rattle.flow.specs.declared.node.View.{View}
 use Rattle.flow.specs.Nodes.{led_to}
 use Rattle.regions.specs.Flags.{is_in}
@@ -7,7 +8,7 @@ use Rattle.regions.specs.Weighty.{views_of}
 use Rattle.regions.proofs.Within.{node_at}
 use Rattle.weights.specs.Paths.{mark_count}
 use Rattle.clone_paths.specs.Parts.{next_inside}
-use Rattle.clone_paths.proofs.DebtLemmas.{Owed, inside_within, none_is, owed_all, owed_more, owed_same}
+use Rattle.clone_paths.proofs.DebtLemmas.{Owed, inside_within, owed_all, owed_more, owed_same}
 use Rattle.clone_paths.proofs.debts.debts_of.Goals as goal
 use Rattle.clone_paths.proofs.debts.debts_of.Goals.{in-Some, in_default}
 

@@ -1,8 +1,8 @@
 use Rattle.std.proofs.Common.{◌≡◌, ◌+◌, ◌-◌, ◌<◌, ℕ, length, set, sym, ap, ◌∙◌, subst, arith}
+use Rattle.base_lists.proofs.Options.{none_is}
 use Rattle.regions.specs.Flags.{is_in}
 use Rattle.regions.proofs.Within.{node_at}
 use Rattle.clone_paths.specs.Made.{next_visited}
-use Rattle.clone_paths.proofs.DebtLemmas.{none_is}
 use Rattle.clone_paths.proofs.ResolveLemmas.{ResolvedFrom, resolved_all, resolved_more, resolved_none, resolved_same}
 use Rattle.clone_paths.proofs.function.resolve.Goals as goal
 

@@ -3,18 +3,23 @@ use Rattle.std.proofs.lemmas.Bool.{false≢true}
 use Rattle.study.specs.Studied.{StudyRefusedWith}
 use Rattle.command_base.proofs.DeviceLemmas.{took-nothing}
 use Rattle.command_base.proofs.FaultLemmas.{published-part}
-use Rattle.command_study.proofs.StudyLemmas.{is-study, same-refused-study, study-done, study-left, study-taken, study-refused}
+use Rattle.command_study.specs.Study.{plan_of}
+use Rattle.command_study.proofs.StudyLemmas.{is-study, left-of, same-refused-study, study-done, study-taken, study-refused}
 use Rattle.command_study.proofs.command.study_text.Goals as goal
 
 pub returns-in-Err-Refused-clause-was_refused : goal.returns-in-Err-Refused-clause-was_refused
 returns-in-Err-Refused-clause-was_refused g c =
     study-refused c.refused_texts_are_not_compiled.ensures.refused c.args.words.now (g.S.Store.holds c.args.store.now) c.in-Ok.text c.as_slice.result.now c.in-Err-Refused.refusal c.as_slice.ensures c.in-Ok.ensures.bytes
-    (subst (StudyRefusedWith c.as_slice.result.now c.args.words.now.plan) c.in-Err-Refused.field-0-is c.in-Err-Refused.ensures.refused)
+    (subst (StudyRefusedWith c.as_slice.result.now (plan_of c.args.words.now)) c.in-Err-Refused.field-0-is c.in-Err-Refused.ensures.refused)
 
 pub returns-in-Err-Refused-clause-left : goal.returns-in-Err-Refused-clause-left
-returns-in-Err-Refused-clause-left g c =
-    study-left _ _ _ _ c.in-Ok.text c.as_slice.result.now c.in-Err-Refused.field-0 _ c.in-Ok.ensures.bytes c.as_slice.ensures c.in-Err-Refused.field-0-is refl c.read_file.ensures.read.held
-    c.in-Err-Refused.ensures.left
+returns-in-Err-Refused-clause-left g c = record {
+  bytes = c.in-Ok.text;
+  read = c.in-Ok.ensures.bytes;
+  out = refl;
+  held = c.read_file.ensures.read.held;
+  boxes = rw c.in-Err-Refused.field-0-is (left-of _ _ _ _ _ _ _ _ c.as_slice.ensures c.in-Err-Refused.field-0-is c.in-Err-Refused.ensures.left);
+}
 
 pub returns-in-Err-text_of-clause-left : goal.returns-in-Err-text_of-clause-left
 returns-in-Err-text_of-clause-left g c =

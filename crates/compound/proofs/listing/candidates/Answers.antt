@@ -1,5 +1,6 @@
 use Rattle.std.proofs.Common.{refl, ap, subst, sym, arith}
 use Rattle.std.proofs.lemmas.List.{length-map}
+use Rattle.elimination_tallies.proofs.RecountLemmas.{recount-failing, recount-tally}
 use Rattle.fractions.specs.declared.tally.Tally.{Tally}
 use Rattle.fractions.specs.Tally.{IsTally}
 use Rattle.elimination_tallies.specs.Recount.{failing_runs, labelled, recount, runs_of}
@@ -7,7 +8,6 @@ use Rattle.compound.specs.declared.listing.Candidate.{Candidate}
 use Rattle.compound.specs.Listing.{IsRated, IsRatedCandidate}
 use Rattle.compound.proofs.ListingLemmas.{fractions-listed, listed-more, listed-skip, rated-fraction}
 use Rattle.compound.proofs.LookLemmas.{counted}
-use Rattle.compound.proofs.TallyLemmas.{recount-observed, recount-tally}
 use Rattle.compound.proofs.listing.candidates.Goals as goal
 
 pub loop-predicate-preserved-then-tally-eq0 : goal.loop-predicate-preserved-then-tally-eq0
@@ -32,7 +32,7 @@ rating-requires-clause-observed c =
     let runs = runs_of c.args.collection.now.reports in
     let p = c.loop-predicate.predicate in
     let is = counted branches runs c.args.tallies.now p c.of-tally.result c.requires (omega (arith, c.loop-predicate-test.true, c.predicates-predicate-end.ensures)) c.of-tally.ensures in
-    omega (arith, ap (λ (t : Tally). t.c) is, recount-observed branches runs p, c.failing_runs-failing.ensures.value)
+    omega (arith, ap (λ (t : Tally). t.c) is, recount-failing branches runs p, c.failing_runs-failing.ensures.value)
 
 pub add-requires-clause-list : goal.add-requires-clause-list
 add-requires-clause-list c =

@@ -1,13 +1,14 @@
 use Rattle.std.proofs.Common.{◌≡◌, ◌+◌, ◌*◌, ◌/◌, ◌<◌, Bool, false, true, List, [], get_or, length, map, set, rules, ap, subst, sym, ◌∙◌, arith}
 use Rattle.std.specs.Prelude.{replicate}
 use Rattle.std.proofs.lemmas.List.{length-map, with_items_is}
+use Rattle.elimination_tallies.proofs.RunLemmas.{are-entries}
 use Rattle.compound_bits.specs.Facts.{Fact, no_fact}
 use Rattle.report_file.specs.declared.report.Entry.{Entry}
 use Rattle.elimination_tallies.specs.Recount.{runs_of}
 use Rattle.elimination_tallies.specs.Runs.{AreEntriesOf}
 use Rattle.compound_counts.specs.Rows.{AreRowsUpTo, fact_in, fact_of, room_for}
 use Rattle.compound_counts.specs.Runs.{counted_runs, counts, run_count}
-use Rattle.compound_counts.proofs.Cuts.{are-entries, counted-few, cut-later}
+use Rattle.compound_counts.proofs.Cuts.{counted-few, cut-later}
 use Rattle.compound_counts.proofs.RowLemmas.{place-room, row-fresh, rows-end, rows-next, rows-skip, rows-start}
 use Rattle.compound_counts.proofs.watch.rows_of.Goals as goal
 

@@ -1,6 +1,5 @@
 use Rattle.std.proofs.Common.{subst}
-use Rattle.flow.specs.Program.{table_of}
-use Rattle.flow.specs.Spelling.{SpellsProgram}
+use Rattle.flow.specs.Words.{table_of, SpellsProgram}
 use Rattle.collector.specs.Order.{map_of}
 use Rattle.elimination_tallies.specs.Recount.{runs_of}
 use Rattle.ranking.specs.Ranked.{IsRankingOf}

@@ -1,10 +1,11 @@
 use Rattle.std.proofs.Common.{map, subst, sym, ◌∙◌}
+use Rattle.study.proofs.StudyEnds.{ranking_once}
 use Rattle.ranking.specs.Ranked.{IsRankingOf}
 use Rattle.study.specs.Study.{labelled_run}
 use Rattle.study.specs.Studied.{run_of, study_form}
 use Rattle.headline.specs.Chain.{meant_run, meant_table}
 use Rattle.headline.proofs.Ranking.{has-table}
-use Rattle.headline.proofs.Studies.{all-made, length-runs, one-ranking}
+use Rattle.headline.proofs.Studies.{all-made, length-runs}
 use Rattle.headline.proofs.laws.a_study_is_its_chain.Goals as goal
 
 pub returns : goal.returns
@@ -21,4 +22,4 @@ returns c = λ words text file plan result held r ranking made study form is ran
     let studied : IsRankingOf (meant_table tree known study_form) plan.policy (map (meant_run tree known study_form) made) result.ranking.items =
     subst (λ rs. IsRankingOf (meant_table tree known study_form) plan.policy rs result.ranking.items) runs
     (subst (λ t. IsRankingOf t plan.policy (map (labelled_run t.sites) (map run_of study.endings)) result.ranking.items) table study.ranking) in
-    one-ranking c.one_elimination.ensures.one (meant_table tree known study_form) plan.policy (map (meant_run tree known study_form) made) ranking result.ranking.items chained studied
+    ranking_once c.one_elimination.ensures.one (meant_table tree known study_form) plan.policy (map (meant_run tree known study_form) made) ranking result.ranking.items chained studied

@@ -1,6 +1,6 @@
 use Rattle.std.proofs.Common.{◌≡◌, take}
 use Rattle.std.specs.Prelude.{map}
-use Rattle.flow.specs.Machine.{cell_value}
+use Rattle.flow.specs.Statics.{cell_value}
 use Rattle.lower_globals.proofs.globals.global_with.Given as goal
 
 abbrev pub invariant-loop-value : goal.invariant-loop-value

@@ -1,7 +1,7 @@
 use Rattle.std.specs.Prelude.{map}
 use Rattle.std.proofs.lemmas.List.{map-append}
 use Rattle.c_syntax.specs.Plain.{plain_start}
-use Rattle.flow.specs.Machine.{object_of_global}
+use Rattle.flow.specs.Statics.{object_of_global}
 use Rattle.lower_facts.specs.Facts.{facts_in, known_in}
 use Rattle.lower_globals.specs.Starts.{IsBegun}
 use Rattle.lower_globals.proofs.Started.{all_started, one_gathered, one_given_up}

@@ -1,7 +1,7 @@
 use Rattle.std.proofs.Common.{◌≡◌, drop}
 use Rattle.std.specs.Prelude.{map}
 use Rattle.c_syntax.specs.Plain.{plain_start}
-use Rattle.flow.specs.Machine.{object_of_global}
+use Rattle.flow.specs.Statics.{object_of_global}
 use Rattle.lower_facts.specs.Facts.{facts_in}
 use Rattle.lower_globals.specs.Objects.{all_objects, objects_behind}
 use Rattle.lower_globals.proofs.globals.globals_of_starts.Given as goal

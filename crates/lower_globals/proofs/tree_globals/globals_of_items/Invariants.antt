@@ -3,7 +3,7 @@ use Rattle.std.specs.Prelude.{map}
 use Rattle.std.specs.List.{flat_map}
 use Rattle.c_syntax.specs.Plain.{plain_item}
 use Rattle.c_meaning.specs.Globals.{starts_of}
-use Rattle.flow.specs.Machine.{object_of_global}
+use Rattle.flow.specs.Statics.{object_of_global}
 use Rattle.lower_facts.specs.Facts.{facts_in}
 use Rattle.lower_globals.specs.Objects.{all_objects, objects_behind}
 use Rattle.lower_globals.proofs.tree_globals.globals_of_items.Given as goal

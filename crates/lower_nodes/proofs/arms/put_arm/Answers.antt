@@ -1,6 +1,5 @@
 use Rattle.std.proofs.Common.{◌≡◌, ◌∙◌, ap, sym, true, false}
-use Rattle.c_meaning.specs.Conversions.{as_used}
-use Rattle.c_meaning.specs.Expressions.{is_other_pointer}
+use Rattle.c_meaning.specs.Words.{as_used, is_other_pointer}
 use Rattle.lower_nodes.proofs.arms.put_arm.Goals as goal
 
 pub returns-then-is_other_pointer-clause-made : goal.returns-then-is_other_pointer-clause-made

@@ -1,6 +1,5 @@
 use Rattle.std.proofs.Common.{ap, sym, ◌∙◌}
-use Rattle.flow.specs.View.{view, moved_to}
-use Rattle.flow.specs.Nodes.{listed_ways}
+use Rattle.flow.specs.Words.{view, moved_to, listed_ways}
 use Rattle.lower_nodes.specs.Finished.{turned_number}
 use Rattle.lower_nodes.proofs.Numbers.{one_renamed}
 use Rattle.lower_nodes.proofs.numbering.renumbered.Goals as goal

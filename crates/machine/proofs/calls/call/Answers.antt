@@ -1,6 +1,5 @@
 use Rattle.std.proofs.Common.{refl, subst, sym}
-use Rattle.flow.specs.Calls.{call}
-use Rattle.flow.specs.Code.{code_of}
+use Rattle.flow.specs.Words.{call, code_of}
 use Rattle.machine.specs.Steps.{state_of, IsNext}
 use Rattle.machine.proofs.CallLemmas.{spends, entry_nears}
 use Rattle.machine.proofs.calls.call.Goals as goal

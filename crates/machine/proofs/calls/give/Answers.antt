@@ -1,8 +1,5 @@
 use Rattle.std.proofs.Common.{ap, sym, ◌∙◌, slice_get}
-use Rattle.flow.specs.Calls.{give, has_result}
-use Rattle.flow.specs.Code.{callee_of}
-use Rattle.flow.specs.Now.{Takes}
-use Rattle.flow.specs.State.{Over}
+use Rattle.flow.specs.Words.{give, has_result, callee_of, Takes, Over}
 use Rattle.machine_rows.specs.Data.{data_of}
 use Rattle.machine.specs.Steps.{state_of, frames_of}
 use Rattle.machine.proofs.CallLemmas.{gives_end}

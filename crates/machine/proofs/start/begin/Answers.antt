@@ -1,7 +1,6 @@
 use Rattle.std.proofs.Common.{[], ap, subst, sym, ◌∙◌}
-use Rattle.flow.specs.Calls.{enter}
-use Rattle.flow.specs.Code.{code_of}
-use Rattle.flow.specs.Machine.{program_objects, each_made, begin_with}
+use Rattle.cbi_base.specs.Frames.{each_made}
+use Rattle.flow.specs.Words.{enter, code_of, begin_with, program_objects}
 use Rattle.machine.specs.Begun.{first_past}
 use Rattle.machine_rows.specs.Starting.{IsAllMade}
 use Rattle.machine.specs.Steps.{IsNext}

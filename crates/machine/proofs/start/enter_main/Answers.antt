@@ -1,6 +1,5 @@
 use Rattle.std.proofs.Common.{◌≤◌, length, subst, sym}
-use Rattle.flow.specs.Limits.{local_limit}
-use Rattle.flow.specs.Program.{IsProgram}
+use Rattle.flow.specs.Words.{local_limit, IsProgram}
 use Rattle.machine.proofs.CallLemmas.{few_locals}
 use Rattle.machine.proofs.start.enter_main.Goals as goal
 

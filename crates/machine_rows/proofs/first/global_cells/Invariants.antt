@@ -1,5 +1,5 @@
 use Rattle.std.proofs.Common.{◌≡◌, ◌++◌, map, drop}
-use Rattle.flow.specs.Machine.{cell_value}
+use Rattle.flow.specs.Statics.{cell_value}
 use Rattle.machine_rows.proofs.first.global_cells.Given as goal
 
 abbrev pub invariant-loop-cell : goal.invariant-loop-cell

@@ -1,5 +1,6 @@
 use Rattle.std.proofs.Common.{true, false, map, length, subst}
-use Rattle.flow.specs.Machine.{object_of_global, text_object, each_made}
+use Rattle.cbi_base.specs.Frames.{each_made}
+use Rattle.flow.specs.Statics.{object_of_global, text_object}
 use Rattle.machine_rows.specs.Starting.{IsAllMade}
 use Rattle.machine_rows.proofs.FirstLemmas.{first_none, first_some}
 use Rattle.machine_rows.proofs.first.make_first.Goals as goal

@@ -1,5 +1,6 @@
 use Rattle.std.proofs.Common.{◌≡◌, map, drop, length}
-use Rattle.flow.specs.Machine.{object_of_global, each_made}
+use Rattle.cbi_base.specs.Frames.{each_made}
+use Rattle.flow.specs.Statics.{object_of_global}
 use Rattle.machine_rows.proofs.first.make_globals.Given as goal
 
 abbrev pub invariant-loop-global : goal.invariant-loop-global

@@ -1,5 +1,6 @@
 use Rattle.std.proofs.Common.{◌≡◌, map, drop}
-use Rattle.flow.specs.Machine.{text_object, each_made}
+use Rattle.cbi_base.specs.Frames.{each_made}
+use Rattle.flow.specs.Statics.{text_object}
 use Rattle.machine_rows.proofs.first.make_texts.Given as goal
 
 abbrev pub invariant-loop-text : goal.invariant-loop-text

@@ -1,5 +1,5 @@
 use Rattle.std.proofs.Common.{◌≡◌, ◌++◌, map, drop}
-use Rattle.flow.specs.Rows.{char_of}
+use Rattle.cbi_base.specs.Scalars.{char_of}
 use Rattle.machine_rows.proofs.first.text_cells.Given as goal
 
 abbrev pub invariant-loop-byte : goal.invariant-loop-byte

@@ -1,7 +1,7 @@
 use Rattle.std.proofs.Common.{Some, None, get_or, drop, suc, subst, sym, arith}
 use Rattle.std.specs.Prelude.{Ok}
 use Rattle.std.proofs.Math.Seq.{drop-cons}
-use Rattle.flow.specs.Printing.{string_on}
+use Rattle.cbi_base.specs.Printing.{string_on}
 use Rattle.cbi_base.specs.declared.trap.Trap.TheVariants as trap
 use Rattle.cbi_base.specs.declared.outcome.Outcome.TheVariants.{Trapped}
 use Rattle.machine_rows.specs.declared.stop.Stop.TheVariants as stop

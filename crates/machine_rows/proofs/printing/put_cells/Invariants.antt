@@ -1,5 +1,5 @@
 use Rattle.std.proofs.Common.{drop}
-use Rattle.flow.specs.Printing.{string_on}
+use Rattle.cbi_base.specs.Printing.{string_on}
 use Rattle.machine_rows.specs.Strings.{Continues}
 use Rattle.machine_rows.proofs.printing.put_cells.Given as goal
 

@@ -1,5 +1,5 @@
 use Rattle.std.proofs.Common.{◌≡◌, length}
-use Rattle.flow.specs.Printing.{pieces_of, take_values}
+use Rattle.cbi_base.specs.Printing.{pieces_of, take_values}
 use Rattle.machine_rows.proofs.printing.take_values.Given as goal
 
 abbrev pub invariant-loop-piece : goal.invariant-loop-piece

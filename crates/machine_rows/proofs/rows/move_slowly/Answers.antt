@@ -1,7 +1,7 @@
 use Rattle.std.proofs.Common.{w32, ap, ◌∙◌}
 use Rattle.std.proofs.lemmas.Int.{to_z-of_z}
+use Rattle.cbi_base.specs.Objects.{moved_by}
 use Rattle.cbi_base.specs.declared.scalar.Scalar.TheVariants.{Number}
-use Rattle.flow.specs.Rows.{moved_by}
 use Rattle.machine_rows.proofs.MoveLemmas.{number_is}
 use Rattle.machine_rows.proofs.rows.move_slowly.Goals as goal
 

@@ -1,7 +1,6 @@
 use Rattle.std.proofs.Common.{◌≡◌, sym, ap, subst, ◌∙◌}
 use Rattle.cbi_base.specs.Lines.{ReadsLines, IsBadLine}
-use Rattle.flow.specs.Program.{IsProgram}
-use Rattle.flow.specs.Spelling.{SpellsProgram}
+use Rattle.flow.specs.Words.{IsProgram, SpellsProgram}
 use Rattle.program_file.specs.declared.draft.Draft.{Draft}
 use Rattle.program_file.specs.Draft.{IsWhole, ProgramLineFollows, empty, parts_in}
 use Rattle.program_file.proofs.Alloc.{bad-moved}

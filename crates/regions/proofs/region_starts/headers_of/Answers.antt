@@ -1,8 +1,9 @@
 use Rattle.std.proofs.Common.{rules, ◌≡◌, ◌<◌, ℕ, length, replicate, false, Some, ap, sym, ◌∙◌, subst, arith}
+use Rattle.base_lists.proofs.Options.{none_is}
 use Rattle.regions.specs.Flags.{is_in}
 use Rattle.regions.specs.Headers.{begun_after}
 use Rattle.regions.specs.Weighty.{views_of}
-use Rattle.regions.proofs.HeaderLemmas.{Begun, begun_all, begun_entry, begun_leads, begun_more, begun_same, none_is}
+use Rattle.regions.proofs.HeaderLemmas.{Begun, begun_all, begun_entry, begun_leads, begun_more, begun_same}
 use Rattle.regions.proofs.Within.{node_at}
 use Rattle.regions.proofs.region_starts.headers_of.Goals as goal
 use Rattle.regions.proofs.region_starts.headers_of.Goals.{in-Some, in_default}

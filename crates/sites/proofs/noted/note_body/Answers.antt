@@ -1,6 +1,7 @@
 use Rattle.std.proofs.Common.{◌≡◌, ℕ, List, true, drop, sym, subst, ap, ◌∙◌, Bool, false, refl}
 use Rattle.std.specs.Prelude.{filter, not}
-use Rattle.std.proofs.lemmas.Bool.{false≢true}
+use Rattle.std.proofs.lemmas.Bool.{false≢true, not-false as wanted}
+use Rattle.base_lists.proofs.Tests.{not_itself}
 use Rattle.c_types.specs.Answers.{known_of}
 use Rattle.sites.specs.Near.{AreEnough, first_from, lasts}
 use Rattle.sites.specs.Noted.{IsEnoughFor}
@@ -9,18 +10,10 @@ use Rattle.sites.proofs.Looking.{all_told, clear_sooner, lasting_later}
 use Rattle.sites.proofs.Standing.{every, weaker}
 use Rattle.sites.proofs.noted.note_body.Goals as goal
 
-wanted : (c : Bool) → not c ≡ false → c ≡ true
-wanted true is = refl
-wanted false is = sym is
-
-unwanted : (c : Bool) → not c ≡ true → c ≡ true → ⊥
-unwanted true not_so so = false≢true not_so
-unwanted false not_so so = false≢true so
-
 pub returns-then-not-schemes-clause-enough : goal.returns-then-not-schemes-clause-enough
 returns-then-not-schemes-clause-enough c =
     every (IsEnoughFor c.args.schemes (known_of c.args.checked.now) c.args.noted.now) c.args.spots.now
-    (λ t pairs. absurd (unwanted c.args.schemes.pairs c.if-not-schemes.true pairs))
+    (λ t pairs. absurd (not_itself c.args.schemes.pairs c.if-not-schemes.true pairs))
 
 pub see_more-requires-clause-near : goal.see_more-requires-clause-near
 see_more-requires-clause-near c =

@@ -2,15 +2,14 @@ use Rattle.std.proofs.Common.{◌≡◌, ℕ, ◌+◌, ◌<◌, inl, inr, List, 
 use Rattle.std.specs.List.{All}
 use Rattle.std.proofs.lemmas.List.{append-nil, drop_all}
 use Rattle.c_syntax.specs.declared.tree.Item.{Item}
-use Rattle.c_syntax.specs.ItemTree.{ItemTree}
-use Rattle.c_syntax.specs.Plain.{plain_item}
+use Rattle.c_syntax.specs.Words.{ItemTree, plain_item}
 use Rattle.std.proofs.lemmas.Bool.{cases_lt, false≢true}
 use Rattle.c_types.specs.Answers.{known_of, tree_of}
 use Rattle.flow.specs.declared.site.Site.{Site}
 use Rattle.flow.specs.Limits.{site_limit}
 use Rattle.c_types_expressions.specs.declared.walk.Walk.{Walk}
 use Rattle.sites.specs.declared.noted.Noted.{Noted}
-use Rattle.sites.specs.declared.schemes.Schemes.{Schemes}
+use Rattle.flow.specs.declared.choice.Schemes.{Schemes}
 use Rattle.sites.specs.Noted.{IsNotedFor}
 use Rattle.sites.specs.Standing.{StandAtTokens, StandFrom, begins_at, item_spots}
 use Rattle.sites.specs.Table.{defined_by, defined_in, functions_of, item_sites, items_sites, sites_of}

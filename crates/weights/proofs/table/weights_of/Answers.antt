@@ -1,8 +1,7 @@
 use Rattle.std.proofs.Common.{◌≡◌, ℕ, ◌+◌, ◌-◌, ◌<◌, ◌≤◌, List, length, set, get_or, sym, ap, ◌∙◌, subst, arith, rules}
 use Rattle.std.specs.List.{Contains}
 use Rattle.flow.specs.declared.node.View.{View}
-use Rattle.flow.specs.Limits.{node_limit}
-use Rattle.flow.specs.View.{view}
+use Rattle.flow.specs.Words.{node_limit, view}
 use Rattle.regions.specs.Flags.{is_in}
 use Rattle.regions.specs.Weighty.{views_of}
 use Rattle.regions.proofs.Within.{no_node, node_at}

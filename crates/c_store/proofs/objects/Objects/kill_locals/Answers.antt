@@ -1,6 +1,5 @@
 use Rattle.std.proofs.Common.{◌≡◌, ℕ, zero, suc, ◌+◌, ◌-◌, ◌<◌, ap, sym, ◌∙◌, arith}
-use Rattle.cbi_base.specs.Objects.{Objects, killed}
-use Rattle.cbi_base.specs.Frames.{all_killed}
+use Rattle.cbi_base.specs.Words.{Objects, killed, all_killed}
 use Rattle.c_store.proofs.FrameLemmas.{all_killed-last}
 use Rattle.c_store.proofs.objects.Objects.kill_locals.Goals as goal
 

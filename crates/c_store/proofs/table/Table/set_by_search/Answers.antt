@@ -1,9 +1,10 @@
 use Rattle.std.proofs.Common.{◌≡◌, None, Some, IsSome, is_some, nat_eq, slice_set, refl, ap, sym, subst, ◌∙◌}
 use Rattle.std.specs.FinMap as map
 use Rattle.std.specs.Map.{lookup}
+use Rattle.std.proofs.lemmas.Result.{on_err_weaker}
 use Rattle.c_store.specs.Stacked.{IsMissing, StandsAt, map_of}
 use Rattle.c_store.specs.Written.{stored_in, after}
-use Rattle.c_store.proofs.StackedLemmas.{got_there, get_apart, apart_is_missing, set_apart, set_in_order, stored_some, stored_none, unchanged, on_err}
+use Rattle.c_store.proofs.StackedLemmas.{got_there, get_apart, apart_is_missing, set_apart, set_in_order, stored_some, stored_none, unchanged}
 use Rattle.c_store.proofs.table.Table.set_by_search.Goals as goal
 
 pub returns-in-Some-clause-value : goal.returns-in-Some-clause-value
@@ -37,7 +38,7 @@ returns-in-Some-clause-trap c =
     let missing = apart_is_missing ns es k c.self.invariant.apart (ap is_some there) in
     let at : map.get (map_of ns bs es) k ≡ Some b = get_apart ns bs es k missing ∙ there in
     let becomes = set_apart ns bs es fs k w missing ((c.get_mut.follows.holds w).3 (subst IsSome (sym there) refl)).0 in
-    on_err c.set.result (λ same. unchanged (map_of ns bs es) (map_of ns bs fs) k b w at same becomes ∙ c.self.view_is) c.set.ensures.trap
+    on_err_weaker c.set.result (λ same. unchanged (map_of ns bs es) (map_of ns bs fs) k b w at same becomes ∙ c.self.view_is) c.set.ensures.trap
 
 pub returns-in_default-search-clause-value : goal.returns-in_default-search-clause-value
 returns-in_default-search-clause-value c =

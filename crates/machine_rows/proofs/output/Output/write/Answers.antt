@@ -1,6 +1,6 @@
 use Rattle.std.proofs.Common.{None, get_or, drop, suc, add-one, subst, sym, arith}
 use Rattle.std.proofs.Math.Seq.{drop-cons}
-use Rattle.flow.specs.Printing.{these}
+use Rattle.cbi_base.specs.Printing.{these}
 use Rattle.machine_rows.specs.Printed.{IsPrinted}
 use Rattle.machine_rows.proofs.PrintedLemmas.{byte_first, nothing_on}
 use Rattle.machine_rows.proofs.StringLemmas.{dropped_all}

@@ -1,5 +1,5 @@
 use Rattle.std.proofs.Common.{drop}
-use Rattle.flow.specs.Printing.{these}
+use Rattle.cbi_base.specs.Printing.{these}
 use Rattle.machine_rows.specs.Strings.{Continues}
 use Rattle.machine_rows.proofs.output.Output.write.Given as goal
 

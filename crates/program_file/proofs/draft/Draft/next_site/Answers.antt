@@ -1,7 +1,7 @@
 use Rattle.std.proofs.Common.{◌≡◌, Some, slice_get, rules}
+use Rattle.base_lists.proofs.Lists.{get_map}
 use Rattle.flow.specs.Spelling.{Head}
 use Rattle.program_file.proofs.Taken.{site-follows}
-use Rattle.program_file.proofs.Sound.{slice_get-map}
 use Rattle.program_file.proofs.draft.Draft.next_site.Goals as goal
 
 pub returns-then-not-site_fits-clause-only : goal.returns-then-not-site_fits-clause-only
@@ -15,5 +15,5 @@ returns-clause-ok c =
     let stands : slice_get c.args.self.now.heads c.in-Ok.site.function ≡ Some c.in-Some.head.now = c.in-Some.ensures.found in record {
       reads = search rules;
       room = search rules;
-      fits = record { own = c.in-Some.head.now.locals; owner = slice_get-map (λ (h : Head). h.locals) c.args.self.now.heads c.in-Ok.site.function c.in-Some.head.now stands; fits = search rules };
+      fits = record { own = c.in-Some.head.now.locals; owner = get_map (λ (h : Head). h.locals) c.args.self.now.heads c.in-Ok.site.function c.in-Some.head.now stands; fits = search rules };
     }

@@ -1,5 +1,5 @@
 use Rattle.std.proofs.Common.{◌≡◌, slice_get, length, sym, ap, ◌∙◌}
-use Rattle.cbi_base.proofs.NumberLemmas.{some-is}
+use Rattle.base_lists.proofs.Options.{some_is}
 use Rattle.flow.specs.Spelling.{Head}
 use Rattle.flow.specs.declared.program.Function.{Function}
 use Rattle.program_file.specs.Draft.{IsDue, with_nodes, function_with}
@@ -11,7 +11,7 @@ returns c = λ head is.
     let d = c.args.self.now in
     let g = c.in-Some.head.now in
     let is_due : IsDue d g = ap (slice_get d.heads) (sym c.len-number.ensures) ∙ c.in-Some.ensures.found in
-    let same : g ≡ head = some-is (sym is_due ∙ is) in
+    let same : g ≡ head = some_is (sym is_due ∙ is) in
     let f : Function = record { name = c.in_ok-name.name; value = c.head.inside.value; params = c.head.inside.params; locals = c.replace.result; nodes = c.replace-2.result } in
     let full : length d.nodes ≡ g.nodes = sym c.len.ensures ∙ c.if-len-head.false ∙ ap (λ (h : Head). h.nodes) c.head.view_is in
     let is_f : f ≡ function_with g d.locals d.nodes =
