@@ -86,44 +86,50 @@ def read_collection(path: str) -> Collection:
 # How often predicates were true
 
 class Counted:
-    """Counts the runs of a collection by their sites' lines. More runs may come."""
+    """Counts the runs of a collection by their sites and by which of the counters of each were positive. More runs may come."""
 
     def __init__(self, counters: Counters):
         self.counters = counters
-        self.lines: Dict[str, Counter[bytes]] = {"fail": Counter(), "pass": Counter()}
         self.runs = {"fail": 0, "pass": 0}
+        # Of each site and each set of its counters that were positive, how many failing and successful runs had it.
+        self.marks: Dict[Tuple[int, int], List[int]] = {}
+        self.known: Dict[bytes, List[int]] = {}
 
     def add(self, runs: Iterable[bytes], labels: Iterable[str]) -> None:
+        lines: Dict[str, Counter[bytes]] = {"fail": Counter(), "pass": Counter()}
         for run, label in zip(runs, labels):
             if label != "none":
                 self.runs[label] += 1
-                self.lines[label].update(run.split(b"\n")[1:])
-
-    def marks(self) -> Dict[Tuple[int, int], List[int]]:
-        """Of each site and each set of its counters that were positive, how many failing and successful runs had it."""
-        found: Dict[Tuple[int, int], List[int]] = {}
+                lines[label].update(run.split(b"\n")[1:])
         for place, label in enumerate(("fail", "pass")):
-            for line, times in self.lines[label].items():
-                _, site, one, two, three = line.split(b" ")
-                mark = (int(site), (one != b"0") + 2 * (two != b"0") + 4 * (three != b"0"))
-                found.setdefault(mark, [0, 0])[place] += times
-        return found
+            for line, times in lines[label].items():
+                counts = self.known.get(line)
+                if counts is None:
+                    counts = self.known[line] = self.marks.setdefault(marked(line), [0, 0])
+                counts[place] += times
 
     def observed(self) -> int:
         """How many predicates were looked at in some run."""
-        return sum(len(self.counters[site]) for site in {site for site, _ in self.marks()})
+        return sum(len(self.counters[site]) for site in {site for site, _ in self.marks})
 
     def tallies(self) -> Tallies:
-        seen = self.marks()
         found = {}
         for site, several in self.counters.items():
-            marks = [(mask, seen[(site, mask)]) for mask in range(1, 8) if (site, mask) in seen]
+            marks = [(mask, self.marks[(site, mask)]) for mask in range(1, 8) if (site, mask) in self.marks]
+            if not marks:
+                continue
             observed = [sum(counts[place] for _, counts in marks) for place in (0, 1)]
             for predicate, sums in several:
                 true = [sum(counts[place] for mask, counts in marks if any(mask >> one & 1 for one in sums)) for place in (0, 1)]
                 if sum(true):
                     found[predicate] = Tally(true[0], true[1], observed[0], observed[1])
         return Tallies(found, self.runs["fail"], self.runs["pass"])
+
+
+def marked(line: bytes) -> Tuple[int, int]:
+    """The site of a line, and which of its counters are positive."""
+    _, site, one, two, three = line.split(b" ")
+    return int(site), (one != b"0") + 2 * (two != b"0") + 4 * (three != b"0")
 
 
 def true_runs(collection: Collection, labels: Sequence[str], counters: Counters, predicates: Sequence[int]) -> List[Set[int]]:

@@ -169,8 +169,14 @@ def without_pairs(runs: Runs, built: Built, collection: Collection) -> Tuple[Bui
 
 def numbered_places(built: Built) -> Dict[int, Place]:
     """Each predicate of a program by its number."""
+    return numbered_lines(built.program, os.path.getmtime(built.program), None if built.lines is None else tuple(built.lines))
+
+
+@lru_cache(maxsize=2)
+def numbered_lines(program: str, made: float, lines: Optional[Tuple[Optional[int], ...]]) -> Dict[int, Place]:
+    built = Built(program, "", None if lines is None else list(lines))
     return {number: Place(built.line(site.line, site.function), site.function, text, 0, 0, number)
-            for number, (site, text, _) in numbered_of(built).items()}
+            for number, (site, text, _) in numbered(program, made).items()}
 
 
 def counters_of(built: Built) -> Counters:
