@@ -44,6 +44,25 @@ pub fn whole(xs: &[u8])
     ensures deep { IsWhole xs.now }
 {}
 """
+# one statement, with its words from elsewhere and its names chosen in two ways
+LOW_LEMMA = """\
+-- What is kept.
+use Rattle.std.proofs.Common.{ℕ, List, ◌≡◌}
+use Rattle.low.specs.Low as low
+
+pub kept : (xs : List ℕ) {n m : ℕ} → low.IsKept xs → n ≡ m → low.IsKept xs
+kept = kept
+"""
+TOP_LEMMA = """\
+-- What is kept of it.
+use Rattle.std.specs.Prelude.{ℕ, List, ◌≡◌}
+use Rattle.low.specs.Low.{IsKept}
+
+module _ (unused : ℕ) (ys : List ℕ) where
+  left : (a : ℕ) (b : ℕ) → IsKept ys → a ≡ b
+      → IsKept ys
+  left = left
+"""
 WORK_SOURCE = """\
 //! The work of the house.
 
@@ -126,7 +145,7 @@ class House(unittest.TestCase):
 
     def setUp(self) -> None:
         self.room = tempfile.mkdtemp(prefix="house-")
-        for script in ("checks/house", "tools/above", "tools/map", "tools/promises", "tools/reading"):
+        for script in ("checks/house", "checks/house_lemmas.py", "tools/above", "tools/map", "tools/promises", "tools/reading"):
             self.write(script, "")
             shutil.copy(os.path.join(ROOT, script), os.path.join(self.room, script))
         self.write("crates.txt", "# Base\nlow:\n\n# Tops\ntop: low\n")
@@ -189,6 +208,52 @@ class House(unittest.TestCase):
                    + "\nabbrev pub Again : Type 0\nAgain = Uses\n\nabbrev pub Both : Type 0\nBoth = Again × Both\n")
         self.assertIn("two-meanings IsKept: 2", self.call("checks/house").stdout)
 
+    def test_a_name_that_a_crate_takes_from_two_is_told(self) -> None:
+        # neither of the two sees the other
+        self.write("crates.txt", "low:\nside:\ntop: low side\n")
+        self.write("crates/side/src/lib.rt", "//! What is beside it.\n")
+        self.write("crates/side/specs/Side.antt", "-- What is beside it.\nabbrev pub IsKept : Type 0\nIsKept = Unit {0}\n")
+        self.write("crates/top/specs/Over.antt", "-- Over it.\nuse Rattle.low.specs.Low.{IsKept}\n\nabbrev pub IsOver : Type 0\nIsOver = IsKept [] × IsWhole []\n")
+        self.write("crates/top/src/more.rt", "fn over()\n    ensures { IsOver }\n{\n}\n")
+        self.write("crates/top/src/side.rt", "ghost use Rattle.side.specs.Side.{IsKept};\n\nfn beside()\n    ensures { IsKept }\n{\n}\n")
+        self.write("docs/ARCHITECTURE.md", "`low`, `side` and `top`\n")
+        self.told("two-meanings IsKept: 2")
+        os.remove(os.path.join(self.room, "crates/top/specs/Over.antt"))
+        self.write("crates/top/src/low.rt", "ghost use Rattle.low.specs.Low.{IsDeep};\n\nfn deep()\n    ensures { IsDeep }\n{\n}\n")
+        self.assertEqual(self.call("checks/house").stdout, "house: 0 new, 0 in all\n")
+
+    def test_lemmas_that_say_the_same_are_told(self) -> None:
+        self.write("crates/low/proofs/Low.antt", LOW_LEMMA)
+        self.write("crates/top/proofs/Top.antt", TOP_LEMMA)
+        self.told("said-twice low/Low.antt:kept top/Top.antt:left: 2")
+
+    def test_the_same_words_of_something_else_are_another_lemma(self) -> None:
+        self.write("crates/low/proofs/Low.antt", LOW_LEMMA)
+        self.write("crates/top/proofs/Top.antt", TOP_LEMMA.replace("Rattle.low.specs.Low.{IsKept}", "Rattle.top.specs.Top.{IsWhole as IsKept}"))
+        self.assertEqual(self.call("checks/house").stdout, "house: 0 new, 0 in all\n")
+        self.write("crates/top/proofs/Top.antt", TOP_LEMMA.replace("a ≡ b", "b ≡ a"))
+        self.assertEqual(self.call("checks/house").stdout, "house: 0 new, 0 in all\n")
+
+    def test_an_import_that_nothing_uses_is_told(self) -> None:
+        self.write("crates/top/specs/Top.antt", TOP_SPEC.replace("{IsDeep}", "{IsDeep, IsKept}") + "-- IsKept\n")
+        self.told("unused-import top: 1")
+        self.write("crates/top/specs/Top.antt", TOP_SPEC)
+        self.write("crates/top/src/lib.rt", "ghost use Rattle.low.specs.Low.{IsDeep};\n" + TOP_SOURCE)
+        self.told("unused-import top: 1")
+
+    def test_a_file_that_isnt_there_is_told_where_a_document_names_it(self) -> None:
+        self.write("CONTRIBUTING.md", "`top/specs/Top.antt`, `specs/Low.antt`, `Top.antt`, `crates/low/src/lib.rt`\n")
+        self.assertEqual(self.call("checks/house").returncode, 0)
+        self.write("CONTRIBUTING.md", "`top/specs/Tip.antt`\n")
+        self.told("stale-file CONTRIBUTING.md:top/specs/Tip.antt: 1")
+
+    def test_a_crate_that_a_recipe_leaves_out_is_told(self) -> None:
+        recipe = "## Add a depth\n\n`grep -rlw IsDeep crates --include=*.antt` tells where:\n\n1. `low/specs/Low.antt`.\n{}\n## Others\n\n`top`\n"
+        self.write("CONTRIBUTING.md", recipe.format(""))
+        self.told("recipe CONTRIBUTING.md:top: 1")
+        self.write("CONTRIBUTING.md", recipe.format("2. `top`.\n"))
+        self.assertEqual(self.call("checks/house").returncode, 0)
+
     def test_what_nothing_names_is_told(self) -> None:
         self.write("crates/top/specs/Top.antt", TOP_SPEC + "\nabbrev pub Lonely : Type 0\nLonely = IsWhole []\n")
         self.told("unnamed crates/top/specs/Top.antt:Lonely: 1")
@@ -230,7 +295,7 @@ class House(unittest.TestCase):
         self.assertEqual(self.call("checks/house").stdout, "house: 0 new, 0 in all\n")
 
     def test_a_field_that_is_given_names_no_definition_of_its_own(self) -> None:
-        proof = "lone : IsWhole []\nlone = whole\n\nuser : IsWhole []\nuser =\n      lone at (record { one = whole })\n\nlast : IsWhole []\nlast = user last\n"
+        proof = "lone : IsWhole []\nlone = whole\n\nuser : IsWhole (1 ∷ [])\nuser =\n      lone at (record { one = whole })\n\nlast : IsWhole (2 ∷ [])\nlast = user last\n"
         self.write("crates/top/proofs/Top.antt", proof)
         self.assertEqual(self.call("checks/house").stdout, "house: 0 new, 0 in all\n")
 
