@@ -174,7 +174,7 @@ class Files(Case):
         ported = cbi_port.port([first, second], ["-I" + self.room])
         checked = check.compare([first, second], ["-I" + self.room], ported, [("none", b"")], CBI, None, TURNS)
         self.assertEqual(checked.equal, 1, checked.differences)
-        out, _ = self.transform(ported.text.decode("latin-1")), None
+        self.transform(ported.text.decode("latin-1"))
         of_second = [index for index, line in enumerate(ported.lines, 1) if line.file == second and line.line == 7]
         self.assertEqual(len(of_second), 1)
         with open(self.path("prog.cbi")) as file:

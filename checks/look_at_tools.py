@@ -136,6 +136,15 @@ class Explain(Case):
             self.assertIn(f"It trapped: {trap} {cbi_files.TRAPS[trap][0]}, ", out)
             self.assertIn("It counts as failing.", out)
 
+    def test_traps_are_those_of_the_definition_and_of_the_documents(self) -> None:
+        with open(os.path.join(TOP, "crates", "cbi_base", "specs", "Trap.antt"), encoding="utf-8") as it:
+            defined = {int(number): name for name, number in re.findall(r"(?m)^trap_number (\w+) = (\d+)$", it.read())}
+        self.assertEqual({trap: name for trap, (name, _) in cbi_files.TRAPS.items()}, defined)
+        with open(os.path.join(TOP, "docs", "PORTING.md"), encoding="utf-8") as it:
+            told = {int(trap): (name, meaning) for trap, name, meaning in re.findall(r"(?m)^\| (\d+) \| (\w+) \| ([^|]*) \|", it.read())}
+        # a program that cbi wrote never comes to 99, so the table of the documents leaves it out
+        self.assertEqual({trap: said for trap, said in cbi_files.TRAPS.items() if trap != 99}, told)
+
     def test_a_report_is_explained_with_its_sites(self):
         self.transform("int main(void){int i;\nfor(i=0;i<7;i++);\nreturn 0;}", "full", "branches")
         self.call("cbi", "run", "--run", "3", "--report", "a report", "prog.cbi")

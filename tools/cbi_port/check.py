@@ -9,8 +9,6 @@ from typing import Any, Dict, List, NamedTuple, Optional, Sequence, Tuple
 
 from cbi_port import Missing, Ported
 
-TRAPS = {1: "Overflow", 2: "Divide", 3: "Shift", 4: "Undefined", 5: "WrongKind", 6: "Bounds", 7: "Dead", 8: "NullUse", 9: "ReadOnly",
-         10: "BadFree", 11: "Unrelated", 12: "StackOverflow", 13: "Assertion", 14: "Abort"}
 SECONDS = 20
 
 

@@ -7,7 +7,7 @@ from cbi_port.places import Places
 from cbi_port.scopes import Symbol
 from cbi_port.trees import kind, leading
 from cbi_port.types import (BOOL, INT, UCHAR, UINT, VOID, Array, CType, Function, Int, Pointer, Struct, Void,
-                            common, is_complete, is_float, is_long, is_open, is_pointer, is_whole, promoted, same, size_of, spelled)
+                            common, is_complete, is_float, is_long, is_open, is_pointer, promoted, same, size_of, spelled)
 from cbi_port.values import ASSIGN, BITAND, COMMA, COND, POSTFIX, UNARY, Leaf, Place, Value, prefixed
 
 LONG_NAMES = {"+": "add", "-": "sub", "*": "mul", "/": "div", "%": "rem", "&": "and", "|": "or", "^": "xor", "<<": "shl", ">>": "shr"}

@@ -1,6 +1,6 @@
 """What GNU C writes beside C99: left out where it changes nothing, written as C99 where it can be, refused else."""
 import re
-from typing import Dict, List, Optional, Sequence, Set, Tuple
+from typing import Dict, List, Sequence, Set, Tuple
 
 from cbi_port.constants import plain_string, wide_character, wide_prefix
 from cbi_port.lines import Refusal, Token

@@ -189,8 +189,7 @@ class Helpers:
     def maker(self, name: str, type_: CType) -> Tuple[str, str]:
         word, per = self.word(type_), self.per(type_)
         make = "cbi_malloc" if self.program.keeps_sizes else "malloc"
-        pointer = "cbi_at" if word != "void **" else "cbi_at"
-        clear = self.program.model.clear_cells(pointer, type_, "cbi_count")
+        clear = self.program.model.clear_cells("cbi_at", type_, "cbi_count")
         head = f"{word}cbi_new_{name}(unsigned cbi_count)" if word != "void **" else f"void *cbi_new_{name}(unsigned cbi_count)"
         times = f" * {per}" if per > 1 else ""
         return head + ";", f"{head} {{ {word}cbi_at = {make}(cbi_count{times}); if (cbi_at) {clear}; return cbi_at; }}"
@@ -207,7 +206,6 @@ class Helpers:
     def mover(self, name: str, type_: CType) -> Tuple[str, str]:
         word = self.word(type_)
         head = f"{word}cbi_move_{name}({word}cbi_to, {word}cbi_from, unsigned cbi_count)"
-        copy = self.store("cbi_to + cbi_n", "cbi_from + cbi_n", type_)
         body = "unsigned cbi_n; if (cbi_count == 0 || cbi_to == cbi_from) return cbi_to; "
         body += f"{word}cbi_room = malloc(cbi_count * {self.per(type_)}); if (cbi_room == NULL) abort(); "
         body += f"for (cbi_n = 0; cbi_n < cbi_count; cbi_n++) {self.store('cbi_room + cbi_n', 'cbi_from + cbi_n', type_)} "

@@ -115,7 +115,6 @@ class Jumps(Statements):
             type_ = self.resolve(node.type)
             if not isinstance(type_, Function) and (is_complete(type_) or isinstance(type_, Array) and type_.count is None and node.init is not None):
                 if isinstance(type_, Array) and type_.count is None:
-                    outer = self.scope
                     type_, _ = self.leaves(type_, node.init)
                 if not isinstance(type_, Void):
                     symbol = Symbol(node.name, "variable", type_, self.local_name(node.name))

@@ -1,5 +1,5 @@
 """Names and what they mean (C99 6.2.1 to 6.2.4)."""
-from typing import Any, Dict, List, Optional, Set
+from typing import Any, Dict, Optional, Set
 
 from cbi_port.types import CType
 
