@@ -145,7 +145,7 @@ class House(unittest.TestCase):
 
     def setUp(self) -> None:
         self.room = tempfile.mkdtemp(prefix="house-")
-        for script in ("checks/house", "checks/house_lemmas.py", "tools/above", "tools/map", "tools/promises", "tools/reading"):
+        for script in ("checks/house", "checks/house_lemmas.py", "tools/house_crates.py", "tools/above", "tools/map", "tools/promises", "tools/reading"):
             self.write(script, "")
             shutil.copy(os.path.join(ROOT, script), os.path.join(self.room, script))
         self.write("crates.txt", "# Base\nlow:\n\n# Tops\ntop: low\n")
