@@ -6,8 +6,6 @@ usage: farming.py CBI FOLDER [--fault NAME/FAULT] [--runs N] [--inputs N] [--one
 Of a seeded generator's inputs so many are kept in FOLDER (100,000) that exactly one in N of them fails (10,000), as gcc's builds of the right
 version and of the one with the fault tell. `cbi-hunt` makes N runs (1,000,000) on these in turn at rate D (100), and it is told how many failed, how
 many of these the ranked sample has, how long it took, and which of the first rows are within five lines of the fault. A second call goes on.
-
-The sample is uniform, so of rare failures few are left in it. Beside it stands a ranking of all failing runs, with as many others as there is room for.
 """
 import argparse
 import csv
@@ -17,7 +15,6 @@ import sys
 import time
 from typing import Dict, Iterator, List, Tuple
 
-from corpus_collections import END
 from corpus_files import Fault, Subject, read_subject
 from corpus_gcc import build, outputs, write
 from corpus_scores import NEAR
@@ -25,7 +22,6 @@ from corpus_subject import read
 
 TOOLS = os.path.join(os.path.dirname(os.path.abspath(__file__)), "..", "tools")
 AT_ONCE = 1000
-MOST_RUNS = 100000
 
 
 def find_inputs(subject: Subject, fault: Fault, folder: str, count: int, one_in: int) -> None:
@@ -62,22 +58,6 @@ def judged_inputs(subject: Subject, homes: Tuple[str, str], scratch: str, seed: 
     for data, right, other, status in zip(made, due, out, statuses):
         expected = read(right)
         yield data, expected, status > 127 or read(other) != expected
-
-
-def split_runs(paths: List[str], most: int) -> Tuple[bytes, List[bytes], List[bytes]]:
-    """The head of batches of runs, all failing runs of them, and others, as many as there is room for, evenly."""
-    failing: List[bytes] = []
-    others: List[bytes] = []
-    head = b""
-    for path in paths:
-        with open(path, "rb") as file:
-            data = file.read()
-        head, *runs = data[:-len(END) - 1].split(b"\nrun ")
-        bad = [run for run in runs if b" label fail " in run.split(b"\n", 1)[0]]
-        failing += bad
-        good = [run for run in runs if b" label pass " in run.split(b"\n", 1)[0]]
-        others += good[::max(1, len(paths) * len(good) // most)]
-    return head, failing, others[:most - len(failing)]
 
 
 def rows_of(cbi: str, program: str, collection: str) -> List[Dict[str, str]]:
@@ -117,18 +97,17 @@ def hunt(chosen: argparse.Namespace, cbi: str, text: str, kept: str) -> None:
     print(f"{chosen.runs} runs at rate {chosen.rate}: status {status}, {time.monotonic() - began:.0f} s by the clock")
 
 
-def rank_both(cbi: str, kept: str, fault: Fault) -> None:
-    """The rows of the sample that the hunt took, and those of all failing runs beside others."""
+def count_failing(path: str) -> int:
+    with open(path, "rb") as file:
+        return sum(line.startswith(b"run ") and b" label fail " in line for line in file)
+
+
+def rank(cbi: str, kept: str, fault: Fault) -> None:
+    """The rows of the sample that the hunt took."""
     batches = [os.path.join(kept, "batches", one) for one in sorted(os.listdir(os.path.join(kept, "batches")))]
-    head, failing, others = split_runs(batches, MOST_RUNS)
-    program, sample, both = (os.path.join(kept, name) for name in ("program", "runs", "failing-and-others"))
-    print(f"{len(batches)} batches have {len(failing)} failing runs, the sample has {read(sample).count(b' label fail ')}")
-    told("by the sample", rows_of(cbi, program, sample), fault)
-    with open(both, "wb") as file:
-        file.write(head + b"\n")
-        file.writelines(b"run " + run + b"\n" for run in sorted(failing + others, key=lambda run: int(run.split(b" ", 1)[0])))
-        file.write(END)
-    told(f"by all {len(failing)} failing runs and {len(others)} others", rows_of(cbi, program, both), fault)
+    sample = os.path.join(kept, "runs")
+    print(f"{len(batches)} batches have {sum(map(count_failing, batches))} failing runs, the sample has {count_failing(sample)}")
+    told("by the sample", rows_of(cbi, os.path.join(kept, "program"), sample), fault)
 
 
 def main() -> int:
@@ -146,7 +125,7 @@ def main() -> int:
         print(f"{chosen.inputs} inputs, {chosen.inputs // chosen.one_in} of which fail, in {time.monotonic() - began:.0f} s", flush=True)
     kept = os.path.join(chosen.folder, f"hunt-{os.path.basename(chosen.farm or 'here')}")
     hunt(chosen, cbi, text, kept)
-    rank_both(cbi, kept, fault)
+    rank(cbi, kept, fault)
     return 0
 
 

@@ -1,4 +1,5 @@
 """Looks at the runs of a hunt, as look_at_tools does at the rest: that they are those that the commands of `cbi` make, and that a hunt goes on where it stopped."""
+import json
 import os
 import re
 import signal
@@ -12,6 +13,7 @@ from looking import UPPER, Case, Hunting, environment, heed_interrupts, on_termi
 sys.path.insert(0, looking.TOOLS)
 from cbi_hunt import collecting  # noqa: E402
 from cbi_hunt.kept import missing_batches  # noqa: E402
+from cbi_hunted import Sample as Told  # noqa: E402
 from cbi_runs import Batch  # noqa: E402
 
 
@@ -195,25 +197,101 @@ class Hunt(Hunting):
 class Sample(Case):
     """More runs than a collection holds: with a smaller limit, in this process."""
 
-    def test_it_is_a_sample_only_where_it_must_be(self):
-        self.assertIsNone(collecting.sample_of([(run, 5) for run in range(1, 100001)], 1))
-        sample = collecting.sample_of([(run, 5) for run in range(1, 100002)], 1)
-        self.assertEqual(len(sample), 100000)
-        self.assertIsNone(collecting.sample_of([(1, 16777215), (2, 1)], 1))
-        self.assertEqual(len(collecting.sample_of([(1, 16777215), (2, 2)], 1)), 1)
+    def marks(self, runs, sites=0, failing=()):
+        return [collecting.Mark(run, sites, run in failing) for run in range(1, runs + 1)]
 
-    def test_it_is_uniform_and_stays_the_same(self):
+    def room_for(self, runs):
         self.addCleanup(setattr, collecting, "MOST_RUNS", collecting.MOST_RUNS)
-        collecting.MOST_RUNS = 1000
-        marks = [(run, 0) for run in range(1, 10001)]
-        sample = collecting.sample_of(marks, 7)
-        self.assertEqual(sample, collecting.sample_of(marks[::-1], 7))
-        self.assertNotEqual(sample, collecting.sample_of(marks, 8))
-        tenths = [sum(1 for run in sample if (run - 1) // 1000 == part) for part in range(10)]
-        self.assertEqual(sum(tenths), 1000)
-        self.assertTrue(all(60 <= count <= 140 for count in tenths), tenths)  # 100 expected, and more than four deviations off
-        fewer = collecting.sample_of(marks[:5000], 7)
+        collecting.MOST_RUNS = runs
+
+    def test_it_is_a_sample_only_where_it_must_be(self):
+        self.assertIsNone(collecting.sample_of(self.marks(100000, 5), 1))
+        sample = collecting.sample_of(self.marks(100001, 5), 1)
+        self.assertEqual((len(sample.runs), sample.told), (100000, Told(0, 0, 100000, 100001, True)))
+        self.assertIsNone(collecting.sample_of([collecting.Mark(1, 16777215, False), collecting.Mark(2, 1, False)], 1))
+        self.assertEqual(len(collecting.sample_of([collecting.Mark(1, 16777215, False), collecting.Mark(2, 2, False)], 1).runs), 1)
+
+    def test_it_is_even_and_stays_the_same(self):
+        self.room_for(1000)
+        marks = self.marks(10000)
+        sample = collecting.sample_of(marks, 7).runs
+        self.assertEqual(sample, collecting.sample_of(marks[::-1], 7).runs)
+        self.assertNotEqual(sample, collecting.sample_of(marks, 8).runs)
+        self.look_even(sample, 1000)
+        fewer = collecting.sample_of(marks[:5000], 7).runs
         self.assertTrue({run for run in sample if run <= 5000} <= fewer)
+
+    def look_even(self, sample, count):
+        """There are so many runs of 10,000 in it, and of each tenth of these about as many."""
+        tenths = [sum(1 for run in sample if (run - 1) // 1000 == part) for part in range(10)]
+        self.assertEqual(sum(tenths), count)
+        self.assertTrue(all(abs(tenth - count / 10) <= 0.4 * count / 10 for tenth in tenths), tenths)  # of 100 more than four deviations off
+
+    def test_where_few_runs_failed_they_are_in_it(self):
+        """A tenth of it is theirs, as far as there are so many; the others are drawn as ever."""
+        self.room_for(1000)
+        rare, more = set(range(100, 10000, 200)), set(range(20, 10000, 25))
+        sample = collecting.sample_of(self.marks(10000, failing=rare), 7)
+        self.assertTrue(rare <= sample.runs)
+        self.assertEqual(sample.told, Told(50, 50, 950, 9950, False))
+        self.look_even(sample.runs - rare, 950)
+        sample = collecting.sample_of(self.marks(10000, failing=more), 7)
+        self.assertEqual(sample.told, Told(100, 400, 900, 9600, False))
+        self.assertEqual(len(sample.runs & more), 100)
+        self.look_even(sample.runs - more, 900)
+        one = collecting.sample_of(self.marks(10000, failing={9999}), 7)
+        self.assertEqual((9999 in one.runs, one.told.failing, len(one.runs)), (True, 1, 1000))
+
+    def test_where_many_runs_failed_it_is_even(self):
+        self.room_for(1000)
+        sample = collecting.sample_of(self.marks(10000, failing=set(range(1, 10001, 5))), 7)
+        self.assertEqual(sample.runs, collecting.sample_of(self.marks(10000), 7).runs)
+        self.assertEqual((sample.told.even, sample.told.failing + sample.told.others, sample.told.all_failing), (True, 1000, 2000))
+
+    def test_site_lines_bound_it_also_where_few_runs_failed(self):
+        """There is room for 100 runs by their site lines: a tenth of these is for the 50 that failed."""
+        sample = collecting.sample_of(self.marks(1000, 167772, set(range(1, 51))), 1)
+        self.assertEqual((sample.told, len(sample.runs)), (Told(10, 50, 90, 950, False), 100))
+
+    def test_it_is_told_and_shares_are_weighed_back(self):
+        """A hunt with room for 60 runs. 14 of 280 fail, of which a tenth of the room takes six."""
+        self.write("upper.c", UPPER)
+        self.write("lines", "".join(("!\n" if number % 20 == 0 else "bc\n") for number in range(280)))
+        script = ("import sys\nsys.path.insert(0, sys.argv.pop(1))\nfrom cbi_hunt import collecting, hunting\ncollecting.MOST_RUNS = 60\nsys.exit(hunting.main())\n")
+        self.write("small.py", script)
+        out, _ = self.call(sys.executable, "small.py", looking.TOOLS, "upper.c", "--inputs", "lines", "--jobs", "1", "--keep", "kept")
+        self.assertIn("\n280 runs on 280 inputs: 14 failed, 266 succeeded\n", out)
+        self.assertIn("ranked are 6 of the 14 failing runs and 54 of the 266 others, drawn evenly by the seed 1; counts, bars and importance are of these, and how often runs fail is weighed back",
+                      out.replace("\n", " "))
+        self.assertEqual(self.read("kept/runs").count(b" label fail "), 6)
+        self.assertEqual(self.read("kept/runs").count(b" label pass "), 54)
+        self.assertIn("All 6 ranked runs that saw it failed", out)
+        self.assertIn("All 6 ranked failing runs ended by a call of abort (trap 14).", out.replace("\n", " "))
+        self.assertIn("     fails 5 % of the time when reached, 100 % when this is true\n", out)  # 14 of 280, where of those ranked 10 % fail
+        self.assertIn("true in 6 failing runs and no successful runs; looked at in 6 failing and 54 successful", out)
+        self.assertEqual(self.call("cbi-show", "--hunt", "kept")[0], out.split("page: ")[0])
+        page = Page(self.read("kept/page.html").decode())
+        self.assertIn([2, "How ranked runs ended"], page.headings)
+
+    def test_all_failing_runs_are_told_as_all(self):
+        """Of a hunt that was kept the words alone are changed: it is as if a thousand times as many runs had succeeded."""
+        self.write("upper.c", UPPER)
+        self.write("lines", "a!\n" + "bc\n" * 9)
+        self.call("cbi-hunt", "upper.c", "--inputs", "lines", "--jobs", "1", "--keep", "kept", "--runs", "30")
+        told = json.loads(self.read("kept/told.json"))
+        self.assertIsNone(told["sample"])
+        told["sample"] = [3, 3, 27, 27000, False]
+        self.write("kept/told.json", json.dumps(told))
+        out, _ = self.call("cbi-show", "--hunt", "kept")
+        self.assertIn("All 3 failing runs ended by", out)
+        self.assertIn("All 3 ranked runs that saw it failed", out)
+        self.assertIn("     fails under 1 % of the time when reached, 100 % when this is true\n", out)
+        told["policy"] = "relabel"
+        self.write("kept/told.json", json.dumps(told))
+        self.assertIn("     fails 10 % of the time when reached, 100 % when this is true\n", self.call("cbi-show", "--hunt", "kept")[0])
+        del told["sample"]  # as a hunt has it that was kept before there was one
+        self.write("kept/told.json", json.dumps(told))
+        self.assertIn("     fails 10 % of the time when reached, 100 % when this is true\n", self.call("cbi-show", "--hunt", "kept")[0])
 
     def test_batches_are_what_is_missing(self):
         batch, missing = Batch, missing_batches

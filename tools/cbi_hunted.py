@@ -25,6 +25,15 @@ class Example(NamedTuple):
     of_row: bool = False
 
 
+class Sample(NamedTuple):
+    """Which runs are ranked where a collection doesn't hold all: how many of the failing ones and of the others. An even one was drawn without a look at how runs went."""
+    failing: int
+    all_failing: int
+    others: int
+    all_others: int
+    even: bool
+
+
 class Hunted(NamedTuple):
     """How a hunt was made. `names` are those of the failing inputs by their places, of which there are `inputs`; `notes` sum the hunt up, and `hanging` says where runs that were cut
     were seen last, and how many of those that were looked at."""
@@ -46,6 +55,15 @@ class Hunted(NamedTuple):
     advice: str
     hanging: List[Tuple[str, int]]
     example: Optional[Example] = None
+    sample: Optional[Sample] = None
+
+    def weighed(self, failing: int, successful: int) -> Tuple[int, int]:
+        """As many ranked runs as numbers that stand to each other as these do among all runs. Under `relabel` failing runs come to count as successful ones, so
+        there the numbers stay those of the ranked runs."""
+        sample = self.sample
+        if sample is None or sample.even or self.policy == "relabel":
+            return failing, successful
+        return failing * sample.all_failing * sample.others, successful * sample.all_others * sample.failing
 
     def names_of(self, runs: List[int]) -> List[str]:
         """The names of the inputs of these runs, each once."""
@@ -71,6 +89,7 @@ def read_hunted(path: str) -> Hunted:
                 example[key] = example[key] if example[key] is None else example[key].encode("latin-1")
         names = {int(place): str(name) for place, name in plain.pop("names")}
         hanging = [(str(text), int(count)) for text, count in plain.pop("hanging")]
-        return Hunted(names=names, hanging=hanging, example=example and Example(**example), **plain)
+        sample = plain.pop("sample", None)
+        return Hunted(names=names, hanging=hanging, example=example and Example(**example), sample=sample and Sample(*sample), **plain)
     except (ValueError, KeyError, TypeError, UnicodeError):
         raise Fault(f"{path}: it hasn't what cbi-hunt leaves there")

@@ -117,7 +117,7 @@ def endings(view: View) -> Iterator[str]:
     if not view.seen:
         return
     most = max(view.seen.endings.values(), default=0)
-    yield '<section id="endings"><h2>How runs ended</h2>'
+    yield f'<section id="endings"><h2>How {"ranked " if view.sample() else ""}runs ended</h2>'
     for note in view.hunted.notes if view.hunted else []:
         yield f"<p>{escaped(capital(note))}</p>"
     yield '<table class="ends"><tbody>'
@@ -175,7 +175,7 @@ def near_items(shown: Shown, view: View, rows: Iterable[int], here: Set[Spot]) -
 def row_lines(shown: Shown, view: View, rows: Iterable[int], here: Set[Spot]) -> Iterator[str]:
     row = shown.row
     yield f'<article class="row" id="p{row.predicate}" aria-label="Row {row.rank}"><div>{row.rank}</div>'
-    yield f"<div><h3>{fact(shown.fact)}</h3><div>{line_link(shown.spot, view.where, here)} of {code(row.function)}; {cbi_told.likely(shown)}</div>"
+    yield f"<div><h3>{fact(shown.fact)}</h3><div>{line_link(shown.spot, view.where, here)} of {code(row.function)}; {cbi_told.likely(shown, view)}</div>"
     said = [cbi_told.counts(shown), cbi_told.ended_of_row(shown), cbi_told.inputs_of_row(shown, view)]
     yield f'<div class="quiet">{escaped(" ".join(capital(text) + "." for text in said if text))}</div>'
     yield f"<details><summary>Numbers of row {row.rank}</summary>"

@@ -9,7 +9,7 @@ import re
 from typing import Dict, Iterable, List, NamedTuple, Optional, Set
 
 from cbi_files import Card, Fault, Pair, Program, Ranking, Row, Site
-from cbi_hunted import Hunted
+from cbi_hunted import Hunted, Sample
 from cbi_seen import QUANTILE, Seen, Totals, Truth, by_chance, expected_by_chance, seen_in
 from cbi_source import Fact, Source, plain_fact
 from cbi_where import Spot, Where
@@ -76,6 +76,10 @@ class View(NamedTuple):
     seen: Optional[Seen]
     pair: Optional[PairShown]
     hunted: Optional[Hunted]
+
+    def sample(self) -> Optional[Sample]:
+        """Which runs are ranked, where these aren't all that a hunt made."""
+        return self.hunted.sample if self.hunted else None
 
     def leading(self) -> List[Shown]:
         return [shown for group in self.together for shown in group]

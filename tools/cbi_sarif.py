@@ -66,7 +66,7 @@ def level_of(importance: int) -> str:
 
 def result_of(shown: Shown, view: View) -> Dict[str, Any]:
     row = shown.row
-    said = [f"{shown.text}: {counts(shown)}", likely(shown)] + [text for text in (ended_of_row(shown),) if text]
+    said = [f"{shown.text}: {counts(shown)}", likely(shown, view)] + [text for text in (ended_of_row(shown),) if text]
     result: Dict[str, Any] = {
         "ruleId": row.scheme,
         "ruleIndex": list(RULES).index(row.scheme),

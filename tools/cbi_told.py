@@ -35,7 +35,8 @@ def sentences(view: View) -> List[str]:
         return [*(advice.split("\n") if advice else [NO_ROWS]), *ended(view)]
     row = first.row
     true, others, failing = row.f + row.s, row.fobs + row.sobs - row.f - row.s, row.fobs - row.f
-    saw = {1: "The one run that saw it failed", 2: "Both runs that saw it failed"}.get(true, f"All {true} runs that saw it failed") if not row.s else f"{row.f} of the {true} runs that saw it failed"
+    runs = "ranked runs" if view.sample() else "runs"
+    saw = {1: f"The one {runs[:-1]} that saw it failed", 2: f"Both {runs} that saw it failed"}.get(true, f"All {true} {runs} that saw it failed") if not row.s else f"{row.f} of the {true} {runs} that saw it failed"
     rest = f"; of the {others} others that looked there {one_in(failing, others)}" if others > 1 else f"; the one other that looked there {'failed too' if failing else 'did not'}" if others else ""
     said = [f"{perhaps(first)}{first.fact.past()} at {first.spot.file}:{first.spot.line} in {row.function}.", f"{saw}{rest}.", *ended(view)]
     if first.weak() and first.by_chance is not None and view.seen:
@@ -50,14 +51,15 @@ def perhaps(first: Shown) -> str:
 
 def ended(view: View) -> List[str]:
     """How failing runs ended, as a sentence, where there are any."""
-    endings = view.seen.failing_endings() if view.seen else {}
+    endings, sample = view.seen.failing_endings() if view.seen else {}, view.sample()
     if not endings:
         return []
+    runs = "ranked failing runs" if sample and sample.failing < sample.all_failing else "failing runs"
     if len(endings) == 1:
         (outcome, count), = endings.items()
-        whose = {1: "The one failing run", 2: "Both failing runs"}.get(count, f"All {count} failing runs")
+        whose = {1: f"The one {runs[:-1]}", 2: f"Both {runs}"}.get(count, f"All {count} {runs}")
         return [f"{whose} ended by {ENDINGS[outcome]}{trap_of(outcome)}."]
-    return [f"Failing runs ended by {ended_by(endings)}."]
+    return [f"{runs.capitalize()} ended by {ended_by(endings)}."]
 
 
 def short_name(name: str) -> str:
@@ -115,10 +117,11 @@ def wrote_of(example: Example) -> Iterator[Tuple[str, str]]:
 
 # Rows
 
-def likely(shown: Shown) -> str:
-    row = shown.row
-    reached = share_of(row.fobs, row.fobs + row.sobs) if row.fobs + row.sobs else "0 %"
-    return f"fails {reached} of the time when reached, {share_of(row.f, row.f + row.s)} when this is true"
+def likely(shown: Shown, view: View) -> str:
+    """How often runs fail, among all runs also where a sample is ranked that has other shares."""
+    row, hunted = shown.row, view.hunted
+    reached, true = (hunted.weighed(*counts) if hunted else counts for counts in ((row.fobs, row.sobs), (row.f, row.s)))
+    return f"fails {share_of(reached[0], sum(reached)) if sum(reached) else '0 %'} of the time when reached, {share_of(true[0], sum(true))} when this is true"
 
 
 def falling(shown: Shown) -> List[Near]:

@@ -2,14 +2,16 @@
 import hashlib
 import os
 import tempfile
-from typing import List, Optional, Set, Tuple
+from typing import List, NamedTuple, Optional, Set
 
 from cbi_hunt.kept import Kept
+from cbi_hunted import Sample
 from cbi_runs import Batch, Plan, call_to
 
 MOST_RUNS = 100000        # of a collection
 MOST_MARKS = 16777216     # site lines of a collection
 FILES_A_CALL = 500        # of one `cbi collect`
+FAILING = 10              # one in so many ranked runs is a failing one, where there are as many
 
 
 def key_of(seed: int, run: int) -> bytes:
@@ -17,18 +19,43 @@ def key_of(seed: int, run: int) -> bytes:
     return hashlib.sha256(f"{seed} {run}".encode("ascii")).digest()
 
 
-def sample_of(marks: List[Tuple[int, int]], seed: int) -> Optional[Set[int]]:
-    """The runs that a collection has room for: all, or as many as fit in the order of their keys."""
-    if len(marks) <= MOST_RUNS and sum(sites for _, sites in marks) <= MOST_MARKS:
+class Mark(NamedTuple):
+    """A run: its number, how many site lines it has, and whether it failed."""
+    run: int
+    sites: int
+    failed: bool
+
+
+class Drawn(NamedTuple):
+    """The runs of a sample, and what is told of them."""
+    runs: Set[int]
+    told: Sample
+
+
+def sample_of(marks: List[Mark], seed: int) -> Optional[Drawn]:
+    """The runs that are ranked where a collection doesn't hold all: as many as fit in the order of their keys, so an even sample. Where fewer than a tenth of
+    these failed, failing runs are taken first, up to a tenth, and the others evenly. None where all fit."""
+    if len(marks) <= MOST_RUNS and sum(mark.sites for mark in marks) <= MOST_MARKS:
         return None
-    sample: Set[int] = set()
-    total = 0
-    for run, sites in sorted(marks, key=lambda mark: key_of(seed, mark[0])):
-        total += sites
-        if len(sample) == MOST_RUNS or total > MOST_MARKS:
+    order = sorted(marks, key=lambda mark: key_of(seed, mark.run))
+    drawn = even = fitting(order)
+    failing = [mark for mark in order if mark.failed]
+    wanted = min(len(failing), len(even) // FAILING)
+    if sum(mark.failed for mark in even) < wanted:
+        drawn = fitting(failing[:wanted] + [mark for mark in order if not mark.failed])
+    kept = sum(mark.failed for mark in drawn)
+    return Drawn({mark.run for mark in drawn}, Sample(kept, len(failing), len(drawn) - kept, len(marks) - len(failing), drawn is even))
+
+
+def fitting(order: List[Mark]) -> List[Mark]:
+    """The first of them, as many as a collection holds."""
+    total, found = 0, []
+    for mark in order[:MOST_RUNS]:
+        total += mark.sites
+        if total > MOST_MARKS:
             break
-        sample.add(run)
-    return sample
+        found.append(mark)
+    return found
 
 
 def sampled_copy(source: str, target: str, sample: Set[int]) -> int:

@@ -1,9 +1,10 @@
 """How the runs of a hunt went, and the line of progress that says so. Not proved."""
 import sys
 import time
-from typing import Dict, List, Tuple
+from typing import Dict, List
 
 import cbi_files
+from cbi_hunt.collecting import Mark
 from cbi_hunt.kept import Kept
 from cbi_runs import Plan
 
@@ -16,11 +17,11 @@ class Count:
         self.failing_inputs: Dict[int, str] = {}
         self.failing_runs: Dict[int, int] = {}
         self.hanging_inputs: Dict[int, int] = {}
-        self.marks: List[Tuple[int, int]] = []
+        self.marks: List[Mark] = []
 
     def add(self, collection: str) -> None:
         for run in cbi_files.read_heads(collection):
-            self.marks.append((run.number, run.sites))
+            self.marks.append(Mark(run.number, run.sites, run.label == "fail"))
             self.cut += run.outcome.startswith("cut")
             self.failed += run.label == "fail"
             self.succeeded += run.label == "pass"

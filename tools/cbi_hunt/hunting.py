@@ -80,11 +80,11 @@ def hunt(chosen: argparse.Namespace, cbi: str, folder: str) -> int:
         print("No run was made.")
         return INTERRUPTED
     sample = sample_of(count.marks, chosen.seed)
-    collect(plan, kept, kept.made(), sample)
-    this = Hunt(chosen, plan, kept, inputs, count)
+    collect(plan, kept, kept.made(), sample.runs if sample else None)
+    this = Hunt(chosen, plan, kept, inputs, count, sample.told if sample else None)
     keep_failing(this)
     newline = newline_note(this)
-    found = show(this, list(notes(this, whole, told, newline, None if sample is None else len(sample))), newline)
+    found = show(this, list(notes(this, whole, told, newline)), newline)
     return INTERRUPTED if not whole else FOUND if found else NOTHING
 
 

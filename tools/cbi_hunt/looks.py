@@ -18,7 +18,7 @@ from cbi_hunt.inputs import Inputs
 from cbi_hunt.kept import Kept
 from cbi_hunt.smaller import Smaller, Wanted
 from cbi_hunt.words import TURNS
-from cbi_hunted import Example
+from cbi_hunted import Example, Sample
 from cbi_rows import Shown, Wording
 from cbi_runs import Plan, asked, oracle_name
 from cbi_seen import ending_of
@@ -38,6 +38,7 @@ class Hunt:
     kept: Kept
     inputs: Inputs
     count: Count
+    sample: Optional[Sample] = None
 
 
 # What was written beside what was due

@@ -27,7 +27,8 @@ def facts_of(hunt: Hunt, program: cbi_files.Program, notes: List[str], said: str
     chosen = hunt.chosen
     names = {place: hunt.inputs.names[place] for place in hunt.count.failing_inputs}
     return Hunted(chosen.command, cbi_files.VERSION, date_of(), chosen.text, hashlib.sha256(cbi_files.read_bytes(hunt.kept.path("source.c"))).hexdigest(), program.identity,
-                  chosen.seed, chosen.rate, hunt.count.runs(), chosen.turns, chosen.policy, chosen.hangs == "fail", len(hunt.inputs.names), names, notes, said, [])
+                  chosen.seed, chosen.rate, hunt.count.runs(), chosen.turns, chosen.policy, chosen.hangs == "fail", len(hunt.inputs.names), names, notes, said, [],
+                  sample=hunt.sample)
 
 
 def rank(hunt: Hunt) -> cbi_files.Ranking:

@@ -9,6 +9,7 @@ from cbi_hunt.collecting import MOST_MARKS, MOST_RUNS
 from cbi_hunt.counts import Count
 from cbi_hunt.inputs import Inputs
 from cbi_hunt.looks import Hunt, oracle_note
+from cbi_hunted import Sample
 from cbi_told import short_name
 
 NO_FAILURE = """\
@@ -61,11 +62,25 @@ def hidden_line(inputs: Inputs) -> Optional[str]:
     return harmless(f"not taken, since hidden: {', '.join(inputs.hidden[:MOST_HIDDEN])}{rest}")
 
 
-def notes(hunt: Hunt, whole: bool, told: List[str], newline: Optional[str], sample: Optional[int]) -> Iterator[str]:
+def sample_line(sample: Optional[Sample], chosen: argparse.Namespace) -> Optional[str]:
+    """Says which runs are ranked, where these aren't all."""
+    if sample is None:
+        return None
+    room = f"a collection holds {MOST_RUNS} runs with {MOST_MARKS} site lines: "
+    if sample.even:
+        return f"{room}ranked is an even sample of {count_of(sample.failing + sample.others, 'run')}, by the seed {chosen.seed}"
+    every = "the one failing run" if sample.all_failing == 1 else f"all {sample.failing} failing runs"
+    failing = every if sample.failing == sample.all_failing else f"{sample.failing} of the {sample.all_failing} failing runs"
+    weighed = "so is how often runs fail" if chosen.policy == "relabel" else "how often runs fail is weighed back"
+    return (f"{room}ranked are {failing} and {sample.others} of the {sample.all_others} others, drawn evenly by the seed {chosen.seed}; "
+            f"counts, bars and importance are of these, and {weighed}")
+
+
+def notes(hunt: Hunt, whole: bool, told: List[str], newline: Optional[str]) -> Iterator[str]:
     """The lines that sum up a hunt. Where no run succeeded, what is told of the last newline is among the advice."""
     yield summary(hunt.count, hunt.inputs) + ("" if whole else "; interrupted, so this is what there is")
-    sampled = sample is not None and f"a collection holds {MOST_RUNS} runs with {MOST_MARKS} site lines: ranked is a uniform sample of {sample} runs, by the seed {hunt.chosen.seed}"
-    for line in (failing_line(hunt), *map(harmless, told), hidden_line(hunt.inputs), cut_line(hunt.count, hunt.chosen), newline if hunt.count.succeeded else None, sampled):
+    for line in (failing_line(hunt), *map(harmless, told), hidden_line(hunt.inputs), cut_line(hunt.count, hunt.chosen), newline if hunt.count.succeeded else None,
+                 sample_line(hunt.sample, hunt.chosen)):
         if line:
             yield line
 
