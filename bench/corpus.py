@@ -12,38 +12,47 @@ at once. With --write the tables and plots of docs/EVIDENCE.md, or what README h
 """
 import argparse
 import json
-import multiprocessing
 import os
 import shutil
 import subprocess
 import sys
 import tempfile
 import time
-from typing import Any, Dict, List, NamedTuple, Tuple
+from concurrent.futures import FIRST_COMPLETED, Executor, Future, ProcessPoolExecutor, wait
+from typing import Any, Dict, Iterator, List, NamedTuple, Set, Tuple
 
 import corpus_tables
 from corpus_files import Subject, names, read_subject
 from corpus_gcc import CoverageError
-from corpus_measure import Measure
+from corpus_measure import TOLD_RUNS, Measure
 from corpus_runs import CallError, Runs, processor_seconds
-from corpus_subject import Bench, NotTaken
+from corpus_subject import Bench, NotTaken, inputs_in, make_inputs
 from corpus_three import Three
 
 Results = Dict[str, Any]
 PARTS = ("programs", "faults", "three", "tables", "not taken", "seconds", "processor")
 IN_MEMORY = "/dev/shm"
-ROOM = 4 << 30
+ROOM = 8 << 30
 RIGHT_RUNS = 100
 
 
 class Work(NamedTuple):
-    """What is to be measured of a program: its right version, some of its faults, three at once, and the table."""
+    """What is to be measured of a program: its right version, some of its faults, three at once, and the table. `inputs` is the folder of its inputs, and
+    `fails` has the first runs that each fault fails, as far as that is known."""
     name: str
     right: bool
     faults: Tuple[str, ...]
     three: Tuple[int, ...]
     tables: Tuple[int, ...]
     chosen: argparse.Namespace
+    inputs: str = ""
+    fails: Dict[str, Set[int]] = {}
+
+    def title(self) -> str:
+        return self.name if self.right else " ".join([self.name, *self.faults, *["three at once"] * bool(self.three), *["the table"] * bool(self.tables)])
+
+    def inputs_needed(self) -> int:
+        return int(max([RIGHT_RUNS, *(self.chosen.runs if self.faults else []), *self.three, *self.tables]))
 
     def size(self) -> int:
         """How many runs that are, about."""
@@ -52,7 +61,21 @@ class Work(NamedTuple):
     def seconds(self, results: Results) -> float:
         """How long that takes, about: of a program that isn't taken at all nothing is known."""
         right = results["programs"].get(self.name)
-        return self.size() * right["seconds"] / right["runs"] if right else 0.0
+        return float(self.size() * right["seconds"] / right["runs"]) if right else 0.0
+
+    def pieces(self) -> List["Work"]:
+        """The same as work for several processes, what goes on after the inputs are there."""
+        none = self._replace(right=False, faults=(), three=(), tables=())
+        whole = [none._replace(faults=(fault,)) for fault in self.faults]
+        return whole + [none._replace(three=self.three)] * bool(self.three) + [none._replace(tables=self.tables)] * bool(self.tables)
+
+
+class Done(NamedTuple):
+    """What was measured, and how many seconds it took, by the clock and of a processor."""
+    work: Work
+    found: Results
+    passed: float
+    used: float
 
 
 def numbers(text: str) -> List[int]:
@@ -94,7 +117,7 @@ def missing(subject: Subject, chosen: argparse.Namespace, known: Results) -> Wor
     opened = bool(subject.three()) and chosen.faults != "kept"
     three = [count for count in chosen.three if opened and f"{subject.name} {count}" not in known["three"]]
     tables = [count for count in chosen.table[1] if opened and subject.name == chosen.table[0] and f"{subject.name} {count}" not in known["tables"]]
-    return Work(subject.name, subject.name not in known["programs"], tuple(faults), tuple(three), tuple(tables), chosen)
+    return Work(subject.name, False, tuple(faults), tuple(three), tuple(tables), chosen)
 
 
 def scratch() -> str:
@@ -104,33 +127,37 @@ def scratch() -> str:
     return tempfile.gettempdir()
 
 
-def measure(work: Work) -> Results:
-    """Measures what is to be measured of a program: first its right version, and in another call the others."""
-    chosen, began, used = work.chosen, time.monotonic(), processor_seconds()
+def measure(work: Work) -> Done:
+    """Measures what is to be measured of a program: first its right version, for which the inputs are made, and in other calls the rest."""
+    began, used = time.monotonic(), processor_seconds()
     found: Results = {part: {} for part in PARTS}
     with tempfile.TemporaryDirectory(prefix="corpus-", dir=scratch()) as folder:
         try:
             subject = read_subject(work.name)
-            runs = Runs(chosen.cbi, folder, 1, chosen.seed)
-            bench = Bench(subject, runs, folder, RIGHT_RUNS if work.right else max([*(chosen.runs if work.faults else []), *work.three, *work.tables]), chosen.seed)
-            taken = Measure(bench, chosen.rates, chosen.runs, chosen.again)
             if work.right:
-                add(found, chosen, "programs", work.name, taken.right_version(RIGHT_RUNS))
-                work = work._replace(faults=(), three=(), tables=())
-            for fault in subject.faults:
-                if fault.name in work.faults:
-                    add(found, chosen, "faults", fault.title(), taken.fault(fault))
-            for count in work.three:
-                add(found, chosen, "three", f"{work.name} {count}", Three(bench, count, taken.failing if count <= taken.most else {}).measured())
-            if work.tables:
-                three = Three(bench, max(work.tables), {})
-                for count in work.tables:
-                    add(found, chosen, "tables", f"{work.name} {count}", three.table(count))
+                make_inputs(subject, work.inputs, work.inputs_needed(), work.chosen.seed)
+            bench = Bench(subject, Runs(work.chosen.cbi, folder, 1, work.chosen.seed), folder, inputs_in(work.inputs, work.inputs_needed()))
+            (measure_right if work.right else measure_faults)(work, bench, found)
         except (NotTaken, CallError, CoverageError, subprocess.CalledProcessError) as error:
-            found["not taken"][work.name] = str(error)[:200]
-    found["seconds"][work.name] = time.monotonic() - began
-    found["processor"][work.name] = processor_seconds() - used
-    return found
+            found["not taken"][work.title()] = str(error)[:200]
+    return Done(work, found, time.monotonic() - began, processor_seconds() - used)
+
+
+def measure_right(work: Work, bench: Bench, found: Results) -> None:
+    add(found, work.chosen, "programs", work.name, Measure(bench, work.chosen.rates, work.chosen.runs, work.chosen.again).right_version(RIGHT_RUNS))
+
+
+def measure_faults(work: Work, bench: Bench, found: Results) -> None:
+    chosen, taken = work.chosen, Measure(bench, work.chosen.rates, work.chosen.runs, work.chosen.again)
+    for fault in bench.subject.faults:
+        if fault.name in work.faults:
+            add(found, chosen, "faults", fault.title(), taken.fault(fault))
+    for count in work.three:
+        add(found, chosen, "three", f"{work.name} {count}", Three(bench, count, work.fails if count <= TOLD_RUNS else {}).measured())
+    if work.tables:
+        three = Three(bench, max(work.tables), {})
+        for count in work.tables:
+            add(found, chosen, "tables", f"{work.name} {count}", three.table(count))
 
 
 def add(found: Results, chosen: argparse.Namespace, part: str, name: str, measured: Results) -> None:
@@ -163,37 +190,57 @@ def keep(path: str, results: Results) -> None:
         os.replace(path + ".part", path)
 
 
-def take(results: Results, found: Results, done: str) -> float:
-    """Adds what was measured of a program to the results, and tells of it; answers how many seconds of a processor it took."""
-    results["not taken"] = {name: why for name, why in results["not taken"].items() if name not in found["seconds"]}
+def take(results: Results, done: Done, which: str) -> float:
+    """Adds what was measured to the results, and tells of it; answers how many seconds of a processor it took."""
+    name, title = done.work.name, done.work.title()
+    results["not taken"].pop(title, None)
     for part in PARTS[:-2]:
-        results[part].update(found[part])
-    for part in PARTS[-2:]:
-        for name, seconds in found[part].items():
-            results[part][name] = results[part].get(name, 0) + seconds
-    for name, seconds in found["seconds"].items():
-        lacking = "".join(f"; {why}" for why in found["not taken"].values())
-        print(f"{done} {name}: {len(found['faults'])} faults, {seconds:.0f} s, {found['processor'][name]:.0f} of a processor{lacking}", flush=True)
-    return float(sum(found["processor"].values()))
+        results[part].update(done.found[part])
+    for part, seconds in zip(PARTS[-2:], (done.passed, done.used)):
+        results[part][name] = results[part].get(name, 0) + seconds
+    lacking = "".join(f"; {why}" for why in done.found["not taken"].values())
+    print(f"{which} {title}: {done.passed:.0f} s, {done.used:.0f} of a processor{lacking}", flush=True)
+    return done.used
+
+
+def with_fails(work: Work, results: Results) -> Work:
+    """Three faults at once need the runs that each fails alone: those that are known by now aren't made again."""
+    known = [fault for fault in results["faults"].values() if fault["program"] == work.name and fault["runs"] >= max(work.three, default=0)]
+    return work._replace(fails={fault["fault"]: set(fault["fails"]) for fault in known if "fails" in fault})
+
+
+def each(work: List[Work], results: Results, pool: Executor, jobs: int) -> Iterator[Done]:
+    """What comes of each piece of work, as it comes. One is begun when a process is free, with what is known by then."""
+    at_work: Set["Future[Done]"] = set()
+    left = list(work)
+    while left or at_work:
+        while left and len(at_work) < jobs:
+            at_work.add(pool.submit(measure, with_fails(left.pop(0), results)))
+        ended, at_work = wait(at_work, return_when=FIRST_COMPLETED)
+        yield from (one.result() for one in ended)
+
+
+def measure_all(chosen: argparse.Namespace, work: List[Work], results: Results) -> None:
+    began, used = time.monotonic(), 0.0
+    with tempfile.TemporaryDirectory(prefix="corpus-", dir=scratch()) as folder, ProcessPoolExecutor(chosen.jobs) as pool:
+        work = [one._replace(inputs=os.path.join(folder, one.name)) for one in work]
+        for done in each([one._replace(right=True) for one in work], results, pool, chosen.jobs):
+            used += take(results, done, "right version of")
+        # What takes longest comes first, so that at the end all have work.
+        longest = sorted((piece for one in work for piece in one.pieces()), key=lambda piece: -piece.seconds(results))
+        for number, done in enumerate(each(longest, results, pool, chosen.jobs), 1):
+            used += take(results, done, f"{number}/{len(longest)}")
+            keep(chosen.results, results)
+    print(f"{time.monotonic() - began:.0f} s by the clock with {chosen.jobs} at a time, {used:.0f} s of a processor, on {os.cpu_count()} processors "
+          f"with a load of {os.getloadavg()[2]:.1f}")
 
 
 def main() -> int:
     chosen = arguments()
-    began, results = time.monotonic(), load(chosen.results)
-    work = [missing(read_subject(name), chosen, results) for name in chosen.names or names()]
-    work = [one for one in work if one.size()]
-    used = 0.0
-    with multiprocessing.Pool(chosen.jobs) as pool:
-        for found in pool.imap_unordered(measure, [one for one in work if one.right], 1):
-            used += take(results, found, "right version of")
-        # What takes longest comes first, so that at the end all have work.
-        longest = sorted((one._replace(right=False) for one in work), key=lambda one: -one.seconds(results))
-        for number, found in enumerate(pool.imap_unordered(measure, longest, 1), 1):
-            used += take(results, found, f"{number}/{len(work)}")
-            keep(chosen.results, results)
+    results = load(chosen.results)
+    work = [one for one in (missing(read_subject(name), chosen, results) for name in chosen.names or names()) if one.size()]
     if work:
-        print(f"{time.monotonic() - began:.0f} s by the clock with {chosen.jobs} at a time, {used:.0f} s of a processor, on {os.cpu_count()} processors "
-              f"with a load of {os.getloadavg()[2]:.1f}")
+        measure_all(chosen, work, results)
     print(corpus_tables.summary(results))
     if chosen.write:
         corpus_tables.write_documents(results, chosen.write)

@@ -1,12 +1,19 @@
-"""What a collection of runs says, read fast: a run is kept as the bytes of its lines, and the lines of all are counted before they are read.
+"""What a collection of runs says: `corpus_counts.c` reads it once, and counts its lines before they come here.
 
 Run R of a collection of the corpus is that on input R, so the first runs are those on the first inputs.
 """
-from collections import Counter
-from typing import Dict, Iterable, List, NamedTuple, Sequence, Set, Tuple
+import os
+import subprocess
+from typing import Dict, Iterator, List, NamedTuple, Optional, Sequence, Set, Tuple
+
+COUNTER = os.path.join(os.path.dirname(os.path.abspath(__file__)), "corpus_counts.c")
+LABELS = {"f": "fail", "p": "pass", "n": "none"}
+HEAD = "cbi-collection 2\nprogram {}\n"
+END = b"end\n"
 
 Counters = Dict[int, List[Tuple[int, Tuple[int, ...]]]]
-END = b"end\n"
+# Of each site and each set of its counters that were above 0, how many failing and successful runs had it.
+Marks = Dict[Tuple[int, int], Tuple[int, int]]
 
 
 class Tally(NamedTuple):
@@ -23,127 +30,120 @@ class Tallies(NamedTuple):
     successes: int
 
 
-class Renamed(Dict[bytes, bytes]):
-    """The line of each site line with the site's other number, or nothing where it has none. The same lines come in many runs."""
-
-    def __init__(self, sites: Dict[int, int]):
-        super().__init__()
-        self.names = {b"%d" % old: b"site %d " % new for old, new in sites.items()}
-
-    def __missing__(self, line: bytes) -> bytes:
-        _, site, counters = line.split(b" ", 2)
-        self[line] = self.names[site] + counters if site in self.names else b""
-        return self[line]
+class Narrow(NamedTuple):
+    """A program with some of the sites of another one: of each site of that its number here, or none."""
+    identity: str
+    sites: List[Optional[int]]
 
 
 class Collection(NamedTuple):
-    """The lines before the first run, and of each run its first line and those of its sites, without `run ` and the last newline."""
-    head: bytes
-    runs: List[bytes]
+    """A file of runs: their labels, where the first one begins and each ends, and what sites the first so many had."""
+    path: str
+    labels: List[str]
+    ends: List[int]
+    marks: Dict[int, Marks]
+    lines: int
 
-    def labels(self) -> List[str]:
-        """The label of each run: `fail`, `pass` or `none`."""
-        return [run[run.index(b" label ") + 7:run.index(b" work ")].decode("ascii") for run in self.runs]
+    def first(self, count: int, target: str) -> str:
+        """A file of the first runs alone; the collection's own where it has no others."""
+        if count >= len(self.labels):
+            return self.path
+        with open(self.path, "rb") as source, open(target, "wb") as file:
+            file.write(source.read(self.ends[count]) + END)
+        return target
 
-    def outcomes(self) -> List[str]:
-        return [run[run.index(b" ") + 1:run.index(b" label ")].decode("ascii") for run in self.runs]
-
-    def first(self, count: int) -> "Collection":
-        return Collection(self.head, self.runs[:count])
-
-    def write(self, path: str) -> str:
-        with open(path, "wb") as file:
-            file.write(self.head)
-            file.writelines(b"run " + run + b"\n" for run in self.runs)
-            file.write(END)
-        return path
-
-    def narrowed(self, identity: str, sites: Dict[int, int]) -> "Collection":
-        """The same runs of the same program with some of its sites: the others are left out, and these are numbered anew."""
-        renamed = Renamed(sites)
-        runs = []
-        for run in self.runs:
-            first, *lines = run.split(b"\n")
-            runs.append(b"\n".join([first, *filter(None, map(renamed.__getitem__, lines))]))
-        return Collection(self.head.split(b"\n", 1)[0] + b"\nprogram " + identity.encode("ascii") + b"\n", runs)
-
-    def site_lines(self) -> int:
-        return sum(run.count(b"\n") for run in self.runs)
+    def failing(self, count: int) -> Iterator[Tuple[int, bytes]]:
+        """The failing ones of the first runs by their numbers, each with its lines."""
+        with open(self.path, "rb") as file:
+            for number, label in enumerate(self.labels[:count], 1):
+                if label == "fail":
+                    file.seek(self.ends[number - 1])
+                    yield number, file.read(self.ends[number] - self.ends[number - 1])
 
 
-def read_collection(path: str) -> Collection:
-    with open(path, "rb") as file:
-        data = file.read()
-    if not data.endswith(END):
-        raise ValueError(f"{path} has no end")
-    head, *runs = data[:-len(END) - 1].split(b"\nrun ")
-    for number, run in enumerate(runs, 1):
-        if not run.startswith(b"%d " % number):
-            raise ValueError(f"{path}: run {number} isn't there")
-    return Collection(head + b"\n", runs)
+def build_counter(folder: str) -> str:
+    target = os.path.join(folder, "corpus_counts")
+    subprocess.run(["gcc", "-std=gnu99", "-O2", "-w", "-o", target, COUNTER], check=True)
+    return target
+
+
+class Read(NamedTuple):
+    """A collection; its runs with the sites alone whose predicates aren't all true or all false wherever they are observed; and the same of a program with fewer
+    sites. A predicate that is true wherever it is observed, or nowhere, passes no test, by whatever runs: so rankings and cards of all are those of `fewer`."""
+    whole: Collection
+    fewer: Collection
+    narrow: Collection
+
+
+def counted(call: List[str], path: str) -> Tuple[Collection, List[List[str]]]:
+    """What the counter says of a collection, and of each run where it ends in files with fewer sites."""
+    said = subprocess.run(call, stdout=subprocess.PIPE, universal_newlines=True, check=True).stdout.split("\n")
+    found = Collection(path, [], [len(HEAD.format("0" * 64))], {}, 0)
+    marks: Marks = {}
+    ends: List[List[str]] = []
+    for words in map(str.split, said[:-1]):
+        if words[0] in LABELS:
+            found.labels.append(LABELS[words[0]])
+            found.ends.append(int(words[1]))
+            ends.append(words[2:])
+        elif words[0] == "first":
+            marks = found.marks[int(words[1])] = {}
+        elif words[0] == "lines":
+            found = found._replace(lines=int(words[1]))
+        else:
+            marks[int(words[0]), int(words[1])] = int(words[2]), int(words[3])
+    return found, ends
+
+
+def read_collection(counter: str, path: str, sites: int, counts: Sequence[int] = ()) -> Collection:
+    """Reads a file of runs by the built counter, with what the first so many had, each of `counts`."""
+    return counted([counter, path, str(sites), "", "", "", *map(str, sorted(counts))], path)[0]
+
+
+def read_fewer(counter: str, path: str, counts: Sequence[int], narrow: Narrow) -> Read:
+    """The same, and these runs with fewer sites in files beside it."""
+    names = [f"{path}.fewer", f"{path}.narrow", f"{path}.sites"]
+    with open(path, "r", encoding="ascii") as file:
+        head = file.readline() + file.readline()
+    for name, text in zip(names, (head, HEAD.format(narrow.identity), "".join("-\n" if site is None else f"{site}\n" for site in narrow.sites))):
+        with open(name, "w", encoding="ascii") as file:
+            file.write(text)
+    whole, ends = counted([counter, path, str(len(narrow.sites)), *names, *map(str, sorted(counts))], path)
+    fewer, other = (Collection(name, whole.labels, whole.ends[:1] + [int(words[place]) for words in ends], {}, 0) for place, name in enumerate(names[:2]))
+    return Read(whole, fewer, other)
 
 
 # How often predicates were true
 
-class Counted:
-    """Counts the runs of a collection by their sites and by which of the counters of each were positive. More runs may come."""
-
-    def __init__(self, counters: Counters):
-        self.counters = counters
-        self.runs = {"fail": 0, "pass": 0}
-        # Of each site and each set of its counters that were positive, how many failing and successful runs had it.
-        self.marks: Dict[Tuple[int, int], List[int]] = {}
-        self.known: Dict[bytes, List[int]] = {}
-
-    def add(self, runs: Iterable[bytes], labels: Iterable[str]) -> None:
-        lines: Dict[str, Counter[bytes]] = {"fail": Counter(), "pass": Counter()}
-        for run, label in zip(runs, labels):
-            if label != "none":
-                self.runs[label] += 1
-                lines[label].update(run.split(b"\n")[1:])
-        for place, label in enumerate(("fail", "pass")):
-            for line, times in lines[label].items():
-                counts = self.known.get(line)
-                if counts is None:
-                    counts = self.known[line] = self.marks.setdefault(marked(line), [0, 0])
-                counts[place] += times
-
-    def observed(self) -> int:
-        """How many predicates were looked at in some run."""
-        return sum(len(self.counters[site]) for site in {site for site, _ in self.marks})
-
-    def tallies(self) -> Tallies:
-        found = {}
-        for site, several in self.counters.items():
-            marks = [(mask, self.marks[(site, mask)]) for mask in range(1, 8) if (site, mask) in self.marks]
-            if not marks:
-                continue
-            observed = [sum(counts[place] for _, counts in marks) for place in (0, 1)]
-            for predicate, sums in several:
-                true = [sum(counts[place] for mask, counts in marks if any(mask >> one & 1 for one in sums)) for place in (0, 1)]
-                if sum(true):
-                    found[predicate] = Tally(true[0], true[1], observed[0], observed[1])
-        return Tallies(found, self.runs["fail"], self.runs["pass"])
+def observed(marks: Marks, counters: Counters) -> int:
+    """How many predicates were looked at in some run."""
+    return sum(len(counters[site]) for site in {site for site, _ in marks})
 
 
-def marked(line: bytes) -> Tuple[int, int]:
-    """The site of a line, and which of its counters are positive."""
-    _, site, one, two, three = line.split(b" ")
-    return int(site), (one != b"0") + 2 * (two != b"0") + 4 * (three != b"0")
+def tallies(collection: Collection, count: int, counters: Counters) -> Tallies:
+    """Of each predicate that was true in some of the first runs, in how many."""
+    found, every = {}, collection.marks[count]
+    for site, several in counters.items():
+        marks = [(mask, every[site, mask]) for mask in range(1, 8) if (site, mask) in every]
+        seen = [sum(counts[place] for _, counts in marks) for place in (0, 1)]
+        for predicate, sums in several if marks else ():
+            true = [sum(counts[place] for mask, counts in marks if any(mask >> one & 1 for one in sums)) for place in (0, 1)]
+            if sum(true):
+                found[predicate] = Tally(true[0], true[1], seen[0], seen[1])
+    labels = collection.labels[:count]
+    return Tallies(found, labels.count("fail"), labels.count("pass"))
 
 
-def true_runs(collection: Collection, labels: Sequence[str], counters: Counters, predicates: Sequence[int]) -> List[Set[int]]:
-    """Of each predicate the failing runs in which it was true."""
+def true_runs(collection: Collection, count: int, counters: Counters, predicates: Sequence[int]) -> List[Set[int]]:
+    """Of each predicate those of the first runs that failed and in which it was true."""
     of_predicate = {number: (site, sums) for site, several in counters.items() for number, sums in several}
     wanted: Dict[bytes, List[Tuple[int, Tuple[int, ...]]]] = {}
     for place, predicate in enumerate(predicates):
         site, sums = of_predicate[predicate]
         wanted.setdefault(b"%d" % site, []).append((place, sums))
     found: List[Set[int]] = [set() for _ in predicates]
-    for number, (run, label) in enumerate(zip(collection.runs, labels), 1):
-        if label != "fail":
-            continue
-        for line in run.split(b"\n")[1:]:
+    for number, run in collection.failing(count):
+        for line in run.split(b"\n")[1:-1]:
             _, name, *counts = line.split(b" ")
             for place, sums in wanted.get(name, ()):
                 if any(counts[one] != b"0" for one in sums):

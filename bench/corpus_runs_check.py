@@ -15,7 +15,7 @@ from typing import Iterator, List, Tuple
 from corpus import numbers, scratch
 from corpus_files import Subject, read_subject
 from corpus_runs import Inputs, Runs
-from corpus_subject import Bench
+from corpus_subject import Bench, inputs_in, make_inputs
 
 
 def texts(subject: Subject) -> Iterator[Tuple[str, str]]:
@@ -51,7 +51,8 @@ def main() -> int:
                 print(f"{chosen.cbi} has no command `runs`")
                 return 1
             subject = read_subject(name)
-            bench = Bench(subject, runs, folder, chosen.runs, 1)
+            make_inputs(subject, os.path.join(folder, "inputs"), chosen.runs, 1)
+            bench = Bench(subject, runs, folder, inputs_in(os.path.join(folder, "inputs"), chosen.runs))
             for title, text in texts(subject):
                 built = bench.built(title, text)
                 for rate in chosen.rates:

@@ -9,7 +9,7 @@ from typing import Dict, List, NamedTuple, Optional, Sequence, Tuple
 
 from corpus_files import Subject, functions
 from corpus_gcc import Covered, build, coverage, outputs, write
-from corpus_collections import Collection, Counters
+from corpus_collections import Collection, Counters, Narrow, Read, build_counter, read_collection, read_fewer
 from corpus_runs import CallError, Inputs, Runs, processor_seconds, text_of
 from corpus_scores import Place
 
@@ -23,9 +23,6 @@ try:
     import cbi_port
 except ImportError:
     cbi_port = None
-
-
-Numbered = Dict[int, Tuple[cbi_files.Site, str, Tuple[int, ...]]]
 
 
 class NotTaken(Exception):
@@ -46,21 +43,30 @@ class Built(NamedTuple):
         return None if function.startswith("cbi_") or not 1 <= line <= len(self.lines) else self.lines[line - 1]
 
 
-class Bench:
-    """Where a program of the corpus is measured: its inputs and what is due on them, in a scratch folder."""
+def inputs_in(folder: str, count: int) -> Inputs:
+    """The names of so many inputs, and of what is due on them."""
+    return Inputs([os.path.join(folder, f"input{place}") for place in range(count)], [os.path.join(folder, f"due{place}") for place in range(count)])
 
-    def __init__(self, subject: Subject, runs: Runs, folder: str, count: int, seed: int):
-        self.subject, self.runs, self.count = subject, runs, count
+
+def make_inputs(subject: Subject, folder: str, count: int, seed: int) -> None:
+    """Writes inputs from a seed, and what the right version as gcc builds it writes on them."""
+    os.makedirs(folder, exist_ok=True)
+    inputs = inputs_in(folder, count)
+    for path, data in zip(inputs.given, subject.inputs(count, seed)):
+        with open(path, "wb") as file:
+            file.write(data)
+    outputs(build(folder, "right", subject.text(), False), inputs.given, inputs.due)
+
+
+class Bench:
+    """Where a program of the corpus is measured, on inputs that are there, in a scratch folder."""
+
+    def __init__(self, subject: Subject, runs: Runs, folder: str, inputs: Inputs):
+        self.subject, self.runs, self.inputs = subject, runs, inputs
         self.folder = os.path.join(folder, subject.name)
         os.makedirs(self.folder, exist_ok=True)
         self.functions = functions(subject.lines)
-        self.inputs = Inputs([], [])
-        for place, data in enumerate(subject.inputs(count, seed)):
-            self.inputs.given.append(os.path.join(self.folder, f"input{place}"))
-            self.inputs.due.append(os.path.join(self.folder, f"due{place}"))
-            with open(self.inputs.given[-1], "wb") as file:
-                file.write(data)
-        outputs(build(self.folder, "right", subject.text(), False), self.inputs.given, self.inputs.due)
+        self.counter = build_counter(self.folder)
 
     def some(self, count: int, times: int = 1) -> Inputs:
         """The inputs of so many runs, where each input has so many."""
@@ -95,6 +101,14 @@ class Bench:
         path = self.runs.collect(built.program, inputs, rate, os.path.join(self.folder, name))
         return path, processor_seconds() - began
 
+    def read(self, built: Built, path: str, counts: Sequence[int] = ()) -> Collection:
+        """A collection of runs of a program, with what the first so many had, each of `counts`."""
+        return read_collection(self.counter, path, len(program_of(built).sites), counts)
+
+    def read_fewer(self, path: str, counts: Sequence[int], narrow: Narrow) -> Read:
+        """The same, and these runs with fewer sites."""
+        return read_fewer(self.counter, path, counts, narrow)
+
     def covered(self, name: str, text: str, count: int) -> Tuple[Covered, float]:
         began = processor_seconds()
         found = coverage(self.folder, name, text, self.inputs.given[:count], [os.path.join(self.folder, f"out{place}") for place in range(count)])
@@ -126,6 +140,26 @@ def ranked(runs: Runs, built: Built, collection: str, policy: str = "all") -> Ra
     return Ranked(rows, places, seconds)
 
 
+class Known(NamedTuple):
+    """What is known of a program before it runs: where each predicate is, which counters of its site each sums up, and the tokens of each function."""
+    built: Built
+    places: Dict[int, Place]
+    counters: Counters
+    parts: Dict[str, List[str]]
+
+    def lines(self) -> Dict[int, Optional[int]]:
+        return {number: place.line for number, place in self.places.items()}
+
+
+def known_of(built: Built) -> Known:
+    places: Dict[int, Place] = {}
+    counters: Counters = {}
+    for number, (site, text, several) in program_of(built).numbered().items():
+        places[number] = Place(built.line(site.line, site.function), site.function, text, 0, 0, number)
+        counters.setdefault(site.number, []).append((number, several))
+    return Known(built, places, counters, cbi_rows.bodies(cbi_files.read_source(built.text)))
+
+
 class Sections(NamedTuple):
     """Where `cbi-hunt` shows the rows of a ranking: those that it leads with, and why each of the others is folded."""
     leading: List[Place]
@@ -133,13 +167,12 @@ class Sections(NamedTuple):
     why: List[str]
 
 
-def shown(built: Built, ranking: Ranked, tried: int) -> Sections:
+def shown(known: Known, ranking: Ranked, tried: int) -> Sections:
     """The rows in the order in which `cbi-hunt` shows them, without what cards bring together; `tried` is how many predicates were looked at."""
-    parts = cbi_rows.bodies(cbi_files.read_source(built.text))
     why = []
     for row, place in zip(ranking.rows, ranking.places):
         weak = cbi_seen.expected_by_chance(row, tried) >= 1
-        unrelated = bool(row.importance) and cbi_rows.unrelated(row, parts)
+        unrelated = bool(row.importance) and cbi_rows.unrelated(row, known.parts)
         why.append("added" if place.line is None else "unrelated" if unrelated else "weak" if weak else "" if row.importance else "unimportant")
     if "" not in why and "weak" in why:
         why[why.index("weak")] = ""
@@ -147,66 +180,42 @@ def shown(built: Built, ranking: Ranked, tried: int) -> Sections:
     return Sections([ranking.places[at] for at in order if not why[at]], [ranking.places[at] for at in order if why[at]], why)
 
 
-@lru_cache(maxsize=2)
-def numbered(program: str, made: float) -> Numbered:
-    """The predicates of a program file by their numbers; `made` is the time of the file, so that one that is made anew is read again."""
-    return cbi_files.read_program(program).numbered()
+@lru_cache(maxsize=4)
+def read_at(program: str, made: float) -> cbi_files.Program:
+    """A program file; `made` is its time, so that one that is made anew is read again."""
+    return cbi_files.read_program(program)
 
 
-def numbered_of(built: Built) -> Numbered:
-    return numbered(built.program, os.path.getmtime(built.program))
+def program_of(built: Built) -> cbi_files.Program:
+    return read_at(built.program, os.path.getmtime(built.program))
 
 
-def without_pairs(runs: Runs, built: Built, collection: Collection) -> Tuple[Built, Collection]:
-    """The same program with the sites of branches and returns alone, and the same runs as a collection of that."""
+def without_pairs(runs: Runs, built: Built) -> Tuple[Built, Narrow]:
+    """The same program with the sites of branches and returns alone."""
     narrow = Built(runs.compiled(built.text, f"{built.program}.narrow", "branches,returns"), built.text, built.lines)
-    kept = [site.number for site in cbi_files.read_program(built.program).sites if site.scheme != "pairs"]
-    program = cbi_files.read_program(narrow.program)
-    if len(kept) != len(program.sites):
-        raise NotTaken(f"{built.program}: {len(kept)} sites without pairs, and {len(program.sites)} in the program without")
-    return narrow, collection.narrowed(program.identity, {old: new for new, old in enumerate(kept)})
+    kept = [site.scheme != "pairs" for site in program_of(built).sites]
+    if sum(kept) != len(program_of(narrow).sites):
+        raise NotTaken(f"{built.program}: {sum(kept)} sites without pairs, and {len(program_of(narrow).sites)} in the program without")
+    numbers = iter(range(sum(kept)))
+    return narrow, Narrow(program_of(narrow).identity, [next(numbers) if one else None for one in kept])
 
 
-def numbered_places(built: Built) -> Dict[int, Place]:
-    """Each predicate of a program by its number."""
-    return numbered_lines(built.program, os.path.getmtime(built.program), None if built.lines is None else tuple(built.lines))
-
-
-@lru_cache(maxsize=2)
-def numbered_lines(program: str, made: float, lines: Optional[Tuple[Optional[int], ...]]) -> Dict[int, Place]:
-    built = Built(program, "", None if lines is None else list(lines))
-    return {number: Place(built.line(site.line, site.function), site.function, text, 0, 0, number)
-            for number, (site, text, _) in numbered(program, made).items()}
-
-
-def counters_of(built: Built) -> Counters:
-    """By site its predicates, and which counters each sums up."""
-    found: Counters = {}
-    for number, (site, _, counters) in numbered_of(built).items():
-        found.setdefault(site.number, []).append((number, counters))
-    return found
-
-
-def best_pair(runs: Runs, built: Built, collection: str) -> List[Place]:
+def best_pair(runs: Runs, known: Known, collection: str) -> List[Place]:
     """The two predicates of the best pair, or none."""
-    lines = text_of([runs.cbi, "pairs", "--", built.program, collection]).split("\n")
+    lines = text_of([runs.cbi, "pairs", "--", known.built.program, collection]).split("\n")
     best = lines[1].split(" ")
-    if best[1] == "none":
-        return []
-    places = numbered_places(built)
-    return [places[int(best[1])], places[int(best[2])]]
+    return [] if best[1] == "none" else [known.places[int(best[1])], known.places[int(best[2])]]
 
 
-def first_card(runs: Runs, built: Built, collection: str) -> List[Place]:
+def first_card(runs: Runs, known: Known, collection: str) -> List[Place]:
     """The first leader with those that fall with it."""
-    places: Dict[int, Place] = numbered_places(built)
     found: List[Place] = []
-    for line in text_of([runs.cbi, "cards", "--", built.program, collection]).split("\n"):
+    for line in text_of([runs.cbi, "cards", "--", known.built.program, collection]).split("\n"):
         words = line.split(" ")
         if words[0] == "card" and words[1] != "1" or words[0] == "end":
             break
         if words[0] in ("card", "near"):
-            found.append(places[int(words[2] if words[0] == "card" else words[1])])
+            found.append(known.places[int(words[2] if words[0] == "card" else words[1])])
     return found
 
 

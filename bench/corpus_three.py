@@ -3,13 +3,14 @@
 A run has a fault where it fails with that fault alone. A row is a fault's own where, of the failing runs in which its predicate was true,
 more have this fault than another one, and more than half have it.
 """
+import os
 from typing import Any, Dict, List, Optional, Sequence, Set, Tuple
 
 import corpus_scores as scores
-from corpus_collections import read_collection, true_runs
+from corpus_collections import true_runs
 from corpus_measure import POLICIES, Measured, spelled
 from corpus_scores import Place
-from corpus_subject import Bench, counters_of, ranked
+from corpus_subject import Bench, known_of, ranked
 
 LOOKED = 10  # rows whose runs are told
 
@@ -32,38 +33,40 @@ class Three:
         self.faults = bench.subject.three()
         self.alone = [{run for run in failing[fault.name] if run <= count} if fault.name in failing else self.fails_alone(number)
                       for number, fault in enumerate(self.faults)]
-        self.built = bench.built("three", bench.subject.text(self.faults))
-        self.path, self.seconds = bench.collected(self.built, bench.some(count), 1, "three_runs")
-        self.collection = read_collection(self.path)
-        self.labels = self.collection.labels()
+        self.known = known_of(bench.built("three", bench.subject.text(self.faults)))
+        path, self.seconds = bench.collected(self.known.built, bench.some(count), 1, "three_runs")
+        self.collection = bench.read(self.known.built, path)
 
     def fails_alone(self, number: int) -> Set[int]:
         fault = self.faults[number]
         built = self.bench.built(f"alone_{fault.name}", self.bench.subject.text((fault,)))
         path, _ = self.bench.collected(built, self.bench.some(self.count), 1, f"alone_{fault.name}_runs")
-        return {run for run, label in enumerate(read_collection(path).labels(), 1) if label == "fail"}
+        labels = self.bench.read(built, path).labels
+        os.remove(path)
+        return {run for run, label in enumerate(labels, 1) if label == "fail"}
 
     def ranked(self, count: int, policy: str) -> Tuple[List[Place], List[Set[int]]]:
         """The rows of the first runs, and of each of the first rows the failing runs in which its predicate was true."""
-        first = self.collection.first(count)
-        rows = ranked(self.bench.runs, self.built, first.write(self.path + ".some"), policy).places
-        return rows, true_runs(first, self.labels, counters_of(self.built), [row.predicate for row in rows[:LOOKED]])
+        first = self.collection.first(count, self.collection.path + ".some")
+        rows = ranked(self.bench.runs, self.known.built, first, policy).places
+        return rows, true_runs(self.collection, count, self.known.counters, [row.predicate for row in rows[:LOOKED]])
 
     def table(self, count: int) -> Measured:
         """How many failing runs of each fault the first rows have."""
         rows, true = self.ranked(count, "all")
         alone = [{run for run in one if run <= count} for one in self.alone]
-        failed = {run for run, label in enumerate(self.labels[:count], 1) if label == "fail"}
+        labels = self.collection.labels[:count]
+        failed = {run for run, label in enumerate(labels, 1) if label == "fail"}
         table = [[row.line, row.function, row.text, row.failing, row.successful] + [len(seen & one) for one in alone] for row, seen in zip(rows, true)]
         faults = [{"fault": fault.name, "failing alone": len(alone[place]), "own": own_row(true, alone, place)} for place, fault in enumerate(self.faults)]
-        return {"program": self.bench.subject.name, "runs": min(count, len(self.labels)), "failed": len(failed), "row count": len(rows), "table": table,
+        return {"program": self.bench.subject.name, "runs": len(labels), "failed": len(failed), "row count": len(rows), "table": table,
                 "faults": faults, "seconds": self.seconds, "none alone": len(failed - set().union(*alone))}
 
     def measured(self) -> Measured:
         """The table, the places of rows and of lines by coverage, under each policy."""
         found = self.table(self.count)
         covered, _ = self.bench.covered("cover_three", self.bench.subject.text(self.faults), self.count)
-        told = [(label == "fail", lines) for label, lines in zip(self.labels, covered.runs) if label != "none"]
+        told = [(label == "fail", lines) for label, lines in zip(self.collection.labels, covered.runs) if label != "none"]
         failures, visits = sum(failed for failed, _ in told), scores.visits(told)
         by_line = {name: scores.suspicious(formula, covered.lines, visits, failures, len(told) - failures) for name, formula in scores.FORMULAS.items()}
         by_policy = {policy: self.ranked(self.count, policy) for policy in POLICIES}
