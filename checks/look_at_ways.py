@@ -1,11 +1,14 @@
 """Looks at the commands for a fresh clone, and at the first screen of README.md, as look_at_tools does at the rest."""
+import collections
 import os
 import re
+import resource
 import shutil
 import signal
 import subprocess
 import sys
 
+import browsing
 import looking
 from looking import Case, environment, heed_interrupts
 
@@ -30,7 +33,7 @@ class Ways(Case):
     """The commands for a fresh clone."""
 
     def test_words_that_are_wrong_are_told(self):
-        usages = {"build": "usage: ./build FOLDER [--man FOLDER] [--gate]\n", "demo": "usage: ./demo [PAGE]\n", "check": "usage: ./check [CRATE..]\n"}
+        usages = {"build": "usage: ./build FOLDER [--man FOLDER] [--gate]\n", "demo": "usage: ./demo [PAGE]\n", "check": "usage: ./check [--all] [CRATE..]\n"}
         for words in (["build"], ["build", "--what", "a"], ["build", "a", "b"], ["build", "a", "--man"], ["build", "--help"], ["demo", "a", "b"], ["demo", "--help"], ["check", "--help"]):
             self.executable("rt", "#!/bin/sh\necho \"$*\" >>'" + self.path("asked") + "'\n")
             self.assertEqual(self.way(*words), (2, "", usages[words[0]]), words)
@@ -104,17 +107,74 @@ class Ways(Case):
         self.assertIn("\nrefused\n", err)
         self.assertEqual(os.listdir(self.path("here")), [])
 
+    # It says of each row of the files that it is given that it is met, as a program of cases does. Several are at work beside each other.
+    ANSWERS = """\
+#!/bin/sh
+ulimit -s >>'{room}/log'
+said='{room}/said'.$$
+for word; do
+    case $word in *=*) sed -n 's/^case /ok /p' "${{word#*=}}" ;; esac
+done >"$said"
+echo "$(wc -l <"$said") ok, 0 not" >>"$said"
+{body}
+"""
+
+    def checked(self, body, *words, due=0, limit=None):
+        """What ./check tells out and err where rt does this with what is `said`, with a stack that may be so large."""
+        self.executable("rt", self.ANSWERS.format(room=self.room, body=body))
+        return self.call("bash", "-c", f"ulimit -S -s 8192; ulimit -H -s {limit or '$(ulimit -H -s)'}; PATH='{self.path('bin')}':$PATH exec '{looking.TOP}/check' \"$@\"", "check", *words, due=due)
+
     def test_rows_that_are_met_and_rows_that_are_not(self):
-        """What stands in for rt writes what each program of cases is to write, or another last line."""
-        missed = "./check: cases_pairs didn't write its last line, '29 ok, 0 not'; rt try ended with status "
-        for body, status, said, told in (("cat stdout", 0, "29 ok, 0 not\n", ""), ("sed '$s/.*/28 ok, 1 not/' stdout", 1, "28 ok, 1 not\n", missed + "0\n"), ("exit 3", 1, "== cases_pairs\n", missed + "3\n")):
-            self.executable("rt", f"#!/bin/sh\n{body}\n")
-            out, err = self.call("env", f"PATH={self.path('bin')}:{os.environ['PATH']}", os.path.join(looking.TOP, "check"), "cases_pairs", due=status)
-            self.assertEqual(err, told)
-            self.assertRegex(out, r"^\./check: rt builds and runs programs without their proofs, [^\n]* of a processor each: cases_pairs\. \.ci/run proves, [^\n]*\n== cases_pairs\n")
-            self.assertTrue(out.endswith(said), out)
-        _, err = self.call("env", f"PATH={self.path('bin')}:{os.environ['PATH']}", os.path.join(looking.TOP, "check"), "nowhere", due=2)
-        self.assertEqual(err, "./check: nowhere is no program of cases\n")
+        """What is due is what the gate asks of the program, but for the rows that are left out."""
+        slow = sum(1 for crate, *_ in self.slow_rows() if crate == "cases_pairs")
+        begins = r"^\./check: rt builds and runs programs without their proofs, [^\n]* of a processor each: cases_pairs\. \.ci/run proves, [^\n]*\n"
+        out, err = self.checked('cat "$said"', "cases_pairs")
+        self.assertRegex(out, begins + rf"cases_pairs: {29 - slow} ok, 0 not, in \d+ s; {slow} slow rows left out\n$")
+        self.assertEqual(err, "")
+        out, err = self.checked('cat "$said"', "--all", "cases_pairs")
+        self.assertRegex(out, begins + r"cases_pairs: 29 ok, 0 not, in \d+ s\n$")
+        for body, told, status in (('sed "s/^ok no runs/differs no runs/" "$said"; exit 1', "< ok no runs\n", 1), ('sed "/^ok no runs/d" "$said"', "< ok no runs\n", 0), ("echo no memory >&2; exit 3", "\nno memory\n", 3)):
+            out, err = self.checked(body, "cases_pairs", due=1)
+            self.assertRegex(out, begins + "$")
+            self.assertIn(told, err)
+            self.assertTrue(err.endswith(f"\n./check: cases_pairs didn't write what its stdout has; rt try ended with status {status}\n"), err)
+        for name in ("nowhere", "cbi", "cases_rows"):
+            _, err = self.checked('cat "$said"', name, due=2)
+            self.assertEqual(err, f"./check: {name} is no program of cases\n")
+
+    def test_all_programs_of_cases_are_looked_at_where_none_is_named(self):
+        out, _ = self.checked('cat "$said"')
+        found = {line.split(": ")[0]: int(line.split()[1]) for line in out.splitlines()[1:]}
+        due = collections.Counter({crate: self.of_crate(crate, "stdout").count("\nok ") + 1 for crate in found})
+        due.subtract(crate for crate, *_ in self.slow_rows())
+        self.assertEqual(found, dict(due))
+        crates = os.listdir(os.path.join(looking.TOP, "crates"))
+        self.assertEqual(sorted(found), sorted(name for name in crates if name.startswith("cases_") and "stdout" in os.listdir(os.path.join(looking.TOP, "crates", name))))
+
+    def test_rows_that_nest_deep_have_a_large_stack_where_the_system_gives_one(self):
+        given = resource.getrlimit(resource.RLIMIT_STACK)[1]
+        most = 65536 if given == resource.RLIM_INFINITY else min(65536, given // 1024)
+        for limit, due in ((None, str(most)), ("16384", "16384")):
+            self.write("log", "")
+            self.checked('cat "$said"', "cases_pairs", limit=limit)
+            self.assertEqual(self.read("log").decode(), due + "\n")
+        _, err = self.checked("exit 1", "cases_pairs", due=1, limit="16384")
+        self.assertIn("\n./check: the stack has 16384 kilobytes here, and rows that nest deep ask for 65536\n", err)
+
+    def of_crate(self, crate, *parts):
+        with open(os.path.join(looking.TOP, "crates", crate, *parts), encoding="utf-8") as file:
+            return file.read()
+
+    def slow_rows(self):
+        """The rows that are left out: crate, file, row and why."""
+        with open(os.path.join(looking.TOP, "checks", "slow_rows"), encoding="utf-8") as file:
+            return [tuple(line.rstrip("\n").split("|")) for line in file if not line.startswith("#")]
+
+    def test_what_is_left_out_is_a_row_and_has_a_reason(self):
+        for crate, name, row, why in self.slow_rows():
+            self.assertIn(name, self.of_crate(crate, "args").split())
+            self.assertEqual(self.of_crate(crate, "data", name).split("\n").count(f"case {row}"), 1, row)
+            self.assertTrue(why, row)
 
     def test_the_demo_ends_in_the_answer_and_leaves_the_page(self):
         tool = os.path.abspath(looking.CBI)
@@ -173,11 +233,13 @@ class Ways(Case):
         _, err = self.call("env", f"PATH={self.path('bin')}:{os.environ['PATH']}", os.path.join(looking.TOOLS, "try-cbi"), "cbi", "bank", "--rate", "1", "--count", "1", "--seed", "1", due=2)
         self.assertIn("tools/try-cbi: error: no such crate\n", err)
 
-    def test_the_text_in_the_documents_is_what_the_hunt_writes(self):
+    def test_text_and_pictures_in_the_documents_are_of_what_the_hunt_writes(self):
         shutil.copytree(os.path.join(looking.EXAMPLES, "lookup"), self.path("lookup"))
         out, _ = self.call("cbi-hunt", "lookup/lookup.c", "--inputs", "lookup/inputs", "--runs", "1000", "--html", "page.html")
         with open(os.path.join(looking.TOP, "docs", "hunt.txt"), encoding="utf-8") as file:
             self.assertEqual(out, file.read())
+        with open(os.path.join(looking.TOP, "docs", "hunt.sha256"), encoding="utf-8") as file:
+            self.assertEqual(browsing.sum_of(self.path("page.html")), file.read().strip(), "the pictures of docs/ are of another page: checks/pictures makes them anew")
 
     def test_the_first_screen_is_short_and_says_when_to_take_something_else(self):
         with open(os.path.join(looking.TOP, "README.md"), encoding="utf-8") as file:
