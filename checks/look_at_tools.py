@@ -221,6 +221,8 @@ class Explain(Case):
             self.assertIn("nothing is seen that the dialect leaves out", err)
         self.write("own.c", "/* switch\n typedef */\nint isdigit(int c)\n{\n    return c >= '0'; /* long */\n}\nint main(void) { return isdigit('3') + \"goto\"[0]; }\n")
         self.call("cbi-explain", "--all", "own.c", due=1)
+        self.call("bash", "-c", "cbi transform --mode plain own.c >own.cbi")
+        self.assertIn("\nIt ended with status 104.\n", self.call("cbi-explain", "--", "cbi", "run", "own.cbi")[0], "a g is 103 (ISO 646), and '3' is a digit")
         self.assertIn("--all asks for a C text", self.call("cbi-explain", "--all", due=2)[1])
 
     def test_where_nothing_was_refused_it_says_so(self):
