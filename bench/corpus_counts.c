@@ -41,7 +41,7 @@ static void open_target(struct target *target, const char *path)
 static void end_target(struct target *target)
 {
     copy(target, "end\n", 4);
-    if (target->file && fclose(target->file))
+    if (target->file && (ferror(target->file) | fclose(target->file)))
         refuse("not written");
 }
 static int is_next(const char *word)
