@@ -1,10 +1,9 @@
 -- The distinct sites of a list, one site after another.
-use Rattle.std.proofs.Common.{◌≡◌, ℕ, ◌+◌, ◌≤◌, inl, inr, Bool, true, false, not, ◌||◌, ◌==◌, nat_eq, cond, List, [], ◌∷◌, ◌++◌, length, take, filter, refl, sym, ap, ◌∙◌, arith, append_assoc, length-append}
+use Rattle.std.proofs.Common.{◌≡◌, ℕ, ◌≤◌, inl, inr, Bool, true, false, not, ◌||◌, ◌==◌, nat_eq, cond, List, [], ◌∷◌, ◌++◌, length, take, filter, refl, sym, ap, ◌∙◌, arith, append_assoc}
 use Rattle.std.specs.List.{list_any}
 use Rattle.std.proofs.lemmas.Bool.{cases_eq, eq-eqb, ne_eqb}
 use Rattle.std.proofs.lemmas.List.{append-nil, take-append-le, take_all, map-append}
 use Rattle.std.proofs.lemmas.List.Elements.{filter-append}
-use Rattle.indexmap.specs.IndexSet.{insert_key}
 use Rattle.cbi_base.specs.declared.observation.Observation.{Observation}
 use Rattle.probes.specs.Sites.{most_sites, sites_seen}
 use Rattle.probes.specs.FirstSeen.{firsts_of}
@@ -24,19 +23,23 @@ others-same x k same = ap not (eq-eqb k x same)
 pub others-other : (x k : ℕ) → (k ≡ x → ⊥) → others_than x k ≡ true
 others-other x k apart = ap not (ne_eqb k x apart)
 
+-- a number stands in a list
+abbrev pub stands_in : List ℕ → ℕ → Bool
+stands_in ks y = list_any (λ k. nat_eq k y) ks
+
 -- a filter that takes out one number doesn't change whether another is there
-list_any-filter : (x y : ℕ) (ks : List ℕ) → (y ≡ x → ⊥) → list_any (nat_eq y) (filter (others_than x) ks) ≡ list_any (nat_eq y) ks
+list_any-filter : (x y : ℕ) (ks : List ℕ) → (y ≡ x → ⊥) → stands_in (filter (others_than x) ks) y ≡ stands_in ks y
 list_any-filter x y [] apart = refl
 list_any-filter x y (k ∷ ks) apart =
     elim (cases_eq k x) [
       | inl same ↦
-          let out : nat_eq y k ≡ false = ne_eqb y k (λ e. apart (e ∙ same)) in
-          ap (list_any (nat_eq y)) (filter-skip (others_than x) k ks (others-same x k same)) ∙ list_any-filter x y ks apart ∙ sym (ap (λ b. b || list_any (nat_eq y) ks) out)
+          let out : nat_eq k y ≡ false = ne_eqb k y (λ e. apart (sym e ∙ same)) in
+          ap (λ l. stands_in l y) (filter-skip (others_than x) k ks (others-same x k same)) ∙ list_any-filter x y ks apart ∙ sym (ap (λ b. b || stands_in ks y) out)
       | inr other ↦
-          ap (list_any (nat_eq y)) (filter-keep (others_than x) k ks (others-other x k other)) ∙ ap (λ b. nat_eq y k || b) (list_any-filter x y ks apart)
+          ap (λ l. stands_in l y) (filter-keep (others_than x) k ks (others-other x k other)) ∙ ap (λ b. nat_eq k y || b) (list_any-filter x y ks apart)
     ]
 
--- a key that is added where it isn't yet there
+-- a number that is added where it isn't yet there
 abbrev added : Bool → List ℕ → ℕ → List ℕ
 added there ks y = cond there ks (ks ++ y ∷ [])
 
@@ -52,20 +55,20 @@ cons-added : (there : Bool) (x y : ℕ) (ks : List ℕ) → x ∷ added there ks
 cons-added true x y ks = refl
 cons-added false x y ks = refl
 
-pub firsts_of-push : (xs : List ℕ) (y : ℕ) → firsts_of (xs ++ y ∷ []) ≡ insert_key nat_eq (firsts_of xs) y
+firsts_of-push : (xs : List ℕ) (y : ℕ) → firsts_of (xs ++ y ∷ []) ≡ added (stands_in (firsts_of xs) y) (firsts_of xs) y
 firsts_of-push [] y = refl
 firsts_of-push (x ∷ xs) y =
     let p = others_than x in
     let ks = firsts_of xs in
-    let there = list_any (nat_eq y) ks in
+    let there = stands_in ks y in
     let first : x ∷ filter p (firsts_of (xs ++ y ∷ [])) ≡ x ∷ filter p (added there ks y) = ap (λ l. x ∷ filter p l) (firsts_of-push xs y) in
     elim (cases_eq y x) [
       | inl same ↦
           first ∙ ap (λ l. x ∷ l) (filter-added_same p there ks y (others-same x y same))
-          ∙ sym (ap (λ b. added (b || list_any (nat_eq y) (filter p ks)) (x ∷ filter p ks) y) (eq-eqb y x same))
+          ∙ sym (ap (λ b. added (b || stands_in (filter p ks) y) (x ∷ filter p ks) y) (eq-eqb x y (sym same)))
       | inr apart ↦
           first ∙ ap (λ l. x ∷ l) (filter-added_other p there ks y (others-other x y apart)) ∙ cons-added there x y (filter p ks)
-          ∙ sym (ap (λ b. added (b || list_any (nat_eq y) (filter p ks)) (x ∷ filter p ks) y) (ne_eqb y x apart) ∙ ap (λ b. added b (x ∷ filter p ks) y) (list_any-filter x y ks apart))
+          ∙ sym (ap (λ b. added (b || stands_in (filter p ks) y) (x ∷ filter p ks) y) (ne_eqb x y (λ e. apart (sym e))) ∙ ap (λ b. added b (x ∷ filter p ks) y) (list_any-filter x y ks apart))
     ]
 
 added-more : (there : Bool) (ks : List ℕ) (y : ℕ) → (more : List ℕ) × (added there ks y ≡ ks ++ more)
@@ -77,7 +80,7 @@ pub firsts_of-append : (xs ys : List ℕ) → (more : List ℕ) × (firsts_of (x
 firsts_of-append xs [] = ([], ap firsts_of (append-nil xs) ∙ sym (append-nil (firsts_of xs)))
 firsts_of-append xs (y ∷ ys) =
     let next = firsts_of-append (xs ++ y ∷ []) ys in
-    let here = added-more (list_any (nat_eq y) (firsts_of xs)) (firsts_of xs) y in
+    let here = added-more (stands_in (firsts_of xs) y) (firsts_of xs) y in
     let whole : xs ++ y ∷ ys ≡ (xs ++ y ∷ []) ++ ys = sym (append_assoc xs (y ∷ []) ys) in
     (here.0 ++ next.0, ap firsts_of whole ∙ next.1 ∙ ap (λ l. l ++ next.0) (firsts_of-push xs y ∙ here.1) ∙ append_assoc (firsts_of xs) here.0 next.0)
 
@@ -89,19 +92,21 @@ firsts_of-full xs ys full =
     ap (take most_sites) more.1 ∙ take-append-le most_sites (firsts_of xs) more.0 room ∙ take_all most_sites (firsts_of xs) (omega arith)
 
 -- the sites of one more observation
-pub firsts_of-next : (xs : List Observation) (o : Observation) → firsts_of (sites_seen (xs ++ o ∷ [])) ≡ insert_key nat_eq (firsts_of (sites_seen xs)) o.site
-firsts_of-next xs o = ap firsts_of (map-append (λ (x : Observation). x.site) xs (o ∷ [])) ∙ firsts_of-push (sites_seen xs) o.site
+firsts_of-next : (xs : List Observation) (o : Observation) (ks : List ℕ) (there : Bool) → ks ≡ firsts_of (sites_seen xs) → stands_in ks o.site ≡ there → firsts_of (sites_seen (xs ++ o ∷ [])) ≡ added there ks o.site
+firsts_of-next xs o ks there is found =
+    ap firsts_of (map-append (λ (x : Observation). x.site) xs (o ∷ []))
+    ∙ firsts_of-push (sites_seen xs) o.site
+    ∙ ap (λ l. added (stands_in l o.site) l o.site) (sym is)
+    ∙ ap (λ b. added b ks o.site) found
+
+pub firsts_of-known : (xs : List Observation) (o : Observation) (ks : List ℕ) → ks ≡ firsts_of (sites_seen xs) → stands_in ks o.site ≡ true → ks ≡ firsts_of (sites_seen (xs ++ o ∷ []))
+firsts_of-known xs o ks is known = sym (firsts_of-next xs o ks true is known)
+
+pub firsts_of-new : (xs : List Observation) (o : Observation) (ks : List ℕ) → ks ≡ firsts_of (sites_seen xs) → stands_in ks o.site ≡ false → ks ++ o.site ∷ [] ≡ firsts_of (sites_seen (xs ++ o ∷ []))
+firsts_of-new xs o ks is new = sym (firsts_of-next xs o ks false is new)
 
 -- the observations so far have the first sites already, where these are as many as the line has
 pub firsts_of-enough : (xs more seen : List Observation) → xs ++ more ≡ seen → length (firsts_of (sites_seen xs)) ≡ most_sites → take most_sites (firsts_of (sites_seen seen)) ≡ firsts_of (sites_seen xs)
 firsts_of-enough xs more seen is full =
     let whole : sites_seen seen ≡ sites_seen xs ++ sites_seen more = ap sites_seen (sym is) ∙ map-append (λ (x : Observation). x.site) xs more in
     ap (λ l. take most_sites (firsts_of l)) whole ∙ firsts_of-full (sites_seen xs) (sites_seen more) full
-
--- a key that is added to a list that isn't full leaves it within its bound
-length-added : (there : Bool) (ks : List ℕ) (y : ℕ) → length (added there ks y) ≤ length ks + 1
-length-added true ks y = omega arith
-length-added false ks y = omega (arith, length-append {A = ℕ} ks (y ∷ []))
-
-pub insert_key-within : (ks more : List ℕ) (y : ℕ) → length ks ≤ most_sites → (length ks ≡ most_sites → ⊥) → more ≡ insert_key nat_eq ks y → length more ≤ most_sites
-insert_key-within ks more y few room is = omega (arith, ap length is, length-added (list_any (nat_eq y) ks) ks y)

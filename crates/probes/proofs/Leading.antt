@@ -1,7 +1,7 @@
 -- The site that was observed most often.
 use Rattle.std.proofs.Common.{◌≡◌, ℕ, ◌<◌, ◌≤◌, ◌⊎◌, inl, inr, Bool, true, false, ◌&&◌, ◌||◌, ◌==◌, nat_lt, cond, List, [], ◌∷◌, map, fold, Option, Some, None, IfSome, unwrap_or, refl, sym, ap, subst, ◌∙◌, arith}
 use Rattle.std.proofs.lemmas.Bool.{cases_lt, ltb-true, ltb-false, leb-true, eqb-true, eq-eqb, lt-ltb, le-leb, and_parts, and_from, or_cases, or_parts, or_left, or_right}
-use Rattle.probes.specs.Hottest.{times_of, leads, hottest_of, hotter, IsHottest}
+use Rattle.probes.specs.Hottest.{times_of, leads, hottest_of, best_of, hotter, IsHottest}
 use Rattle.std.specs.List.{list_all}
 use Rattle.std.specs.Option.{option_map}
 use Rattle.probes.proofs.Members.{IsIn, IsIn-from_Contains, Contains-from_IsIn, IsIn-map, IsIn-from_map, list_all-each, list_all-from_each, find-is, find-some, count_by-positive, IsIn-from_count_by}
@@ -177,9 +177,19 @@ positive-at : (o : Option ℕ) (n : ℕ) → o ≡ Some n → IfSome o (λ m. 0 
 positive-at None n is some = cc
 positive-at (Some m) n is some = let same : m ≡ n = cc in subst (λ i. 0 < i) same some
 
+-- a site with its count that beats each observed one is the best
+pub best_of-from_beats : (sites : List ℕ) (best : ℕ × ℕ) → times_of sites best.0 ≡ best.1 → 0 < best.1 → ((other : ℕ) → IsIn other sites → Beats best (counted sites other)) → Some best ≡ best_of sites
+best_of-from_beats sites best times positive beats =
+    let site = best.0 in
+    let same : best ≡ counted sites site = ap (λ n. (site, n)) (sym times) in
+    let beats_each : (other : ℕ) → IsIn other sites → Beats (counted sites site) (counted sites other) = λ other i. subst (λ (b : ℕ × ℕ). Beats b (counted sites other)) same (beats other i) in
+    let observed = IsIn-from_count_by sites site (omega (arith, times, positive)) in
+    let hottest = hottest-is_found sites site (IsHottest-from_beats sites site observed beats_each) in
+    ap Some same ∙ sym (ap (option_map (counted sites)) hottest)
+
 -- counts of each site lead to the hottest
 pub fold-hottest : (es : List (ℕ × ℕ)) (sites : List ℕ) (count : ℕ → Option ℕ) → ((site : ℕ) → unwrap_or (count site) 0 ≡ times_of sites site) → ((site : ℕ) → IfSome (count site) (λ n. 0 < n))
-    → ((site n : ℕ) → count site ≡ Some n → IsIn (site, n) es) → ((site n : ℕ) → IsIn (site, n) es → count site ≡ Some n) → fold hotter None es ≡ option_map (counted sites) (hottest_of sites)
+    → ((site n : ℕ) → count site ≡ Some n → IsIn (site, n) es) → ((site n : ℕ) → IsIn (site, n) es → count site ≡ Some n) → fold hotter None es ≡ best_of sites
 fold-hottest [] [] count value positive listed known = refl
 fold-hottest [] (site ∷ more) count value positive listed known =
     let sites = site ∷ more in
@@ -189,11 +199,6 @@ fold-hottest (e ∷ es) sites count value positive listed known =
     let site = best.0.0 in
     let is : count site ≡ Some best.0.1 = known site best.0.1 best.2.among in
     let times : times_of sites site ≡ best.0.1 = sym (value site) ∙ ap (λ o. unwrap_or o 0) is in
-    let some : 0 < times_of sites site = omega (arith, times, positive-at (count site) best.0.1 is (positive site)) in
-    let same : best.0 ≡ counted sites site = ap (λ n. (site, n)) (sym times) in
-    let beats : (other : ℕ) → IsIn other sites → Beats (counted sites site) (counted sites other) =
-    λ other i.
-    let there = listed other (times_of sites other) (value-is (count other) (times_of sites other) (value other) (count_by-positive sites other i)) in
-    subst (λ (b : ℕ × ℕ). Beats b (counted sites other)) same (best.2.beats (counted sites other) there) in
-    let hottest = hottest-is_found sites site (IsHottest-from_beats sites site (IsIn-from_count_by sites site some) beats) in
-    best.1 ∙ ap Some same ∙ sym (ap (option_map (counted sites)) hottest)
+    let beats : (other : ℕ) → IsIn other sites → Beats best.0 (counted sites other) =
+    λ other i. best.2.beats (counted sites other) (listed other (times_of sites other) (value-is (count other) (times_of sites other) (value other) (count_by-positive sites other i))) in
+    best.1 ∙ best_of-from_beats sites best.0 times (positive-at (count site) best.0.1 is (positive site)) beats

@@ -4,3 +4,5 @@ pub mod Members
 pub mod Leading
 pub mod FirstLaws
 pub mod Packing
+pub mod Latest
+pub mod Listed

@@ -31,6 +31,12 @@ unpacked-more before number byte rest high =
     let o = observation_of before (with_digit number byte) in
     ap (λ b. cond b (o ∷ unpacked o.site 0 rest) (unpacked before (with_digit number (byte - 128)) rest)) (le-ltb byte 128 high)
 
+-- an observation of one byte
+pub unpacked-one : (before byte : ℕ) (rest : List ℕ) (o : Observation) → byte < 128 → o ≡ observation_of before byte → unpacked before 0 (byte ∷ rest) ≡ o ∷ unpacked o.site 0 rest
+unpacked-one before byte rest o low is =
+    let whole : with_digit 0 byte ≡ byte = omega arith in
+    unpacked-last before 0 byte rest low ∙ ap (λ (x : Observation). x ∷ unpacked x.site 0 rest) (ap (observation_of before) whole ∙ sym is)
+
 -- the same of the bytes from a place on
 pub unpacked-drop_last : (before number : ℕ) (bytes : List ℕ) (i : ℕ) (o : Observation) → i < length bytes → get_or bytes i 0 < 128 → o ≡ observation_of before (with_digit number (get_or bytes i 0))
     → unpacked before number (drop i bytes) ≡ o ∷ unpacked o.site 0 (drop (i + 1) bytes)
@@ -146,7 +152,7 @@ step_code-back before o back = ap (λ b. cond b (8 * (before - o.site) + 4) (8 *
 step_code-on : (before : ℕ) (o : Observation) → before ≤ o.site → step_code before o ≡ 8 * (o.site - before) + truth_bits o.seen
 step_code-on before o on = ap (λ b. cond b (8 * (before - o.site) + 4) (8 * (o.site - before)) + truth_bits o.seen) (le-ltb o.site before on)
 
-step_code-small : (before : ℕ) (o : Observation) → before < 2 ^ 32 → o.site < 2 ^ 32 → step_code before o < 2 ^ 35
+pub step_code-small : (before : ℕ) (o : Observation) → before < 2 ^ 32 → o.site < 2 ^ 32 → step_code before o < 2 ^ 35
 step_code-small before o small fits =
     let bits = truth_bits-small o.seen in
     elim (cases_lt o.site before) [
@@ -205,13 +211,13 @@ packed-short before (o ∷ os) =
     let n = step_code before o in
     omega (arith, length-append {A = ℕ} (digit_bytes n) (packed o.site os), digit_bytes-short n, packed-short o.site os)
 
-packed-push : (before : ℕ) (seen : List Observation) (o : Observation) → packed before (seen ++ o ∷ []) ≡ packed before seen ++ digit_bytes (step_code (last_site before seen) o)
+pub packed-push : (before : ℕ) (seen : List Observation) (o : Observation) → packed before (seen ++ o ∷ []) ≡ packed before seen ++ digit_bytes (step_code (last_site before seen) o)
 packed-push before [] o = append-nil (digit_bytes (step_code before o))
 packed-push before (x ∷ xs) o =
     ap (λ l. digit_bytes (step_code before x) ++ l) (packed-push x.site xs o)
     ∙ sym (append_assoc (digit_bytes (step_code before x)) (packed x.site xs) (digit_bytes (step_code (last_site x.site xs) o)))
 
-last_site-push : (before : ℕ) (seen : List Observation) (o : Observation) → last_site before (seen ++ o ∷ []) ≡ o.site
+pub last_site-push : (before : ℕ) (seen : List Observation) (o : Observation) → last_site before (seen ++ o ∷ []) ≡ o.site
 last_site-push before [] o = refl
 last_site-push before (x ∷ xs) o = last_site-push x.site xs o
 

@@ -52,6 +52,16 @@ unpacked before number (byte ∷ bytes) =
     else
     unpacked before (with_digit number (byte - 128)) bytes
 
+-- the last byte, where there is one, ends a number
+abbrev pub EndsLow : List ℕ → Type 0
+EndsLow bytes = (before : List ℕ) (byte : ℕ) → bytes ≡ before ++ byte ∷ [] → byte < 128
+
+-- wherever these bytes are those of a number behind others that end one, it is this number, and these are the others
+pub record IsLastNumber (bytes : List ℕ) (number : ℕ) (rest : List ℕ) : Type 0 where
+  pub some : 0 < length bytes
+  pub small : number < 2 ^ 35
+  pub only : (before : List ℕ) (n : ℕ) → n < 2 ^ 35 → EndsLow before → bytes ≡ before ++ digit_bytes n → (number ≡ n) × (rest ≡ before)
+
 -- the last site of a list, or the one before it
 abbrev pub last_site : ℕ → List Observation → ℕ
 last_site before [] = before

@@ -1,6 +1,6 @@
 -- The line of the sites that were seen most often.
 use Rattle.std.specs.Prelude.{◌≡◌, ℕ, ◌≤◌, Bool, ◌&&◌, ◌||◌, ◌==◌, nat_lt, nat_le, List, ◌++◌, Contains, count_by, find, Option, None, Some, if◌then◌else◌}
-use Rattle.std.specs.Prelude.{codes}
+use Rattle.std.specs.Prelude.{codes, slice_index}
 use Rattle.std.specs.List.{list_all}
 use Rattle.std.specs.Option.{option_map}
 use Rattle.cbi_base.specs.Text.{ended}
@@ -19,6 +19,14 @@ leads sites site other = nat_lt (times_of sites other) (times_of sites site) || 
 abbrev pub hottest_of : List ℕ → Option ℕ
 hottest_of sites = find (λ site. list_all (leads sites site) sites) sites
 
+-- the same site, with how often it was observed
+abbrev pub best_of : List ℕ → Option (ℕ × ℕ)
+best_of sites = option_map (λ site. (site, times_of sites site)) (hottest_of sites)
+
+-- each place of a list says how often the site with its number was observed
+abbrev pub AreTimes : List ℕ → List ℕ → Type 0
+AreTimes counts sites = (site : ℕ) → slice_index counts site ≡ times_of sites site
+
 -- the line with this site and this count
 abbrev pub count_line : Option (ℕ × ℕ) → List ℕ
 count_line None = ended (codes "hottest none")
@@ -26,7 +34,7 @@ count_line (Some best) = ended (codes "hottest" ++ number_field best.0 ++ number
 
 -- the site that was observed most often, and how often it was
 abbrev pub hottest_line : List Observation → List ℕ
-hottest_line seen = let sites = sites_seen seen in count_line (option_map (λ site. (site, times_of sites site)) (hottest_of sites))
+hottest_line seen = count_line (best_of (sites_seen seen))
 
 -- of the best so far and another site, with how often each was observed, the one that was observed more often, or else the smaller
 abbrev pub hotter : Option (ℕ × ℕ) → ℕ × ℕ → Option (ℕ × ℕ)

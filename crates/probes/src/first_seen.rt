@@ -8,7 +8,6 @@ use crate::history::History;
 use crate::probe::Probe;
 use crate::sites::{MOST_SITES, sites_line};
 use cbi_base::{Memory, Observation};
-use indexmap::IndexSet;
 use std::alloc::Global;
 use std::marker::Model;
 
@@ -39,15 +38,17 @@ impl FirstSeen {
 }
 
 /// The first distinct sites of these observations.
-fn first_sites(alloc: Global, history: &History) -> Result<IndexSet<u32>, Memory>
-    ensures { IfOk result (λ sites. sites.keys ≡ take most_sites (firsts_of (sites_seen history.now))) }
+fn first_sites(alloc: Global, history: &History) -> Result<Vec<u32>, Memory>
+    ensures { IfOk result (λ sites. sites.items ≡ take most_sites (firsts_of (sites_seen history.now))) }
 {
-    let mut sites = IndexSet::new(alloc);
+    let mut sites = Vec::new(alloc);
     for observation in history.iter() {
         if sites.len() == MOST_SITES {
             return Ok(sites);
         }
-        sites.insert(observation.site)?;
+        if !sites.as_slice().contains(&observation.site) {
+            sites.push(observation.site)?;
+        }
     }
     Ok(sites)
 }

@@ -1,6 +1,9 @@
 ghost use Rattle.std.specs.Prelude.{◌≡◌, ℕ, List, [], ◌∷◌, ◌++◌, ◌+◌, ◌*◌, ◌^◌, ◌<◌, ◌≤◌, max, All, length, vec_len, vec_capacity, MatchOption, OnOk, OnErr};
+ghost use Rattle.std.specs.Prelude.{reverse};
 ghost use Rattle.cbi_base.specs.declared.observation.Observation.{Observation};
 ghost use Rattle.probes.specs.History.{truth_bits, truth_with, step_code, observation_of, with_digit, leading, digit_bytes, packed, unpacked, FitsSite};
+ghost use Rattle.probes.specs.History.{IsLastNumber};
+ghost use Rattle.probes.specs.Sites.{sites_seen};
 
 use cbi_base::{Memory, Observation, Seen};
 use std::alloc::Global;
@@ -94,7 +97,6 @@ fn push_leading(bytes: &mut Vec<u8>, number: u64)
 }
 
 /// Appends the digits of a number, one after another.
-#[inline(never)]
 #[tactic(auto, unfolding(crate::specs::History::digit_bytes))]
 fn push_long(bytes: &mut Vec<u8>, number: u64)
     requires { vec_len bytes.old + MOST_BYTES ≤ vec_capacity bytes.old }
@@ -109,23 +111,7 @@ fn push_long(bytes: &mut Vec<u8>, number: u64)
     bytes.push_reserved((number % 128) as u8);
 }
 
-/// Appends the digits of a number.
-#[inline]
-#[tactic(auto, using(crate::proofs::Packing::one_digit))]
-fn push_digits(bytes: &mut Vec<u8>, number: u64)
-    requires { vec_len bytes.old + MOST_BYTES ≤ vec_capacity bytes.old }
-    ensures items { bytes.new.items ≡ bytes.old.items ++ digit_bytes number }
-    ensures capacity { vec_capacity bytes.new ≡ vec_capacity bytes.old }
-{
-    if number < 128 {
-        bytes.push_reserved(number as u8);
-    } else {
-        push_long(bytes, number);
-    }
-}
-
 /// Leaves room for one more observation, by half of what is there.
-#[inline]
 fn make_room(bytes: &mut Vec<u8>) -> Result<(), Memory>
     ensures items { bytes.new.items ≡ bytes.old.items }
     ensures room { OnOk result (vec_len bytes.new + MOST_BYTES ≤ vec_capacity bytes.new) }
@@ -139,8 +125,9 @@ fn make_room(bytes: &mut Vec<u8>) -> Result<(), Memory>
     Ok(())
 }
 
-/// The first observation of these bytes, after this site, and the bytes behind it.
-fn read_one(before: u32, bytes: &[u8]) -> Option<(Observation, &[u8])>
+/// The first observation of these bytes, after this site, and the bytes behind it, whatever it takes.
+#[inline(never)]
+fn read_slowly(before: u32, bytes: &[u8]) -> Option<(Observation, &[u8])>
     ensures { MatchOption result (unpacked before 0 bytes.now ≡ []) (λ found. unpacked before 0 bytes.now ≡ found.0 ∷ unpacked found.0.site 0 found.1.now) }
 {
     let mut number = 0;
@@ -154,12 +141,48 @@ fn read_one(before: u32, bytes: &[u8]) -> Option<(Observation, &[u8])>
     None
 }
 
-/// How many observations these bytes have.
-#[tactic(auto, using(crate::proofs::Packing::length_unpacked))]
-fn count_of(bytes: &[u8]) -> usize
-    ensures { result ≡ length (unpacked 0 0 bytes.now) }
+/// The first observation of these bytes, after this site, and the bytes behind it: at once where it takes one byte.
+#[inline]
+fn read_one(before: u32, bytes: &[u8]) -> Option<(Observation, &[u8])>
+    ensures { MatchOption result (unpacked before 0 bytes.now ≡ []) (λ found. unpacked before 0 bytes.now ≡ found.0 ∷ unpacked found.0.site 0 found.1.now) }
 {
-    bytes.iter().filter(|byte| **byte < 128).count()
+    if let Some((byte, rest)) = bytes.split_first() {
+        if *byte < 128 {
+            return Some((observation_of(before, u64::from(*byte)), rest));
+        }
+    }
+    read_slowly(before, bytes)
+}
+
+/// The last number of these bytes, and the bytes before it.
+fn last_number(bytes: &[u8]) -> Option<(u64, &[u8])>
+    ensures { MatchOption result (bytes.now ≡ []) (λ found. IsLastNumber bytes.now found.0 found.1.now) }
+{
+    let (last, mut rest) = bytes.split_last()?;
+    let mut number = u64::from(*last);
+    let mut weight = 128;
+    while let Some((byte, before)) = rest.split_last() {
+        if *byte < 128 {
+            return Some((number, rest));
+        }
+        number = (number + weight * u64::from(*byte - 128)) % (1 << 35);
+        weight = 128 * weight % (1 << 35);
+        rest = before;
+    }
+    Some((number, rest))
+}
+
+/// The site from which an observation with this number leads to this site.
+fn site_before(site: u32, number: u64) -> u32
+    requires { number < 2 ^ 35 }
+    ensures { (before : ℕ) (o : Observation) → before < 2 ^ 32 → o.site ≡ site → number ≡ step_code before o → result ≡ before }
+{
+    let step = (number / 8) as u32;
+    if number % 8 < 4 {
+        site.saturating_sub(step)
+    } else {
+        site.wrapping_add(step)
+    }
 }
 
 impl History {
@@ -172,23 +195,32 @@ impl History {
         }
     }
 
-    /// Adds one at the end. After `Memory` they are as before.
-    #[inline]
-    pub fn push(&mut self, observation: Observation) -> Result<(), Memory>
+    /// Adds one at the end, whatever it takes.
+    #[inline(never)]
+    fn push_slowly(&mut self, observation: Observation) -> Result<(), Memory>
         ensures ok { OnOk result (self.new ≡ self.old ++ observation ∷ []) }
         ensures memory { OnErr result (self.new ≡ self.old) }
     {
         make_room(&mut self.bytes)?;
         let number = step_code(self.site, observation);
-        push_digits(&mut self.bytes, number);
+        push_long(&mut self.bytes, number);
         self.site = observation.site;
         Ok(())
     }
 
-    pub fn len(&self) -> usize
-        ensures { result ≡ length self.now }
+    /// Adds one at the end: at once where it takes one byte and there is room. After `Memory` they are as before.
+    #[inline]
+    pub fn push(&mut self, observation: Observation) -> Result<(), Memory>
+        ensures ok { OnOk result (self.new ≡ self.old ++ observation ∷ []) }
+        ensures memory { OnErr result (self.new ≡ self.old) }
     {
-        count_of(self.bytes.as_slice())
+        let number = step_code(self.site, observation);
+        if number < 128 && self.bytes.len() < self.bytes.capacity() {
+            self.bytes.push_reserved(number as u8);
+            self.site = observation.site;
+            return Ok(());
+        }
+        self.push_slowly(observation)
     }
 
     pub fn iter(&self) -> Observations<'_>
@@ -198,6 +230,16 @@ impl History {
         Observations {
             bytes: self.bytes.as_slice(),
             before: 0,
+        }
+    }
+
+    /// Their sites, the latest first.
+    pub fn latest(&self) -> Latest<'_>
+        ensures { result ≡ reverse (sites_seen self.now) }
+    {
+        Latest {
+            bytes: self.bytes.as_slice(),
+            site: self.site,
         }
     }
 }
@@ -233,6 +275,43 @@ impl<'a> Iterator for Observations<'a> {
         self.bytes = bytes;
         self.before = observation.site;
         Some(observation)
+    }
+}
+
+/// The sites of a history that are left, the latest first: each step leads to the site before it. It has no room of its own, so `IsPacked` is told 0.
+#[derive(Debug, Drop)]
+pub struct Latest<'a> {
+    bytes: &'a [u8],
+    site: u32,
+}
+
+impl<'a> Model for Latest<'a> {
+    ghost use Rattle.std.specs.Prelude.{List, ℕ, reverse};
+    ghost use Rattle.probes.specs.Sites.{sites_seen};
+    ghost use Rattle.probes.specs.History.{unpacked, IsPacked};
+
+    ghost Value = { List ℕ };
+
+    ghost view = { λ l. reverse (sites_seen (unpacked 0 0 l.bytes.now)) };
+
+    ghost invariant = { λ l. IsPacked (unpacked 0 0 l.bytes.now) l.bytes.now l.site 0 };
+}
+
+impl<'a> Iterator for Latest<'a> {
+    ghost use Rattle.std.specs.Iterator.{YieldsFirst, item_count};
+
+    type Item = u32;
+
+    ghost next_gives = { YieldsFirst (λ left. left) };
+
+    ghost remaining = { item_count (λ left. left) };
+
+    fn next(&mut self) -> Option<u32> {
+        let (number, bytes) = last_number(self.bytes)?;
+        let site = self.site;
+        self.bytes = bytes;
+        self.site = site_before(site, number);
+        Some(site)
     }
 }
 

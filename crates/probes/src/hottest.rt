@@ -1,8 +1,9 @@
-ghost use Rattle.std.specs.Prelude.{◌≡◌, ◌<◌, [], ◌++◌, ◌∷◌, ℕ, List, nat_eq, fold, None, Some, unwrap_or, IfSome, IfOk, OnOk, OnErr};
+ghost use Rattle.std.specs.Prelude.{◌≡◌, ◌<◌, ◌≤◌, [], ◌++◌, ◌∷◌, ℕ, List, nat_eq, fold, None, unwrap_or, Some, IfSome, IfOk, OnOk, OnErr};
+ghost use Rattle.std.specs.Prelude.{length, slice_index, vec_len};
 ghost use Rattle.indexmap.specs.IndexMap.{get, IsUnique};
 ghost use Rattle.cbi_base.specs.declared.observation.Observation.{Observation};
 ghost use Rattle.probes.specs.Sites.{sites_seen};
-ghost use Rattle.probes.specs.Hottest.{hottest_of, hottest_line, count_line, hotter, times_of, IsHottest};
+ghost use Rattle.probes.specs.Hottest.{hottest_of, best_of, hottest_line, count_line, hotter, times_of, AreTimes, IsHottest};
 
 use crate::history::History;
 use crate::probe::Probe;
@@ -11,6 +12,9 @@ use cbi_base::{Memory, Observation};
 use indexmap::IndexMap;
 use std::alloc::Global;
 use std::marker::Model;
+
+/// Below this number a site is counted in a list, by its number.
+const MOST_LISTED: usize = 65_536;
 
 /// Says which site was observed most often.
 #[derive(Debug, Drop)]
@@ -38,7 +42,38 @@ impl Hottest {
     }
 }
 
-/// How often each site was observed.
+/// Leaves the list as it is read, and so long that it has this place.
+#[inline]
+fn lengthen(counts: &mut Vec<u64>, site: usize) -> Result<(), Memory>
+    requires { site < MOST_LISTED }
+    ensures there { OnOk result (site < vec_len counts.new) }
+    ensures few { OnOk result (vec_len counts.old ≤ MOST_LISTED → vec_len counts.new ≤ MOST_LISTED) }
+    ensures same { OnOk result ((place : ℕ) → slice_index counts.new.items place ≡ slice_index counts.old.items place) }
+{
+    if counts.len() <= site {
+        counts.resize(site + 1, 0)?;
+    }
+    Ok(())
+}
+
+/// How often each site was observed, by its number, where no number is too great for a list.
+fn listed_times(alloc: Global, history: &History) -> Result<Option<Vec<u64>>, Memory>
+    ensures value { IfOk result (λ found. IfSome found (λ counts. AreTimes counts.items (sites_seen history.now))) }
+    ensures few { IfOk result (λ found. IfSome found (λ counts. vec_len counts ≤ MOST_LISTED)) }
+{
+    let mut counts = Vec::new(alloc);
+    for observation in history.iter() {
+        let site = observation.site as usize;
+        if site >= MOST_LISTED {
+            return Ok(None);
+        }
+        lengthen(&mut counts, site)?;
+        counts[site] += 1;
+    }
+    Ok(Some(counts))
+}
+
+/// How often each site was observed, whatever its number.
 fn times(alloc: Global, history: &History) -> Result<IndexMap<u32, u64>, Memory>
     ensures value { IfOk result (λ counts. (site : ℕ) → unwrap_or (get nat_eq counts site) 0 ≡ times_of (sites_seen history.now) site) }
     ensures positive { IfOk result (λ counts. (site : ℕ) → IfSome (get nat_eq counts site) (λ count. 0 < count)) }
@@ -59,6 +94,20 @@ fn hotter(best: Option<(u32, u64)>, site: u32, count: u64) -> Option<(u32, u64)>
         Some((other, most)) if most > count || (most == count && other < site) => best,
         _ => Some((site, count)),
     }
+}
+
+/// The site with the greatest count of the list, the smallest among equals, and its count.
+fn hottest_listed(counts: &[u64]) -> Option<(u32, u64)>
+    requires { length counts.now ≤ MOST_LISTED }
+    ensures { (sites : List ℕ) → AreTimes counts.now sites → result ≡ best_of sites }
+{
+    let mut best = None;
+    for (site, count) in counts.iter().enumerate() {
+        if *count != 0 {
+            best = hotter(best, site as u32, *count);
+        }
+    }
+    best
 }
 
 /// The site with the greatest count, the smallest among equals, and its count.
@@ -86,12 +135,23 @@ fn count_line(alloc: Global, best: Option<(u32, u64)>) -> Result<Vec<u8>, Memory
     Ok(line)
 }
 
+/// The site that was observed most often, and how often it was.
+fn hottest_seen(alloc: Global, history: &History) -> Result<Option<(u32, u64)>, Memory>
+    ensures { IfOk result (λ best. best ≡ best_of (sites_seen history.now)) }
+{
+    if let Some(listed) = listed_times(alloc, history)? {
+        return Ok(hottest_listed(listed.as_slice()));
+    }
+    let counts = times(alloc, history)?;
+    Ok(hottest_site(&counts))
+}
+
 /// The line of this history.
 fn line_of(alloc: Global, history: &History) -> Result<Vec<u8>, Memory>
     ensures { IfOk result (λ line. line.items ≡ hottest_line history.now) }
 {
-    let counts = times(alloc, history)?;
-    let line = count_line(alloc, hottest_site(&counts))?;
+    let best = hottest_seen(alloc, history)?;
+    let line = count_line(alloc, best)?;
     Ok(line)
 }
 

@@ -40,8 +40,8 @@ impl LastSeen {
 fn last_sites(alloc: Global, history: &History) -> Result<Vec<u32>, Memory>
     ensures { IfOk result (λ sites. sites.items ≡ last_of most_sites (sites_seen history.now)) }
 {
-    let from = history.len().saturating_sub(MOST_SITES);
-    let sites = history.iter().skip(from).map(|o| o.site).collect(alloc)?;
+    let mut sites: Vec<u32> = history.latest().take(MOST_SITES).collect(alloc)?;
+    sites.as_mut_slice().reverse();
     Ok(sites)
 }
 

@@ -7,6 +7,6 @@ use Rattle.probes.proofs.first_seen.first_sites.Given as goal
 abbrev pub invariant-loop-observation : goal.invariant-loop-observation
 invariant-loop-observation l = record {
   told : l.yielded ++ l.observation-iterator ≡ l.history;
-  keys : l.sites.keys ≡ firsts_of (sites_seen l.yielded);
-  few : length l.sites.keys ≤ most_sites;
+  items : l.sites.items ≡ firsts_of (sites_seen l.yielded);
+  few : length l.sites.items ≤ most_sites;
 }

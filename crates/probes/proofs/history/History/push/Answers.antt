@@ -1,35 +1,34 @@
-use Rattle.std.proofs.Common.{◌≡◌, ◌+◌, ◌*◌, ◌^◌, ◌<◌, ◌≤◌, [], ◌∷◌, ◌++◌, length, ap, ◌∙◌, vec_capacity, arith, rules}
+use Rattle.std.proofs.Common.{◌≡◌, ◌+◌, ◌*◌, ◌^◌, ◌<◌, ◌≤◌, [], ◌∷◌, ◌++◌, length, sym, ap, ◌∙◌, vec_capacity, arith, rules}
 use Rattle.probes.specs.History.{step_code, digit_bytes, unpacked}
-use Rattle.probes.proofs.Packing.{IsPacked-short, IsPacked-read, IsPacked-push}
+use Rattle.probes.proofs.Packing.{one_digit, IsPacked-read, IsPacked-push}
 use Rattle.probes.proofs.history.History.push.Goals as goal
 
-pub invariant_of-self-2 : goal.invariant_of-self-2
-invariant_of-self-2 c =
+pub invariant_of-self : goal.invariant_of-self
+invariant_of-self c =
     let bytes = c.self.inside.bytes.items in
     let site = c.self.inside.site in
     let capacity = vec_capacity c.self.inside.bytes in
     let seen = unpacked 0 0 bytes in
     let o = c.args.observation in
-    let more = c.push_digits.new.bytes.items in
-    let room = vec_capacity c.push_digits.new.bytes in
+    let more = c.push_reserved.new.self.items in
+    let room = vec_capacity c.push_reserved.new.self in
+    let number = c.step_code-number.result in
     let here : o.site < 2 ^ 32 = first_of (omega arith, search rules) in
-    let number : c.step_code-number.result ≡ step_code site o = c.step_code-number.ensures.value in
-    let kept : c.make_room.new.bytes.items ≡ bytes = c.make_room.ensures.items in
-    let added : more ≡ bytes ++ digit_bytes (step_code site o) = c.push_digits.ensures.items ∙ ap (λ l. l ++ digit_bytes c.step_code-number.result) kept ∙ ap (λ n. bytes ++ digit_bytes n) number in
-    let short = IsPacked-short seen bytes site capacity c.self.invariant in
-    let small : 2 * room ≤ 15 * length seen + 15 = omega (arith, c.in_ok-make_room.ensures.small, c.push_digits.ensures.capacity, c.self.invariant.small, c.self.inside.bytes.ok.0, short) in
+    let digits : number ∷ [] ≡ digit_bytes (step_code site o) = sym (one_digit number c.if-number-lt128.true) ∙ ap digit_bytes c.step_code-number.ensures.value in
+    let added : more ≡ bytes ++ digit_bytes (step_code site o) = c.push_reserved.ensures.items ∙ ap (λ l. bytes ++ l) digits in
+    let small : 2 * room ≤ 15 * length seen + 15 = omega (arith, c.push_reserved.ensures.capacity, c.self.invariant.small) in
     IsPacked-push bytes more site capacity room seen o c.self.invariant here added small
 
-pub returns-clause-ok : goal.returns-clause-ok
-returns-clause-ok c =
+pub returns-then-len-capacity-clause-ok : goal.returns-then-len-capacity-clause-ok
+returns-then-len-capacity-clause-ok c =
     let bytes = c.self.inside.bytes.items in
     let site = c.self.inside.site in
     let capacity = vec_capacity c.self.inside.bytes in
     let seen = unpacked 0 0 bytes in
     let o = c.args.observation in
-    let more = c.push_digits.new.bytes.items in
+    let more = c.push_reserved.new.self.items in
+    let number = c.step_code-number.result in
     let here : o.site < 2 ^ 32 = first_of (omega arith, search rules) in
-    let number : c.step_code-number.result ≡ step_code site o = c.step_code-number.ensures.value in
-    let kept : c.make_room.new.bytes.items ≡ bytes = c.make_room.ensures.items in
-    let added : more ≡ bytes ++ digit_bytes (step_code site o) = c.push_digits.ensures.items ∙ ap (λ l. l ++ digit_bytes c.step_code-number.result) kept ∙ ap (λ n. bytes ++ digit_bytes n) number in
+    let digits : number ∷ [] ≡ digit_bytes (step_code site o) = sym (one_digit number c.if-number-lt128.true) ∙ ap digit_bytes c.step_code-number.ensures.value in
+    let added : more ≡ bytes ++ digit_bytes (step_code site o) = c.push_reserved.ensures.items ∙ ap (λ l. bytes ++ l) digits in
     IsPacked-read bytes more site capacity capacity seen o c.self.invariant here added ∙ ap (λ l. l ++ o ∷ []) c.self.view_is

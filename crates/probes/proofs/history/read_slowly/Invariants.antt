@@ -1,6 +1,6 @@
 use Rattle.std.proofs.Common.{◌≡◌, ◌<◌, ◌^◌, drop}
 use Rattle.probes.specs.History.{unpacked}
-use Rattle.probes.proofs.history.read_one.Given as goal
+use Rattle.probes.proofs.history.read_slowly.Given as goal
 
 -- the bytes from here on, after the digits so far, are read as all are
 abbrev pub invariant-loop-i : goal.invariant-loop-i
