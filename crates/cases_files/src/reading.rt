@@ -3,7 +3,7 @@ use cases_rows::{Page, expect, has_head, has_line, rest_of};
 use cbi_base::{Memory, id_text};
 use cbi_options::Word;
 use collector::{CollectionError, read_collection};
-use countdown_bank::{Bank, BankError, make_bank, read_bank, write_bank};
+use countdown_bank::{Bank, BankError, later_bank, make_bank, read_bank, write_bank};
 use name_lists::{ListError, read_list};
 use program_file::{ProgramError, program_id, read_program, write_program};
 use rand_pcg::Lcg64Xsh32;
@@ -215,14 +215,28 @@ fn expect_bank(row: &str, bank: &Bank, told: &mut Page) {
     }
 }
 
-/// Tells the text of the bank that the generator makes from these numbers, where it isn't the row's.
+/// Tells where the bank isn't written and drawn as the row says; behind the draws it is written as before.
+fn expect_made(row: &str, bank: &mut Bank, told: &mut Page) {
+    expect_bank(row, bank, told);
+    if let Some(words) = rest_of(row, "draws ") {
+        expect_draws(row, words, bank, told);
+        expect_bank(row, bank, told);
+    }
+}
+
+/// Tells where a bank that the generator makes from these numbers isn't as the row says: one whose numbers are made before, and one
+/// whose numbers are made as they are drawn.
 pub fn tell_made(row: &str, words: &str, told: &mut Page) {
     let (seed, stream, rate, count) = four_numbers(words).unwrap_or((0, 0, 0, 0));
     if rate < 1 || rate > 65536 || count < 1 || count > 65536 {
         return told.say("\nno such bank is made");
     }
-    let mut generator = Lcg64Xsh32::new(seed, stream);
-    if let Some(bank) = told.done(make_bank(told.alloc(), &mut generator, rate, count)) {
-        expect_bank(row, &bank, told);
+    let mut words = Lcg64Xsh32::new(seed, stream);
+    if let Some(mut bank) = told.done(make_bank(told.alloc(), &mut words, rate, count)) {
+        expect_made(row, &mut bank, told);
+    }
+    let words = Lcg64Xsh32::new(seed, stream);
+    if let Some(mut bank) = told.done(later_bank(told.alloc(), words, rate, count)) {
+        expect_made(row, &mut bank, told);
     }
 }

@@ -18,7 +18,8 @@ use program_file::read_program;
 /// - `reads program`, or `bank`, `report` or `collection`, or `list FIRST`, where the run on the first name has this number: the text goes wrong at a line
 ///   (`bad`), or is read, and written as it was (`same`) or as `writes` says. `cuts`: each cut of it goes wrong at the line where it stops, and
 ///   `cuts before x` with an x behind it. A bank's draws, and its position then.
-/// - `identity`: that of the text. `makes SEED STREAM RATE COUNT`: a bank by the generator. `value QUESTION is ANSWER`.
+/// - `identity`: that of the text. `makes SEED STREAM RATE COUNT`: a bank by the generator, with what is written of it, its draws and its position then.
+///   `value QUESTION is ANSWER`.
 /// - `finds`: the run at a place of the text, with its lines and its end, and places at which there is none.
 /// - `collects`: steps, parted by `then`, over a collection of the program's runs: a report that is added, or one for each run, a collection that is merged,
 ///   the next run, another label, a run that is taken away; what that gives, how many reports are held, and what is written.

@@ -11,7 +11,7 @@ use cbi_base::{Memory, Refusal, Seq, Store};
 use cbi_options::Word;
 use command_base::{Fault, read_file};
 use command_run::INPUT_LIMIT;
-use countdown_bank::{Bank, make_bank};
+use countdown_bank::{Bank, later_bank};
 use expected::EXPECT_LIMIT;
 use planned_runs::{RunInput, RunPlan};
 use rand_pcg::Lcg64Xsh32;
@@ -48,8 +48,8 @@ fn bank_of(alloc: Global, rate: u32, seed: u64, number: u32) -> Result<Bank, Mem
     requires { (1 ≤ rate) × (rate ≤ 65536) }
     ensures { IfOk result (IsMadeBank (generator seed number) rate bank_numbers) }
 {
-    let mut words = Lcg64Xsh32::new(seed, u64::from(number));
-    make_bank(alloc, &mut words, rate, NUMBERS)
+    let words = Lcg64Xsh32::new(seed, u64::from(number));
+    later_bank(alloc, words, rate, NUMBERS)
 }
 
 /// The bytes of the file whose name stands at this place of the second list, where there is one.

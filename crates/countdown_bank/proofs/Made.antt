@@ -1,9 +1,11 @@
 -- Made numbers: one after another, and in one way alone.
 use Rattle.std.proofs.Common.{◌≡◌, ℕ, ◌+◌, ◌-◌, ◌<◌, ◌≤◌, inl, inr, List, [], ◌∷◌, ◌++◌, length, sum, refl, sym, ap, subst, ◌∙◌, arith}
+use Rattle.std.specs.Prelude.{All}
 use Rattle.std.proofs.lemmas.Bool.{cases_lt}
+use Rattle.std.proofs.lemmas.List.Elements.{All-cons, All-nil}
 use Rattle.std.proofs.lemmas.List.Sums.{sum_by-cons, sum_by_push}
 use Rattle.rand_pcg.specs.Lcg.{Lcg}
-use Rattle.countdown_bank.specs.Bank.{BankState, bank_of}
+use Rattle.countdown_bank.specs.Bank.{BankState, IsCountdown, bank_of}
 use Rattle.countdown_bank.specs.MadeBank.{IsMadeNumber, AreMade, IsMadeBank, after_words, word_after, bound_of}
 use Rattle.countdown_bank.proofs.Words.{word_after-add}
 
@@ -30,6 +32,15 @@ AreMade-push words bound (m ∷ ns) n made next =
     let whole : sum (m ∷ ns) ≡ m + sum ns = sum_by-cons (λ x. x) m ns in
     let same : (k : ℕ) → words (sum (m ∷ ns) + k) ≡ words (m + (sum ns + k)) = λ k. let e : sum (m ∷ ns) + k ≡ m + (sum ns + k) = omega (arith, whole) in ap words e in
     (made.0, AreMade-push (λ k. words (m + k)) bound ns n made.1 (IsMadeNumber-same (λ k. words (sum (m ∷ ns) + k)) (λ k. words (m + (sum ns + k))) bound n same next))
+
+-- a made number is one that a bank can have
+pub IsMadeNumber-countdown : (words : ℕ → ℕ) (bound n : ℕ) → IsMadeNumber words bound n → IsCountdown n
+IsMadeNumber-countdown words bound n made = (made.some, omega (arith, made.few))
+
+pub AreMade-countdowns : (words : ℕ → ℕ) (bound : ℕ) (ns : List ℕ) → AreMade words bound ns → All IsCountdown ns
+AreMade-countdowns words bound [] made = All-nil IsCountdown
+AreMade-countdowns words bound (n ∷ ns) made =
+    All-cons IsCountdown n ns (IsMadeNumber-countdown words bound n made.0) (AreMade-countdowns (λ k. words (n + k)) bound ns made.1)
 
 -- of two numbers made from the same words the first is not the smaller
 not-smaller : (words : ℕ → ℕ) (bound m n : ℕ) → IsMadeNumber words bound m → IsMadeNumber words bound n → m < n → ⊥

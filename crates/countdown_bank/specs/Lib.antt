@@ -1,3 +1,4 @@
 pub mod Bank
 pub mod BankFile
+pub mod Held
 pub mod MadeBank

@@ -1,5 +1,5 @@
 -- Numbers made from the words of a generator: how far it is to the next word below a bound.
-use Rattle.std.specs.Prelude.{◌≡◌, ℕ, ◌+◌, ◌-◌, ◌/◌, ◌^◌, ◌<◌, ◌≤◌, ◌⊎◌, List, [], ◌∷◌, length}
+use Rattle.std.specs.Prelude.{◌≡◌, ℕ, zero, suc, ◌+◌, ◌-◌, ◌/◌, ◌^◌, ◌<◌, ◌≤◌, nat_lt, if◌then◌else◌, ◌⊎◌, List, [], ◌∷◌, length}
 use Rattle.rand_pcg.specs.Lcg.{Lcg, advance}
 use Rattle.rand_pcg.specs.Pcg.{multiplier_64, pcg32}
 use Rattle.countdown_bank.specs.Bank.{BankState, bank_of}
@@ -43,3 +43,18 @@ pub record IsMadeBank (g : Lcg) (rate count : ℕ) (b : BankState) : Type 0 wher
 pub record HasMoved (before now : Lcg) : Type 0 where
   pub words : ℕ
   pub is : now ≡ after_words words before
+
+-- how many of these words come before the first one below the bound, of so many
+unfoldable pub words_before : ℕ → (ℕ → ℕ) → ℕ → ℕ
+words_before zero words bound = 0
+words_before (suc many) words bound = if nat_lt (words 0) bound then 0 else words_before many (λ k. words (k + 1)) bound + 1
+
+-- the number that is made from these words
+abbrev pub number_from : (ℕ → ℕ) → ℕ → ℕ
+number_from words bound = words_before (most_words - 1) words bound + 1
+
+-- so many numbers, made one after another: those of the made bank, computed
+unfoldable pub numbers_from : ℕ → ℕ → Lcg → List ℕ
+numbers_from zero bound g = []
+numbers_from (suc count) bound g =
+    let number = number_from (word_after g) bound in number ∷ numbers_from count bound (after_words number g)

@@ -110,7 +110,7 @@ pub fn write_bank(alloc: Global, bank: &Bank) -> Result<Vec<u8>, Memory>
 {
     let mut text = Vec::new(alloc);
     for number in bank.numbers() {
-        push_decimal(&mut text, u128::from(*number))?;
+        push_decimal(&mut text, u128::from(number))?;
         text.push(b'\n')?;
     }
     Ok(text)

@@ -3,8 +3,10 @@
 
 mod bank;
 mod file;
+mod later;
 mod make;
+mod number;
 
-pub use bank::{Bank, numbers_come_round};
+pub use bank::{Bank, BankNumbers, numbers_come_round};
 pub use file::{BankError, one_bank, read_bank, write_bank};
-pub use make::{make_bank, one_made_bank, ones_at_rate_one};
+pub use make::{later_bank, made_numbers_are_computed, make_bank, one_made_bank, ones_at_rate_one};

@@ -1,29 +1,21 @@
 ghost use Rattle.std.specs.Prelude.{◌≡◌, ◌≤◌, ℕ, replicate, sum, IfOk, OnErr};
 ghost use Rattle.rand_pcg.specs.Lcg.{Lcg};
-ghost use Rattle.countdown_bank.specs.Bank.{BankState};
-ghost use Rattle.countdown_bank.specs.MadeBank.{after_words, word_after, IsMadeNumber, IsMadeBank, HasMoved};
+ghost use Rattle.countdown_bank.specs.Bank.{BankState, bank_of};
+ghost use Rattle.countdown_bank.specs.MadeBank.{after_words, bound_of, numbers_from, IsMadeBank, HasMoved};
 
 use crate::bank::Bank;
+use crate::later::Later;
+use crate::number::make_number;
 use cbi_base::Memory;
-use rand_core::utils::NextWord;
 use rand_pcg::Lcg64Xsh32;
 use std::alloc::Global;
 
-/// The most words that one number uses.
-const MOST_WORDS: u32 = 1_048_576;
-
-/// The place of the first word below the bound, from 1, or [`MOST_WORDS`] where none of so many is below.
-fn make_number(words: &mut Lcg64Xsh32, bound: u64) -> u32
-    ensures made { IsMadeNumber (word_after words.old) bound result }
-    ensures moved { words.new ≡ after_words result words.old }
+/// The bound below which a word is once in so many.
+fn bound_of(rate: u32) -> u64
+    requires { 1 ≤ rate }
+    ensures { result ≡ bound_of rate }
 {
-    for place in 1..MOST_WORDS {
-        if u64::from(words.next_word()) < bound {
-            return place;
-        }
-    }
-    let _last = words.next_word();
-    MOST_WORDS
+    (1 << 32) / u64::from(rate)
 }
 
 /// A bank of so many made numbers at this rate: each is the place of the next word that is below 2^32 / rate, and the words up to
@@ -42,7 +34,7 @@ pub fn make_bank(
     ensures moved { IfOk result (λ b. words.new ≡ after_words (sum b.numbers) words.old) }
     ensures memory { OnErr result (HasMoved words.old words.new) }
 {
-    let bound = (1 << 32) / u64::from(rate);
+    let bound = bound_of(rate);
     let mut numbers = Vec::new(alloc);
     for _place in 0..count {
         numbers.push(make_number(words, bound))?;
@@ -50,9 +42,29 @@ pub fn make_bank(
     Ok(Bank::of(numbers))
 }
 
+/// The bank that [`make_bank`] makes of these words, each number when it is drawn first: so it costs what is drawn of it. All its
+/// memory is taken here.
+pub fn later_bank(alloc: Global, words: Lcg64Xsh32, rate: u32, count: u32) -> Result<Bank, Memory>
+    requires rate_some { 1 ≤ rate }
+    requires rate_most { rate ≤ 65536 }
+    requires count_some { 1 ≤ count }
+    requires count_most { count ≤ 65536 }
+    ensures { IfOk result (IsMadeBank words rate count) }
+{
+    let whole = count as usize;
+    let made = Vec::with_capacity(alloc, whole)?;
+    let later = Later::new(words, bound_of(rate), count);
+    Ok(Bank::begun(made, later, whole))
+}
+
 /// A law: from one generator, at one rate, so many numbers are made in one way alone.
 pub fn one_made_bank()
     ensures { (g : Lcg) (rate count : ℕ) (a b : BankState) → IsMadeBank g rate count a → IsMadeBank g rate count b → a ≡ b }
+{}
+
+/// A law: the made bank is that of the numbers that are computed from the generator.
+pub fn made_numbers_are_computed()
+    ensures { (g : Lcg) (rate count : ℕ) → IsMadeBank g rate count (bank_of (numbers_from count (bound_of rate) g)) }
 {}
 
 /// A law: each word is below 2^32, so at rate 1 each number is 1.

@@ -1,16 +1,15 @@
 -- What `runs` writes is what is collected of its calls, and what is ranked are its runs.
-use Rattle.std.specs.List.{All}
 use Rattle.std.proofs.Common.{◌≡◌, ◌≤◌, ◌<◌, ◌+◌, ℕ, suc, Bool, List, [], ◌∷◌, length, Option, None, IsSome, ap, sym, subst, ◌∙◌, refl, arith}
-use Rattle.std.proofs.lemmas.List.Elements.{All-cons, All-nil}
 use Rattle.sha2.specs.Sha256.{sha256}
 use Rattle.cbi_base.specs.Store.{Held}
 use Rattle.cbi_base.specs.declared.identity.ProgramId.{ProgramId}
 use Rattle.rand_pcg.specs.Lcg.{Lcg}
 use Rattle.flow.specs.declared.program.ProgramParts.{ProgramParts}
 use Rattle.flow.specs.Words.{OneEnding, SpellsProgram}
-use Rattle.countdown_bank.specs.Bank.{BankState, IsCountdown}
+use Rattle.countdown_bank.specs.Bank.{BankState}
 use Rattle.countdown_bank.specs.BankFile.{bank_text}
-use Rattle.countdown_bank.specs.MadeBank.{AreMade, IsMadeBank}
+use Rattle.countdown_bank.specs.MadeBank.{IsMadeBank}
+use Rattle.countdown_bank.proofs.Made.{AreMade-countdowns}
 use Rattle.report_file.specs.declared.report.Report.{Report}
 use Rattle.collector.specs.declared.collection.Bundle.{Bundle}
 use Rattle.collector.specs.declared.collection.Held.{Held as Collected}
@@ -37,14 +36,9 @@ use Rattle.headline.proofs.HeadlineTexts.{OneCollection, OneReport, WrittenColle
 use Rattle.headline.proofs.Numbered.{OneBankText, one-report}
 
 -- a bank that was made has a text
-made-each : (words : ℕ → ℕ) (bound : ℕ) (numbers : List ℕ) → AreMade words bound numbers → All IsCountdown numbers
-made-each words bound [] made = All-nil IsCountdown
-made-each words bound (n ∷ more) made =
-    All-cons IsCountdown n more (made.0.some, omega (arith, made.0.few)) (made-each (λ k. words (n + k)) bound more made.1)
-
 pub made-text : (g : Lcg) (rate : ℕ) (bank : BankState) → IsMadeBank g rate bank_numbers bank → IsBankOf (bank_text bank) bank
 made-text g rate bank made = record {
-  numbers = record { some = omega (arith, made.as_many); few = omega (arith, made.as_many); each = made-each _ _ bank.numbers made.made };
+  numbers = record { some = omega (arith, made.as_many); few = omega (arith, made.as_many); each = AreMade-countdowns _ _ bank.numbers made.made };
   text = refl;
   first = ap (λ (b : BankState). b.position) made.bank;
 }

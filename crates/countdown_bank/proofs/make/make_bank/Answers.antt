@@ -3,14 +3,10 @@ use Rattle.std.specs.Prelude.{All}
 use Rattle.std.proofs.lemmas.List.Elements.{All-push}
 use Rattle.std.proofs.lemmas.Result.{err_from_is_err_and}
 use Rattle.countdown_bank.specs.Bank.{IsCountdown}
-use Rattle.countdown_bank.specs.MadeBank.{after_words, IsMadeNumber}
+use Rattle.countdown_bank.specs.MadeBank.{after_words}
 use Rattle.countdown_bank.proofs.Words.{after_words-zero, after_words-then}
-use Rattle.countdown_bank.proofs.Made.{AreMade-next, sum-push}
+use Rattle.countdown_bank.proofs.Made.{AreMade-next, IsMadeNumber-countdown, sum-push}
 use Rattle.countdown_bank.proofs.make.make_bank.Goals as goal
-
--- a made number is one that a bank can have
-countdown : (words : ℕ → ℕ) (bound n : ℕ) → IsMadeNumber words bound n → IsCountdown n
-countdown words bound n made = (made.some, omega (arith, made.few))
 
 pub loop-place-init : goal.loop-place-init
 loop-place-init c = record {
@@ -38,5 +34,5 @@ loop-place-preserved c =
       as_many = ap length more ∙ length-append {A = ℕ} c.loop-place.numbers.items (n ∷ []) ∙ ap (λ k. k + 1) i.as_many;
       moved = after_words-then _ _ _ _ _ i.moved c.make_number.ensures.moved ∙ ap (λ k. after_words k c.args.words.now) (sym total);
       made = AreMade-next _ _ _ _ _ _ i.moved i.made c.make_number.ensures.made more;
-      each = subst (All IsCountdown) (sym more) (All-push IsCountdown c.loop-place.numbers.items n i.each (countdown _ _ n c.make_number.ensures.made));
+      each = subst (All IsCountdown) (sym more) (All-push IsCountdown c.loop-place.numbers.items n i.each (IsMadeNumber-countdown _ _ n c.make_number.ensures.made));
     }

@@ -2,7 +2,7 @@ use Rattle.std.proofs.Common.{◌≡◌, ◌+◌, ◌-◌, ◌<◌, ◌≤◌, �
 use Rattle.std.proofs.lemmas.Bool.{cases_lt}
 use Rattle.countdown_bank.specs.MadeBank.{word_after}
 use Rattle.countdown_bank.proofs.Words.{after_words-zero, word-step}
-use Rattle.countdown_bank.proofs.make.make_number.Goals as goal
+use Rattle.countdown_bank.proofs.number.make_number.Goals as goal
 
 pub loop-place-init : goal.loop-place-init
 loop-place-init c = record { moved = sym (after_words-zero c.args.words.now); none = λ k before. absurd (omega arith) }

@@ -1,6 +1,6 @@
 use Rattle.std.proofs.Common.{◌≡◌, ◌≤◌, ◌<◌, ℕ, ◌+◌, ◌-◌}
 use Rattle.countdown_bank.specs.MadeBank.{after_words, word_after}
-use Rattle.countdown_bank.proofs.make.make_number.Given as goal
+use Rattle.countdown_bank.proofs.number.make_number.Given as goal
 
 -- the words so far were not below the bound
 abbrev pub invariant-loop-place : goal.invariant-loop-place
